@@ -1,0 +1,74 @@
+use super::*;
+use std::test::Fail;
+
+#[test]
+fn accepted_and_refused_parameters(rt: HostRuntime) {
+    let rows = [
+        (0, 4, Err(ParamsFault::CapacityOutOfRange)),
+        (65, 200, Err(ParamsFault::CapacityOutOfRange)),
+        (1, 3, Err(ParamsFault::LabelsTooFew)),
+        (1, 1001, Err(ParamsFault::LabelsTooMany)),
+        (64, 130, Ok((64, 130))),
+        (1, 4, Ok((1, 4))),
+    ];
+    for (capacity, labels, want) in rows {
+        let made = Params::new(capacity, labels).map(|p| (p.capacity(), p.labels()));
+        assert_eq!(rt; made, want, "capacity {capacity}, labels {labels}");
+    }
+}
+
+#[test]
+fn the_next_label(rt: HostRuntime) -> Result<(), Fail> {
+    let params = Params::new(1, 4)?;
+    for (label, want) in [(0, 1), (3, 0), (65535, 0)] {
+        assert_eq!(rt; params.next(label), want, "after {label}");
+    }
+    Ok(())
+}
+
+#[test]
+fn a_queue_of_two(rt: HostRuntime) -> Result<(), Fail> {
+    let mut queue: FrameQueue<u32> = FrameQueue::new(rt.alloc(), 2)?;
+    assert!(rt; queue.is_empty());
+    assert!(rt; queue.put(5));
+    assert!(rt; queue.put(6));
+    assert!(rt; queue.is_full());
+    assert!(rt; !queue.put(7));
+    assert_eq!(rt; queue.front(), Some(5));
+    assert_eq!(rt; queue.get(1), Some(6));
+    assert_eq!(rt; queue.get(2), None);
+    assert!(rt; queue.lose(0));
+    assert_eq!(rt; queue.len(), 1);
+    assert_eq!(rt; queue.take(), Some(6));
+    assert_eq!(rt; queue.take(), None);
+    assert!(rt; !queue.lose(0));
+    Ok(())
+}
+
+#[test]
+fn a_sequence_grows_at_its_end(rt: HostRuntime) -> Result<(), Fail> {
+    let mut items: Sequence<u32> = Sequence::with_capacity(rt.alloc(), 1)?;
+    assert!(rt; items.is_empty());
+    items.push(7)?;
+    items.push(8)?;
+    assert_eq!(rt; items.len(), 2);
+    assert_eq!(rt; items.as_slice(), [7, 8].as_slice());
+    let again = Sequence::from_vec(items.into_vec());
+    assert_eq!(rt; again.as_slice(), [7, 8].as_slice());
+    let none: Sequence<u32> = Sequence::new(rt.alloc());
+    assert!(rt; none.as_slice().is_empty());
+    Ok(())
+}
+
+#[test]
+fn texts_of_refused_parameters(rt: HostRuntime) -> Result<(), Fail> {
+    let texts = [
+        (ParamsFault::CapacityOutOfRange, "capacity out of range"),
+        (ParamsFault::LabelsTooFew, "too few labels"),
+        (ParamsFault::LabelsTooMany, "too many labels"),
+    ];
+    for (fault, want) in texts {
+        assert_eq!(rt; fault.to_string(rt.alloc())?.as_str(), want);
+    }
+    Ok(())
+}
