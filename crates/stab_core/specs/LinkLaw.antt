@@ -1,0 +1,32 @@
+-- The laws of one link, over lists and places alone: what was delivered comes from the start's frames and then from the
+-- offered list, and only few acknowledged items are missing.
+-- Source: this project's own; no number here is ascribed to the book.
+use Rattle.std.specs.Prelude.{◌≡◌, ℕ, ◌+◌, ◌*◌, ◌<◌, ◌≤◌, List, ◌++◌, length, Contains}
+use Rattle.stab_core.specs.Picks.{Picks}
+
+-- With these places in the offered list: all offered items but at most the last are acknowledged, and the delivered list is
+-- strays picked from the start's items, then items picked from the offered list at those places.
+pub record HalfLawAt (capacity : ℕ) (start_items offered : List ℕ) (acked : ℕ) (delivered places : List ℕ) : Type 0 where
+  pub acked_were_offered : acked ≤ length offered
+  pub one_waits_at_most : length offered ≤ acked + 1
+  pub strays : List ℕ
+  pub stray_places : List ℕ
+  pub taken : List ℕ
+  pub parts : delivered ≡ strays ++ taken
+  pub few_strays : length strays ≤ capacity
+  pub strays_picked : Picks start_items stray_places strays
+  pub taken_picked : Picks offered places taken
+
+-- the half law
+abbrev pub HalfLaw : ℕ → List ℕ → List ℕ → ℕ → List ℕ → Type 0
+HalfLaw capacity start_items offered acked delivered =
+    (places : List ℕ) × HalfLawAt capacity start_items offered acked delivered places
+
+-- of the acknowledged items only some among the first 2c + 1 are missing from these places
+abbrev pub NoneMissing : ℕ → ℕ → List ℕ → Type 0
+NoneMissing capacity acked places = (i : ℕ) → 2 * capacity + 1 ≤ i → i < acked → Contains places i
+
+-- the link law: the half law, and for the same places no later acknowledged item is missing
+abbrev pub LinkLaw : ℕ → List ℕ → List ℕ → ℕ → List ℕ → Type 0
+LinkLaw capacity start_items offered acked delivered =
+    (places : List ℕ) × HalfLawAt capacity start_items offered acked delivered places × NoneMissing capacity acked places

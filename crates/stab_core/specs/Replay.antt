@@ -1,0 +1,37 @@
+-- The opening of a link, and the replay of an event list from a state: its steps, one after the other.
+-- Source: this project's profile. A start is arbitrary, but for the capacity of its two queues.
+use Rattle.std.specs.Prelude.{ℕ, ◌≤◌, List, [], ◌∷◌, length, map, false}
+use Rattle.stab_frames.specs.declared.frame.Frame.{Frame}
+use Rattle.stab_frames.specs.Parameters.{Parameters}
+use Rattle.stab_core.specs.declared.event.Event.{Event}
+use Rattle.stab_core.specs.declared.start.Start.{Start}
+use Rattle.stab_core.specs.LinkState.{LinkState}
+use Rattle.stab_core.specs.Step.{step}
+
+-- neither queue holds more than its capacity; the labels may be any
+pub record IsLawful (p : Parameters) (start : Start) : Type 0 where
+  pub frames : length start.frames ≤ p.capacity
+  pub acks : length start.acks ≤ p.capacity
+
+-- the items that stand in a start's frames, the front first
+abbrev pub start_items : Start → List ℕ
+start_items start = map (λ f. f.item) start.frames
+
+-- the link at its start: nothing offered, acknowledged or delivered, and open
+abbrev pub opening : Start → LinkState
+opening start =
+    record {
+      frames = start.frames;
+      acks = start.acks;
+      send_label = start.send_label;
+      offered = [];
+      acked = 0;
+      recv_label = start.recv_label;
+      delivered = [];
+      closed = false;
+    }
+
+-- the state after these events
+abbrev pub replay : Parameters → LinkState → List Event → LinkState
+replay p s [] = s
+replay p s (e ∷ es) = replay p (step p s e) es

@@ -1,0 +1,15 @@
+//! One link as a pure machine: its state, the step of each event, and replays of whole event lists.
+//!
+//! Contracts see a [`Link`] as its parameters and its state; each call is a step of the definitions in `specs/`,
+//! which know no queue, clock, thread or socket. The layer above uses one fact: what [`run_link`] answers is the
+//! replay of the event list from the start, and every such replay obeys the link law.
+#![tactic(auto)]
+
+mod event;
+pub mod laws;
+mod origin;
+mod start;
+
+pub use event::{Effect, Event};
+pub use origin::Origin;
+pub use start::{Start, StartFault};
