@@ -6,3 +6,6 @@ pub mod Replay
 pub mod Picks
 pub mod LinkLaw
 pub mod Trace
+pub mod Halves
+pub mod Link
+pub mod LinkInside

@@ -7,9 +7,17 @@
 
 mod event;
 pub mod laws;
+mod link;
 mod origin;
+mod receiver;
+mod replay;
+mod sender;
 mod start;
 
 pub use event::{Effect, Event};
+pub use link::Link;
 pub use origin::Origin;
+pub use receiver::Receiver;
+pub use replay::run_link;
+pub use sender::Sender;
 pub use start::{Start, StartFault};

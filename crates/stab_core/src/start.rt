@@ -28,3 +28,43 @@ pub struct Start {
     /// The label that the receiver remembers.
     pub recv_label: Label,
 }
+
+impl From<AllocError> for StartFault {
+    ghost use Rattle.std.specs.Prelude.{◌≡◌};
+    ghost use Rattle.stab_core.specs.declared.start.StartFault.TheVariants.{Memory};
+
+    ghost from_gives = { λ _ fault. fault ≡ Memory };
+
+    fn from(_error: AllocError) -> StartFault {
+        StartFault::Memory
+    }
+}
+
+impl Start {
+    ghost use Rattle.std.specs.Prelude.{◌≡◌, IfOk};
+    ghost use Rattle.stab_core.specs.Replay.{clean_start};
+
+    /// The clean start: empty queues, the send label 0, and a receive label that no label of a link equals. It takes no memory.
+    pub fn clean(alloc: Global) -> Start
+        ensures { result ≡ clean_start }
+    {
+        Start {
+            frames: Sequence::new(alloc),
+            acks: Sequence::new(alloc),
+            send_label: 0,
+            recv_label: Label::MAX,
+        }
+    }
+
+    /// A start with the same frames, acknowledgements and labels.
+    pub fn copy(&self, alloc: Global) -> Result<Start, AllocError>
+        ensures { IfOk result (λ start. start ≡ self.now) }
+    {
+        Ok(Start {
+            frames: self.frames.copy(alloc)?,
+            acks: self.acks.copy(alloc)?,
+            send_label: self.send_label,
+            recv_label: self.recv_label,
+        })
+    }
+}

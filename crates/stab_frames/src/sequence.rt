@@ -54,6 +54,17 @@ impl<T> Sequence<T> {
         elements
     }
 
+    /// A sequence of the same elements.
+    pub fn copy(&self, alloc: Global) -> Result<Sequence<T>, AllocError>
+    where
+        T: Copy,
+        ensures { IfOk result (λ s. s ≡ self.now) }
+    {
+        Ok(Sequence {
+            elements: Vec::from_slice(alloc, self.elements.as_slice())?,
+        })
+    }
+
     /// The elements, in their order.
     pub fn as_slice(&self) -> &[T]
         ensures { result.now ≡ self.now }
