@@ -9,3 +9,4 @@ pub mod Trace
 pub mod Halves
 pub mod Link
 pub mod LinkInside
+pub mod Texts

@@ -13,6 +13,7 @@ mod receiver;
 mod replay;
 mod sender;
 mod start;
+mod text;
 
 pub use event::{Effect, Event};
 pub use link::Link;
@@ -21,3 +22,4 @@ pub use receiver::Receiver;
 pub use replay::run_link;
 pub use sender::Sender;
 pub use start::{Start, StartFault};
+pub use text::{link_text, origins_text, push_items_line, push_number};

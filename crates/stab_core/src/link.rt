@@ -237,6 +237,20 @@ impl Link {
         self.receiver.ack()
     }
 
+    /// How many frames are queued: at most the capacity.
+    pub fn frame_count(&self) -> u16
+        ensures { result ≡ length self.now.state.frames }
+    {
+        self.frames.len()
+    }
+
+    /// How many acknowledgements are queued: at most the capacity.
+    pub fn ack_count(&self) -> u16
+        ensures { result ≡ length self.now.state.acks }
+    {
+        self.acks.len()
+    }
+
     /// The queued frame at a place, 0 being the front.
     pub fn frame_at(&self, place: u16) -> Option<Frame>
         ensures { result ≡ slice_get self.now.state.frames place }

@@ -1,0 +1,8 @@
+use Rattle.std.proofs.Common.{append_assoc}
+use Rattle.stab_core.specs.Texts.{frame_entry}
+use Rattle.stab_core.proofs.Entries.{next_entry}
+use Rattle.stab_core.proofs.text.push_frames_line.Goals as goal
+
+pub loop-place-preserved : goal.loop-place-preserved
+loop-place-preserved c =
+    rw (next_entry frame_entry c.args.link.now.state.frames c.loop-place.place, ← c.frame_at.ensures, ← append_assoc, ← c.loop-place.invariant) c.in_ok-push_frame.ensures
