@@ -10,3 +10,5 @@ pub mod Halves
 pub mod Link
 pub mod LinkInside
 pub mod Texts
+pub mod Tracer
+pub mod TracerInside

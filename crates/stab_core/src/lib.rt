@@ -14,6 +14,7 @@ mod replay;
 mod sender;
 mod start;
 mod text;
+mod tracer;
 
 pub use event::{Effect, Event};
 pub use link::Link;
@@ -23,3 +24,4 @@ pub use replay::run_link;
 pub use sender::Sender;
 pub use start::{Start, StartFault};
 pub use text::{link_text, origins_text, push_items_line, push_number};
+pub use tracer::trace;

@@ -239,14 +239,16 @@ impl Link {
 
     /// How many frames are queued: at most the capacity.
     pub fn frame_count(&self) -> u16
-        ensures { result ≡ length self.now.state.frames }
+        ensures count { result ≡ length self.now.state.frames }
+        ensures within { length self.now.state.frames ≤ self.now.params.capacity }
     {
         self.frames.len()
     }
 
     /// How many acknowledgements are queued: at most the capacity.
     pub fn ack_count(&self) -> u16
-        ensures { result ≡ length self.now.state.acks }
+        ensures count { result ≡ length self.now.state.acks }
+        ensures within { length self.now.state.acks ≤ self.now.params.capacity }
     {
         self.acks.len()
     }

@@ -1,0 +1,10 @@
+use Rattle.std.proofs.Common.{◌≡◌, drop}
+use Rattle.stab_core.specs.Trace.{traced_opening, traced_replay}
+use Rattle.stab_core.proofs.tracer.trace.Given as goal
+
+-- the replay of what is left, from the state so far, is that of all the events
+abbrev pub invariant-loop-event : goal.invariant-loop-event
+invariant-loop-event l =
+    (l.tracer.params ≡ l.fn.params)
+    × (traced_replay l.fn.params l.tracer.traced (drop l.event-index l.events)
+    ≡ traced_replay l.fn.params (traced_opening l.start) l.events)

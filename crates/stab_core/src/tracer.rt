@@ -1,0 +1,155 @@
+ghost use Rattle.std.specs.Prelude.{◌≡◌, ◌+◌, length, false, IfOk, IfErr, OnOk, OnErr};
+ghost use Rattle.stab_core.specs.Replay.{opening, IsLawful};
+ghost use Rattle.stab_core.specs.Trace.{Traced, strays_from, traced_opening, traced_step, traced_replay};
+ghost use Rattle.stab_core.specs.Link.{IsReason};
+ghost use Rattle.stab_core.specs.Tracer.{tracer_at, LeavesFrames};
+
+use crate::event::{Effect, Event};
+use crate::link::Link;
+use crate::origin::Origin;
+use crate::start::{Start, StartFault};
+use stab_frames::{FrameQueue, Params};
+use std::alloc::{AllocError, Global};
+use std::marker::Model;
+
+/// For each item that the link delivers in this replay, in order, where it comes from: its place in the start's frames, or
+/// its place in the offered list.
+pub fn trace(
+    alloc: Global,
+    params: Params,
+    start: &Start,
+    events: &[Event],
+) -> Result<Vec<Origin>, StartFault>
+    ensures replay { IfOk result (λ origins. origins.items ≡ (traced_replay params (traced_opening start.now) events.now).origins) }
+    ensures lawful { IfOk result (λ origins. IsLawful params start.now) }
+    ensures refused { IfErr result (IsReason params start.now) }
+{
+    let mut tracer = Tracer::new(alloc, params, start)?;
+    for event in events {
+        tracer.apply(*event)?;
+    }
+    Ok(tracer.into_origins())
+}
+
+/// A link, with the origin of each queued frame and of each delivered item.
+#[derive(Drop)]
+struct Tracer {
+    link: Link,
+    queued: FrameQueue<Origin>,
+    origins: Vec<Origin>,
+}
+
+impl Model for Tracer {
+    ghost use Rattle.stab_core.specs.Tracer.{TracerValue};
+
+    ghost Value = { TracerValue };
+
+    ghost use Rattle.stab_core.specs.TracerInside.{tracer_view, KeepsPace};
+
+    ghost view = { tracer_view };
+
+    ghost invariant = { KeepsPace };
+}
+
+impl Tracer {
+    #[tactic(auto, using(crate::proofs::Tracing::length_strays))]
+    fn new(alloc: Global, params: Params, start: &Start) -> Result<Tracer, StartFault>
+        ensures opening { IfOk result (λ t. t ≡ tracer_at params (traced_opening start.now)) }
+        ensures lawful { IfOk result (λ t. IsLawful params start.now) }
+        ensures refused { IfErr result (IsReason params start.now) }
+    {
+        let link = Link::new(alloc, params, start)?;
+        let queued = strays(alloc, params, &link)?;
+        Ok(Tracer {
+            link,
+            queued,
+            origins: Vec::new(alloc),
+        })
+    }
+
+    /// One step, with the origins of the frame that it puts, takes or loses.
+    fn apply(&mut self, event: Event) -> Result<(), AllocError>
+        ensures { OnOk result (self.new ≡ tracer_at self.old.params (traced_step self.old.params self.old.traced event)) }
+    {
+        if self.link.is_closed() {
+            return Ok(());
+        }
+        match event {
+            Event::SendFrame => self.send_frame(),
+            Event::RecvFrame { keep } => self.recv_frame(keep),
+            Event::LoseFrame(place) => self.lose_frame(place),
+            Event::Offer(_)
+            | Event::SendAck
+            | Event::RecvAck { keep: _ }
+            | Event::LoseAck(_)
+            | Event::Close => self.leave_frames(event),
+        }
+    }
+
+    fn leave_frames(&mut self, event: Event) -> Result<(), AllocError>
+        requires is_open { self.old.traced.state.closed ≡ false }
+        requires leaves { LeavesFrames event }
+        ensures { OnOk result (self.new ≡ tracer_at self.old.params (traced_step self.old.params self.old.traced event)) }
+    {
+        self.link.apply(event)?;
+        Ok(())
+    }
+
+    fn send_frame(&mut self) -> Result<(), AllocError>
+        requires { self.old.traced.state.closed ≡ false }
+        ensures { OnOk result (self.new ≡ tracer_at self.old.params (traced_step self.old.params self.old.traced Event.SendFrame)) }
+    {
+        if self.link.apply(Event::SendFrame)? == Effect::Sent {
+            let offered = self.link.offered().len() as u64;
+            self.queued.put(Origin::Sent(offered.saturating_sub(1)));
+        }
+        Ok(())
+    }
+
+    fn recv_frame(&mut self, keep: bool) -> Result<(), AllocError>
+        requires { self.old.traced.state.closed ≡ false }
+        ensures { OnOk result (self.new ≡ tracer_at self.old.params (traced_step self.old.params self.old.traced (Event.RecvFrame keep))) }
+    {
+        self.origins.reserve(1)?;
+        if let Effect::Fresh(_) = self.link.apply(Event::RecvFrame { keep })? {
+            if let Some(origin) = self.queued.front() {
+                self.origins.push_reserved(origin);
+            }
+        }
+        if !keep {
+            self.queued.take();
+        }
+        Ok(())
+    }
+
+    #[tactic(auto, using(crate::proofs::Tracing::length_without))]
+    fn lose_frame(&mut self, place: u16) -> Result<(), AllocError>
+        requires { self.old.traced.state.closed ≡ false }
+        ensures { OnOk result (self.new ≡ tracer_at self.old.params (traced_step self.old.params self.old.traced (Event.LoseFrame place))) }
+    {
+        self.link.apply(Event::LoseFrame(place))?;
+        self.queued.lose(place);
+        Ok(())
+    }
+
+    fn into_origins(self) -> Vec<Origin>
+        ensures { result.items ≡ self.traced.origins }
+    {
+        let Tracer { link, queued, origins } = self;
+        drop(link);
+        drop(queued);
+        origins
+    }
+}
+
+/// Each queued frame of a link at its start is a stray.
+fn strays(alloc: Global, params: Params, link: &Link) -> Result<FrameQueue<Origin>, AllocError>
+    requires { link.now.params ≡ params }
+    ensures { IfOk result (λ q. (q.entries ≡ strays_from 0 link.now.state.frames) × (q.capacity ≡ params.capacity)) }
+{
+    let mut queued = FrameQueue::new(alloc, params.capacity())?;
+    for place in 0..link.frame_count() {
+        queued.put(Origin::Stray(place));
+    }
+    Ok(queued)
+}
