@@ -25,3 +25,6 @@ pub use sender::Sender;
 pub use start::{Start, StartFault};
 pub use text::{link_text, origins_text, push_items_line, push_number};
 pub use tracer::trace;
+
+#[cfg(test)]
+mod tests;

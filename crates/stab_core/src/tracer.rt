@@ -135,7 +135,11 @@ impl Tracer {
     fn into_origins(self) -> Vec<Origin>
         ensures { result.items ≡ self.traced.origins }
     {
-        let Tracer { link, queued, origins } = self;
+        let Tracer {
+            link,
+            queued,
+            origins,
+        } = self;
         drop(link);
         drop(queued);
         origins

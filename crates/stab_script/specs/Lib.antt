@@ -1,0 +1,4 @@
+pub mod Values
+pub mod Starts
+pub mod Events
+pub mod LinkJobs

@@ -1,0 +1,67 @@
+-- Values: what one JSON value means as a whole number, a label, an item, a pair or a list; None where it means nothing such.
+-- Source: this project's profile, over the values of `serde_json`.
+use Rattle.std.specs.Prelude.{ℕ, suc, List, [], ◌∷◌, nat_le, min, if◌then◌else◌, Option, Some, None, option_and_then, option_map}
+use Rattle.std.specs.Str.{is_utf8}
+use Rattle.serde_json.specs.Data.{Data, Items, no_items, item}
+use Rattle.serde_json.specs.Find.{as_number, as_u64, as_array}
+use Rattle.serde_json.specs.Read.{read}
+
+infixl 10 ◌>>=◌
+-- what follows, if there is something so far
+abbrev pub ◌>>=◌ : {A B : Type 0} → Option A → (A → Option B) → Option B
+o >>= f = option_and_then f o
+
+-- the value that these bytes stand for: they are UTF-8, and `serde_json` reads a value from them
+abbrev pub value_of : List ℕ → Option Data
+value_of bytes = if is_utf8 bytes then read bytes else None
+
+-- a whole number; 1.0, 1e2, -1 and "1" are none
+abbrev pub whole : Data → Option ℕ
+whole d = as_number d >>= as_u64
+
+-- a whole number, if it is no larger than this limit
+abbrev pub within : ℕ → ℕ → Option ℕ
+within limit n = if nat_le n limit then Some n else None
+
+-- a whole number up to this limit
+abbrev pub whole_to : ℕ → Data → Option ℕ
+whole_to limit d = whole d >>= within limit
+
+-- a label, and as well a place in a queue: a whole number of 16 bits
+abbrev pub label : Data → Option ℕ
+label = whole_to 65535
+
+-- an item: a whole number of 32 bits
+abbrev pub item_number : Data → Option ℕ
+item_number = whole_to 4294967295
+
+-- a whole number, where one over this limit is taken as the limit
+abbrev pub capped : ℕ → Data → Option ℕ
+capped limit d = option_map (min limit) (whole d)
+
+-- the two values of a list of two
+abbrev pub pair_of_items : Items → Option (Data × Data)
+pair_of_items (item a (item b no_items)) = Some (a, b)
+pair_of_items _ = None
+
+abbrev pub pair : Data → Option (Data × Data)
+pair d = as_array d >>= pair_of_items
+
+-- how many entries there are
+abbrev pub count : Items → ℕ
+count no_items = 0
+count (item d ds) = suc (count ds)
+
+-- the list of what the entries mean, if each of them means something
+abbrev pub entries : {X : Type 0} → (Data → Option X) → Items → Option (List X)
+entries meaning no_items = Some []
+entries meaning (item d ds) = meaning d >>= (λ x. entries meaning ds >>= (λ xs. Some (x ∷ xs)))
+
+-- a list, each entry of which means something
+abbrev pub list_of : {X : Type 0} → (Data → Option X) → Data → Option (List X)
+list_of meaning d = as_array d >>= entries meaning
+
+-- such a list, or nothing at all, which stands for the empty list
+abbrev pub list_or_absent : {X : Type 0} → (Data → Option X) → Option Data → Option (List X)
+list_or_absent meaning None = Some []
+list_or_absent meaning (Some d) = list_of meaning d

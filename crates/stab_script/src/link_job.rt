@@ -1,0 +1,159 @@
+ghost use Rattle.std.specs.Prelude.{◌≡◌, ◌≢◌, ◌<◌, codes, length, MatchResult, IfOk, Some, None, Ok, Err, option_and_then, option_map};
+ghost use Rattle.serde_json.specs.Find.{get, as_array};
+ghost use Rattle.serde_json.specs.View.{view, items_view};
+ghost use Rattle.stab_script.specs.Values.{value_of, capped};
+ghost use Rattle.stab_script.specs.Starts.{start};
+ghost use Rattle.stab_script.specs.LinkJobs.{Members, link_job, job_of, members};
+
+use crate::list::{Entry, read_entries};
+use crate::value::{read_value, whole_capped};
+use serde_json::Value;
+use stab_core::{Event, Start};
+use stab_frames::{Params, ParamsFault, Sequence};
+use std::alloc::{AllocError, Global};
+use thiserror::Error;
+
+/// The most events that a link job may have.
+const MAX_EVENTS: usize = 1_000_000;
+
+/// Why bytes are no link job, in the order of the checks.
+#[derive(Clone, Copy, Debug, PartialEq, Eq, Hash, Error)]
+pub enum LinkJobFault {
+    /// The bytes are no JSON.
+    #[error("job: not JSON")]
+    Json,
+    /// Something other than an event has another shape.
+    #[error("job: wrong shape")]
+    Shape,
+    /// The capacity and the number of labels are no parameters of a link.
+    #[error("job: {0}")]
+    Params(ParamsFault),
+    /// There are more than 1,000,000 events.
+    #[error("job: too many events")]
+    TooManyEvents,
+    /// An entry of the events is no event.
+    #[error("job: bad event")]
+    Event,
+    /// Memory was refused.
+    #[error("out of memory")]
+    Memory,
+}
+
+impl From<AllocError> for LinkJobFault {
+    ghost use Rattle.std.specs.Prelude.{◌≡◌};
+    ghost use Rattle.stab_script.specs.declared.link_job.LinkJobFault.TheVariants.{Memory};
+
+    ghost from_gives = { λ _ fault. fault ≡ Memory };
+
+    fn from(_refused: AllocError) -> LinkJobFault {
+        LinkJobFault::Memory
+    }
+}
+
+impl From<ParamsFault> for LinkJobFault {
+    ghost use Rattle.std.specs.Prelude.{◌≡◌};
+    ghost use Rattle.stab_script.specs.declared.link_job.LinkJobFault.TheVariants.{Params};
+
+    ghost from_gives = { λ refusal fault. fault ≡ Params refusal };
+
+    fn from(refusal: ParamsFault) -> LinkJobFault {
+        LinkJobFault::Params(refusal)
+    }
+}
+
+/// What a link is to go through: its parameters, what stands in it at the start, and its events.
+#[derive(Debug, Drop)]
+pub struct LinkJob {
+    pub params: Params,
+    pub start: Start,
+    pub events: Sequence<Event>,
+}
+
+#[tactic(auto, using(crate::proofs::Bytes::some_bytes, crate::proofs::Faults::never_json))]
+/// The link job that these bytes mean, or the first check that they fail; memory may be refused before a later check.
+pub fn read_link_job(alloc: Global, bytes: &[u8]) -> Result<LinkJob, LinkJobFault>
+    ensures job { MatchResult result
+        (λ job. link_job bytes.now ≡ Ok job)
+        (λ fault. fault ≢ LinkJobFault.Memory → link_job bytes.now ≡ Err fault) }
+    ensures json { result ≡ Err LinkJobFault.Json → value_of bytes.now ≡ None }
+    ensures memory { result ≡ Err LinkJobFault.Memory → 0 < length bytes.now }
+{
+    match read_value(alloc, bytes)? {
+        Some(value) => job_of_value(alloc, &value),
+        None => Err(LinkJobFault::Json),
+    }
+}
+
+// The link job that a value means, or the first check that it fails.
+fn job_of_value(alloc: Global, value: &Value) -> Result<LinkJob, LinkJobFault>
+    ensures { MatchResult result
+        (λ job. job_of (members (view value.now)) ≡ Ok job)
+        (λ fault. fault ≢ LinkJobFault.Memory → job_of (members (view value.now)) ≡ Err fault) }
+{
+    let (Some(capacity), Some(labels)) = (
+        capped_member(value, "capacity"),
+        capped_member(value, "labels"),
+    ) else {
+        return Err(LinkJobFault::Shape);
+    };
+    let Some(start) = start_member(alloc, value)? else {
+        return Err(LinkJobFault::Shape);
+    };
+    match list_member(value, "events") {
+        Some(events) => job_of_members(alloc, capacity, labels, start, events),
+        None => Err(LinkJobFault::Shape),
+    }
+}
+
+#[tactic(auto, using(crate::proofs::Entries::count_of_values))]
+// The link job of these members, or the first check that they fail.
+fn job_of_members(
+    alloc: Global,
+    capacity: u16,
+    labels: u16,
+    start: Start,
+    events: &[Value],
+) -> Result<LinkJob, LinkJobFault>
+    ensures { let its_members : Members = record { capacity = capacity; labels = labels; start = start; events = items_view events.now } in
+        MatchResult result
+        (λ job. job_of (Some its_members) ≡ Ok job)
+        (λ fault. fault ≢ LinkJobFault.Memory → job_of (Some its_members) ≡ Err fault) }
+{
+    let params = Params::new(capacity, labels)?;
+    if events.len() > MAX_EVENTS {
+        return Err(LinkJobFault::TooManyEvents);
+    }
+    match read_entries(alloc, events)? {
+        Some(events) => Ok(LinkJob {
+            params,
+            start,
+            events,
+        }),
+        None => Err(LinkJobFault::Event),
+    }
+}
+
+// The whole number that a member of an object is, 65535 in place of one that is larger.
+fn capped_member(value: &Value, name: &str) -> Option<u16>
+    ensures { result ≡ option_and_then (capped 65535) (get name.now (view value.now)) }
+{
+    Some(whole_capped(value.get(name)?, 65535)? as u16)
+}
+
+// The start that the member of that name is.
+fn start_member(alloc: Global, value: &Value) -> Result<Option<Start>, AllocError>
+    ensures { IfOk result (λ it. it ≡ option_and_then start (get (codes "start") (view value.now))) }
+{
+    match value.get("start") {
+        Some(start) => Start::read(alloc, start),
+        None => Ok(None),
+    }
+}
+
+// The values of the list that a member of an object is.
+fn list_member<'v>(value: &'v Value, name: &str) -> Option<&'v [Value]>
+    ensures { option_map (λ list. items_view list.now) result
+        ≡ option_and_then as_array (get name.now (view value.now)) }
+{
+    Some(value.get(name)?.as_array()?.as_slice())
+}

@@ -1,0 +1,82 @@
+ghost use Rattle.std.specs.Prelude.{◌≡◌, ◌≢◌, codes, MatchResult, IfOk, Some, None, option_map, option_and_then};
+ghost use Rattle.serde_json.specs.Find.{get};
+ghost use Rattle.serde_json.specs.View.{view};
+ghost use Rattle.stab_script.specs.Values.{label, list_or_absent};
+ghost use Rattle.stab_script.specs.Starts.{frame, start};
+
+use crate::fault::PartFault;
+use crate::list::{Entry, read_list};
+use crate::value::{item, label, pair};
+use serde_json::Value;
+use stab_core::Start;
+use stab_frames::{Frame, Label};
+use std::alloc::{AllocError, Global};
+
+impl Entry for Frame {
+    ghost meaning = { frame };
+
+    fn read(_alloc: Global, value: &Value) -> Result<Option<Frame>, AllocError> {
+        Ok(frame(value))
+    }
+}
+
+// The frame that a value means: a list of a label and an item.
+fn frame(value: &Value) -> Option<Frame>
+    ensures { result ≡ frame (view value.now) }
+{
+    let (its_label, its_item) = pair(value)?;
+    Some(Frame {
+        label: label(its_label)?,
+        item: item(its_item)?,
+    })
+}
+
+impl Entry for Start {
+    ghost meaning = { start };
+
+    fn read(alloc: Global, value: &Value) -> Result<Option<Start>, AllocError> {
+        start_of(alloc, value)
+    }
+}
+
+/// The start of a link, where the value means one.
+pub fn read_start(alloc: Global, value: &Value) -> Result<Start, PartFault>
+    ensures { MatchResult result
+        (λ it. start (view value.now) ≡ Some it)
+        (λ fault. fault ≢ PartFault.Memory → (fault ≡ PartFault.Shape) × (start (view value.now) ≡ None)) }
+{
+    match Start::read(alloc, value) {
+        Ok(Some(start)) => Ok(start),
+        Ok(None) => Err(PartFault::Shape),
+        Err(_) => Err(PartFault::Memory),
+    }
+}
+
+// The start, or `None` where the value means none; only memory can be refused.
+fn start_of(alloc: Global, value: &Value) -> Result<Option<Start>, AllocError>
+    ensures { IfOk result (λ it. it ≡ start (view value.now)) }
+{
+    let Some(frames) = read_list(alloc, value.get("frames"))? else {
+        return Ok(None);
+    };
+    let Some(acks) = read_list(alloc, value.get("acks"))? else {
+        return Ok(None);
+    };
+    let (Some(send_label), Some(recv_label)) = (label_of(value, "send"), label_of(value, "recv"))
+    else {
+        return Ok(None);
+    };
+    Ok(Some(Start {
+        frames,
+        acks,
+        send_label,
+        recv_label,
+    }))
+}
+
+// The label that a member of an object is, where it is one.
+fn label_of(value: &Value, name: &str) -> Option<Label>
+    ensures { result ≡ option_and_then label (get name.now (view value.now)) }
+{
+    label(value.get(name)?)
+}

@@ -1,0 +1,68 @@
+ghost use Rattle.std.specs.Prelude.{◌≡◌, ◌<◌, length, option_map, IfOk, OnErr};
+ghost use Rattle.serde_json.specs.View.{view, items_view};
+ghost use Rattle.stab_script.specs.Values.{value_of, whole_to, capped, label, item_number, pair, pair_of_items};
+
+use serde_json::Value;
+use stab_frames::{Item, Label};
+use std::alloc::{AllocError, Global};
+
+#[tactic(auto, using(crate::proofs::Bytes::value_of_read, crate::proofs::Bytes::value_of_unread))]
+/// The value that these bytes stand for: they are UTF-8, and `serde_json` reads a value from them.
+pub fn read_value(alloc: Global, bytes: &[u8]) -> Result<Option<Value>, AllocError>
+    ensures value { IfOk result (λ v. option_map view v ≡ value_of bytes.now) }
+    ensures memory { OnErr result (0 < length bytes.now) }
+{
+    match Value::from_slice(alloc, bytes) {
+        Ok(value) => Ok(Some(value)),
+        Err(error) if error.is_memory() => Err(AllocError),
+        Err(_) => Ok(None),
+    }
+}
+
+/// A whole number that is no larger than a limit, where the value is one.
+pub fn whole_up_to(value: &Value, limit: u64) -> Option<u64>
+    ensures { result ≡ whole_to limit (view value.now) }
+{
+    let number = value.as_u64()?;
+    if number <= limit { Some(number) } else { None }
+}
+
+/// A whole number, where the value is one, and the limit in place of one that is larger.
+pub fn whole_capped(value: &Value, limit: u64) -> Option<u64>
+    ensures { result ≡ capped limit (view value.now) }
+{
+    Some(value.as_u64()?.min(limit))
+}
+
+/// A label, and as well a place in a queue: a whole number of 16 bits.
+pub fn label(value: &Value) -> Option<Label>
+    ensures { result ≡ label (view value.now) }
+{
+    Some(whole_up_to(value, 65535)? as u16)
+}
+
+/// An item: a whole number of 32 bits.
+pub fn item(value: &Value) -> Option<Item>
+    ensures { result ≡ item_number (view value.now) }
+{
+    Some(whole_up_to(value, 4_294_967_295)? as u32)
+}
+
+/// The two values of a list of two.
+pub fn pair(value: &Value) -> Option<(&Value, &Value)>
+    ensures { option_map (λ p. (view p.0.now, view p.1.now)) result ≡ pair (view value.now) }
+{
+    pair_of(value.as_array()?.as_slice())
+}
+
+#[tactic(auto, using(crate::proofs::Pairs::fewer_are_no_pair, crate::proofs::Pairs::more_are_no_pair))]
+// The two values, where there are two.
+fn pair_of(values: &[Value]) -> Option<(&Value, &Value)>
+    ensures { option_map (λ p. (view p.0.now, view p.1.now)) result
+        ≡ pair_of_items (items_view values.now) }
+{
+    match values {
+        [first, second] => Some((first, second)),
+        _ => None,
+    }
+}
