@@ -1,0 +1,44 @@
+-- What the program writes for what it reads, and why it may not.
+-- Source: this project's own.
+use Rattle.std.specs.Prelude.{◌≡◌, ◌≢◌, ℕ, ◌<◌, Bool, List, [], ◌++◌, length, if◌then◌else◌, Ok, Err}
+use Rattle.stab_core.specs.declared.event.Event.{Event}
+use Rattle.stab_core.specs.Replay.{opening, replay, IsLawful}
+use Rattle.stab_core.specs.Trace.{traced_opening, traced_replay}
+use Rattle.stab_core.specs.Link.{IsReason}
+use Rattle.stab_core.specs.Texts.{link_text, origins_text}
+use Rattle.stab_script.specs.declared.link_job.LinkJob.{LinkJob as Job}
+use Rattle.stab_script.specs.declared.link_job.LinkJobFault.TheVariants.{Memory as out_of_memory}
+use Rattle.stab_script.specs.LinkJobs.{link_job}
+use Rattle.stab_cli.specs.declared.command.Task.{Task}
+use Rattle.stab_cli.specs.declared.command.Task.TheVariants.{Link}
+use Rattle.stab_cli.specs.declared.fault.CliFault.{CliFault}
+use Rattle.stab_cli.specs.declared.fault.CliFault.TheVariants.{CommandLine, Open, Read, TooLong, LinkJob, Start, Write, Memory}
+use Rattle.stab_cli.specs.Loading.{most_bytes}
+
+-- the text of a link job: the link after its replay, and with a trace the origins of what it delivered
+abbrev pub link_answer : Bool → Job → List ℕ
+link_answer trace job =
+    link_text (replay job.params (opening job.start) job.events)
+    ++ (if trace then origins_text (traced_replay job.params (traced_opening job.start) job.events).origins else [])
+
+-- these bytes are a link job with a lawful start, and this is its text
+pub record IsLinkAnswer (trace : Bool) (input text : List ℕ) : Type 0 where
+  pub job : Job
+  pub read : link_job input ≡ Ok job
+  pub lawful : IsLawful job.params job.start
+  pub the_text : text ≡ link_answer trace job
+
+-- the text of a task for these bytes
+abbrev pub IsAnswer : Task → List ℕ → List ℕ → Type 0
+IsAnswer (Link trace) input text = IsLinkAnswer trace input text
+
+-- why a task may have no answer for these bytes
+abbrev pub IsFault : List ℕ → CliFault → Type 0
+IsFault input CommandLine = ⊥
+IsFault input Open = ⊥
+IsFault input Read = Unit {0}
+IsFault input TooLong = most_bytes < length input
+IsFault input (LinkJob refusal) = refusal ≢ out_of_memory → link_job input ≡ Err refusal
+IsFault input (Start refusal) = (job : Job) × (link_job input ≡ Ok job) × IsReason job.params job.start refusal
+IsFault input Write = Unit {0}
+IsFault input Memory = Unit {0}

@@ -1,0 +1,61 @@
+use crate::fault::CliFault;
+use clap::{Arg, ArgAction, ArgMatches, Command, Error};
+use clap::error::ErrorKind;
+use std::alloc::{AllocError, Global};
+
+/// What the program is to do.
+#[derive(Clone, Copy, Debug, PartialEq, Eq, Hash)]
+pub enum Task {
+    /// Replay a link job, and with `trace` tell the origins of what it delivers.
+    Link { trace: bool },
+}
+
+/// The task that these words name, the program's name first, and its file where there is one.
+///
+/// No words are `link` without a file. Whatever `clap` refuses is a refused command line, a request for help included.
+pub fn parse(alloc: Global, words: &[String]) -> Result<(Task, Option<String>), CliFault> {
+    if words.len() <= 1 {
+        return Ok((Task::Link { trace: false }, None));
+    }
+    let command = command(alloc)?;
+    let matches = match command.try_get_matches_from(words) {
+        Ok(matches) => matches,
+        Err(error) => return Err(refusal(&error)),
+    };
+    match matches.subcommand() {
+        Some((_, inner)) => Ok((
+            Task::Link {
+                trace: inner.get_flag("trace"),
+            },
+            file_of(alloc, inner)?,
+        )),
+        None => Err(CliFault::CommandLine),
+    }
+}
+
+/// The command line, one level of subcommands.
+fn command<'a>(alloc: Global) -> Result<Command<'a>, AllocError> {
+    let trace = Arg::new(alloc, "trace")
+        .long("trace")
+        .action(ArgAction::SetTrue);
+    let file = Arg::new(alloc, "FILE");
+    let link = Command::new(alloc, "link").arg(trace)?.arg(file)?;
+    Command::new(alloc, "stab").subcommand(link)
+}
+
+/// The file that a subcommand names.
+fn file_of(alloc: Global, matches: &ArgMatches<'_>) -> Result<Option<String>, CliFault> {
+    match matches.get_str("FILE") {
+        None => Ok(None),
+        Some(path) => Ok(Some(String::from_str(alloc, path)?)),
+    }
+}
+
+/// The fault of words that are refused.
+fn refusal(error: &Error) -> CliFault {
+    if error.kind() == ErrorKind::OutOfMemory {
+        CliFault::Memory
+    } else {
+        CliFault::CommandLine
+    }
+}

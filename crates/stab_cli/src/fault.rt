@@ -1,0 +1,97 @@
+use stab_core::StartFault;
+use stab_script::LinkJobFault;
+use std::alloc::{AllocError, AllocFailed};
+use thiserror::Error;
+
+/// What the program prints behind `stab: ` where it cannot do its task.
+#[derive(Clone, Copy, Debug, PartialEq, Eq, Hash, Error)]
+pub enum CliFault {
+    /// The command line names no task; a request for help is one of these.
+    #[error("command line refused")]
+    CommandLine,
+    /// There is no such file, or it may not be opened.
+    #[error("file: cannot be opened")]
+    Open,
+    /// Reading failed, or was interrupted too often.
+    #[error("file: cannot be read")]
+    Read,
+    /// There are more than 16,777,216 bytes.
+    #[error("file: too long")]
+    TooLong,
+    /// The bytes are no link job.
+    #[error("{0}")]
+    LinkJob(LinkJobFault),
+    /// The job's start is refused.
+    #[error("{0}")]
+    Start(StartFault),
+    /// Writing failed; a part of the text may be written.
+    #[error("output: cannot be written")]
+    Write,
+    /// Memory was refused.
+    #[error("out of memory")]
+    Memory,
+}
+
+impl CliFault {
+    ghost use Rattle.std.specs.Prelude.{◌≡◌};
+    ghost use Rattle.stab_cli.specs.Statuses.{status_of};
+
+    /// The status that the program ends with: 1 for a file or job that is refused, 2 for a command line that is refused,
+    /// 3 for a start or a write that fails, and for want of memory anywhere.
+    pub fn status(&self) -> u8
+        ensures { result ≡ status_of self.now }
+    {
+        match self {
+            CliFault::CommandLine => 2,
+            CliFault::LinkJob(LinkJobFault::Memory)
+            | CliFault::Start(_)
+            | CliFault::Write
+            | CliFault::Memory => 3,
+            CliFault::Open | CliFault::Read | CliFault::TooLong | CliFault::LinkJob(_) => 1,
+        }
+    }
+}
+
+impl From<AllocError> for CliFault {
+    ghost use Rattle.std.specs.Prelude.{◌≡◌};
+    ghost use Rattle.stab_cli.specs.declared.fault.CliFault.TheVariants.{Memory};
+
+    ghost from_gives = { λ _ fault. fault ≡ Memory };
+
+    fn from(_refused: AllocError) -> CliFault {
+        CliFault::Memory
+    }
+}
+
+impl<T: Drop> From<AllocFailed<T>> for CliFault {
+    ghost use Rattle.std.specs.Prelude.{◌≡◌};
+    ghost use Rattle.stab_cli.specs.declared.fault.CliFault.TheVariants.{Memory};
+
+    ghost from_gives = { λ _ fault. fault ≡ Memory };
+
+    fn from(_refused: AllocFailed<T>) -> CliFault {
+        CliFault::Memory
+    }
+}
+
+impl From<LinkJobFault> for CliFault {
+    ghost use Rattle.std.specs.Prelude.{◌≡◌};
+    ghost use Rattle.stab_cli.specs.declared.fault.CliFault.TheVariants.{LinkJob};
+
+    ghost from_gives = { λ refusal fault. fault ≡ LinkJob refusal };
+
+    fn from(refusal: LinkJobFault) -> CliFault {
+        CliFault::LinkJob(refusal)
+    }
+}
+
+impl From<StartFault> for CliFault {
+    ghost use Rattle.std.specs.Prelude.{◌≡◌};
+    ghost use Rattle.stab_cli.specs.declared.fault.CliFault.TheVariants.{Start};
+
+    ghost from_gives = { λ refusal fault. fault ≡ Start refusal };
+
+    fn from(refusal: StartFault) -> CliFault {
+        CliFault::Start(refusal)
+    }
+}
