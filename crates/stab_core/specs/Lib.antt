@@ -6,3 +6,4 @@ pub mod Replay
 pub mod Picks
 pub mod LinkLaw
 pub mod Trace
+pub mod Reachable

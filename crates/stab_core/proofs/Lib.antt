@@ -1,0 +1,4 @@
+pub mod Replays
+pub mod Labels
+pub mod Circle
+pub mod FreeLabel
