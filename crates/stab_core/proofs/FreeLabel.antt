@@ -1,5 +1,5 @@
 -- Some item number up to 2c + 1 has a label that stands nowhere in a lawful start.
-use Rattle.std.proofs.Common.{◌≡◌, ◌≢◌, ℕ, zero, suc, ◌+◌, ◌*◌, ◌<◌, ◌≤◌, cond, eqb, ◌⊎◌, inl, inr, List, [], ◌∷◌, length, arith, eqb-true, length-append}
+use Rattle.std.proofs.Common.{◌≡◌, ◌≢◌, ℕ, zero, suc, ◌+◌, ◌*◌, ◌<◌, ◌≤◌, cond, eqb, ◌⊎◌, inl, inr, List, [], ◌∷◌, map, length, arith, eqb-true, length-append}
 use Rattle.std.proofs.lemmas.Bool.{cond_both, cases_Bool, eqb-false}
 use Rattle.std.proofs.lemmas.List.{length-map}
 use Rattle.stab_frames.specs.Parameters.{Parameters, AreLawful}
@@ -60,15 +60,15 @@ one_is_free number (suc n) used differ few =
 pub record IsFree (p : Parameters) (start : Start) (j : ℕ) : Type 0 where
   pub some_labels : 2 ≤ p.labels
   pub few : j < p.labels
-  pub absent : Absent (item_label p start.send_label j) (circle start.acks start.recv_label start.frames)
+  pub absent : Absent (item_label p start j) (circle start.acks start.recv_label (map (λ f. f.label) start.frames))
 
 -- a start holds at most 2c + 1 labels
-few_in_start : (p : Parameters) (start : Start) → IsLawful p start → length (circle start.acks start.recv_label start.frames) ≤ 2 * p.capacity + 1
+few_in_start : (p : Parameters) (start : Start) → IsLawful p start → length (circle start.acks start.recv_label (map (λ f. f.label) start.frames)) ≤ 2 * p.capacity + 1
 few_in_start p start lawful = simp (length-append, length-map) (omega arith)
 
 -- so one of the first 2c + 2 items has a label that stands nowhere in the start
 pub free_label : (p : Parameters) (start : Start) → AreLawful p → IsLawful p start → (j : ℕ) × (j ≤ 2 * p.capacity + 1) × IsFree p start j
 free_label p start parameters lawful =
-    let (j, within, absent) = one_is_free (item_label p start.send_label) (2 * p.capacity + 1) (circle start.acks start.recv_label start.frames)
-    (λ i k before last. labels_differ p start.send_label i k before (omega arith)) (few_in_start p start lawful) in
+    let (j, within, absent) = one_is_free (item_label p start) (2 * p.capacity + 1) (circle start.acks start.recv_label (map (λ f. f.label) start.frames))
+    (λ i k before last. labels_differ p start i k before (omega arith)) (few_in_start p start lawful) in
     (j, within, record { some_labels = omega arith; few = omega arith; absent = absent })

@@ -1,12 +1,13 @@
 -- The labels that the sender gives its items, one after the other.
-use Rattle.std.proofs.Common.{◌≡◌, ◌≢◌, ℕ, zero, suc, ◌+◌, ◌<◌, ◌≤◌, max, leb, ◌⊎◌, inl, inr, ⊎_elim, arith, leb-true, leb-false}
+use Rattle.std.proofs.Common.{◌≡◌, ◌≢◌, ℕ, zero, suc, ◌+◌, ◌<◌, ◌≤◌, max, leb, ◌⊎◌, inl, inr, ⊎_elim, arith, add-one, leb-true, leb-false}
 use Rattle.std.proofs.lemmas.Bool.{cond_both}
 use Rattle.stab_frames.specs.Parameters.{Parameters, next}
+use Rattle.stab_core.specs.declared.start.Start.{Start}
 
--- the label of item number i, where the sender starts with this label
-abbrev pub item_label : Parameters → ℕ → ℕ → ℕ
-item_label p first zero = first
-item_label p first (suc i) = next p (item_label p first i)
+-- the label of item number i
+abbrev pub item_label : Parameters → Start → ℕ → ℕ
+item_label p start zero = start.send_label
+item_label p start (suc i) = next p (item_label p start i)
 
 -- The labels count on from the first one; past the last label, or past a first one that is none, they start again at 0.
 abbrev Counted : ℕ → ℕ → ℕ → ℕ → Type 0
@@ -23,15 +24,15 @@ counted_next p first i label few counted =
     ⊎_elim (λ straight. inl (omega arith)) (λ again. inr (omega arith)) counted)
 
 -- the labels of the first items count on
-counted_label : (p : Parameters) (first i : ℕ) → i < p.labels → Counted p.labels first i (item_label p first i)
-counted_label p first zero few = inl (omega arith)
-counted_label p first (suc i) few = counted_next p first i (item_label p first i) few (counted_label p first i (omega arith))
+counted_label : (p : Parameters) (start : Start) (i : ℕ) → i < p.labels → Counted p.labels start.send_label i (item_label p start i)
+counted_label p start zero few = inl (omega arith)
+counted_label p start (suc i) few = counted_next p start.send_label i (item_label p start i) few (counted_label p start i (omega arith))
 
 -- no two of the first items have one label, as long as there are no more of them than labels
-pub labels_differ : (p : Parameters) (first i k : ℕ) → i < k → k < p.labels → item_label p first i ≢ item_label p first k
-labels_differ p first i k before few same =
-    let one : Counted p.labels first i (item_label p first i) = counted_label p first i (omega arith) in
-    let other : Counted p.labels first k (item_label p first k) = counted_label p first k few in
+pub labels_differ : (p : Parameters) (start : Start) (i k : ℕ) → i < k → k < p.labels → item_label p start i ≢ item_label p start k
+labels_differ p start i k before few same =
+    let one : Counted p.labels start.send_label i (item_label p start i) = counted_label p start i (omega arith) in
+    let other : Counted p.labels start.send_label k (item_label p start k) = counted_label p start k few in
     omega arith
 
 -- the next label is another one
@@ -40,3 +41,7 @@ next_differs p label some_labels =
     cond_both (leb p.labels (label + 1)) 0 (label + 1) (λ after. after ≢ label)
     (λ turned. let past : p.labels ≤ label + 1 = leb-true _ _ turned in omega arith)
     (λ not_yet. omega arith)
+
+-- the label after an item's label is that of the next item
+pub item_label-more : (p : Parameters) (start : Start) (i : ℕ) → item_label p start (i + 1) ≡ next p (item_label p start i)
+item_label-more p start i = rw (add-one i)
