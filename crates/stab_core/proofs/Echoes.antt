@@ -71,7 +71,12 @@ without-map f i [] = refl
 without-map f zero (x ∷ xs) = refl
 without-map f (suc i) (x ∷ xs) = ap (λ rest. f x ∷ rest) (without-map f i xs)
 
--- and so is taking the front
+-- where nothing was queued nothing is left
+pub left-nil : {A : Type 0} (keep : Bool) → left {A = A} keep [] ≡ []
+left-nil true = refl
+left-nil false = refl
+
+-- taking the front of a function's values is taking that of the places
 pub left-map : {A B : Type 0} (f : A → B) (keep : Bool) (xs : List A) → left keep (map f xs) ≡ map f (left keep xs)
 left-map f true xs = refl
 left-map f false [] = refl

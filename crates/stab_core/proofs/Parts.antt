@@ -67,28 +67,33 @@ below_at bound [] k d below within = absurd (omega arith)
 below_at bound (v ∷ vs) zero d below within = below.0
 below_at bound (v ∷ vs) (suc k) d below within = below_at bound vs k d below.1 (omega arith)
 
--- a place of an offered item among the places is that item among the offered ones
-pub sent_contains : (strays_below sent_below lowest i : ℕ) (places : List ℕ) (parts : Parts strays_below sent_below lowest places)
-    → Contains places (strays_below + i) → Contains parts.sent i
-sent_contains m n lowest i places parts contained =
-    elim (Contains-append_cases parts.strays (map (λ k. m + k) parts.sent) (m + i) (subst (λ (vs : List ℕ). Contains vs (m + i)) parts.joined contained)) [
-      | inl stray ↦
-          let below : slice_index_or parts.strays stray.0 (m + i) < m = below_at m parts.strays stray.0 (m + i) parts.strays_in_list stray.1 in
-          absurd (omega (arith, below, stray.2))
-      | inr offered ↦
-          let within : offered.0 < length parts.sent = rw length-map at offered.1 in
-          let same : m + slice_index_or parts.sent offered.0 i ≡ m + i =
-          sym (get_or-map (λ (k : ℕ). m + k) parts.sent offered.0 i (m + i) within) ∙ offered.2 in
-          (offered.0, within, omega (arith, same))
-    ]
+module _ {strays_below sent_below lowest : ℕ} {places : List ℕ} where
+  -- the place of an offered item among the places is that item among the offered ones
+  pub sent_contains : (i : ℕ) (parts : Parts strays_below sent_below lowest places) → Contains places (strays_below + i)
+      → Contains parts.sent i
+  sent_contains i parts contained =
+      let place : ℕ = strays_below + i in
+      let in_parts = subst (λ (vs : List ℕ). Contains vs place) parts.joined contained in
+      elim (Contains-append_cases parts.strays (map (λ k. strays_below + k) parts.sent) place in_parts) [
+        | inl stray ↦
+            let below : slice_index_or parts.strays stray.0 place < strays_below =
+            below_at strays_below parts.strays stray.0 place parts.strays_in_list stray.1 in
+            absurd (omega (arith, below, stray.2))
+        | inr offered ↦
+            let within : offered.0 < length parts.sent = rw length-map at offered.1 in
+            let same : strays_below + slice_index_or parts.sent offered.0 i ≡ place =
+            sym (get_or-map (λ (k : ℕ). strays_below + k) parts.sent offered.0 i place within) ∙ offered.2 in
+            (offered.0, within, omega (arith, same))
+      ]
 
--- what a function has at the places, it has at the strays and then at the offered items
-pub map-parts : {A : Type 0} (strays_below sent_below lowest : ℕ) (places : List ℕ) (parts : Parts strays_below sent_below lowest places)
-    (at_place at_stray at_sent : ℕ → A) → ((v : ℕ) → v < strays_below → at_place v ≡ at_stray v) → ((i : ℕ) → at_place (strays_below + i) ≡ at_sent i)
-    → map at_place places ≡ map at_stray parts.strays ++ map at_sent parts.sent
-map-parts m n lowest places parts at_place at_stray at_sent on_strays on_sent =
-    ap (map at_place) parts.joined
-    ∙ map-append at_place parts.strays (map (λ i. m + i) parts.sent)
-    ∙ ap₂ (λ front back. front ++ back)
-    (map_below at_place at_stray m parts.strays on_strays parts.strays_in_list)
-    (map-map at_place (λ (i : ℕ). m + i) parts.sent ∙ map_below (λ i. at_place (m + i)) at_sent n parts.sent (λ i _. on_sent i) parts.sent_in_list)
+  -- what a function has at the places, it has at the strays and then at the offered items
+  pub map-parts : {A : Type 0} (parts : Parts strays_below sent_below lowest places) (at_place at_stray at_sent : ℕ → A)
+      → ((v : ℕ) → v < strays_below → at_place v ≡ at_stray v) → ((i : ℕ) → at_place (strays_below + i) ≡ at_sent i)
+      → map at_place places ≡ map at_stray parts.strays ++ map at_sent parts.sent
+  map-parts parts at_place at_stray at_sent on_strays on_sent =
+      ap (map at_place) parts.joined
+      ∙ map-append at_place parts.strays (map (λ i. strays_below + i) parts.sent)
+      ∙ ap₂ (λ front back. front ++ back)
+      (map_below at_place at_stray strays_below parts.strays on_strays parts.strays_in_list)
+      (map-map at_place (λ (i : ℕ). strays_below + i) parts.sent
+      ∙ map_below (λ i. at_place (strays_below + i)) at_sent sent_below parts.sent (λ i _. on_sent i) parts.sent_in_list)

@@ -64,6 +64,12 @@ label_sent p start i =
     cond-false (ltb (stray_count start + i) (stray_count start)) _ _ (le-ltb (stray_count start + i) (stray_count start) (omega arith))
     ∙ ap (item_label p start) (omega arith)
 
+-- so the frame of item number i is the one with this item and its label
+pub frame_sent : (p : Parameters) (start : Start) (offered : List ℕ) (i : ℕ) {label : ℕ} → label ≡ item_label p start i
+    → frame_at p start offered (stray_count start + i) ≡ record { label = label; item = slice_index offered i }
+frame_sent p start offered i own_label =
+    ap₂ (λ l x. let f : Frame = record { label = l; item = x } in f) (label_sent p start i ∙ sym own_label) (item_sent start offered i)
+
 -- the trace says of item number i that it was sent
 pub origin_sent : (start : Start) (i : ℕ) → origin_at start (stray_count start + i) ≡ Sent i
 unfolding origin_at
