@@ -1,2 +1,15 @@
 pub mod Entries
 pub mod Tracing
+pub mod Replays
+pub mod Labels
+pub mod Places
+pub mod LinkLaws
+pub mod Parts
+pub mod Events
+pub mod Kept
+pub mod Reading
+pub mod Ordering
+pub mod Sources
+pub mod Echoes
+pub mod Circle
+pub mod FreeLabel

@@ -12,3 +12,4 @@ pub mod LinkInside
 pub mod Texts
 pub mod Tracer
 pub mod TracerInside
+pub mod Reachable

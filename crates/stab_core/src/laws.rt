@@ -1,2 +1,52 @@
 //! Laws over the definitions alone: they name no link, queue or list of the code, so that every layer above may use
 //! them for whatever runs the same steps. Each is a function with an empty body; its contract is the law.
+
+ghost use Rattle.std.specs.Prelude.{◌≡◌, ◌+◌, ◌≤◌, List, [], ◌∷◌, ◌++◌, length};
+ghost use Rattle.stab_core.specs.LinkLaw.{HalfLaw, LinkLaw};
+ghost use Rattle.stab_core.specs.LinkState.{LinkState};
+ghost use Rattle.stab_core.specs.Reachable.{IsReachable};
+ghost use Rattle.stab_core.specs.Replay.{IsLawful, opening, replay, start_items};
+ghost use Rattle.stab_core.specs.Step.{step};
+ghost use Rattle.stab_core.specs.Trace.{Explains, traced_opening, traced_replay};
+ghost use Rattle.stab_core.specs.declared.event.Event.{Event};
+ghost use Rattle.stab_core.specs.declared.start.Start.{Start};
+ghost use Rattle.stab_frames.specs.Parameters.{AreLawful, Parameters};
+
+/// A close is for good: whatever events come after it, the replay is the one that ended with it.
+pub fn closed_for_good()
+    ensures { (p : Parameters) (s : LinkState) (before after : List Event) → replay p s (before ++ Event.Close ∷ after) ≡ replay p s (before ++ Event.Close ∷ []) }
+{}
+
+/// A replay of two lists, one after the other, is the replay of the second from where the first one led.
+pub fn replays_join()
+    ensures { (p : Parameters) (s : LinkState) (xs ys : List Event) → replay p s (xs ++ ys) ≡ replay p (replay p s xs) ys }
+{}
+
+/// The step of a reachable state is reachable.
+pub fn reachable_steps()
+    ensures { (p : Parameters) (start : Start) (s : LinkState) (e : Event) → IsReachable p start s → IsReachable p start (step p s e) }
+{}
+
+/// Whatever happens to a link, all offered items but at most the last are acknowledged, and no others.
+pub fn acknowledged_were_offered()
+    ensures { (p : Parameters) (start : Start) (events : List Event) → let s = replay p (opening start) events in (s.acked ≤ length s.offered) × (length s.offered ≤ s.acked + 1) }
+{}
+
+/// Whatever happens to a link, and whatever stood in it, the trace goes through the states of the replay, and its origins
+/// explain what was delivered: strays first, then offered items, each part in its order and none twice.
+pub fn every_replay_is_explained()
+    ensures same_states { (p : Parameters) (start : Start) (events : List Event) → (traced_replay p (traced_opening start) events).state ≡ replay p (opening start) events }
+    ensures explained { (p : Parameters) (start : Start) (events : List Event) → let s = replay p (opening start) events in Explains (start_items start) s.offered (traced_replay p (traced_opening start) events).origins s.delivered }
+{}
+
+/// The link law: from a lawful start, with any labels in it, and after any events, at most `c` strays were delivered and
+/// then offered items in their order, each at most once; of the acknowledged ones only some among the first `2c + 1` can
+/// be missing.
+pub fn every_replay_obeys_the_link_law()
+    ensures { (p : Parameters) (start : Start) (events : List Event) → AreLawful p → IsLawful p start → let s = replay p (opening start) events in LinkLaw p.capacity (start_items start) s.offered s.acked s.delivered }
+{}
+
+/// The half law alone, which says nothing of missing items, and for which the number of labels does not matter.
+pub fn every_replay_obeys_the_half_law()
+    ensures { (p : Parameters) (start : Start) (events : List Event) → IsLawful p start → let s = replay p (opening start) events in HalfLaw p.capacity (start_items start) s.offered s.acked s.delivered }
+{}

@@ -1,10 +1,11 @@
 ghost use Rattle.std.specs.Prelude.{◌≡◌, ◌+◌, length, false, IfOk, IfErr, OnOk, OnErr};
-ghost use Rattle.stab_core.specs.Replay.{opening, IsLawful};
-ghost use Rattle.stab_core.specs.Trace.{Traced, strays_from, traced_opening, traced_step, traced_replay};
+ghost use Rattle.stab_core.specs.Replay.{opening, replay, start_items, IsLawful};
+ghost use Rattle.stab_core.specs.Trace.{Traced, strays_from, traced_opening, traced_step, traced_replay, Explains};
 ghost use Rattle.stab_core.specs.Link.{IsReason};
 ghost use Rattle.stab_core.specs.Tracer.{tracer_at, LeavesFrames};
 
 use crate::event::{Effect, Event};
+use crate::laws;
 use crate::link::Link;
 use crate::origin::Origin;
 use crate::start::{Start, StartFault};
@@ -13,7 +14,7 @@ use std::alloc::{AllocError, Global};
 use std::marker::Model;
 
 /// For each item that the link delivers in this replay, in order, where it comes from: its place in the start's frames, or
-/// its place in the offered list.
+/// its place in the offered list. All strays stand before all offered items, and places rise in each part.
 pub fn trace(
     alloc: Global,
     params: Params,
@@ -21,6 +22,8 @@ pub fn trace(
     events: &[Event],
 ) -> Result<Vec<Origin>, StartFault>
     ensures replay { IfOk result (λ origins. origins.items ≡ (traced_replay params (traced_opening start.now) events.now).origins) }
+    ensures explained { IfOk result (λ origins. let s = replay params (opening start.now) events.now in
+        Explains (start_items start.now) s.offered origins.items s.delivered) }
     ensures lawful { IfOk result (λ origins. IsLawful params start.now) }
     ensures refused { IfErr result (IsReason params start.now) }
 {
@@ -28,6 +31,7 @@ pub fn trace(
     for event in events {
         tracer.apply(*event)?;
     }
+    laws::every_replay_is_explained();
     Ok(tracer.into_origins())
 }
 

@@ -1,0 +1,158 @@
+-- The laws of a replay, read off the invariants.
+use Rattle.std.proofs.Common.{◌≡◌, ℕ, ◌+◌, ◌-◌, ◌≤◌, List, [], ◌∷◌, ◌++◌, map, length, slice_index, refl, sym, ◌∙◌, ap, subst, arith}
+use Rattle.std.proofs.lemmas.Bool.{cond_both, cond-true}
+use Rattle.std.proofs.lemmas.List.{length-map}
+use Rattle.stab_frames.specs.Parameters.{Parameters, AreLawful}
+use Rattle.stab_core.specs.declared.event.Event.{Event}
+use Rattle.stab_core.specs.declared.origin.Origin.TheVariants.{Stray, Sent}
+use Rattle.stab_core.specs.declared.start.Start.{Start}
+use Rattle.stab_core.specs.LinkState.{LinkState}
+use Rattle.stab_core.specs.Replay.{IsLawful, start_items, opening, replay}
+use Rattle.stab_core.specs.Step.{step}
+use Rattle.stab_core.specs.Picks.{Picks}
+use Rattle.stab_core.specs.LinkLaw.{HalfLaw, HalfLawAt, LinkLaw, NoneMissing}
+use Rattle.stab_core.specs.Trace.{Traced, traced_opening, traced_step, traced_replay, Explains}
+use Rattle.stab_core.proofs.Places.{RisesFrom-lower, AllBelow-higher, rising_few}
+use Rattle.stab_core.proofs.Parts.{Parts, parts_of, sent_contains, map-parts}
+use Rattle.stab_core.proofs.Sources.{stray_count, item_at, origin_at, item_sent, item_stray, origin_sent, origin_stray}
+use Rattle.stab_core.proofs.FreeLabel.{free_label}
+use Rattle.stab_core.proofs.Events.{Invariant, every_replay_keeps}
+
+-- the trace steps as the link does
+traced_step_state : (p : Parameters) (t : Traced) (e : Event) → (traced_step p t e).state ≡ step p t.state e
+traced_step_state p t e =
+    cond_both t.state.closed t _ (λ (next_trace : Traced). next_trace.state ≡ step p t.state e)
+    (λ closed. sym (cond-true t.state.closed _ _ closed)) (λ _. refl)
+
+-- so the state of a traced replay is that of the replay
+pub traced_replay_state : (p : Parameters) (t : Traced) (events : List Event)
+    → (traced_replay p t events).state ≡ replay p t.state events
+traced_replay_state p t [] = refl
+traced_replay_state p t (e ∷ events) =
+    traced_replay_state p (traced_step p t e) events ∙ ap (λ s. replay p s events) (traced_step_state p t e)
+
+module _ (p : Parameters) (start : Start) (t : Traced) (inv : Invariant p start t) where
+  -- the taken places are those of strays, then those of offered items
+  taken_parts : Parts (stray_count start) (length t.state.offered) 0 inv.taken
+  taken_parts =
+      let strays : ℕ = stray_count start in
+      let size : ℕ = length t.state.offered in
+      let all_below = AllBelow-higher inv.bound (strays + size) inv.taken inv.kept.delivery.in_list inv.kept.delivery.below in
+      parts_of strays size 0 inv.taken inv.kept.delivery.rises all_below
+
+  -- the strays that were delivered
+  stray_items : List ℕ
+  stray_items = map (slice_index (start_items start)) taken_parts.strays
+
+  -- the offered items that were delivered
+  sent_items : List ℕ
+  sent_items = map (slice_index t.state.offered) taken_parts.sent
+
+  -- the delivered list is strays, then offered items
+  delivered_parts : t.state.delivered ≡ stray_items ++ sent_items
+  unfolding stray_items sent_items
+  delivered_parts =
+      inv.kept.delivery.delivered_are
+      ∙ map-parts taken_parts (item_at start t.state.offered) (slice_index (start_items start)) (slice_index t.state.offered)
+      (item_stray start t.state.offered) (item_sent start t.state.offered)
+
+  -- the origins are those of strays, then those of offered items
+  origin_parts : t.origins ≡ map Stray taken_parts.strays ++ map Sent taken_parts.sent
+  origin_parts =
+      inv.taken_are ∙ map-parts taken_parts (origin_at start) Stray Sent (origin_stray start) (origin_sent start)
+
+  -- the strays are picked from the start's items
+  strays_picked : Picks (start_items start) taken_parts.strays stray_items
+  unfolding stray_items
+  strays_picked = record { rising = taken_parts.strays_rise; in_list = taken_parts.strays_in_list; the_items = refl }
+
+  -- the others are picked from the offered list
+  sent_picked : Picks t.state.offered taken_parts.sent sent_items
+  unfolding sent_items
+  sent_picked =
+      record {
+        rising = RisesFrom-lower 0 (0 - stray_count start) taken_parts.sent (omega arith) taken_parts.sent_rise;
+        in_list = taken_parts.sent_in_list;
+        the_items = refl;
+      }
+
+  -- the origins explain the delivered list
+  explained : Explains (start_items start) t.state.offered t.origins t.state.delivered
+  explained =
+      record {
+        stray_places = taken_parts.strays;
+        places = taken_parts.sent;
+        strays = stray_items;
+        taken = sent_items;
+        in_order = origin_parts;
+        parts = delivered_parts;
+        strays_picked = strays_picked;
+        taken_picked = sent_picked;
+      }
+
+  -- there are at most as many strays as the start may hold
+  few_strays : IsLawful p start → length stray_items ≤ p.capacity
+  unfolding stray_items
+  few_strays lawful =
+      let strays : ℕ = stray_count start in
+      let places : List ℕ = taken_parts.strays in
+      let few : length places + 0 ≤ strays = rising_few 0 strays places (omega arith) taken_parts.strays_rise taken_parts.strays_in_list in
+      let few_in_start : strays ≤ p.capacity = simp length-map lawful.frames in
+      simp length-map (omega arith)
+
+  -- the half law holds at the places of the offered items that were taken
+  half_law : IsLawful p start
+      → HalfLawAt p.capacity (start_items start) t.state.offered t.state.acked t.state.delivered taken_parts.sent
+  half_law lawful =
+      record {
+        acked_were_offered = inv.kept.sending.acked_were_offered;
+        one_waits_at_most = inv.kept.sending.one_waits_at_most;
+        strays = stray_items;
+        stray_places = taken_parts.strays;
+        taken = sent_items;
+        parts = delivered_parts;
+        few_strays = few_strays lawful;
+        strays_picked = strays_picked;
+        taken_picked = sent_picked;
+      }
+
+  -- from a free item number on none is missing there, so none from 2c + 1 on
+  none_missing : AreLawful p → IsLawful p start → NoneMissing p.capacity t.state.acked taken_parts.sent
+  none_missing parameters lawful i late passed =
+      let (j, within, free) = free_label p start parameters lawful in
+      sent_contains i taken_parts ((inv.kept.readings j free).none_missing i (omega arith) passed)
+
+-- every replay is explained by its origins
+pub replay_explained : (p : Parameters) (start : Start) (events : List Event)
+    → let s = replay p (opening start) events in
+    Explains (start_items start) s.offered (traced_replay p (traced_opening start) events).origins s.delivered
+replay_explained p start events =
+    let t : Traced = traced_replay p (traced_opening start) events in
+    subst (λ (s : LinkState). Explains (start_items start) s.offered t.origins s.delivered)
+    (traced_replay_state p (traced_opening start) events) (explained p start t (every_replay_keeps p start events))
+
+-- every replay acknowledged only what was offered, and all of it but at most the last
+pub replay_acked : (p : Parameters) (start : Start) (events : List Event)
+    → let s = replay p (opening start) events in (s.acked ≤ length s.offered) × (length s.offered ≤ s.acked + 1)
+replay_acked p start events =
+    let sending = (every_replay_keeps p start events).kept.sending in
+    subst (λ (s : LinkState). (s.acked ≤ length s.offered) × (length s.offered ≤ s.acked + 1))
+    (traced_replay_state p (traced_opening start) events) (sending.acked_were_offered, sending.one_waits_at_most)
+
+-- every replay from a lawful start obeys the half law
+pub replay_half_law : (p : Parameters) (start : Start) (events : List Event) → IsLawful p start
+    → let s = replay p (opening start) events in HalfLaw p.capacity (start_items start) s.offered s.acked s.delivered
+replay_half_law p start events lawful =
+    let t : Traced = traced_replay p (traced_opening start) events in
+    subst (λ (s : LinkState). HalfLaw p.capacity (start_items start) s.offered s.acked s.delivered)
+    (traced_replay_state p (traced_opening start) events) (_, half_law p start t (every_replay_keeps p start events) lawful)
+
+-- every replay from a lawful start obeys the link law
+pub replay_link_law : (p : Parameters) (start : Start) (events : List Event) → AreLawful p → IsLawful p start
+    → let s = replay p (opening start) events in LinkLaw p.capacity (start_items start) s.offered s.acked s.delivered
+replay_link_law p start events parameters lawful =
+    let t : Traced = traced_replay p (traced_opening start) events in
+    let inv : Invariant p start t = every_replay_keeps p start events in
+    subst (λ (s : LinkState). LinkLaw p.capacity (start_items start) s.offered s.acked s.delivered)
+    (traced_replay_state p (traced_opening start) events)
+    (_, half_law p start t inv lawful, none_missing p start t inv parameters lawful)
