@@ -1,5 +1,5 @@
--- The labels that stand on the circle of a link, read against the way they travel: the acknowledgements from the front, the
--- receiver's label, the frames' labels from the front. So what the sender put there last stands at the end.
+-- The labels on the circle of a link, from what the sender will see next to what it put there last: the acknowledgements
+-- from the front, the receiver's label, the frames' labels from the front.
 use Rattle.std.proofs.Common.{◌≡◌, ◌≢◌, ℕ, Bool, true, false, refl, List, [], ◌∷◌, ◌++◌, append_assoc}
 use Rattle.std.specs.List.{AllByRecursion as Each}
 use Rattle.stab_core.specs.Step.{left}
@@ -17,7 +17,8 @@ Absent label entries = Each (λ x. x ≢ label) entries
 abbrev pub AllAre : ℕ → List ℕ → Type 0
 AllAre label entries = Each (λ x. x ≡ label) entries
 
--- once this label stands there, all entries behind it are this label
+-- Once this label stands there, all entries behind it are this label. Read from the other end, where the sender puts its
+-- frames, these are copies of the label and then labels that differ from it.
 abbrev pub TurnsTo : ℕ → List ℕ → Type 0
 TurnsTo label [] = Unit {0}
 TurnsTo label (x ∷ xs) = (x ≡ label → AllAre label xs) × TurnsTo label xs
@@ -32,7 +33,8 @@ TurnsTo-echo label (repeat {x = x} echo) turns =
 -- the same label once more at the end
 pub TurnsTo-push : (label : ℕ) (xs : List ℕ) → TurnsTo label xs → TurnsTo label (xs ++ label ∷ [])
 TurnsTo-push label [] turns = ((λ same. tt), tt)
-TurnsTo-push label (x ∷ xs) turns = ((λ same. Each-push (λ y. y ≡ label) xs label (turns.0 same) refl), TurnsTo-push label xs turns.1)
+TurnsTo-push label (x ∷ xs) turns =
+    ((λ same. Each-push (λ y. y ≡ label) xs label (turns.0 same) refl), TurnsTo-push label xs turns.1)
 
 -- a circle without the label turns to it
 pub TurnsTo-absent : (label : ℕ) (xs : List ℕ) → Absent label xs → TurnsTo label xs
@@ -44,12 +46,14 @@ pub absent_other : (label other : ℕ) (xs : List ℕ) → other ≢ label → A
 absent_other label other xs differs all = Each-weaker (λ x. x ≡ label) (λ x. x ≢ other) (λ x is same. differs (cc)) xs all
 
 -- what holds of each label on the circle holds of the receiver's
-pub at_receiver : (P : ℕ → Type 0) (acks : List ℕ) (recv_label : ℕ) (labels : List ℕ) → Each P (circle acks recv_label labels) → P recv_label
+pub at_receiver : (P : ℕ → Type 0) (acks : List ℕ) (recv_label : ℕ) (labels : List ℕ)
+    → Each P (circle acks recv_label labels) → P recv_label
 at_receiver P [] recv_label labels each = each.0
 at_receiver P (a ∷ acks) recv_label labels each = at_receiver P acks recv_label labels each.1
 
 -- and of each frame's label
-pub at_frames : (P : ℕ → Type 0) (acks : List ℕ) (recv_label : ℕ) (labels : List ℕ) → Each P (circle acks recv_label labels) → Each P labels
+pub at_frames : (P : ℕ → Type 0) (acks : List ℕ) (recv_label : ℕ) (labels : List ℕ)
+    → Each P (circle acks recv_label labels) → Each P labels
 at_frames P [] recv_label labels each = each.1
 at_frames P (a ∷ acks) recv_label labels each = at_frames P acks recv_label labels each.1
 
@@ -78,4 +82,5 @@ echo_of_taking false acks recv_label label labels = echo_behind acks (skip (echo
 pub echo_of_answer : (acks : List ℕ) (recv_label : ℕ) (labels : List ℕ)
     → Echoes (circle acks recv_label labels) (circle (acks ++ recv_label ∷ []) recv_label labels)
 echo_of_answer acks recv_label labels =
-    rw (append_assoc acks (recv_label ∷ []) (recv_label ∷ labels)) (echo_behind acks (repeat (echo_same (recv_label ∷ labels))))
+    rw (append_assoc acks (recv_label ∷ []) (recv_label ∷ labels))
+    (echo_behind acks (repeat (echo_same (recv_label ∷ labels))))

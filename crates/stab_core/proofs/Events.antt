@@ -74,7 +74,8 @@ module _ (p : Parameters) (start : Start) where
         bound = inv.bound;
         kept = kept_send p start holding inv.kept;
         queued_are =
-            ap₂ (λ origins origin. origins ++ origin ∷ []) inv.queued_are (ap Sent last ∙ sym (origin_sent start t.state.acked))
+            ap₂ (λ origins origin. origins ++ origin ∷ []) inv.queued_are
+            (ap Sent last ∙ sym (origin_sent start t.state.acked))
             ∙ sym (map_push (origin_at start) inv.queued place);
         taken_are = inv.taken_are;
       }
@@ -103,8 +104,8 @@ module _ (p : Parameters) (start : Start) where
       }
 
   -- the receiver has taken the front frame's label before
-  received_old : (keep : Bool) (s : LinkState) {origins : List Origin} (place : ℕ) (queued : List ℕ) {taken : List ℕ} {bound : ℕ}
-      → origins ≡ map (origin_at start) taken
+  received_old : (keep : Bool) (s : LinkState) {origins : List Origin} (place : ℕ) (queued : List ℕ) {taken : List ℕ}
+      {bound : ℕ} → origins ≡ map (origin_at start) taken
       → Kept p start (record s { frames = map (frame_at p start s.offered) (place ∷ queued) }) (place ∷ queued) taken bound
       → Invariant p start (record {
         state = record s { frames = left keep (map (frame_at p start s.offered) (place ∷ queued)) };
@@ -123,8 +124,8 @@ module _ (p : Parameters) (start : Start) where
       }
 
   -- the receiver takes the front frame
-  received_fresh : (keep : Bool) (s : LinkState) {origins : List Origin} (place : ℕ) (queued : List ℕ) {taken : List ℕ} {bound : ℕ}
-      → label_at p start place ≢ s.recv_label → origins ≡ map (origin_at start) taken
+  received_fresh : (keep : Bool) (s : LinkState) {origins : List Origin} (place : ℕ) (queued : List ℕ) {taken : List ℕ}
+      {bound : ℕ} → label_at p start place ≢ s.recv_label → origins ≡ map (origin_at start) taken
       → Kept p start (record s { frames = map (frame_at p start s.offered) (place ∷ queued) }) (place ∷ queued) taken bound
       → Invariant p start (record {
         state = record s {
@@ -142,7 +143,8 @@ module _ (p : Parameters) (start : Start) where
         bound = place + 1;
         kept = kept_fresh p start keep fresh kept;
         queued_are = left-map (origin_at start) keep (place ∷ queued);
-        taken_are = ap (λ list. list ++ origin_at start place ∷ []) taken_are ∙ sym (map_push (origin_at start) taken place);
+        taken_are =
+            ap (λ list. list ++ origin_at start place ∷ []) taken_are ∙ sym (map_push (origin_at start) taken place);
       }
 
   -- the front frame is received, where there is one
@@ -216,7 +218,8 @@ module _ (p : Parameters) (start : Start) where
   -- a frame vanishes
   after_lose_frame : (i : ℕ) (t : Traced) → Invariant p start t → Invariant p start (after p t (LoseFrame i))
   after_lose_frame i t inv =
-      let frames_are = ap (without i) inv.kept.transit.frames_are ∙ without-map (frame_at p start t.state.offered) i inv.queued in
+      let of_places = without-map (frame_at p start t.state.offered) i inv.queued in
+      let frames_are = ap (without i) inv.kept.transit.frames_are ∙ of_places in
       record {
         queued = without i inv.queued;
         taken = inv.taken;
@@ -246,7 +249,8 @@ module _ (p : Parameters) (start : Start) where
   -- every step keeps them: a closed link stays as it is
   step_keeps : (t : Traced) (e : Event) → Invariant p start t → Invariant p start (traced_step p t e)
   step_keeps t e inv =
-      cond_both t.state.closed t (record { state = step p t.state e; queued = queued_after p t e; origins = origins_after t e })
+      cond_both t.state.closed t
+      (record { state = step p t.state e; queued = queued_after p t e; origins = origins_after t e })
       (Invariant p start) (λ _. inv)
       (λ still_open. rw (cond-false t.state.closed t.state (open_step p t.state e) still_open) (after_event t e inv))
 

@@ -44,7 +44,8 @@ module _ (p : Parameters) (start : Start) where
 
   -- an offer to an idle sender
   pub kept_offer : {s : LinkState} {queued taken : List ℕ} {bound : ℕ} (item : ℕ) → is_idle s ≡ true
-      → Kept p start s queued taken bound → Kept p start (record s { offered = s.offered ++ item ∷ [] }) queued taken bound
+      → Kept p start s queued taken bound
+      → Kept p start (record s { offered = s.offered ++ item ∷ [] }) queued taken bound
   kept_offer item idle kept =
       record {
         sending = sending_offer p start item (eqb-true _ _ idle) kept.sending;
@@ -120,7 +121,8 @@ module _ (p : Parameters) (start : Start) where
       }) queued taken bound
   kept_acked keep s {label} {acks} {queued} {taken} holding matches kept =
       let own : label ≡ item_label p start s.acked = matches ∙ kept.sending.own_label in
-      let echo = subst (λ (front : ℕ). Echoes (front ∷ acks) (left keep (label ∷ acks))) own (echo_left keep (label ∷ acks)) in
+      let after : List ℕ = left keep (label ∷ acks) in
+      let echo = subst (λ (front : ℕ). Echoes (front ∷ acks) after) own (echo_left keep (label ∷ acks)) in
       record {
         sending = sending_acked p start (eqb-true _ _ holding) kept.sending;
         transit = kept.transit;

@@ -9,7 +9,7 @@ use Rattle.stab_core.specs.Step.{left}
 use Rattle.stab_core.proofs.Labels.{item_label, item_label-more}
 use Rattle.stab_core.proofs.Echoes.{Echoes, echo_left}
 use Rattle.stab_core.proofs.Places.{NeverFalls, NeverFalls-lower, NeverFalls-echo, NeverFalls-push, RisesFrom-push, AllBelow-higher, AllBelow-echo, AllBelow-push, map_below}
-use Rattle.stab_core.proofs.Sources.{stray_count, item_at, label_at, frame_at, frame_sent, item_kept, frame_kept, start_places, start_places_never_fall, start_places_below, start_frames}
+use Rattle.stab_core.proofs.Sources.{stray_count, item_at, label_at, frame, frame_at, frame_sent, item_kept, frame_kept, start_places, start_places_never_fall, start_places_below, start_frames}
 
 -- The sender: all offered items but at most the last are acknowledged, and its label is that of the next item.
 pub record Sending (p : Parameters) (start : Start) (offered : List ℕ) (acked send_label : ℕ) : Type 0 where
@@ -18,7 +18,8 @@ pub record Sending (p : Parameters) (start : Start) (offered : List ℕ) (acked 
   pub own_label : send_label ≡ item_label p start acked
 
 -- The queue of frames: they are the frames of these places.
-pub record InTransit (p : Parameters) (start : Start) (offered : List ℕ) (frames : List Frame) (queued : List ℕ) : Type 0 where
+pub record InTransit (p : Parameters) (start : Start) (offered : List ℕ) (frames : List Frame) (queued : List ℕ)
+    : Type 0 where
   pub frames_are : frames ≡ map (frame_at p start offered) queued
   pub in_list : AllBelow (stray_count start + length offered) queued
 
@@ -84,12 +85,13 @@ module _ (p : Parameters) (start : Start) where
   -- the sender sends the frame of the item that waits
   pub transit_send : {offered queued : List ℕ} {frames : List Frame} {acked send_label : ℕ} → length offered ≡ acked + 1
       → Sending p start offered acked send_label → InTransit p start offered frames queued
-      → InTransit p start offered (frames ++ record { label = send_label; item = slice_index offered acked } ∷ [])
+      → InTransit p start offered (frames ++ frame send_label (slice_index offered acked) ∷ [])
       (queued ++ (stray_count start + acked) ∷ [])
   transit_send {offered} {queued} {acked = acked} holding sending transit =
       let place : ℕ = stray_count start + acked in
       record {
-        frames_are = ap₂ (λ fs f. fs ++ f ∷ []) transit.frames_are (sym (frame_sent p start offered acked sending.own_label))
+        frames_are =
+            ap₂ (λ fs f. fs ++ f ∷ []) transit.frames_are (sym (frame_sent p start offered acked sending.own_label))
             ∙ sym (map_push (frame_at p start offered) queued place);
         in_list = AllBelow-push (stray_count start + length offered) place queued transit.in_list (omega arith);
       }
@@ -163,7 +165,7 @@ module _ (p : Parameters) (start : Start) where
         never_falls = NeverFalls-echo (bound - 1) echo delivery.never_falls;
       }
 
-  -- A frame whose label is not the receiver's lies above all that was taken: the place taken last has the receiver's label.
+  -- a frame whose label is not the receiver's lies above all that was taken, since the place taken last has that label
   fresh_is_above : {offered : List ℕ} {recv_label : ℕ} {delivered : List ℕ} {place : ℕ} {queued taken : List ℕ} {bound : ℕ}
       → label_at p start place ≢ recv_label → Delivery p start offered recv_label delivered (place ∷ queued) taken bound
       → bound ≤ place
@@ -172,8 +174,8 @@ module _ (p : Parameters) (start : Start) where
       omega (arith, delivery.never_falls.0)
 
   -- such a frame is taken, and stays at the front or goes
-  pub delivery_fresh : (keep : Bool) {offered : List ℕ} {recv_label : ℕ} {delivered : List ℕ} {place : ℕ} {queued taken : List ℕ}
-      {bound : ℕ} → label_at p start place ≢ recv_label → place < stray_count start + length offered
+  pub delivery_fresh : (keep : Bool) {offered : List ℕ} {recv_label : ℕ} {delivered : List ℕ} {place : ℕ}
+      {queued taken : List ℕ} {bound : ℕ} → label_at p start place ≢ recv_label → place < stray_count start + length offered
       → Delivery p start offered recv_label delivered (place ∷ queued) taken bound
       → Delivery p start offered (label_at p start place) (delivered ++ item_at start offered place ∷ [])
       (left keep (place ∷ queued)) (taken ++ place ∷ []) (place + 1)

@@ -169,8 +169,9 @@ module _ (p : Parameters) (start : Start) (j : ℕ) (free : IsFree p start j) wh
             let is_last : acked ≡ i = omega arith in
             let own_turn : j ≤ acked = omega arith in
             let label : ℕ = item_label p start acked in
-            let same : recv_label ≡ label =
-            at_receiver (λ x. x ≡ label) (label ∷ acks) recv_label (map (label_at p start) queued) (all_are_own own_turn reading) in
+            let labels : List ℕ = map (label_at p start) queued in
+            let all : AllAre label (circle (label ∷ acks) recv_label labels) = all_are_own own_turn reading in
+            let same : recv_label ≡ label = at_receiver (λ x. x ≡ label) (label ∷ acks) recv_label labels all in
             subst (λ (k : ℕ). Contains taken (stray_count start + k)) is_last (reading.remembered own_turn same)
       ]
 
@@ -186,9 +187,9 @@ module _ (p : Parameters) (start : Start) (j : ℕ) (free : IsFree p start j) wh
             let turn : j ≡ acked + 1 = omega arith in
             subst (λ (item : ℕ). Absent (item_label p start item) labels) turn (reading.early before)
         | inr begun ↦
-            let differs : item_label p start (acked + 1) ≢ label =
-            rw (item_label-more p start acked) (next_differs p label free.some_labels) in
-            absent_other label (item_label p start (acked + 1)) labels differs (all_are_own begun reading)
+            let after : ℕ = item_label p start (acked + 1) in
+            let differs : after ≢ label = rw (item_label-more p start acked) (next_differs p label free.some_labels) in
+            absent_other label after labels differs (all_are_own begun reading)
       ]
 
   -- the sender's own label is acknowledged, and stays at the front or goes; the next item's turn begins
