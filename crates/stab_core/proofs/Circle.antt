@@ -3,7 +3,7 @@
 use Rattle.std.proofs.Common.{◌≡◌, ◌≢◌, ℕ, Bool, true, false, refl, List, [], ◌∷◌, ◌++◌, append_assoc}
 use Rattle.std.specs.List.{AllByRecursion as Each}
 use Rattle.stab_core.specs.Step.{left}
-use Rattle.stab_core.proofs.Echoes.{Echoes, nothing, skip, repeat, again, echo_same, echo_behind, echo_before, Each-echo, Each-push, Each-weaker}
+use Rattle.stab_core.proofs.InOrder.{InOrder, nothing, skip, repeat, again, in_order_same, in_order_behind, in_order_before, Each-in_order, Each-push, Each-weaker}
 
 -- the labels on the circle, where the frames have these labels
 abbrev pub circle : List ℕ → ℕ → List ℕ → List ℕ
@@ -23,12 +23,12 @@ abbrev pub TurnsTo : ℕ → List ℕ → Type 0
 TurnsTo label [] = Unit {0}
 TurnsTo label (x ∷ xs) = (x ≡ label → AllAre label xs) × TurnsTo label xs
 
--- a circle that turns to a label does so in an echo
-pub TurnsTo-echo : (label : ℕ) {xs ys : List ℕ} → Echoes xs ys → TurnsTo label xs → TurnsTo label ys
-TurnsTo-echo label nothing turns = tt
-TurnsTo-echo label (skip echo) turns = TurnsTo-echo label echo turns.1
-TurnsTo-echo label (repeat {x = x} echo) turns =
-    ((λ same. Each-echo (λ y. y ≡ label) echo (same, turns.0 same)), TurnsTo-echo label echo turns)
+-- entries missing or repeated, the circle still turns to the label
+pub TurnsTo-in_order : (label : ℕ) {xs ys : List ℕ} → InOrder xs ys → TurnsTo label xs → TurnsTo label ys
+TurnsTo-in_order label nothing turns = tt
+TurnsTo-in_order label (skip in_order) turns = TurnsTo-in_order label in_order turns.1
+TurnsTo-in_order label (repeat {x = x} in_order) turns =
+    ((λ same. Each-in_order (λ y. y ≡ label) in_order (same, turns.0 same)), TurnsTo-in_order label in_order turns)
 
 -- the same label once more at the end
 pub TurnsTo-push : (label : ℕ) (xs : List ℕ) → TurnsTo label xs → TurnsTo label (xs ++ label ∷ [])
@@ -62,25 +62,25 @@ pub circle_sent : (acks : List ℕ) (recv_label : ℕ) (labels : List ℕ) (labe
     → circle acks recv_label labels ++ label ∷ [] ≡ circle acks recv_label (labels ++ label ∷ [])
 circle_sent acks recv_label labels label = append_assoc acks (recv_label ∷ labels) (label ∷ [])
 
--- frames that vanish, or are kept, leave an echo
-pub echo_of_frames : (acks : List ℕ) (recv_label : ℕ) {labels fewer : List ℕ} → Echoes labels fewer
-    → Echoes (circle acks recv_label labels) (circle acks recv_label fewer)
-echo_of_frames acks recv_label echo = echo_behind acks (again echo)
+-- frames that vanish, or are kept, leave the circle in order
+pub frames_in_order : (acks : List ℕ) (recv_label : ℕ) {labels fewer : List ℕ} → InOrder labels fewer
+    → InOrder (circle acks recv_label labels) (circle acks recv_label fewer)
+frames_in_order acks recv_label in_order = in_order_behind acks (again in_order)
 
 -- so do acknowledgements
-pub echo_of_acks : {acks fewer : List ℕ} (recv_label : ℕ) (labels : List ℕ) → Echoes acks fewer
-    → Echoes (circle acks recv_label labels) (circle fewer recv_label labels)
-echo_of_acks recv_label labels echo = echo_before (recv_label ∷ labels) echo
+pub acks_in_order : {acks fewer : List ℕ} (recv_label : ℕ) (labels : List ℕ) → InOrder acks fewer
+    → InOrder (circle acks recv_label labels) (circle fewer recv_label labels)
+acks_in_order recv_label labels in_order = in_order_before (recv_label ∷ labels) in_order
 
--- a frame that the receiver takes leaves an echo, whether it stays at the front or goes
-pub echo_of_taking : (keep : Bool) (acks : List ℕ) (recv_label label : ℕ) (labels : List ℕ)
-    → Echoes (circle acks recv_label (label ∷ labels)) (circle acks label (left keep (label ∷ labels)))
-echo_of_taking true acks recv_label label labels = echo_behind acks (skip (repeat (echo_same (label ∷ labels))))
-echo_of_taking false acks recv_label label labels = echo_behind acks (skip (echo_same (label ∷ labels)))
+-- so does a frame that the receiver takes, whether it stays at the front or goes
+pub taking_in_order : (keep : Bool) (acks : List ℕ) (recv_label label : ℕ) (labels : List ℕ)
+    → InOrder (circle acks recv_label (label ∷ labels)) (circle acks label (left keep (label ∷ labels)))
+taking_in_order true acks recv_label label labels = in_order_behind acks (skip (repeat (in_order_same (label ∷ labels))))
+taking_in_order false acks recv_label label labels = in_order_behind acks (skip (in_order_same (label ∷ labels)))
 
--- the receiver's answer leaves an echo
-pub echo_of_answer : (acks : List ℕ) (recv_label : ℕ) (labels : List ℕ)
-    → Echoes (circle acks recv_label labels) (circle (acks ++ recv_label ∷ []) recv_label labels)
-echo_of_answer acks recv_label labels =
+-- and so does the receiver's answer
+pub answer_in_order : (acks : List ℕ) (recv_label : ℕ) (labels : List ℕ)
+    → InOrder (circle acks recv_label labels) (circle (acks ++ recv_label ∷ []) recv_label labels)
+answer_in_order acks recv_label labels =
     rw (append_assoc acks (recv_label ∷ []) (recv_label ∷ labels))
-    (echo_behind acks (repeat (echo_same (recv_label ∷ labels))))
+    (in_order_behind acks (repeat (in_order_same (recv_label ∷ labels))))

@@ -13,8 +13,8 @@ use Rattle.stab_core.specs.declared.start.Start.{Start}
 use Rattle.stab_core.specs.LinkState.{LinkState, is_idle, is_holding, current_frame, has_room}
 use Rattle.stab_core.specs.Step.{open_step, step, left, receives_frame, receives_ack}
 use Rattle.stab_core.specs.Trace.{Traced, traced_opening, traced_step, traced_replay, queued_after, origins_after, taken_origin}
-use Rattle.stab_core.proofs.Echoes.{echo_left, echo_without, left-nil, left-map, without-map}
-use Rattle.stab_core.proofs.Circle.{echo_of_acks, echo_of_answer}
+use Rattle.stab_core.proofs.InOrder.{in_order_left, in_order_without, left-nil, left-map, without-map}
+use Rattle.stab_core.proofs.Circle.{acks_in_order, answer_in_order}
 use Rattle.stab_core.proofs.Sources.{stray_count, item_at, label_at, frame_at, origin_at, origin_sent, start_places, start_origins}
 use Rattle.stab_core.proofs.Kept.{Kept, kept_open, kept_offer, kept_send, kept_fewer_frames, kept_acks, kept_fresh, kept_acked, kept_close}
 
@@ -118,7 +118,7 @@ module _ (p : Parameters) (start : Start) where
         queued = left keep (place ∷ queued);
         taken = taken;
         bound = bound;
-        kept = kept_fewer_frames p start frames_are (echo_left keep (place ∷ queued)) kept;
+        kept = kept_fewer_frames p start frames_are (in_order_left keep (place ∷ queued)) kept;
         queued_are = left-map (origin_at start) keep (place ∷ queued);
         taken_are = append-nil origins ∙ taken_are;
       }
@@ -197,7 +197,7 @@ module _ (p : Parameters) (start : Start) where
   after_send_ack t inv =
       cond_both (has_room p t.state.acks) (record t.state { acks = t.state.acks ++ t.state.recv_label ∷ [] }) t.state
       (λ s. Invariant p start (record { state = s; queued = t.queued; origins = t.origins }))
-      (λ _. same_places inv (kept_acks p start (echo_of_answer t.state.acks t.state.recv_label) inv.kept)) (λ _. inv)
+      (λ _. same_places inv (kept_acks p start (answer_in_order t.state.acks t.state.recv_label) inv.kept)) (λ _. inv)
 
   -- the front of these acknowledgements is received, where there is one
   acknowledged : (keep : Bool) (s : LinkState) (acks : List ℕ) {queued taken : List ℕ} {bound : ℕ}
@@ -209,7 +209,7 @@ module _ (p : Parameters) (start : Start) where
       (λ matches.
       let both = and_parts (is_holding s) (label == s.send_label) matches in
       kept_acked p start keep s both.0 (eqb-true _ _ both.1) kept)
-      (λ _. kept_acks p start (λ labels. echo_of_acks s.recv_label labels (echo_left keep (label ∷ acks))) kept)
+      (λ _. kept_acks p start (λ labels. acks_in_order s.recv_label labels (in_order_left keep (label ∷ acks))) kept)
 
   -- so for those that stand in the link
   after_recv_ack : (keep : Bool) (t : Traced) → Invariant p start t → Invariant p start (after p t (RecvAck keep))
@@ -224,7 +224,7 @@ module _ (p : Parameters) (start : Start) where
         queued = without i inv.queued;
         taken = inv.taken;
         bound = inv.bound;
-        kept = kept_fewer_frames p start frames_are (echo_without i inv.queued) inv.kept;
+        kept = kept_fewer_frames p start frames_are (in_order_without i inv.queued) inv.kept;
         queued_are = ap (without i) inv.queued_are ∙ without-map (origin_at start) i inv.queued;
         taken_are = inv.taken_are;
       }
@@ -233,7 +233,7 @@ module _ (p : Parameters) (start : Start) where
   after_lose_ack : (i : ℕ) (t : Traced) → Invariant p start t → Invariant p start (after p t (LoseAck i))
   after_lose_ack i t inv =
       same_places inv
-      (kept_acks p start (λ labels. echo_of_acks t.state.recv_label labels (echo_without i t.state.acks)) inv.kept)
+      (kept_acks p start (λ labels. acks_in_order t.state.recv_label labels (in_order_without i t.state.acks)) inv.kept)
 
   -- every event on an open link keeps the invariants
   after_event : (t : Traced) (e : Event) → Invariant p start t → Invariant p start (after p t e)

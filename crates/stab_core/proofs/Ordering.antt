@@ -7,8 +7,8 @@ use Rattle.stab_core.specs.declared.start.Start.{Start}
 use Rattle.stab_core.specs.Picks.{RisesFrom, AllBelow}
 use Rattle.stab_core.specs.Step.{left}
 use Rattle.stab_core.proofs.Labels.{item_label, item_label-more}
-use Rattle.stab_core.proofs.Echoes.{Echoes, echo_left}
-use Rattle.stab_core.proofs.Places.{NeverFalls, NeverFalls-lower, NeverFalls-echo, NeverFalls-push, RisesFrom-push, AllBelow-higher, AllBelow-echo, AllBelow-push, map_below}
+use Rattle.stab_core.proofs.InOrder.{InOrder, in_order_left}
+use Rattle.stab_core.proofs.Places.{NeverFalls, NeverFalls-lower, NeverFalls-in_order, NeverFalls-push, RisesFrom-push, AllBelow-higher, AllBelow-in_order, AllBelow-push, map_below}
 use Rattle.stab_core.proofs.Sources.{stray_count, item_at, label_at, frame, frame_at, frame_sent, item_kept, frame_kept, start_places, start_places_never_fall, start_places_below, start_frames}
 
 -- The sender: all offered items but at most the last are acknowledged, and its label is that of the next item.
@@ -97,11 +97,11 @@ module _ (p : Parameters) (start : Start) where
       }
 
   -- frames vanish, or stay at the front
-  pub transit_echo : {offered queued fewer : List ℕ} {frames frames_left : List Frame}
-      → frames_left ≡ map (frame_at p start offered) fewer → Echoes queued fewer
+  pub transit_in_order : {offered queued fewer : List ℕ} {frames frames_left : List Frame}
+      → frames_left ≡ map (frame_at p start offered) fewer → InOrder queued fewer
       → InTransit p start offered frames queued → InTransit p start offered frames_left fewer
-  transit_echo {offered} frames_are echo transit =
-      record { frames_are = frames_are; in_list = AllBelow-echo (stray_count start + length offered) echo transit.in_list }
+  transit_in_order {offered} frames_are in_order transit =
+      record { frames_are = frames_are; in_list = AllBelow-in_order (stray_count start + length offered) in_order transit.in_list }
 
   -- at the start nothing is taken
   pub delivery_open : Delivery p start [] start.recv_label [] (start_places start) [] 0
@@ -152,17 +152,17 @@ module _ (p : Parameters) (start : Start) where
       }
 
   -- so do frames that vanish, or stay at the front
-  pub delivery_echo : {offered : List ℕ} {recv_label : ℕ} {delivered queued fewer taken : List ℕ} {bound : ℕ}
-      → Echoes queued fewer → Delivery p start offered recv_label delivered queued taken bound
+  pub delivery_in_order : {offered : List ℕ} {recv_label : ℕ} {delivered queued fewer taken : List ℕ} {bound : ℕ}
+      → InOrder queued fewer → Delivery p start offered recv_label delivered queued taken bound
       → Delivery p start offered recv_label delivered fewer taken bound
-  delivery_echo {bound = bound} echo delivery =
+  delivery_in_order {bound = bound} in_order delivery =
       record {
         delivered_are = delivery.delivered_are;
         rises = delivery.rises;
         below = delivery.below;
         in_list = delivery.in_list;
         last_label = delivery.last_label;
-        never_falls = NeverFalls-echo (bound - 1) echo delivery.never_falls;
+        never_falls = NeverFalls-in_order (bound - 1) in_order delivery.never_falls;
       }
 
   -- a frame whose label is not the receiver's lies above all that was taken, since the place taken last has that label
@@ -185,7 +185,7 @@ module _ (p : Parameters) (start : Start) where
       let still_below : AllBelow (place + 1) taken = AllBelow-higher place (place + 1) taken (omega arith) all_below in
       let stays : place ≤ place = omega arith in
       let none_lower : NeverFalls place (left keep (place ∷ queued)) =
-      NeverFalls-echo place (echo_left keep (place ∷ queued)) (stays, delivery.never_falls.1) in
+      NeverFalls-in_order place (in_order_left keep (place ∷ queued)) (stays, delivery.never_falls.1) in
       record {
         delivered_are = ap (λ items. items ++ item_at start offered place ∷ []) delivery.delivered_are
             ∙ sym (map_push (item_at start offered) taken place);

@@ -1,7 +1,7 @@
 -- Lists of places: those that never fall, those that rise, and those below a bound.
 use Rattle.std.proofs.Common.{◌≡◌, ℕ, ◌+◌, ◌<◌, ◌≤◌, List, [], ◌∷◌, ◌++◌, map, length, refl, ap, arith}
 use Rattle.stab_core.specs.Picks.{RisesFrom, AllBelow}
-use Rattle.stab_core.proofs.Echoes.{Echoes, nothing, skip, repeat}
+use Rattle.stab_core.proofs.InOrder.{InOrder, nothing, skip, repeat}
 
 -- the places never fall, and the first is no lower than this one
 abbrev pub NeverFalls : ℕ → List ℕ → Type 0
@@ -13,13 +13,13 @@ pub NeverFalls-lower : (low high : ℕ) (vs : List ℕ) → low ≤ high → Nev
 NeverFalls-lower low high [] lower never_falls = tt
 NeverFalls-lower low high (v ∷ vs) lower never_falls = (omega arith, never_falls.1)
 
--- places that never fall do so in an echo
-pub NeverFalls-echo : (low : ℕ) {vs ws : List ℕ} → Echoes vs ws → NeverFalls low vs → NeverFalls low ws
-NeverFalls-echo low nothing never_falls = tt
-NeverFalls-echo low (skip {x = v} {ys = ws} echo) never_falls =
-    NeverFalls-lower low v ws never_falls.0 (NeverFalls-echo v echo never_falls.1)
-NeverFalls-echo low (repeat {x = v} echo) never_falls =
-    (never_falls.0, NeverFalls-echo v echo (omega arith, never_falls.1))
+-- places that never fall do not where some are missing and others repeated
+pub NeverFalls-in_order : (low : ℕ) {vs ws : List ℕ} → InOrder vs ws → NeverFalls low vs → NeverFalls low ws
+NeverFalls-in_order low nothing never_falls = tt
+NeverFalls-in_order low (skip {x = v} {ys = ws} in_order) never_falls =
+    NeverFalls-lower low v ws never_falls.0 (NeverFalls-in_order v in_order never_falls.1)
+NeverFalls-in_order low (repeat {x = v} in_order) never_falls =
+    (never_falls.0, NeverFalls-in_order v in_order (omega arith, never_falls.1))
 
 -- a place that is no lower than all others may come last
 pub NeverFalls-push : (low v : ℕ) (vs : List ℕ) → low ≤ v → AllBelow (v + 1) vs → NeverFalls low vs
@@ -52,11 +52,11 @@ pub AllBelow-higher : (low high : ℕ) (vs : List ℕ) → low ≤ high → AllB
 AllBelow-higher low high [] higher below = tt
 AllBelow-higher low high (v ∷ vs) higher below = (omega (arith, below.0), AllBelow-higher low high vs higher below.1)
 
--- places below a bound are so in an echo
-pub AllBelow-echo : (bound : ℕ) {vs ws : List ℕ} → Echoes vs ws → AllBelow bound vs → AllBelow bound ws
-AllBelow-echo bound nothing below = tt
-AllBelow-echo bound (skip echo) below = AllBelow-echo bound echo below.1
-AllBelow-echo bound (repeat echo) below = (below.0, AllBelow-echo bound echo below)
+-- places below a bound are below it where some are missing and others repeated
+pub AllBelow-in_order : (bound : ℕ) {vs ws : List ℕ} → InOrder vs ws → AllBelow bound vs → AllBelow bound ws
+AllBelow-in_order bound nothing below = tt
+AllBelow-in_order bound (skip in_order) below = AllBelow-in_order bound in_order below.1
+AllBelow-in_order bound (repeat in_order) below = (below.0, AllBelow-in_order bound in_order below)
 
 -- one more place below the bound
 pub AllBelow-push : (bound v : ℕ) (vs : List ℕ) → AllBelow bound vs → v < bound → AllBelow bound (vs ++ v ∷ [])
