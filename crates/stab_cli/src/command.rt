@@ -49,15 +49,19 @@ fn command<'a>(alloc: Global) -> Result<Command<'a>, AllocError> {
 }
 
 /// The file that a subcommand names.
-fn file_of(alloc: Global, matches: &ArgMatches<'_>) -> Result<Option<String>, CliFault> {
+fn file_of(alloc: Global, matches: &ArgMatches<'_>) -> Result<Option<String>, CliFault>
+    ensures { IfErr result (λ fault. fault ≡ CliFault.Memory) }
+{
     match matches.get_str("FILE") {
         None => Ok(None),
         Some(path) => Ok(Some(String::from_str(alloc, path)?)),
     }
 }
 
-/// The fault of words that are refused.
-fn refusal(error: &Error) -> CliFault {
+/// The fault of words that are refused: memory was refused, or the words are no command line.
+fn refusal(error: &Error) -> CliFault
+    ensures { (result ≡ CliFault.CommandLine) ⊎ (result ≡ CliFault.Memory) }
+{
     if error.kind() == ErrorKind::OutOfMemory {
         CliFault::Memory
     } else {
