@@ -1,0 +1,34 @@
+-- Depths in a tree.
+use Rattle.std.proofs.Common.{◌≡◌, ℕ, zero, suc, ◌+◌, ◌<◌, List, length, Option, Some, None, unwrap_or, inl, inr, refl, sym, ap, ◌∙◌, add-one, arith}
+use Rattle.stab_tree.specs.IsTree.{IsTree}
+use Rattle.stab_tree.specs.Nodes.{Nodes, parent_at, root_of}
+use Rattle.stab_tree.specs.Steps.{ancestor, steps_within, depth_at, depth_of}
+use Rattle.stab_tree.proofs.Steps.{option_cases, ancestor-suc, steps-root, steps_found}
+use Rattle.stab_tree.proofs.Walks.{walk_short}
+
+-- a node of a tree has the depth of its walk to the root
+pub depth_found : (t : Nodes) → IsTree t → (w k : ℕ) → w < length t.parents → ancestor t.parents k w ≡ Some (root_of t.parents) → (depth_at t.parents w ≡ Some k) × (k < length t.parents)
+depth_found t tree w k within leads =
+    let few = walk_short t.parents k w (root_of t.parents) tree.known_parents within leads tree.root_has_none in
+    (steps_found t.parents (length t.parents) k w (root_of t.parents) leads tree.root_has_none few, few)
+
+pub record DepthIs (ps : List (Option ℕ)) (w k : ℕ) : Type 0 where
+  pub at : depth_at ps w ≡ Some k
+  pub is : depth_of ps w ≡ k
+  pub few : k < length ps
+  pub steps : ancestor ps k w ≡ Some (root_of ps)
+
+-- each node of a tree has a depth: the number of its steps to the root
+pub depth_exists : (t : Nodes) → IsTree t → (w : ℕ) → w < length t.parents → DepthIs t.parents w (depth_of t.parents w)
+depth_exists t tree w within =
+    let walk = tree.reaches_root w within in
+    let found = depth_found t tree w walk.0 within walk.1 in
+    let same : depth_of t.parents w ≡ walk.0 = ap (λ o. unwrap_or o 0) found.0 in
+    record { at = found.0 ∙ ap Some (sym same); is = refl; few = rw same found.1; steps = rw same walk.1 }
+
+-- a stored depth is the depth
+pub stored_depth : (t : Nodes) → IsTree t → (w k : ℕ) → w < length t.parents → depth_at t.parents w ≡ Some k → DepthIs t.parents w k
+stored_depth t tree w k within stored =
+    let h = depth_exists t tree w within in
+    let same : depth_of t.parents w ≡ k = ap (λ o. unwrap_or o 0) stored in
+    record { at = stored; is = same; few = rw same at h.few; steps = rw same at h.steps }
