@@ -1,12 +1,14 @@
 -- The links of a tree, by place.
-use Rattle.std.proofs.Common.{◌≡◌, ◌≢◌, ℕ, zero, suc, ◌+◌, ◌-◌, ◌<◌, ◌≤◌, Bool, true, false, cond, eqb, ltb, List, [], ◌∷◌, length, get_or, Option, Some, None, is_none, slice_get, ◌⊎◌, inl, inr, ⊎_elim, refl, sym, ap, ◌∙◌, arith}
-use Rattle.std.proofs.lemmas.Bool.{cases_lt, eq-eqb, ne_eqb, lt-ltb, le-ltb}
-use Rattle.std.proofs.lemmas.Option.{slice_get_within, get_or_from_slice_get}
+use Rattle.std.proofs.Common.{◌≡◌, ◌≢◌, ℕ, zero, suc, ◌+◌, ◌-◌, ◌<◌, ◌≤◌, Bool, true, false, cond, eqb, ltb, List, [], ◌∷◌, length, get_or, Option, Some, None, is_none, IsSome, slice_get, ◌⊎◌, inl, inr, ⊎_elim, refl, sym, ap, ◌∙◌, arith}
+use Rattle.std.proofs.lemmas.Bool.{cases_lt, eq-eqb, ne_eqb}
+use Rattle.std.proofs.lemmas.Option.{slice_get-get_or, get_or_from_slice_get}
 use Rattle.std.specs.List.{count_by, position}
 use Rattle.stab_tree.specs.Links.{links_from, links_of, link_place_of}
 use Rattle.stab_tree.specs.Nodes.{parent_at, root_of}
 use Rattle.stab_tree.proofs.Places.{position-is, position-none}
-use Rattle.stab_tree.proofs.Roots.{count-cons, count-zero, count-none_before}
+use Rattle.stab_tree.proofs.Checked.{root_inside}
+use Rattle.stab_tree.proofs.Roots.{count-cons, count-none_before, root-alone}
+use Rattle.stab_tree.proofs.Steps.{option_cases}
 
 -- there are as many links as nodes with a parent
 pub length-links_from : (w : ℕ) (ps : List (Option ℕ)) → length (links_from w ps) + count_by is_none ps ≡ length ps
@@ -31,32 +33,59 @@ link_behind w (Some p ∷ ps) zero one behind within = absurd (omega arith)
 link_behind w (Some p ∷ ps) (suc k) one behind within =
     link_behind (suc w) ps k (omega (arith, count-cons (Some p) ps)) (omega arith) (omega arith) ∙ ap Some (omega arith)
 
--- the child that names the link at place k
-pub child_at : ℕ → ℕ → ℕ
-child_at root k = cond (ltb k root) k (k + 1)
+-- the link at place k leads into w
+pub record LinkInto (ps : List (Option ℕ)) (k w : ℕ) : Type 0 where
+  pub at : slice_get (links_of ps) k ≡ Some w
+  pub place : link_place_of ps w ≡ Some k
+  pub inside : w < length ps
+  pub child : IsSome (parent_at ps w)
 
-pub child_at-before : (root k : ℕ) → k < root → child_at root k ≡ k
-unfolding child_at
-child_at-before root k h = rw (lt-ltb k root h) refl
+-- a node that is not the root has a parent
+has_parent : (ps : List (Option ℕ)) (w : ℕ) → count_by is_none ps ≡ 1 → w < length ps → (w ≡ root_of ps → ⊥) → IsSome (parent_at ps w)
+has_parent ps w one within apart =
+    elim (option_cases (parent_at ps w)) [
+      inl none ↦ absurd (apart (root-alone ps w one within none))
+    | inr (p, some) ↦ rw some refl ]
 
-pub child_at-behind : (root k : ℕ) → root ≤ k → child_at root k ≡ k + 1
-unfolding child_at
-child_at-behind root k h = rw (le-ltb k root h) refl
-
-pub link_at : (ps : List (Option ℕ)) (k : ℕ) → count_by is_none ps ≡ 1 → k < length (links_of ps) → slice_get (links_of ps) k ≡ Some (child_at (root_of ps) k)
-link_at ps k one within =
+-- which child names the link at place j
+link_child : (ps : List (Option ℕ)) (j : ℕ) → count_by is_none ps ≡ 1 → j < length (links_of ps) → ((j < root_of ps) × (get_or (links_of ps) j 0 ≡ j)) ⊎ ((root_of ps ≤ j) × (get_or (links_of ps) j 0 ≡ j + 1))
+link_child ps j one within =
     let number = length-links_from 0 ps in
-    elim (cases_lt k (root_of ps)) [
-      inl before ↦ link_before 0 ps k before (omega arith) ∙ ap Some (omega (arith, child_at-before (root_of ps) k before))
-    | inr behind ↦ link_behind 0 ps k one behind (omega arith) ∙ ap Some (omega (arith, child_at-behind (root_of ps) k behind)) ]
+    elim (cases_lt j (root_of ps)) [
+      inl before ↦ inl (before, omega (arith, get_or_from_slice_get (links_of ps) j (0 + j) 0 (link_before 0 ps j before (omega arith))))
+    | inr behind ↦ inr (behind, omega (arith, get_or_from_slice_get (links_of ps) j (0 + j + 1) 0 (link_behind 0 ps j one behind (omega arith)))) ]
 
--- the link into a child
-pub link_place-is : (ps : List (Option ℕ)) (w k : ℕ) → count_by is_none ps ≡ 1 → k < length (links_of ps) → child_at (root_of ps) k ≡ w → link_place_of ps w ≡ Some k
-link_place-is ps w k one within names =
-    position-is (λ child. eqb child w) (links_of ps) k 0 within
-    (eq-eqb _ _ (get_or_from_slice_get (links_of ps) k _ 0 (link_at ps k one within) ∙ names))
-    (λ j before. ne_eqb _ _ (λ same. ?))
+-- two places hold two children
+link_apart : (ps : List (Option ℕ)) (j k : ℕ) → count_by is_none ps ≡ 1 → j < k → k < length (links_of ps) → get_or (links_of ps) j 0 ≡ get_or (links_of ps) k 0 → ⊥
+link_apart ps j k one before within same =
+    ⊎_elim (λ a. ⊎_elim (λ b. omega arith) (λ b. omega arith) (link_child ps k one within))
+    (λ a. ⊎_elim (λ b. omega arith) (λ b. omega arith) (link_child ps k one within)) (link_child ps j one (omega arith))
 
--- a node that is no child has no link
-pub link_place-none : (ps : List (Option ℕ)) (w : ℕ) → count_by is_none ps ≡ 1 → (w ≡ root_of ps) ⊎ (length ps ≤ w) → link_place_of ps w ≡ None
-link_place-none ps w one strange = position-none (λ child. eqb child w) (links_of ps) 0 (λ j within. ne_eqb _ _ (λ same. ?))
+-- a link by its place and its child
+link_into : (ps : List (Option ℕ)) (k w : ℕ) → count_by is_none ps ≡ 1 → k < length (links_of ps) → w < length ps → (w ≡ root_of ps → ⊥) → get_or (links_of ps) k 0 ≡ w → LinkInto ps k w
+link_into ps k w one within inside apart named = record {
+  at = slice_get-get_or (links_of ps) k 0 within ∙ ap Some named;
+  place = position-is (λ child. eqb child w) (links_of ps) k 0 within (eq-eqb _ _ named) (λ j before. ne_eqb _ _ (λ same. link_apart ps j k one before within (same ∙ sym named)));
+  inside = inside;
+  child = has_parent ps w one inside apart;
+}
+
+-- before the root a link stands at the place of its child
+pub link_before_root : (ps : List (Option ℕ)) (k : ℕ) → count_by is_none ps ≡ 1 → k < root_of ps → LinkInto ps k k
+link_before_root ps k one before =
+    let number = length-links_from 0 ps in
+    let root = root_inside ps one in
+    link_into ps k k one (omega arith) (omega arith) (λ same. omega arith) (⊎_elim (λ h. h.1) (λ h. absurd (omega arith)) (link_child ps k one (omega arith)))
+
+-- behind it one place earlier
+pub link_behind_root : (ps : List (Option ℕ)) (k : ℕ) → count_by is_none ps ≡ 1 → root_of ps ≤ k → k + 1 < length ps → LinkInto ps k (k + 1)
+link_behind_root ps k one behind within =
+    let number = length-links_from 0 ps in
+    link_into ps k (k + 1) one (omega arith) within (λ same. omega arith) (⊎_elim (λ h. absurd (omega arith)) (λ h. h.1) (link_child ps k one (omega arith)))
+
+-- the root and strangers have no link
+pub link_none : (ps : List (Option ℕ)) (w : ℕ) → count_by is_none ps ≡ 1 → (w ≡ root_of ps) ⊎ (length ps ≤ w) → link_place_of ps w ≡ None
+link_none ps w one strange =
+    let number = length-links_from 0 ps in
+    position-none (λ child. eqb child w) (links_of ps) 0
+    (λ j within. ne_eqb _ _ (λ same. ⊎_elim (λ a. ⊎_elim (λ b. omega arith) (λ b. omega arith) strange) (λ a. ⊎_elim (λ b. omega arith) (λ b. omega arith) strange) (link_child ps j one within)))

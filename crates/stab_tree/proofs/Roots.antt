@@ -57,3 +57,13 @@ count-found ps r found =
 -- where none counts, none is found
 pub count-none_before : (ps : List (Option ℕ)) → count_by is_none ps ≡ 0 → length ps ≤ root_of ps
 count-none_before ps none = elim (cases_lt (root_of ps) (length ps)) [ inl h ↦ absurd (omega (arith, count-some ps h)) | inr h ↦ h ]
+
+-- where the first node without a parent is the only one, one counts
+pub count-one : (ps : List (Option ℕ)) → root_of ps < length ps → ((w : ℕ) → w < length ps → parent_at ps w ≡ None → w ≡ root_of ps) → count_by is_none ps ≡ 1
+count-one [] within alone = absurd (omega arith)
+count-one (None ∷ ps) within alone =
+    elim (cases_lt (root_of ps) (length ps)) [
+      inl h ↦ absurd (omega (arith, alone (suc (root_of ps)) (omega arith) (root-none ps h)))
+    | inr h ↦ omega (arith, count-cons None ps, count-zero ps h) ]
+count-one (Some p ∷ ps) within alone =
+    omega (arith, count-cons (Some p) ps, count-one ps (omega arith) (λ w inside none. omega (arith, alone (suc w) (omega arith) none)))

@@ -1,8 +1,10 @@
 -- Depths in a tree.
-use Rattle.std.proofs.Common.{◌≡◌, ℕ, zero, suc, ◌+◌, ◌<◌, List, length, Option, Some, None, unwrap_or, inl, inr, refl, sym, ap, ◌∙◌, add-one, arith}
+use Rattle.std.proofs.Common.{◌≡◌, ℕ, zero, suc, ◌+◌, ◌<◌, List, length, Option, Some, None, is_none, unwrap_or, inl, inr, refl, sym, ap, ◌∙◌, add-one, arith}
+use Rattle.std.specs.List.{count_by}
 use Rattle.stab_tree.specs.IsTree.{IsTree}
 use Rattle.stab_tree.specs.Nodes.{Nodes, parent_at, root_of}
 use Rattle.stab_tree.specs.Steps.{ancestor, steps_within, depth_at, depth_of}
+use Rattle.stab_tree.proofs.Roots.{count-one}
 use Rattle.stab_tree.proofs.Steps.{option_cases, ancestor-suc, steps-root, steps_found}
 use Rattle.stab_tree.proofs.Walks.{walk_short}
 
@@ -32,3 +34,7 @@ stored_depth t tree w k within stored =
     let h = depth_exists t tree w within in
     let same : depth_of t.parents w ≡ k = ap (λ o. unwrap_or o 0) stored in
     record { at = stored; is = same; few = rw same at h.few; steps = rw same at h.steps }
+
+-- one node of a tree has no parent
+pub one_root : (t : Nodes) → IsTree t → count_by is_none t.parents ≡ 1
+one_root t tree = count-one t.parents tree.root_is_node tree.one_root

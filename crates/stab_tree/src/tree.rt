@@ -108,7 +108,7 @@ impl Tree {
         ensures value { result ≡ length (links_of self.now.parents) }
         ensures nodes { result + 1 ≡ length self.now.parents }
     {
-        self.len() - 1
+        self.parents.len() as u16 - 1
     }
 
     /// The child that names the link at this place.
@@ -131,9 +131,13 @@ impl Tree {
         ensures child { IsSome result ↔ IsSome (parent_at self.now.parents node) }
         ensures found { IfSome result (λ place. slice_get (links_of self.now.parents) place ≡ Some node) }
     {
-        if node.index() >= self.parents.len() || node == self.root {
-            None
-        } else if node.place() < self.root.place() {
+        if node.index() >= self.parents.len() {
+            return None;
+        }
+        if node == self.root {
+            return None;
+        }
+        if node.place() < self.root.place() {
             Some(node.place())
         } else {
             Some(node.place() - 1)
