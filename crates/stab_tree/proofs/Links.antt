@@ -1,14 +1,15 @@
 -- The links of a tree, by place.
 use Rattle.std.proofs.Common.{◌≡◌, ◌≢◌, ℕ, zero, suc, ◌+◌, ◌-◌, ◌<◌, ◌≤◌, Bool, true, false, cond, eqb, ltb, List, [], ◌∷◌, length, get_or, Option, Some, None, is_none, IsSome, slice_get, ◌⊎◌, inl, inr, ⊎_elim, refl, sym, ap, ◌∙◌, arith}
 use Rattle.std.proofs.lemmas.Bool.{cases_lt, eq-eqb, ne_eqb}
-use Rattle.std.proofs.lemmas.Option.{slice_get-get_or, get_or_from_slice_get}
+use Rattle.std.proofs.Math.ListN.{get_or-eq_default}
+use Rattle.std.proofs.lemmas.Option.{slice_get-get_or, slice_get_within, get_or_from_slice_get}
 use Rattle.std.specs.List.{count_by, position}
-use Rattle.stab_tree.specs.Links.{links_from, links_of, link_place_of}
+use Rattle.stab_tree.specs.Links.{links_from, links_of, link_place_of, HasLinks}
 use Rattle.stab_tree.specs.Nodes.{parent_at, root_of}
 use Rattle.stab_tree.proofs.Places.{position-is, position-none}
 use Rattle.stab_tree.proofs.Checked.{root_inside}
-use Rattle.stab_tree.proofs.Roots.{count-cons, count-none_before, root-alone}
-use Rattle.stab_tree.proofs.Steps.{option_cases}
+use Rattle.stab_tree.proofs.Roots.{count-cons, count-none_before, root-none, root-alone}
+use Rattle.stab_tree.proofs.Steps.{option_cases, some_value}
 
 -- there are as many links as nodes with a parent
 pub length-links_from : (w : ℕ) (ps : List (Option ℕ)) → length (links_from w ps) + count_by is_none ps ≡ length ps
@@ -89,3 +90,36 @@ link_none ps w one strange =
     let number = length-links_from 0 ps in
     position-none (λ child. eqb child w) (links_of ps) 0
     (λ j within. ne_eqb _ _ (λ same. ⊎_elim (λ a. ⊎_elim (λ b. omega arith) (λ b. omega arith) strange) (λ a. ⊎_elim (λ b. omega arith) (λ b. omega arith) strange) (link_child ps j one within)))
+
+-- the link at a place
+link_of_place : (ps : List (Option ℕ)) (k : ℕ) → count_by is_none ps ≡ 1 → k < length (links_of ps) → LinkInto ps k (get_or (links_of ps) k 0)
+link_of_place ps k one within =
+    let number = length-links_from 0 ps in
+    ⊎_elim (λ h. rw h.1 (link_before_root ps k one h.0)) (λ h. rw h.1 (link_behind_root ps k one h.0 (omega arith))) (link_child ps k one within)
+
+-- the link into a child
+link_of_child : (ps : List (Option ℕ)) (w p : ℕ) → count_by is_none ps ≡ 1 → parent_at ps w ≡ Some p → (k : ℕ) × LinkInto ps k w
+link_of_child ps w p one e =
+    let number = length-links_from 0 ps in
+    let inside : w < length ps = elim (cases_lt w (length ps)) [ inl h ↦ h | inr h ↦ (let past = get_or-eq_default ps None h in cc) ] in
+    let apart : w ≡ root_of ps → ⊥ = λ same. let none = root-none ps (root_inside ps one) in let here : parent_at ps (root_of ps) ≡ Some p = rw same at e in let no : None ≡ Some p = sym none ∙ here in cc in
+    elim (cases_lt w (root_of ps)) [
+      inl before ↦ (w, link_before_root ps w one before)
+    | inr behind ↦ (let next : w - 1 + 1 ≡ w = omega (arith, apart) in
+        let link = link_behind_root ps (w - 1) one (omega (arith, apart)) (omega arith) in (w - 1, rw next at link)) ]
+
+pub tree_links : (ps : List (Option ℕ)) → count_by is_none ps ≡ 1 → HasLinks ps
+tree_links ps one = record {
+  number = omega (arith, length-links_from 0 ps);
+  of_place = λ k w at.
+    let named = get_or_from_slice_get (links_of ps) k w 0 at in
+    let link = rw named at (link_of_place ps k one (slice_get_within (links_of ps) k w at)) in
+    (link.place, some_value (parent_at ps w) link.child, link.inside);
+  of_child = λ w p e. let link = link_of_child ps w p one e in (link.0, link.1.place, link.1.at);
+  in_order = λ j k v w before first second.
+    let within = slice_get_within (links_of ps) k w second in
+    let one_is = get_or_from_slice_get (links_of ps) j v 0 first in
+    let other_is = get_or_from_slice_get (links_of ps) k w 0 second in
+    ⊎_elim (λ a. ⊎_elim (λ b. omega arith) (λ b. omega arith) (link_child ps k one within))
+    (λ a. ⊎_elim (λ b. omega arith) (λ b. omega arith) (link_child ps k one within)) (link_child ps j one (omega arith));
+}

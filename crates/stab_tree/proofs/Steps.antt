@@ -1,11 +1,17 @@
 -- Parent steps that end at a node without a parent.
-use Rattle.std.proofs.Common.{◌≡◌, ℕ, zero, suc, ◌+◌, ◌-◌, ◌<◌, ◌≤◌, max, List, [], ◌∷◌, length, Option, Some, None, option_map, ◌⊎◌, inl, inr, ⊎_elim, refl, sym, ap, subst, ◌∙◌, arith}
+use Rattle.std.proofs.Common.{◌≡◌, ℕ, zero, suc, ◌+◌, ◌-◌, ◌<◌, ◌≤◌, max, List, [], ◌∷◌, length, Option, Some, None, IsSome, option_map, ◌⊎◌, inl, inr, ⊎_elim, refl, sym, ap, subst, ◌∙◌, arith}
 use Rattle.stab_tree.specs.Nodes.{parent_at}
 use Rattle.stab_tree.specs.Steps.{ancestor, steps_within, depth_at}
 
+-- there is a value or there is none
 pub option_cases : {X : Type 0} → (o : Option X) → (o ≡ None) ⊎ ((x : X) × (o ≡ Some x))
 option_cases None = inl refl
 option_cases (Some x) = inr (x, refl)
+
+-- the value that is there
+pub some_value : {X : Type 0} → (o : Option X) → IsSome o → (x : X) × (o ≡ Some x)
+some_value None some = cc
+some_value (Some x) some = (x, refl)
 
 -- a step from a node with a parent goes on from there
 pub ancestor-suc : (ps : List (Option ℕ)) (k w p : ℕ) → parent_at ps w ≡ Some p → ancestor ps (suc k) w ≡ ancestor ps k p

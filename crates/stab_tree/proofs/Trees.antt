@@ -1,11 +1,12 @@
 -- Depths in a tree.
-use Rattle.std.proofs.Common.{◌≡◌, ℕ, zero, suc, ◌+◌, ◌<◌, List, length, Option, Some, None, is_none, unwrap_or, inl, inr, refl, sym, ap, ◌∙◌, add-one, arith}
+use Rattle.std.proofs.Common.{◌≡◌, ℕ, zero, suc, ◌+◌, ◌<◌, ◌↔◌, List, length, Option, Some, None, is_none, unwrap_or, inl, inr, refl, sym, ap, ◌∙◌, add-one, arith}
 use Rattle.std.specs.List.{count_by}
+use Rattle.stab_tree.specs.Depth.{EndsAfter, HasDepths}
 use Rattle.stab_tree.specs.IsTree.{IsTree}
 use Rattle.stab_tree.specs.Nodes.{Nodes, parent_at, root_of}
 use Rattle.stab_tree.specs.Steps.{ancestor, steps_within, depth_at, depth_of}
 use Rattle.stab_tree.proofs.Roots.{count-one}
-use Rattle.stab_tree.proofs.Steps.{option_cases, ancestor-suc, steps-root, steps_found}
+use Rattle.stab_tree.proofs.Steps.{ancestor-suc, steps_end, steps_found}
 use Rattle.stab_tree.proofs.Walks.{walk_short}
 
 -- a node of a tree has the depth of its walk to the root
@@ -38,3 +39,26 @@ stored_depth t tree w k within stored =
 -- one node of a tree has no parent
 pub one_root : (t : Nodes) → IsTree t → count_by is_none t.parents ≡ 1
 one_root t tree = count-one t.parents tree.root_is_node tree.one_root
+
+-- a walk to the root gives the depth
+depth_by_walk : (t : Nodes) → IsTree t → (w k : ℕ) → w < length t.parents → ancestor t.parents k w ≡ Some (root_of t.parents) → depth_of t.parents w ≡ k
+depth_by_walk t tree w k within leads = ap (λ o. unwrap_or o 0) (depth_found t tree w k within leads).0
+
+-- a child is one deeper than its parent
+child_deeper : (t : Nodes) → IsTree t → (w p : ℕ) → w < length t.parents → parent_at t.parents w ≡ Some p → depth_of t.parents w ≡ depth_of t.parents p + 1
+child_deeper t tree w p within e =
+    let above = depth_exists t tree p (tree.known_parents w p e) in
+    rw add-one (depth_by_walk t tree w (suc (depth_of t.parents p)) within (ancestor-suc t.parents (depth_of t.parents p) w p e ∙ above.steps))
+
+pub tree_depths : (t : Nodes) → IsTree t → HasDepths t.parents
+tree_depths t tree = record {
+  root_depth = depth_by_walk t tree (root_of t.parents) 0 tree.root_is_node refl;
+  child_depth = child_deeper t tree;
+  steps = λ w within. (depth_exists t tree w within).steps;
+  below = λ w within. (depth_exists t tree w within).few;
+}
+
+-- a depth is the number of steps to a node without a parent
+pub depth_means : (ps : List (Option ℕ)) → ((w p : ℕ) → parent_at ps w ≡ Some p → p < length ps) → (w k : ℕ) → w < length ps → (depth_at ps w ≡ Some k) ↔ (EndsAfter ps w k)
+depth_means ps known w k within =
+    (λ deep. steps_end ps (length ps) w k deep, λ ends. steps_found ps (length ps) k w ends.0 ends.1 ends.2 (walk_short ps k w ends.0 known within ends.1 ends.2))

@@ -1,3 +1,4 @@
+pub mod Depth
 pub mod Entry
 pub mod IsTree
 pub mod Links

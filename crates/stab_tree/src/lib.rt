@@ -8,11 +8,14 @@
 
 mod entry;
 mod fault;
+pub mod laws;
 mod name;
 mod names;
 mod node;
 mod parents;
 mod read;
+#[cfg(test)]
+mod tests;
 mod tree;
 
 pub use fault::TreeFault;
