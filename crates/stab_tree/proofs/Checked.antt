@@ -1,17 +1,17 @@
 -- What the checks of a list of entries have shown once each has passed: its nodes form a tree.
-use Rattle.std.proofs.Common.{◌≡◌, ◌≢◌, ℕ, zero, suc, ◌+◌, ◌<◌, ◌≤◌, Bool, true, false, not, cond, ltb, eqb, List, [], ◌∷◌, length, get_or, map, Option, Some, None, is_none, option_map, option_and_then, inl, inr, refl, sym, ap, ◌∙◌, add-one, arith}
+use Rattle.std.proofs.Common.{◌≡◌, ℕ, zero, suc, ◌<◌, ◌≤◌, Bool, true, false, not, cond, ltb, eqb, List, [], ◌∷◌, length, get_or, Option, Some, None, is_none, option_map, inl, inr, refl, sym, ap, ◌∙◌, arith}
 use Rattle.std.proofs.lemmas.Bool.{cases_lt, or_parts, ltb-false, eqb-false, not-false, false≢true}
 use Rattle.std.proofs.lemmas.List.Folds.{list_all-map}
 use Rattle.std.proofs.lemmas.List.Quantifiers.{position-Some}
 use Rattle.std.proofs.lemmas.Slice.Eq.{bytes_eq-Decides}
-use Rattle.std.specs.List.{count_by, list_any, list_all, position, AllPairs}
+use Rattle.std.specs.List.{count_by, list_any, list_all}
 use Rattle.std.specs.Str.{bytes_eq}
 use Rattle.stab_tree.specs.Entry.{Entry}
 use Rattle.stab_tree.specs.IsTree.{IsTree}
 use Rattle.stab_tree.specs.Name.{is_name}
-use Rattle.stab_tree.specs.Nodes.{Nodes, parent_at, root_of, place_of}
+use Rattle.stab_tree.specs.Nodes.{parent_at, root_of, place_of}
 use Rattle.stab_tree.specs.Read.{names_of, names_fault, has_same_name, parent_of, parents_of, roots_fault, have_depths}
-use Rattle.stab_tree.specs.Steps.{ancestor, Reaches, depth_at}
+use Rattle.stab_tree.specs.Steps.{ancestor, depth_at}
 use Rattle.stab_tree.proofs.Depths.{have_depths-at}
 use Rattle.stab_tree.proofs.Roots.{count-zero, root-none, root-alone}
 use Rattle.stab_tree.proofs.Steps.{option_cases, ancestor-suc, ancestor-none, steps_end}
@@ -67,12 +67,14 @@ record FirstParent (names : List (List ℕ)) (e : Entry) (es : List Entry) (ps :
 first_parent : (names : List (List ℕ)) (e : Entry) (es : List Entry) (ps : List (Option ℕ)) → parents_of names (e ∷ es) ≡ Some ps → FirstParent names e es ps
 first_parent names e es ps found =
     elim (option_cases (parent_of names e)) [
-      inl none ↦ (let no : None ≡ Some ps = rw none at found in cc)
-    | inr (p, one) ↦ (let rest : option_map (λ qs. p ∷ qs) (parents_of names es) ≡ Some ps = rw one at found in
-        elim (option_cases (parents_of names es)) [
-          inl none ↦ (let no : None ≡ Some ps = rw none at rest in cc)
-        | inr (qs, more) ↦ (let all : Some (p ∷ qs) ≡ Some ps = rw more at rest in
-            record { first = p; others = qs; first_is = one; others_are = more; all_are = cc }) ]) ]
+      | inl none ↦ (let no : None ≡ Some ps = rw none at found in cc)
+      | inr (p, one) ↦ (let rest : option_map (λ qs. p ∷ qs) (parents_of names es) ≡ Some ps = rw one at found in
+          elim (option_cases (parents_of names es)) [
+            | inl none ↦ (let no : None ≡ Some ps = rw none at rest in cc)
+            | inr (qs, more) ↦ (let all : Some (p ∷ qs) ≡ Some ps = rw more at rest in
+                record { first = p; others = qs; first_is = one; others_are = more; all_are = cc })
+          ])
+    ]
 
 -- and one parent
 pub length-parents_of : (names : List (List ℕ)) (es : List Entry) (ps : List (Option ℕ)) → parents_of names es ≡ Some ps → length ps ≡ length es
@@ -85,12 +87,14 @@ length-parents_of names (e ∷ es) ps found =
 parent_known : (names : List (List ℕ)) (e : Entry) (p : ℕ) → parent_of names e ≡ Some (Some p) → p < length names
 parent_known names e p found =
     elim (option_cases e.parent) [
-      inl none ↦ (let no : Some None ≡ Some (Some p) = rw none at found in cc)
-    | inr (s, named) ↦ (let placed : option_map (λ place. Some place) (place_of names s) ≡ Some (Some p) = rw named at found in
-        elim (option_cases (place_of names s)) [
-          inl none ↦ (let no : None ≡ Some (Some p) = rw none at placed in cc)
-        | inr (q, at) ↦ (let same : Some (Some q) ≡ Some (Some p) = rw at at placed in
-            let e' : q ≡ p = cc in rw e' at (position-Some (λ u. bytes_eq u s) names q [] at).0) ]) ]
+      | inl none ↦ (let no : Some None ≡ Some (Some p) = rw none at found in cc)
+      | inr (s, named) ↦ (let placed : option_map (λ place. Some place) (place_of names s) ≡ Some (Some p) = rw named at found in
+          elim (option_cases (place_of names s)) [
+            | inl none ↦ (let no : None ≡ Some (Some p) = rw none at placed in cc)
+            | inr (q, at) ↦ (let same : Some (Some q) ≡ Some (Some p) = rw at at placed in
+                let e' : q ≡ p = cc in rw e' at (position-Some (λ u. bytes_eq u s) names q [] at).0)
+          ])
+    ]
 
 -- each parent that is found is a node
 pub parents_known : (names : List (List ℕ)) (es : List Entry) (ps : List (Option ℕ)) → parents_of names es ≡ Some ps → (w p : ℕ) → parent_at ps w ≡ Some p → p < length names
@@ -118,8 +122,9 @@ pub ancestor_inside : (ps : List (Option ℕ)) (k w r : ℕ) → ((v p : ℕ) �
 ancestor_inside ps zero w r known within leads = let same : w ≡ r = cc in rw same at within
 ancestor_inside ps (suc k) w r known within leads =
     elim (option_cases (parent_at ps w)) [
-      inl e ↦ (let no = ancestor-none ps k w e in cc)
-    | inr (p, e) ↦ ancestor_inside ps k p r known (known w p e) (sym (ancestor-suc ps k w p e) ∙ leads) ]
+      | inl e ↦ (let no = ancestor-none ps k w e in cc)
+      | inr (p, e) ↦ ancestor_inside ps k p r known (known w p e) (sym (ancestor-suc ps k w p e) ∙ leads)
+    ]
 
 -- what the check of the roots shows
 pub one_counted : (ps : List (Option ℕ)) → roots_fault ps ≡ None → count_by is_none ps ≡ 1
@@ -160,5 +165,5 @@ IsTree-from_checks es ps names_pass found roots_pass deep =
       root_is_node = inside;
       root_has_none = root-none ps inside;
       one_root = λ w within none. root-alone ps w one within none;
-      reaches_root = λ w within. let h = have_depths-at ps deep w within in (h.0, reaches_root ps known one w h.0 within h.1)
+      reaches_root = λ w within. let h = have_depths-at ps deep w within in (h.0, reaches_root ps known one w h.0 within h.1);
     }

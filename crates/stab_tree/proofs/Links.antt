@@ -1,9 +1,9 @@
 -- The links of a tree, by place.
-use Rattle.std.proofs.Common.{◌≡◌, ◌≢◌, ℕ, zero, suc, ◌+◌, ◌-◌, ◌<◌, ◌≤◌, Bool, true, false, cond, eqb, ltb, List, [], ◌∷◌, length, get_or, Option, Some, None, is_none, IsSome, slice_get, ◌⊎◌, inl, inr, ⊎_elim, refl, sym, ap, ◌∙◌, arith}
+use Rattle.std.proofs.Common.{◌≡◌, ℕ, zero, suc, ◌+◌, ◌-◌, ◌<◌, ◌≤◌, eqb, List, [], ◌∷◌, length, get_or, Option, Some, None, is_none, IsSome, slice_get, ◌⊎◌, inl, inr, ⊎_elim, refl, sym, ap, ◌∙◌, arith}
 use Rattle.std.proofs.lemmas.Bool.{cases_lt, eq-eqb, ne_eqb}
 use Rattle.std.proofs.Math.ListN.{get_or-eq_default}
 use Rattle.std.proofs.lemmas.Option.{slice_get-get_or, slice_get_within, get_or_from_slice_get}
-use Rattle.std.specs.List.{count_by, position}
+use Rattle.std.specs.List.{count_by}
 use Rattle.stab_tree.specs.Links.{links_from, links_of, link_place_of, HasLinks}
 use Rattle.stab_tree.specs.Nodes.{parent_at, root_of}
 use Rattle.stab_tree.proofs.Places.{position-is, position-none}
@@ -45,16 +45,18 @@ pub record LinkInto (ps : List (Option ℕ)) (k w : ℕ) : Type 0 where
 has_parent : (ps : List (Option ℕ)) (w : ℕ) → count_by is_none ps ≡ 1 → w < length ps → (w ≡ root_of ps → ⊥) → IsSome (parent_at ps w)
 has_parent ps w one within apart =
     elim (option_cases (parent_at ps w)) [
-      inl none ↦ absurd (apart (root-alone ps w one within none))
-    | inr (p, some) ↦ rw some refl ]
+      | inl none ↦ absurd (apart (root-alone ps w one within none))
+      | inr (p, some) ↦ rw some refl
+    ]
 
 -- which child names the link at place j
 link_child : (ps : List (Option ℕ)) (j : ℕ) → count_by is_none ps ≡ 1 → j < length (links_of ps) → ((j < root_of ps) × (get_or (links_of ps) j 0 ≡ j)) ⊎ ((root_of ps ≤ j) × (get_or (links_of ps) j 0 ≡ j + 1))
 link_child ps j one within =
     let number = length-links_from 0 ps in
     elim (cases_lt j (root_of ps)) [
-      inl before ↦ inl (before, omega (arith, get_or_from_slice_get (links_of ps) j (0 + j) 0 (link_before 0 ps j before (omega arith))))
-    | inr behind ↦ inr (behind, omega (arith, get_or_from_slice_get (links_of ps) j (0 + j + 1) 0 (link_behind 0 ps j one behind (omega arith)))) ]
+      | inl before ↦ inl (before, omega (arith, get_or_from_slice_get (links_of ps) j (0 + j) 0 (link_before 0 ps j before (omega arith))))
+      | inr behind ↦ inr (behind, omega (arith, get_or_from_slice_get (links_of ps) j (0 + j + 1) 0 (link_behind 0 ps j one behind (omega arith))))
+    ]
 
 -- two places hold two children
 link_apart : (ps : List (Option ℕ)) (j k : ℕ) → count_by is_none ps ≡ 1 → j < k → k < length (links_of ps) → get_or (links_of ps) j 0 ≡ get_or (links_of ps) k 0 → ⊥
@@ -104,22 +106,23 @@ link_of_child ps w p one e =
     let inside : w < length ps = elim (cases_lt w (length ps)) [ inl h ↦ h | inr h ↦ (let past = get_or-eq_default ps None h in cc) ] in
     let apart : w ≡ root_of ps → ⊥ = λ same. let none = root-none ps (root_inside ps one) in let here : parent_at ps (root_of ps) ≡ Some p = rw same at e in let no : None ≡ Some p = sym none ∙ here in cc in
     elim (cases_lt w (root_of ps)) [
-      inl before ↦ (w, link_before_root ps w one before)
-    | inr behind ↦ (let next : w - 1 + 1 ≡ w = omega (arith, apart) in
-        let link = link_behind_root ps (w - 1) one (omega (arith, apart)) (omega arith) in (w - 1, rw next at link)) ]
+      | inl before ↦ (w, link_before_root ps w one before)
+      | inr behind ↦ (let next : w - 1 + 1 ≡ w = omega (arith, apart) in
+          let link = link_behind_root ps (w - 1) one (omega (arith, apart)) (omega arith) in (w - 1, rw next at link))
+    ]
 
 pub tree_links : (ps : List (Option ℕ)) → count_by is_none ps ≡ 1 → HasLinks ps
 tree_links ps one = record {
   number = omega (arith, length-links_from 0 ps);
   of_place = λ k w at.
-    let named = get_or_from_slice_get (links_of ps) k w 0 at in
-    let link = rw named at (link_of_place ps k one (slice_get_within (links_of ps) k w at)) in
-    (link.place, some_value (parent_at ps w) link.child, link.inside);
+      let named = get_or_from_slice_get (links_of ps) k w 0 at in
+      let link = rw named at (link_of_place ps k one (slice_get_within (links_of ps) k w at)) in
+      (link.place, some_value (parent_at ps w) link.child, link.inside);
   of_child = λ w p e. let link = link_of_child ps w p one e in (link.0, link.1.place, link.1.at);
   in_order = λ j k v w before first second.
-    let within = slice_get_within (links_of ps) k w second in
-    let one_is = get_or_from_slice_get (links_of ps) j v 0 first in
-    let other_is = get_or_from_slice_get (links_of ps) k w 0 second in
-    ⊎_elim (λ a. ⊎_elim (λ b. omega arith) (λ b. omega arith) (link_child ps k one within))
-    (λ a. ⊎_elim (λ b. omega arith) (λ b. omega arith) (link_child ps k one within)) (link_child ps j one (omega arith));
+      let within = slice_get_within (links_of ps) k w second in
+      let one_is = get_or_from_slice_get (links_of ps) j v 0 first in
+      let other_is = get_or_from_slice_get (links_of ps) k w 0 second in
+      ⊎_elim (λ a. ⊎_elim (λ b. omega arith) (λ b. omega arith) (link_child ps k one within))
+      (λ a. ⊎_elim (λ b. omega arith) (λ b. omega arith) (link_child ps k one within)) (link_child ps j one (omega arith));
 }

@@ -1,5 +1,5 @@
 -- The first place of a list at which a test passes.
-use Rattle.std.proofs.Common.{◌≡◌, ◌≢◌, ℕ, suc, ◌+◌, ◌<◌, ◌≤◌, List, [], ◌∷◌, length, get_or, map, Bool, true, false, not, cond, Option, Some, None, IfSome, IfNone, slice_get, inl, inr, refl, sym, ap, ◌∙◌, arith}
+use Rattle.std.proofs.Common.{◌≡◌, ◌≢◌, ℕ, suc, ◌+◌, ◌<◌, List, [], ◌∷◌, length, get_or, map, Bool, true, false, not, cond, Option, Some, None, IfSome, IfNone, slice_get, inl, inr, refl, sym, ap, ◌∙◌, arith}
 use Rattle.std.proofs.lemmas.Bool.{cases_lt, false≢true, lt-ltb, le-ltb, not-true, not_from_true, not_from_false}
 use Rattle.std.proofs.lemmas.List.Sums.{prefix_len_is, prefix_len_passes}
 use Rattle.std.proofs.lemmas.List.Quantifiers.{position-Some}
@@ -39,8 +39,9 @@ position-none p xs d fails =
 pub position-none_at : {X : Type 0} (p : X → Bool) (xs : List X) (k : ℕ) (d : X) → position p xs ≡ None → k < length xs → p (get_or xs k d) ≡ false
 position-none_at p xs k d none within =
     elim (cases_lt (position_or_len p xs) (length xs)) [
-      inl h ↦ (let no = lt-ltb _ _ h in cc)
-    | inr h ↦ not-true _ (prefix_len_passes (λ x. not (p x)) xs k d (omega arith)) ]
+      | inl h ↦ (let no = lt-ltb _ _ h in cc)
+      | inr h ↦ not-true _ (prefix_len_passes (λ x. not (p x)) xs k d (omega arith))
+    ]
 
 -- the node that a name finds has it
 pub place_found : (names : List (List ℕ)) (name : List ℕ) (o : Option ℕ) → o ≡ place_of names name → IfSome o (λ node. slice_get names node ≡ Some name)

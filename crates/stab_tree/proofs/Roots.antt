@@ -1,6 +1,6 @@
 -- The nodes without a parent, counted and found.
-use Rattle.std.proofs.Common.{◌≡◌, ℕ, zero, suc, ◌+◌, ◌<◌, ◌≤◌, List, [], ◌∷◌, length, Option, Some, None, is_none, cond, inl, inr, one-add, refl, ap, arith}
-use Rattle.std.specs.List.{count_by, position, position_or_len}
+use Rattle.std.proofs.Common.{◌≡◌, ℕ, zero, suc, ◌+◌, ◌<◌, ◌≤◌, List, [], ◌∷◌, length, Option, Some, None, is_none, cond, inl, inr, one-add, refl, arith}
+use Rattle.std.specs.List.{count_by, position}
 use Rattle.std.proofs.lemmas.Bool.{cases_lt, lt-ltb, le-ltb}
 use Rattle.std.proofs.lemmas.List.Sums.{sum_by-cons}
 use Rattle.stab_tree.specs.Nodes.{parent_at, root_of}
@@ -51,8 +51,9 @@ count-none ps none = count-zero ps (elim (cases_lt (root_of ps) (length ps)) [ i
 pub count-found : (ps : List (Option ℕ)) (r : ℕ) → position is_none ps ≡ Some r → (r ≡ root_of ps) × (r < length ps) × (1 ≤ count_by is_none ps)
 count-found ps r found =
     elim (cases_lt (root_of ps) (length ps)) [
-      inl h ↦ (let same : r ≡ root_of ps = (let in_list = lt-ltb _ _ h in cc) in (same, omega arith, count-some ps h))
-    | inr h ↦ (let past = le-ltb _ _ h in cc) ]
+      | inl h ↦ (let same : r ≡ root_of ps = (let in_list = lt-ltb _ _ h in cc) in (same, omega arith, count-some ps h))
+      | inr h ↦ (let past = le-ltb _ _ h in cc)
+    ]
 
 -- where none counts, none is found
 pub count-none_before : (ps : List (Option ℕ)) → count_by is_none ps ≡ 0 → length ps ≤ root_of ps
@@ -63,7 +64,8 @@ pub count-one : (ps : List (Option ℕ)) → root_of ps < length ps → ((w : �
 count-one [] within alone = absurd (omega arith)
 count-one (None ∷ ps) within alone =
     elim (cases_lt (root_of ps) (length ps)) [
-      inl h ↦ absurd (omega (arith, alone (suc (root_of ps)) (omega arith) (root-none ps h)))
-    | inr h ↦ omega (arith, count-cons None ps, count-zero ps h) ]
+      | inl h ↦ absurd (omega (arith, alone (suc (root_of ps)) (omega arith) (root-none ps h)))
+      | inr h ↦ omega (arith, count-cons None ps, count-zero ps h)
+    ]
 count-one (Some p ∷ ps) within alone =
     omega (arith, count-cons (Some p) ps, count-one ps (omega arith) (λ w inside none. omega (arith, alone (suc w) (omega arith) none)))

@@ -1,7 +1,7 @@
 -- Parent steps that end at a node without a parent.
-use Rattle.std.proofs.Common.{◌≡◌, ℕ, zero, suc, ◌+◌, ◌-◌, ◌<◌, ◌≤◌, max, List, [], ◌∷◌, length, Option, Some, None, IsSome, option_map, ◌⊎◌, inl, inr, ⊎_elim, refl, sym, ap, subst, ◌∙◌, arith}
+use Rattle.std.proofs.Common.{◌≡◌, ℕ, zero, suc, ◌+◌, ◌<◌, List, Option, Some, None, IsSome, option_map, ◌⊎◌, inl, inr, refl, sym, ap, ◌∙◌, arith}
 use Rattle.stab_tree.specs.Nodes.{parent_at}
-use Rattle.stab_tree.specs.Steps.{ancestor, steps_within, depth_at}
+use Rattle.stab_tree.specs.Steps.{ancestor, steps_within}
 
 -- there is a value or there is none
 pub option_cases : {X : Type 0} → (o : Option X) → (o ≡ None) ⊎ ((x : X) × (o ≡ Some x))
@@ -34,10 +34,12 @@ pub steps_end : (ps : List (Option ℕ)) (m w k : ℕ) → steps_within ps m w �
 steps_end ps zero w k found = cc
 steps_end ps (suc m) w k found =
     elim (option_cases (parent_at ps w)) [
-      inl e ↦ (let none : k ≡ 0 = let s = steps-root ps m w e in cc in (w, rw none refl, e))
-    | inr (p, e) ↦ (let s' : option_map suc (steps_within ps m p) ≡ Some k = sym (steps-child ps m w p e) ∙ found in elim (option_cases (steps_within ps m p)) [
-        inl none ↦ (let no : None ≡ Some k = rw none at s' in cc)
-      | inr (j, some) ↦ (let more : k ≡ suc j = (let fits : Some (suc j) ≡ Some k = rw some at s' in cc) in let h = steps_end ps m p j some in (h.0, rw (more, ancestor-suc ps j w p e) h.1, h.2)) ]) ]
+      | inl e ↦ (let none : k ≡ 0 = let s = steps-root ps m w e in cc in (w, rw none refl, e))
+      | inr (p, e) ↦ (let s' : option_map suc (steps_within ps m p) ≡ Some k = sym (steps-child ps m w p e) ∙ found in elim (option_cases (steps_within ps m p)) [
+        | inl none ↦ (let no : None ≡ Some k = rw none at s' in cc)
+        | inr (j, some) ↦ (let more : k ≡ suc j = (let fits : Some (suc j) ≡ Some k = rw some at s' in cc) in let h = steps_end ps m p j some in (h.0, rw (more, ancestor-suc ps j w p e) h.1, h.2))
+      ])
+    ]
 
 -- steps that lead to a node without a parent are found
 pub steps_found : (ps : List (Option ℕ)) (m k w r : ℕ) → ancestor ps k w ≡ Some r → parent_at ps r ≡ None → k < m → steps_within ps m w ≡ Some k
@@ -45,8 +47,9 @@ steps_found ps zero k w r leads ends few = absurd (omega arith)
 steps_found ps (suc m) zero w r leads ends few = steps-root ps m w (let e : w ≡ r = cc in rw e ends)
 steps_found ps (suc m) (suc k) w r leads ends few =
     elim (option_cases (parent_at ps w)) [
-      inl e ↦ (let no = ancestor-none ps k w e in cc)
-    | inr (p, e) ↦ (let on = ancestor-suc ps k w p e in let h = steps_found ps m k p r (sym on ∙ leads) ends (omega arith) in steps-child ps m w p e ∙ ap (option_map suc) h) ]
+      | inl e ↦ (let no = ancestor-none ps k w e in cc)
+      | inr (p, e) ↦ (let on = ancestor-suc ps k w p e in let h = steps_found ps m k p r (sym on ∙ leads) ends (omega arith) in steps-child ps m w p e ∙ ap (option_map suc) h)
+    ]
 
 -- only one number of steps leads to a node without a parent
 pub steps_once : (ps : List (Option ℕ)) (j k w r s : ℕ) → ancestor ps j w ≡ Some r → parent_at ps r ≡ None → ancestor ps k w ≡ Some s → parent_at ps s ≡ None → j ≡ k

@@ -1,10 +1,10 @@
 -- Depths in a tree.
-use Rattle.std.proofs.Common.{◌≡◌, ℕ, zero, suc, ◌+◌, ◌<◌, ◌↔◌, List, length, Option, Some, None, is_none, unwrap_or, inl, inr, refl, sym, ap, ◌∙◌, add-one, arith}
+use Rattle.std.proofs.Common.{◌≡◌, ℕ, suc, ◌+◌, ◌<◌, ◌↔◌, List, length, Option, Some, is_none, unwrap_or, refl, sym, ap, ◌∙◌, add-one}
 use Rattle.std.specs.List.{count_by}
 use Rattle.stab_tree.specs.Depth.{EndsAfter, HasDepths}
 use Rattle.stab_tree.specs.IsTree.{IsTree}
 use Rattle.stab_tree.specs.Nodes.{Nodes, parent_at, root_of}
-use Rattle.stab_tree.specs.Steps.{ancestor, steps_within, depth_at, depth_of}
+use Rattle.stab_tree.specs.Steps.{ancestor, depth_at, depth_of}
 use Rattle.stab_tree.proofs.Roots.{count-one}
 use Rattle.stab_tree.proofs.Steps.{ancestor-suc, steps_end, steps_found}
 use Rattle.stab_tree.proofs.Walks.{walk_short}

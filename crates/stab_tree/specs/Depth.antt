@@ -1,7 +1,7 @@
 -- The depth of a node is the number of its parent steps to the root (this project's profile).
-use Rattle.std.specs.Prelude.{◌≡◌, ℕ, ◌+◌, ◌<◌, ◌↔◌, List, length, Option, Some, None}
+use Rattle.std.specs.Prelude.{◌≡◌, ℕ, ◌+◌, ◌<◌, List, length, Option, Some, None}
 use Rattle.stab_tree.specs.Nodes.{parent_at, root_of}
-use Rattle.stab_tree.specs.Steps.{ancestor, depth_at, depth_of}
+use Rattle.stab_tree.specs.Steps.{ancestor, depth_of}
 
 -- k parent steps lead from w to a node without a parent
 abbrev pub EndsAfter : List (Option ℕ) → ℕ → ℕ → Type 0

@@ -1,5 +1,5 @@
 -- A stored tree: its nodes, and beside them their depths and the root.
-use Rattle.std.specs.Prelude.{◌≡◌, ℕ, ◌<◌, List, length, Option, Some, slice_index}
+use Rattle.std.specs.Prelude.{◌≡◌, ℕ, ◌<◌, List, length, Some, slice_index}
 use Rattle.stab_tree.specs.IsTree.{IsTree}
 use Rattle.stab_tree.specs.Nodes.{Nodes, root_of}
 use Rattle.stab_tree.specs.Steps.{depth_at}

@@ -44,7 +44,7 @@ impl<T: Drop> From<AllocFailed<T>> for TreeFault {
 
     ghost from_gives = { λ _ fault. fault ≡ Memory };
 
-    fn from(_error: AllocFailed<T>) -> TreeFault {
-        TreeFault::Memory
+    fn from(error: AllocFailed<T>) -> TreeFault {
+        TreeFault::from(AllocError::from(error))
     }
 }

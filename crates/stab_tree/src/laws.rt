@@ -10,17 +10,14 @@ ghost use Rattle.stab_tree.specs.Steps.{depth_at};
 pub fn depth_is_steps()
     ensures { (parents : List (Option ℕ)) → ((w p : ℕ) → parent_at parents w ≡ Some p → p < length parents)
         → (w k : ℕ) → w < length parents → (depth_at parents w ≡ Some k) ↔ (EndsAfter parents w k) }
-{
-}
+{}
 
 /// In a tree the root has depth 0, and each other node one more than its parent.
 pub fn trees_have_depths()
     ensures { (t : Nodes) → IsTree t → HasDepths t.parents }
-{
-}
+{}
 
 /// In a tree each node but the root has one link, in file order.
 pub fn trees_have_links()
     ensures { (t : Nodes) → IsTree t → HasLinks t.parents }
-{
-}
+{}

@@ -34,6 +34,6 @@ impl NodeId {
     pub fn index(self) -> usize
         ensures { result ≡ self }
     {
-        self.place as usize
+        usize::from(self.place)
     }
 }

@@ -22,7 +22,11 @@ fn find_parent(names: &[String], entry: &EntryRef<'_>) -> Option<Option<NodeId>>
 }
 
 /// The parents of the entries.
-pub(crate) fn find_parents(alloc: Global, names: &[String], entries: &[EntryRef<'_>]) -> Result<Vec<Option<NodeId>>, TreeFault>
+pub(crate) fn find_parents(
+    alloc: Global,
+    names: &[String],
+    entries: &[EntryRef<'_>],
+) -> Result<Vec<Option<NodeId>>, TreeFault>
     requires { length names.now ≤ 64 }
     ensures ok { IfOk result (λ ps. parents_of (map string_bytes names.now) entries.now ≡ Some ps.items) }
     ensures unknown { result ≡ Err TreeFault.UnknownParent

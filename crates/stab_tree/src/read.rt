@@ -5,9 +5,8 @@ ghost use Rattle.stab_tree.specs.Read.{names_fault, tree_of, tree_of_named};
 
 use crate::entry::{self, EntryRef};
 use crate::fault::TreeFault;
-use crate::names;
-use crate::parents;
 use crate::tree::Tree;
+use crate::{names, parents};
 use serde_json::Value;
 use std::alloc::Global;
 
@@ -15,7 +14,8 @@ use std::alloc::Global;
 fn build(alloc: Global, entries: &[EntryRef<'_>]) -> Result<Tree, TreeFault>
     requires { names_fault entries.now ≡ None }
     ensures ok { IfOk result (λ tree. tree_of_named entries.now None ≡ Ok tree) }
-    ensures err { IfErr result (λ fault. fault ≢ TreeFault.Memory → tree_of_named entries.now None ≡ Err fault) }
+    ensures err { IfErr result (λ fault. fault ≢ TreeFault.Memory
+        → tree_of_named entries.now None ≡ Err fault) }
 {
     let names = names::copy_names(alloc, entries)?;
     let parents = parents::find_parents(alloc, names.as_slice(), entries)?;
@@ -27,7 +27,8 @@ fn build(alloc: Global, entries: &[EntryRef<'_>]) -> Result<Tree, TreeFault>
 /// Reads a list of nodes, each an object with a `name` and, but for the root, a `parent`.
 pub fn read_tree(alloc: Global, value: &Value) -> Result<Tree, TreeFault>
     ensures ok { IfOk result (λ tree. tree_of (view value.now) ≡ Ok tree) }
-    ensures err { IfErr result (λ fault. fault ≢ TreeFault.Memory → tree_of (view value.now) ≡ Err fault) }
+    ensures err { IfErr result (λ fault. fault ≢ TreeFault.Memory
+        → tree_of (view value.now) ≡ Err fault) }
 {
     let entries = entry::entries(alloc, value)?;
     names::check_names(entries.as_slice())?;

@@ -14,9 +14,9 @@ fn family(alloc: Global, count: u16, is_chain: bool) -> Result<String, AllocErro
     let mut text = String::from_str(alloc, "[{\"name\":\"n0\"}")?;
     for place in 1..count {
         let parent = if is_chain { place - 1 } else { 0 };
-        text.push_str(
-            format!(in alloc; ",{{\"name\":\"n{place}\",\"parent\":\"n{parent}\"}}")?.as_str(),
-        )?;
+        text.push_str(format!(in alloc;
+            ",{{\"name\":\"n{place}\",\"parent\":\"n{parent}\"}}"
+        )?.as_str())?;
     }
     text.push(']')?;
     Ok(text)
@@ -57,7 +57,10 @@ fn refused_trees(rt: HostRuntime) -> Result<(), Fail> {
         assert_eq!(rt; read(&rt, rt.alloc(), text).err(), Some(fault), "{text}");
     }
     let crowd = family(rt.alloc(), 65, false)?;
-    assert_eq!(rt; read(&rt, rt.alloc(), crowd.as_str()).err(), Some(TreeFault::TooManyNodes));
+    assert_eq!(rt;
+        read(&rt, rt.alloc(), crowd.as_str()).err(),
+        Some(TreeFault::TooManyNodes)
+    );
     Ok(())
 }
 
@@ -68,7 +71,10 @@ fn lone_root_and_cycles(rt: HostRuntime) -> Result<(), Fail> {
             "[{\"name\":\"r\"},{\"name\":\"a\",\"parent\":\"b\"},{\"name\":\"b\",\"parent\":\"a\"}]",
             Some(TreeFault::Cycle),
         ),
-        ("[{\"name\":\"a\",\"parent\":\"a\"}]", Some(TreeFault::NoRoot)),
+        (
+            "[{\"name\":\"a\",\"parent\":\"a\"}]",
+            Some(TreeFault::NoRoot),
+        ),
         ("[]", Some(TreeFault::NoRoot)),
         ("[{\"name\":\"r\"}]", None),
     ];
@@ -132,7 +138,10 @@ fn order_of_checks(rt: HostRuntime) -> Result<(), Fail> {
             "[{\"name\":\"r\",\"parent\":\"x\"},{\"name\":\"a\"},{\"name\":\"a\"}]",
             TreeFault::SameName,
         ),
-        ("[{\"name\":\"r\",\"parent\":\"x\"}]", TreeFault::UnknownParent),
+        (
+            "[{\"name\":\"r\",\"parent\":\"x\"}]",
+            TreeFault::UnknownParent,
+        ),
         (
             "[{\"name\":\"r\"},{\"name\":\"s\"},{\"name\":\"a\",\"parent\":\"a\"}]",
             TreeFault::TwoRoots,
@@ -167,7 +176,8 @@ fn fault_texts(rt: HostRuntime) -> Result<(), Fail> {
 // The root stands in the middle of its file, so that the links around it differ.
 #[test]
 fn a_tree_by_its_nodes(rt: HostRuntime) -> Result<(), Fail> {
-    let text = "[{\"name\":\"b\",\"parent\":\"a\"},{\"name\":\"r\"},{\"name\":\"a\",\"parent\":\"r\"}]";
+    let text =
+        "[{\"name\":\"b\",\"parent\":\"a\"},{\"name\":\"r\"},{\"name\":\"a\",\"parent\":\"r\"}]";
     let tree = read(&rt, rt.alloc(), text)?;
     assert_eq!(rt; tree.len(), 3);
     assert_eq!(rt; tree.root().index(), 1);
@@ -186,14 +196,21 @@ fn a_tree_by_its_nodes(rt: HostRuntime) -> Result<(), Fail> {
 
 #[test]
 fn links_by_their_children(rt: HostRuntime) -> Result<(), Fail> {
-    let text = "[{\"name\":\"b\",\"parent\":\"a\"},{\"name\":\"r\"},{\"name\":\"a\",\"parent\":\"r\"}]";
+    let text =
+        "[{\"name\":\"b\",\"parent\":\"a\"},{\"name\":\"r\"},{\"name\":\"a\",\"parent\":\"r\"}]";
     let tree = read(&rt, rt.alloc(), text)?;
     assert_eq!(rt; tree.link_count(), 2);
     let first = tree.link_child(0);
     let second = tree.link_child(1);
     assert_eq!(rt; first, NodeId::new(0));
     assert_eq!(rt; second, NodeId::new(2));
-    let places = [(0, Some(0)), (1, None), (2, Some(1)), (3, None), (65535, None)];
+    let places = [
+        (0, Some(0)),
+        (1, None),
+        (2, Some(1)),
+        (3, None),
+        (65535, None),
+    ];
     for (node, place) in places {
         assert_eq!(rt; tree.link_place(NodeId::new(node)), place, "{node}");
     }

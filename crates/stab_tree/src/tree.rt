@@ -20,9 +20,14 @@ impl Model for Tree {
 
     ghost Value = { Nodes };
 
-    ghost view = { λ t. record { names = map string_bytes t.names.items; parents = t.parents.items } };
+    ghost view = { λ t. record {
+      names = map string_bytes t.names.items;
+      parents = t.parents.items;
+    } };
 
-    ghost invariant = { λ t. IsStored (record { names = map string_bytes t.names.items; parents = t.parents.items }) t.depths.items t.root };
+    ghost invariant = { λ t. IsStored
+        (record { names = map string_bytes t.names.items; parents = t.parents.items })
+        t.depths.items t.root };
 }
 
 impl Tree {
@@ -39,7 +44,9 @@ impl Tree {
         depths: Vec<u16>,
         root: NodeId,
     ) -> Tree
-        requires { IsStored (record { names = map string_bytes names.items; parents = parents.items }) depths.items root }
+        requires { IsStored
+            (record { names = map string_bytes names.items; parents = parents.items })
+            depths.items root }
         ensures { result ≡ record { names = map string_bytes names.items; parents = parents.items } }
     {
         Tree {
@@ -108,7 +115,7 @@ impl Tree {
         ensures value { result ≡ length (links_of self.now.parents) }
         ensures nodes { result + 1 ≡ length self.now.parents }
     {
-        self.parents.len() as u16 - 1
+        (self.parents.len() - 1) as u16
     }
 
     /// The child that names the link at this place.

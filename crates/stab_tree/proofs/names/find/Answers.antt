@@ -1,4 +1,4 @@
-use Rattle.std.proofs.Common.{◌≡◌, Some, string_bytes, sym, ap, ◌∙◌}
+use Rattle.std.proofs.Common.{Some, string_bytes, sym, ap, ◌∙◌}
 use Rattle.std.specs.Str.{bytes_eq}
 use Rattle.stab_tree.proofs.Places.{position-map}
 use Rattle.stab_tree.proofs.names.find.Goals as goal

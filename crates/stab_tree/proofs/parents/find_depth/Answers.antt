@@ -1,4 +1,4 @@
-use Rattle.std.proofs.Common.{◌≡◌, ◌<◌, length, Some, ◌∙◌, arith}
+use Rattle.std.proofs.Common.{◌≡◌, length, Some, ◌∙◌, arith}
 use Rattle.std.proofs.lemmas.Grind.{common_steps}
 use Rattle.stab_tree.specs.Nodes.{parent_at}
 use Rattle.stab_tree.proofs.Depths.{step_on}

@@ -1,5 +1,4 @@
-use Rattle.std.proofs.Common.{◌≡◌, true, is_some, refl, sym, ◌∙◌, arith}
-use Rattle.stab_tree.specs.Steps.{depth_at}
+use Rattle.std.proofs.Common.{refl, sym, ◌∙◌, arith}
 use Rattle.stab_tree.proofs.Depths.{have_depths-lack, have_depths-all}
 use Rattle.stab_tree.proofs.parents.find_depths.Goals as goal
 

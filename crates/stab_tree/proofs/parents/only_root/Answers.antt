@@ -1,4 +1,4 @@
-use Rattle.std.proofs.Common.{◌≡◌, sym, ◌∙◌, arith}
+use Rattle.std.proofs.Common.{sym, ◌∙◌, arith}
 use Rattle.std.proofs.lemmas.Grind.{common_steps}
 use Rattle.stab_tree.proofs.Roots.{count-none, count-found}
 use Rattle.stab_tree.proofs.parents.only_root.Goals as goal

@@ -31,5 +31,5 @@ from_parts-requires c =
       tree = rw c.in_ok-names.ensures (IsTree-from_checks _ _ c.requires parents rooted deep);
       each_depth = rw c.as_slice-3.ensures.value at c.in_ok-depths.ensures.len;
       depth_is = rw c.as_slice-3.ensures.value at c.in_ok-depths.ensures.each;
-      root_is = rw c.as_slice-2.ensures.value at c.in_ok-root.ensures.root
+      root_is = rw c.as_slice-2.ensures.value at c.in_ok-root.ensures.root;
     }

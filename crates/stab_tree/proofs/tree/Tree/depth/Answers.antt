@@ -1,6 +1,5 @@
 use Rattle.std.proofs.Common.{◌≡◌, Some, slice_index, sym, ap, ◌∙◌, arith}
 use Rattle.std.proofs.lemmas.Grind.{common_steps}
-use Rattle.stab_tree.specs.declared.tree.Tree.{Tree}
 use Rattle.stab_tree.proofs.Trees.{DepthIs, stored_depth}
 use Rattle.stab_tree.proofs.tree.Tree.depth.Goals as goal
 use Rattle.stab_tree.proofs.tree.Tree.depth.Goals.{After-index-2}

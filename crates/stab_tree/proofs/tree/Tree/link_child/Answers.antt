@@ -1,5 +1,4 @@
-use Rattle.std.proofs.Common.{◌≡◌, ◌<◌, ◌≤◌, ◌+◌, length, arith}
-use Rattle.stab_tree.specs.Links.{links_of}
+use Rattle.std.proofs.Common.{◌+◌, arith}
 use Rattle.stab_tree.proofs.Links.{LinkInto, length-links_from, link_before_root, link_behind_root}
 use Rattle.stab_tree.proofs.Trees.{one_root}
 use Rattle.stab_tree.proofs.tree.Tree.link_child.Goals as goal
