@@ -50,21 +50,22 @@ apart (e ∷ es) zero (suc j) d own before within same = not_among e.name es j d
 apart (e ∷ es) (suc i) (suc j) d own before within same = apart es i j d (or_parts _ _ own).1 (omega arith) (omega arith) same
 
 -- each entry gives one name
-length-names_of : (es : List Entry) → length (names_of es) ≡ length es
+pub length-names_of : (es : List Entry) → length (names_of es) ≡ length es
 length-names_of [] = refl
 length-names_of (e ∷ es) = ap suc (length-names_of es)
 
 -- ---- parents
 
 -- the parents of one entry and more, taken apart
-record FirstParent (names : List (List ℕ)) (e : Entry) (es : List Entry) (ps : List (Option ℕ)) : Type 0 where
-  first : Option ℕ
-  others : List (Option ℕ)
-  first_is : parent_of names e ≡ Some first
-  others_are : parents_of names es ≡ Some others
-  all_are : ps ≡ first ∷ others
+pub record FirstParent (names : List (List ℕ)) (e : Entry) (es : List Entry) (ps : List (Option ℕ)) : Type 0 where
+  pub first : Option ℕ
+  pub others : List (Option ℕ)
+  pub first_is : parent_of names e ≡ Some first
+  pub others_are : parents_of names es ≡ Some others
+  pub all_are : ps ≡ first ∷ others
 
-first_parent : (names : List (List ℕ)) (e : Entry) (es : List Entry) (ps : List (Option ℕ)) → parents_of names (e ∷ es) ≡ Some ps → FirstParent names e es ps
+-- so they can be
+pub first_parent : (names : List (List ℕ)) (e : Entry) (es : List Entry) (ps : List (Option ℕ)) → parents_of names (e ∷ es) ≡ Some ps → FirstParent names e es ps
 first_parent names e es ps found =
     elim (option_cases (parent_of names e)) [
       | inl none ↦ (let no : None ≡ Some ps = rw none at found in cc)

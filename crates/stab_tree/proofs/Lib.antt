@@ -1,5 +1,6 @@
 pub mod Checked
 pub mod Depths
+pub mod Described
 pub mod Links
 pub mod Places
 pub mod Roots

@@ -1,4 +1,5 @@
 pub mod Depth
+pub mod Describes
 pub mod Entry
 pub mod IsTree
 pub mod Links
