@@ -1,24 +1,23 @@
 -- A value is read to a tree exactly if it describes that tree.
-use Rattle.std.proofs.Common.{◌≡◌, ◌≢◌, ℕ, zero, suc, ◌+◌, ◌<◌, ◌≤◌, Bool, true, false, not, cond, eqb, ltb, List, [], ◌∷◌, length, get_or, slice_get, Option, Some, None, is_none, is_some, option_map, Result, Ok, Err, ◌⊎◌, ◌↔◌, inl, inr, ⊎_elim, zero-add, refl, sym, ap, ◌∙◌, arith}
-use Rattle.std.proofs.lemmas.Bool.{cases_Bool, and_cases, or_from, cases_lt, le-ltb, ne_eqb, eq-eqb, not_from_true, false_from_ne_true, both_ways}
+use Rattle.std.proofs.Common.{◌≡◌, ◌≢◌, ℕ, zero, suc, ◌<◌, ◌≤◌, Bool, true, false, not, cond, eqb, ltb, List, [], ◌∷◌, length, get_or, slice_get, Option, Some, None, is_none, is_some, option_map, Ok, Err, ◌⊎◌, ◌↔◌, inl, inr, ⊎_elim, zero-add, refl, sym, ap, ◌∙◌, arith}
+use Rattle.std.proofs.lemmas.Bool.{cases_Bool, and_cases, or_from, le-ltb, false_from_ne_true}
 use Rattle.std.proofs.lemmas.List.Folds.{list_all-map}
 use Rattle.std.proofs.lemmas.List.FromFn.{length-range_with_len, get_or-range_with_len}
-use Rattle.std.proofs.lemmas.Option.{get_or_from_slice_get, slice_get_within, slice_get-get_or}
+use Rattle.std.proofs.lemmas.Option.{get_or_from_slice_get, slice_get_within}
 use Rattle.std.proofs.lemmas.Slice.Eq.{bytes_eq-Decides}
 use Rattle.std.specs.List.{count_by, list_any, list_all, range_with_len, AllPairs}
 use Rattle.std.specs.Str.{bytes_eq}
 use Rattle.serde_json.specs.Data.{Data}
 use Rattle.stab_tree.specs.declared.fault.TreeFault.{TreeFault}
 use Rattle.stab_tree.specs.declared.fault.TreeFault.TheVariants.{Shape, TooManyNodes, BadName, SameName, UnknownParent, NoRoot, TwoRoots, Cycle}
-use Rattle.stab_tree.specs.Depth.{EndsAfter}
 use Rattle.stab_tree.specs.Describes.{IsParent, Describes, HasCycle}
 use Rattle.stab_tree.specs.Entry.{Entry, entries_of}
 use Rattle.stab_tree.specs.IsTree.{IsTree}
 use Rattle.stab_tree.specs.Name.{is_name}
-use Rattle.stab_tree.specs.Nodes.{Nodes, parent_at, root_of, place_of}
+use Rattle.stab_tree.specs.Nodes.{Nodes, parent_at, place_of}
 use Rattle.stab_tree.specs.Read.{names_of, names_fault, has_same_name, parent_of, parents_of, roots_fault, have_depths, tree_of}
 use Rattle.stab_tree.specs.Steps.{depth_at}
-use Rattle.stab_tree.proofs.Checked.{first_parent, parents_inside, length-names_of, length-parents_of, IsTree-from_checks}
+use Rattle.stab_tree.proofs.Checked.{first_parent, parents_inside, length-parents_of, IsTree-from_checks}
 use Rattle.stab_tree.proofs.Depths.{have_depths-all}
 use Rattle.stab_tree.proofs.Places.{position-is, place_found}
 use Rattle.stab_tree.proofs.Steps.{option_cases}
@@ -37,6 +36,7 @@ record Passed (d : Data) : Type 0 where
 
 -- what is read of such a value
 tree_of-passed : (d : Data) (p : Passed d) → tree_of d ≡ cond (have_depths p.parents) (Ok (record { names = names_of p.entries; parents = p.parents })) (Err Cycle)
+unfolding tree_of
 tree_of-passed d p = rw (p.listed, p.named, p.found, p.rooted) refl
 
 -- one of three faults
@@ -66,16 +66,21 @@ roots_no_cycle ps fault =
 
 -- a value is refused by an earlier check, or has passed them
 passed_or : (d : Data) → Passed d ⊎ ((f : TreeFault) × (tree_of d ≡ Err f) × (f ≢ Cycle))
+unfolding tree_of
 passed_or d =
     elim (option_cases (entries_of d)) [
-      inl shape ↦ inr (Shape, rw shape refl, λ e. cc)
-    | inr (es, listed) ↦ elim (option_cases (names_fault es)) [
-        inr (f, fault) ↦ inr (f, rw (listed, fault) refl, λ e. names_no_cycle es (fault ∙ ap Some e))
-      | inl named ↦ elim (option_cases (parents_of (names_of es) es)) [
-          inl unknown ↦ inr (UnknownParent, rw (listed, named, unknown) refl, λ e. cc)
-        | inr (ps, found) ↦ elim (option_cases (roots_fault ps)) [
-            inr (f, fault) ↦ inr (f, rw (listed, named, found, fault) refl, λ e. roots_no_cycle ps (fault ∙ ap Some e))
-          | inl rooted ↦ inl (record { entries = es; parents = ps; listed = listed; named = named; found = found; rooted = rooted }) ] ] ] ]
+      | inl shape ↦ inr (Shape, rw shape refl, λ e. cc)
+      | inr (es, listed) ↦ elim (option_cases (names_fault es)) [
+        | inr (f, fault) ↦ inr (f, rw (listed, fault) refl, λ e. names_no_cycle es (fault ∙ ap Some e))
+        | inl named ↦ elim (option_cases (parents_of (names_of es) es)) [
+          | inl unknown ↦ inr (UnknownParent, rw (listed, named, unknown) refl, λ e. cc)
+          | inr (ps, found) ↦ elim (option_cases (roots_fault ps)) [
+            | inr (f, fault) ↦ inr (f, rw (listed, named, found, fault) refl, λ e. roots_no_cycle ps (fault ∙ ap Some e))
+            | inl rooted ↦ inl (record { entries = es; parents = ps; listed = listed; named = named; found = found; rooted = rooted })
+          ]
+        ]
+      ]
+    ]
 
 -- ---- what is read is described
 
@@ -83,12 +88,14 @@ passed_or d =
 IsParent-from_found : (names : List (List ℕ)) (e : Entry) (p : Option ℕ) → parent_of names e ≡ Some p → IsParent names e.parent p
 IsParent-from_found names e p found =
     elim (option_cases e.parent) [
-      inl none ↦ (let here : Some None ≡ Some p = rw none at found in let same : None ≡ p = cc in rw (none, ← same) tt)
-    | inr (s, named) ↦ (let here : option_map (λ place. Some place) (place_of names s) ≡ Some p = rw named at found in
-        elim (option_cases (place_of names s)) [
-          inl none ↦ (let no : None ≡ Some p = rw none at here in cc)
-        | inr (q, at) ↦ (let placed : Some (Some q) ≡ Some p = rw at at here in let same : Some q ≡ p = cc in
-            rw (named, ← same) (place_found names s (Some q) (sym at))) ]) ]
+      | inl none ↦ (let here : Some None ≡ Some p = rw none at found in let same : None ≡ p = cc in rw (none, ← same) tt)
+      | inr (s, named) ↦ (let here : option_map (λ place. Some place) (place_of names s) ≡ Some p = rw named at found in
+          elim (option_cases (place_of names s)) [
+            | inl none ↦ (let no : None ≡ Some p = rw none at here in cc)
+            | inr (q, at) ↦ (let placed : Some (Some q) ≡ Some p = rw at at here in let same : Some q ≡ p = cc in
+                rw (named, ← same) (place_found names s (Some q) (sym at)))
+          ])
+    ]
 
 -- and so for each entry
 parents_described : (names : List (List ℕ)) (es : List Entry) (ps : List (Option ℕ)) → parents_of names es ≡ Some ps → (w : ℕ) (e : Entry) → slice_get es w ≡ Some e → IsParent names e.parent (parent_at ps w)
@@ -144,12 +151,15 @@ place_is names p s apart at =
 parent_is : (names : List (List ℕ)) (e : Entry) (p : Option ℕ) → AllPairs (λ s u. s ≢ u) names → IsParent names e.parent p → parent_of names e ≡ Some p
 parent_is names e p apart is =
     elim (option_cases e.parent) [
-      inl none ↦ (let root : IsParent names None p = rw none at is in elim (option_cases p) [
-          inl e' ↦ rw (none, e') refl
-        | inr (q, e') ↦ (let no : IsParent names None (Some q) = rw e' at root in absurd no) ])
-    | inr (s, named) ↦ (let child : IsParent names (Some s) p = rw named at is in elim (option_cases p) [
-          inl e' ↦ (let no : IsParent names (Some s) None = rw e' at child in absurd no)
-        | inr (q, e') ↦ (let at : slice_get names q ≡ Some s = rw e' at child in rw (named, place_is names q s apart at, e') refl) ]) ]
+      | inl none ↦ (let root : IsParent names None p = rw none at is in elim (option_cases p) [
+        | inl e' ↦ rw (none, e') refl
+        | inr (q, e') ↦ (let no : IsParent names None (Some q) = rw e' at root in absurd no)
+      ])
+      | inr (s, named) ↦ (let child : IsParent names (Some s) p = rw named at is in elim (option_cases p) [
+        | inl e' ↦ (let no : IsParent names (Some s) None = rw e' at child in absurd no)
+        | inr (q, e') ↦ (let at : slice_get names q ≡ Some s = rw e' at child in rw (named, place_is names q s apart at, e') refl)
+      ])
+    ]
 
 -- and so of each
 parents_are : (names : List (List ℕ)) (es : List Entry) (ps : List (Option ℕ)) → AllPairs (λ s u. s ≢ u) names → length ps ≡ length es → ((w : ℕ) (e : Entry) → slice_get es w ≡ Some e → IsParent names e.parent (parent_at ps w)) → parents_of names es ≡ Some ps
@@ -181,7 +191,7 @@ tree_read d t described tree =
       listed = described.listed;
       named = names_pass es few lawful apart;
       found = parents_are (names_of es) es t.parents apart described.number each;
-      rooted = roots_pass t.parents (one_root t tree)
+      rooted = roots_pass t.parents (one_root t tree);
     } in
     tree_of-passed d passed ∙ rw (depths_pass t tree, ← described.names) refl
 
@@ -189,13 +199,15 @@ tree_read d t described tree =
 tree_described : (d : Data) (t : Nodes) → tree_of d ≡ Ok t → Describes d t × IsTree t
 tree_described d t read =
     elim (passed_or d) [
-      inr (f, refused, other) ↦ (let no = sym refused ∙ read in cc)
-    | inl p ↦ elim (cases_Bool (have_depths p.parents)) [
-        inl deep ↦ (let h = IsTree-from_checks p.entries p.parents p.named p.found p.rooted deep in
-          let found : tree_of d ≡ Ok (record { names = names_of p.entries; parents = p.parents }) = tree_of-passed d p ∙ rw deep refl in
-          let same : ◌≡◌ {A = Nodes} (record { names = names_of p.entries; parents = p.parents }) t = cc in
-          rw (← same) (Describes-passed d p, h))
-      | inr shallow ↦ (let no : tree_of d ≡ Err Cycle = tree_of-passed d p ∙ rw shallow refl in cc) ] ]
+      | inr (f, refused, other) ↦ (let no = sym refused ∙ read in cc)
+      | inl p ↦ elim (cases_Bool (have_depths p.parents)) [
+        | inl deep ↦ (let h = IsTree-from_checks p.entries p.parents p.named p.found p.rooted deep in
+            let found : tree_of d ≡ Ok (record { names = names_of p.entries; parents = p.parents }) = tree_of-passed d p ∙ rw deep refl in
+            let same : ◌≡◌ {A = Nodes} (record { names = names_of p.entries; parents = p.parents }) t = cc in
+            rw (← same) (Describes-passed d p, h))
+        | inr shallow ↦ (let no : tree_of d ≡ Err Cycle = tree_of-passed d p ∙ rw shallow refl in cc)
+      ]
+    ]
 
 pub trees_described : (d : Data) (t : Nodes) → (tree_of d ≡ Ok t) ↔ (Describes d t × IsTree t)
 trees_described d t = (tree_described d t, λ h. tree_read d t h.0 h.1)
@@ -214,19 +226,22 @@ some_depthless ps shallow =
     let inside : at.0 < length ps = rw length-range_with_len at at.1 in
     let lacks : is_some (depth_at ps at.0) ≡ false = rw (get_or-range_with_len 0 (length ps) at.0 0 inside, zero-add) at at.2 in
     elim (option_cases (depth_at ps at.0)) [
-      inl none ↦ (at.0, inside, none)
-    | inr (k, some) ↦ (let no : is_some (Some k) ≡ false = rw some at lacks in cc) ]
+      | inl none ↦ (at.0, inside, none)
+      | inr (k, some) ↦ (let no : is_some (Some k) ≡ false = rw some at lacks in cc)
+    ]
 
 pub cycle_found : (d : Data) → tree_of d ≡ Err Cycle → HasCycle d
 cycle_found d refused =
     elim (passed_or d) [
-      inr (f, early, other) ↦ absurd (other (let same = sym early ∙ refused in cc))
-    | inl p ↦ elim (cases_Bool (have_depths p.parents)) [
-        inl deep ↦ (let no : tree_of d ≡ Ok (record { names = names_of p.entries; parents = p.parents }) = tree_of-passed d p ∙ rw deep refl in cc)
-      | inr shallow ↦ (let w = some_depthless p.parents shallow in record {
+      | inr (f, early, other) ↦ absurd (other (let same = sym early ∙ refused in cc))
+      | inl p ↦ elim (cases_Bool (have_depths p.parents)) [
+        | inl deep ↦ (let no : tree_of d ≡ Ok (record { names = names_of p.entries; parents = p.parents }) = tree_of-passed d p ∙ rw deep refl in cc)
+        | inr shallow ↦ (let w = some_depthless p.parents shallow in record {
           nodes = record { names = names_of p.entries; parents = p.parents };
           described = Describes-passed d p;
           start = w.0;
           within = w.1;
-          endless = λ k ends. let deep = (depth_means p.parents (parents_inside p.entries p.parents p.found) w.0 k w.1).1 ends in let no = sym w.2 ∙ deep in cc
-        }) ] ]
+          endless = λ k ends. let deep = (depth_means p.parents (parents_inside p.entries p.parents p.found) w.0 k w.1).1 ends in let no = sym w.2 ∙ deep in cc;
+        })
+      ]
+    ]

@@ -23,6 +23,7 @@ pub record DepthIs (ps : List (Option ℕ)) (w k : ℕ) : Type 0 where
 
 -- each node of a tree has a depth: the number of its steps to the root
 pub depth_exists : (t : Nodes) → IsTree t → (w : ℕ) → w < length t.parents → DepthIs t.parents w (depth_of t.parents w)
+unfolding depth_of
 depth_exists t tree w within =
     let walk = tree.reaches_root w within in
     let found = depth_found t tree w walk.0 within walk.1 in
@@ -31,6 +32,7 @@ depth_exists t tree w within =
 
 -- a stored depth is the depth
 pub stored_depth : (t : Nodes) → IsTree t → (w k : ℕ) → w < length t.parents → depth_at t.parents w ≡ Some k → DepthIs t.parents w k
+unfolding depth_of
 stored_depth t tree w k within stored =
     let h = depth_exists t tree w within in
     let same : depth_of t.parents w ≡ k = ap (λ o. unwrap_or o 0) stored in
@@ -42,6 +44,7 @@ one_root t tree = count-one t.parents tree.root_is_node tree.one_root
 
 -- a walk to the root gives the depth
 depth_by_walk : (t : Nodes) → IsTree t → (w k : ℕ) → w < length t.parents → ancestor t.parents k w ≡ Some (root_of t.parents) → depth_of t.parents w ≡ k
+unfolding depth_of
 depth_by_walk t tree w k within leads = ap (λ o. unwrap_or o 0) (depth_found t tree w k within leads).0
 
 -- a child is one deeper than its parent

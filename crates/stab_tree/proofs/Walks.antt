@@ -1,4 +1,5 @@
--- A walk of parent steps to a node without a parent meets no node twice, so it has fewer steps than there are nodes.
+-- A walk of parent steps to a node without a parent meets no node twice, so it has fewer steps than
+-- there are nodes.
 use Rattle.std.proofs.Common.{◌≡◌, ℕ, zero, suc, ◌<◌, true, false, eqb, List, [], ◌∷◌, length, Option, Some, None, refl, sym, ap, ◌∙◌, inl, inr, ⊎_elim, arith}
 use Rattle.std.proofs.lemmas.Bool.{eqb-true, ne_eqb, or_cases}
 use Rattle.std.proofs.lemmas.Map.Keys.{IsDistinct-cons}

@@ -1,4 +1,5 @@
--- What one object of a tree's list says: a name, and the name of a parent where there is one (this project's profile).
+-- What one object of a tree's list says: a name, and the name of a parent where there is one
+-- (this project's profile).
 use Rattle.std.specs.Prelude.{ℕ, List, [], ◌∷◌, codes, Option, Some, None, option_map, option_and_then}
 use Rattle.serde_json.specs.Data.{Data, null, boolean, number, string, array, object, Items, no_items, item}
 use Rattle.serde_json.specs.Find.{get, as_str}

@@ -1,4 +1,5 @@
--- A tree: each node but one root has one parent, and reaches the root by parent steps (this project's profile).
+-- A tree: each node but one root has one parent, and reaches the root by parent steps
+-- (this project's profile).
 use Rattle.std.specs.Prelude.{◌≡◌, ◌≢◌, ℕ, ◌<◌, ◌≤◌, length, Some, None, AllPairs, IsTrue}
 use Rattle.std.specs.List.{list_all}
 use Rattle.stab_tree.specs.Name.{is_name}

@@ -1,4 +1,5 @@
--- A link is named by its child; links stand in the file order of their children (this project's profile).
+-- A link is named by its child; links stand in the file order of their children
+-- (this project's profile).
 use Rattle.std.specs.Prelude.{◌≡◌, ℕ, suc, ◌+◌, ◌<◌, ◌==◌, List, [], ◌∷◌, length, slice_get, Option, Some, None}
 use Rattle.std.specs.List.{position}
 use Rattle.stab_tree.specs.Nodes.{parent_at}

@@ -1,4 +1,5 @@
--- The tree that a JSON value describes, or the first check that fails over the whole list (this project's profile).
+-- The tree that a JSON value describes, or the first check that fails over the whole list
+-- (this project's profile).
 use Rattle.std.specs.Prelude.{ℕ, List, [], ◌∷◌, length, map, Bool, false, not, ◌||◌, ◌==◌, nat_lt, if◌then◌else◌, Option, Some, None, is_some, is_none, option_map, option_and_then, Result, Ok, Err}
 use Rattle.std.specs.List.{list_all, list_any, count_by, range_with_len}
 use Rattle.std.specs.Option.{option_map_or}
@@ -67,5 +68,5 @@ tree_of_entries None = Err Shape
 tree_of_entries (Some es) = tree_of_named es (names_fault es)
 
 -- the tree that a value describes, or its refusal
-abbrev pub tree_of : Data → Result Nodes TreeFault
+unfoldable pub tree_of : Data → Result Nodes TreeFault
 tree_of d = tree_of_entries (entries_of d)

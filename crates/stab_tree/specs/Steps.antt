@@ -1,4 +1,5 @@
--- Parent steps: where they lead, and how many lead to a node without a parent (this project's profile).
+-- Parent steps: where they lead, and how many lead to a node without a parent
+-- (this project's profile).
 use Rattle.std.specs.Prelude.{◌≡◌, ℕ, zero, suc, List, length, Option, Some, None, option_map, option_and_then, unwrap_or}
 use Rattle.std.specs.Option.{option_map_or}
 use Rattle.stab_tree.specs.Nodes.{parent_at}
@@ -22,5 +23,5 @@ abbrev pub depth_at : List (Option ℕ) → ℕ → Option ℕ
 depth_at parents w = steps_within parents (length parents) w
 
 -- the depth of w in a tree
-abbrev pub depth_of : List (Option ℕ) → ℕ → ℕ
+unfoldable pub depth_of : List (Option ℕ) → ℕ → ℕ
 depth_of parents w = unwrap_or (depth_at parents w) 0

@@ -3,8 +3,8 @@ ghost use Rattle.std.specs.Prelude.{◌≡◌};
 use std::alloc::{AllocError, AllocFailed};
 use thiserror::Error;
 
-/// Why a value is no tree. Each check is made over the whole list before the next, in this order; `Memory` may come in
-/// place of a refusal that would be found later.
+/// Why a value is no tree. Each check is made over the whole list before the next, in this order;
+/// `Memory` may come in place of a refusal that would be found later.
 #[derive(Clone, Copy, Debug, PartialEq, Eq, Error)]
 pub enum TreeFault {
     #[error("tree: wrong shape")]

@@ -1,4 +1,5 @@
-//! Laws of trees, for the crates above: each is a fact of the definitions in `specs/`, and takes no step.
+//! Laws of trees, for the crates above: each is a fact of the definitions in `specs/`, and takes no
+//! step.
 ghost use Rattle.std.specs.Prelude.{◌≡◌, ℕ, ◌<◌, ◌↔◌, List, length, Option, Some, Ok, Err};
 ghost use Rattle.stab_tree.specs.Depth.{EndsAfter, HasDepths};
 ghost use Rattle.stab_tree.specs.Describes.{Describes, HasCycle};
@@ -11,7 +12,8 @@ ghost use Rattle.serde_json.specs.Data.{Data};
 
 use crate::fault::TreeFault;
 
-/// Where each parent is a node, a node has a depth exactly if its parent steps end, and the depth is their number.
+/// Where each parent is a node, a node has a depth exactly if its parent steps end, and the depth
+/// is their number.
 pub fn depth_is_steps()
     ensures { (parents : List (Option ℕ))
         → ((w p : ℕ) → parent_at parents w ≡ Some p → p < length parents)
@@ -32,11 +34,9 @@ pub fn trees_have_links()
 /// A value is read to a tree exactly if it describes that tree.
 pub fn trees_are_described()
     ensures { (d : Data) (t : Nodes) → (tree_of d ≡ Ok t) ↔ (Describes d t × IsTree t) }
-{
-}
+{}
 
 /// Where a cycle is found, the parent steps of some node never end.
 pub fn cycles_never_end()
     ensures { (d : Data) → tree_of d ≡ Err TreeFault.Cycle → HasCycle d }
-{
-}
+{}

@@ -25,6 +25,7 @@ fn build(alloc: Global, entries: &[EntryRef<'_>]) -> Result<Tree, TreeFault>
 }
 
 /// Reads a list of nodes, each an object with a `name` and, but for the root, a `parent`.
+#[tactic(auto, unfolding(crate::specs::Read::tree_of))]
 pub fn read_tree(alloc: Global, value: &Value) -> Result<Tree, TreeFault>
     ensures ok { IfOk result (λ tree. tree_of (view value.now) ≡ Ok tree) }
     ensures err { IfErr result (λ fault. fault ≢ TreeFault.Memory

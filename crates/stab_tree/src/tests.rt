@@ -9,7 +9,8 @@ fn read(rt: &impl Abort, alloc: Global, text: &str) -> Result<Tree, TreeFault> {
     read_tree(alloc, &value)
 }
 
-/// A list of `count` nodes n0, n1, ..: each but the first a child of the node before it, or of the first.
+/// A list of `count` nodes n0, n1, ..: each but the first a child of the node before it, or of the
+/// first.
 fn family(alloc: Global, count: u16, is_chain: bool) -> Result<String, AllocError> {
     let mut text = String::from_str(alloc, "[{\"name\":\"n0\"}")?;
     for place in 1..count {

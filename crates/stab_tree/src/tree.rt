@@ -84,6 +84,7 @@ impl Tree {
     }
 
     /// The number of parent steps from the node to the root.
+    #[tactic(auto, unfolding(crate::specs::Steps::depth_of))]
     pub fn depth(&self, node: NodeId) -> u16
         requires { node < length self.now.parents }
         ensures value { result ≡ depth_of self.now.parents node }
