@@ -1,0 +1,6 @@
+pub mod Rising
+pub mod Chosen
+pub mod Parts
+pub mod Members
+pub mod Root
+pub mod Upwards
