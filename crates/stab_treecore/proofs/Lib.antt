@@ -4,3 +4,5 @@ pub mod Parts
 pub mod Members
 pub mod Root
 pub mod Upwards
+pub mod Linked
+pub mod Opened

@@ -1,2 +1,9 @@
+pub mod ByChild
+pub mod NodeLaws
 pub mod Prefix
+pub mod Refusals
+pub mod TreeInside
 pub mod TreeLaw
+pub mod TreeReplay
+pub mod TreeStep
+pub mod WholeTree
