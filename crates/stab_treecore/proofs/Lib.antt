@@ -6,3 +6,7 @@ pub mod Root
 pub mod Upwards
 pub mod Linked
 pub mod Opened
+pub mod Prefixes
+pub mod Stepped
+pub mod AtNodes
+pub mod Replayed

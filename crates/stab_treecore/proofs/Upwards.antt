@@ -4,9 +4,9 @@ use Rattle.std.specs.Prelude.{Contains}
 use Rattle.std.proofs.lemmas.List.{length-append}
 use Rattle.std.proofs.lemmas.List.Elements.{Contains-get_or}
 use Rattle.stab_core.specs.Picks.{RisesFrom, AllBelow, Picks}
-use Rattle.stab_core.specs.LinkLaw.{HalfLawAt, NoneMissing}
+use Rattle.stab_core.specs.LinkLaw.{HalfLawAt, NoneMissing, LinkLaw}
 use Rattle.stab_treecore.specs.Prefix.{IsPrefix}
-use Rattle.stab_treecore.specs.TreeLaw.{HalfTreeLawAt, NoneLacking}
+use Rattle.stab_treecore.specs.TreeLaw.{HalfTreeLawAt, NoneLacking, TreeLaw}
 use Rattle.stab_treecore.proofs.Rising.{below_bound, few_rising}
 use Rattle.stab_treecore.proofs.Chosen.{at_places, picks_chosen, picks_of_prefix, length_picked}
 use Rattle.stab_treecore.proofs.Parts.{raised, picks_joined, Parted, parted, front_rises, items_parted}
@@ -103,3 +103,15 @@ root_half published = (
   },
   λ i q enough before last. all_lower published i q before last,
 )
+
+-- the tree law of the child
+pub tree_law_below : (capacity most_strays most_missing acked : ℕ) (start_items garbage published received offered delivered : List ℕ)
+    → IsPrefix offered received
+    → TreeLaw most_strays most_missing garbage published received
+    → LinkLaw capacity start_items offered acked delivered
+    → TreeLaw (most_strays + capacity) (most_missing + (2 * capacity + 1)) (start_items ++ garbage) published delivered
+tree_law_below capacity most_strays most_missing acked start_items garbage published received offered delivered begins (above, up, none_lacking) (places, link, none_missing) =
+    let parts = parted_places capacity most_strays acked start_items garbage published received offered delivered above places begins up link in
+    (at_places above parts.high,
+     child_half capacity most_strays acked start_items garbage published received offered delivered above places begins up link,
+     child_lacks_none capacity most_strays acked start_items garbage published received offered delivered above places begins up link most_missing none_lacking none_missing)

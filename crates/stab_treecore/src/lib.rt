@@ -5,8 +5,10 @@ mod event;
 mod fault;
 pub mod laws;
 mod open;
+mod schedule;
 mod state;
 
 pub use event::{LinkAct, TreeEvent};
 pub use fault::{TreeStartFault, TreeStepFault};
+pub use schedule::run_schedule;
 pub use state::TreeState;
