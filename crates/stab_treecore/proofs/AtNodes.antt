@@ -1,6 +1,5 @@
 -- The tree law, from the root down: by induction on the depth.
-use Rattle.std.proofs.Common.{◌≡◌, ℕ, zero, suc, ◌+◌, ◌*◌, ◌<◌, ◌⊎◌, List, [], ◌++◌, length, Option, Some, None, refl, ap, sym, ◌∙◌, subst, arith, inl, inr}
-use Rattle.std.specs.Option.{option_map_or}
+use Rattle.std.proofs.Common.{◌≡◌, ℕ, zero, suc, ◌+◌, ◌*◌, ◌<◌, ◌⊎◌, List, length, Option, Some, None, refl, ap, sym, arith, inl, inr}
 use Rattle.std.proofs.Math.Nat.{zero-mul, suc-mul}
 use Rattle.stab_core.specs.declared.start.Start.{Start}
 use Rattle.stab_tree.specs.Depth.{HasDepths}
@@ -19,8 +18,7 @@ none_or_some (Some x) = inr (x, refl)
 module _ (t : Nodes) (tree : IsTree t) (depths : HasDepths t.parents) (capacity : ℕ) (starts : List Start) (published : List ℕ)
     (received : ℕ → List ℕ) (at_root : received (root_of t.parents) ≡ published)
     (links : (child parent : ℕ) → parent_at t.parents child ≡ Some parent
-     → LinkLawBetween capacity (garbage_into t.parents starts child) (received parent) (received child)) where
-
+    → LinkLawBetween capacity (garbage_into t.parents starts child) (received parent) (received child)) where
   -- a node at this depth obeys the tree law with the bounds of this depth
   abbrev pub ObeysAt : ℕ → ℕ → Type 0
   ObeysAt depth node =
@@ -39,22 +37,22 @@ module _ (t : Nodes) (tree : IsTree t) (depths : HasDepths t.parents) (capacity 
       let missing : depth * (2 * capacity + 1) + (2 * capacity + 1) ≡ suc depth * (2 * capacity + 1) = sym (suc-mul depth (2 * capacity + 1)) in
       rw (← strays, ← missing, is_child)
       (tree_law_below capacity (depth * capacity) (depth * (2 * capacity + 1)) acked (garbage_into t.parents starts child)
-       (garbage_above t.parents starts depth parent) published (received parent) offered (received child) begins above law)
+      (garbage_above t.parents starts depth parent) published (received parent) offered (received child) begins above law)
 
   -- so each node of that depth obeys it
   pub node_obeys : (depth node : ℕ) → node < length t.parents → depth_of t.parents node ≡ depth → ObeysAt depth node
   node_obeys zero node within is_depth =
       elim (none_or_some (parent_at t.parents node)) [
-        inl none ↦ root_obeys node (tree.one_root node within none)
-      | inr some ↦ absurd (omega (arith, depths.child_depth node some.0 within some.1))
+        | inl none ↦ root_obeys node (tree.one_root node within none)
+        | inr some ↦ absurd (omega (arith, depths.child_depth node some.0 within some.1))
       ]
   node_obeys (suc depth) node within is_depth =
       elim (none_or_some (parent_at t.parents node)) [
-        inl none ↦
-          absurd (omega (arith, depths.root_depth, ap (λ w. depth_of t.parents w) (tree.one_root node within none)))
-      | inr some ↦
-          child_obeys depth node some.0 some.1
-          (node_obeys depth some.0 (tree.known_parents node some.0 some.1) (omega (arith, depths.child_depth node some.0 within some.1)))
+        | inl none ↦
+            absurd (omega (arith, depths.root_depth, ap (λ w. depth_of t.parents w) (tree.one_root node within none)))
+        | inr some ↦
+            child_obeys depth node some.0 some.1
+            (node_obeys depth some.0 (tree.known_parents node some.0 some.1) (omega (arith, depths.child_depth node some.0 within some.1)))
       ]
 
   -- each node obeys the tree law

@@ -10,3 +10,4 @@ pub mod Prefixes
 pub mod Stepped
 pub mod AtNodes
 pub mod Replayed
+pub mod Lines

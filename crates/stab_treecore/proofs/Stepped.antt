@@ -1,15 +1,12 @@
 -- What a step leaves of a link: its offered list grows by the next item alone, and its delivered list only grows.
-use Rattle.std.proofs.Common.{◌≡◌, ◌==◌, ◌&&◌, ℕ, zero, suc, ◌+◌, List, [], ◌∷◌, ◌++◌, length, slice_get, Bool, true, false, if◌then◌else◌, Option, Some, None, refl, ap, sym, ◌∙◌, subst}
+use Rattle.std.proofs.Common.{◌≡◌, ◌==◌, ◌&&◌, ℕ, ◌+◌, List, [], ◌∷◌, ◌++◌, length, slice_get, Bool, true, false, if◌then◌else◌, Option, Some, None, refl}
 use Rattle.stab_frames.specs.declared.frame.Frame.{Frame}
 use Rattle.stab_frames.specs.Parameters.{Parameters, next}
-use Rattle.stab_frames.specs.Queue.{without}
 use Rattle.stab_core.specs.declared.event.Event.{Event}
 use Rattle.stab_core.specs.declared.event.Event.TheVariants as event
-use Rattle.stab_core.specs.declared.start.Start.{Start}
-use Rattle.stab_core.specs.Link.{LinkValue, link_at}
+use Rattle.stab_core.specs.Link.{LinkValue}
 use Rattle.stab_core.specs.LinkState.{LinkState, is_idle, is_holding, current_frame, has_room}
-use Rattle.stab_core.specs.Reachable.{IsReachable}
-use Rattle.stab_core.specs.Step.{step, open_step, left, receives_frame, receives_ack, sees_frame, sees_ack}
+use Rattle.stab_core.specs.Step.{step, open_step, left, receives_frame, receives_ack}
 use Rattle.stab_treecore.specs.declared.event.LinkAct.{LinkAct}
 use Rattle.stab_treecore.specs.declared.event.LinkAct.TheVariants.{Offer, SendFrame, RecvFrame, SendAck, RecvAck, LoseFrame, LoseAck, Close}
 use Rattle.stab_treecore.specs.Prefix.{IsPrefix}

@@ -111,7 +111,8 @@ pub tree_law_below : (capacity most_strays most_missing acked : ℕ) (start_item
     → LinkLaw capacity start_items offered acked delivered
     → TreeLaw (most_strays + capacity) (most_missing + (2 * capacity + 1)) (start_items ++ garbage) published delivered
 tree_law_below capacity most_strays most_missing acked start_items garbage published received offered delivered begins (above, up, none_lacking) (places, link, none_missing) =
-    let parts = parted_places capacity most_strays acked start_items garbage published received offered delivered above places begins up link in
-    (at_places above parts.high,
-     child_half capacity most_strays acked start_items garbage published received offered delivered above places begins up link,
-     child_lacks_none capacity most_strays acked start_items garbage published received offered delivered above places begins up link most_missing none_lacking none_missing)
+    let parts = parted_places capacity most_strays acked start_items garbage published received offered delivered above places begins up link in (
+      at_places above parts.high,
+      child_half capacity most_strays acked start_items garbage published received offered delivered above places begins up link,
+      child_lacks_none capacity most_strays acked start_items garbage published received offered delivered above places begins up link most_missing none_lacking none_missing,
+    )

@@ -2,6 +2,7 @@ pub mod ByChild
 pub mod NodeLaws
 pub mod Prefix
 pub mod Refusals
+pub mod Texts
 pub mod TreeInside
 pub mod TreeLaw
 pub mod TreeReplay

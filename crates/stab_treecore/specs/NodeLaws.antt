@@ -45,4 +45,4 @@ abbrev pub TreeLawAtNodes : ℕ → List (Option ℕ) → List Start → List �
 TreeLawAtNodes capacity parents starts published received =
     (node : ℕ) → node < length parents
     → TreeLaw (depth_of parents node * capacity) (depth_of parents node * (2 * capacity + 1))
-      (path_garbage parents starts node) published (received node)
+    (path_garbage parents starts node) published (received node)

@@ -1,6 +1,6 @@
 -- Why a whole tree cannot begin or go on: the first check that fails, or memory.
 -- Source: this project's own.
-use Rattle.std.specs.Prelude.{◌≡◌, ◌⊎◌, ℕ, List, [], ◌∷◌, length, Option, IsNone, All, Any}
+use Rattle.std.specs.Prelude.{◌≡◌, ◌⊎◌, ℕ, List, [], ◌∷◌, length, Option, IsSome, IsNone, All, Any}
 use Rattle.stab_frames.specs.Parameters.{Parameters}
 use Rattle.stab_core.specs.declared.start.Start.{Start}
 use Rattle.stab_core.specs.declared.start.StartFault.{StartFault}
@@ -36,9 +36,16 @@ IsStartReason p parents starts StartCount = ¬ OnePerLink parents starts
 IsStartReason p parents starts (StartRefused fault) = OnePerLink parents starts × IsOpeningReason p starts fault
 IsStartReason p parents starts (Step fault) = ⊥
 
--- why an event of a schedule is refused: it names the root or no node, or memory
+-- an event names a link by its child; the root and what is no node name none
+abbrev pub NamesLink : List (Option ℕ) → TreeEvent → Type 0
+NamesLink parents e = IsSome (parent_at parents e.child)
+
+abbrev pub NamesNoLink : List (Option ℕ) → TreeEvent → Type 0
+NamesNoLink parents e = IsNone (parent_at parents e.child)
+
+-- why an event of a schedule is refused: it names no link, or memory
 abbrev pub IsStepReason : List (Option ℕ) → List TreeEvent → TreeStepFault → Type 0
-IsStepReason parents events NoSuchLink = Any (λ (e : TreeEvent). IsNone (parent_at parents e.child)) events
+IsStepReason parents events NoSuchLink = Any (NamesNoLink parents) events
 IsStepReason parents events StepMemory = Unit {0}
 
 -- why a schedule is refused: as a whole tree that cannot begin, or at a step

@@ -48,7 +48,7 @@ pub fn tree_law_at_every_node()
         → IsTree nodes
         → received (root_of nodes.parents) ≡ published
         → ((child parent : ℕ) → parent_at nodes.parents child ≡ Some parent
-           → LinkLawBetween capacity (garbage_into nodes.parents starts child) (received parent) (received child))
+        → LinkLawBetween capacity (garbage_into nodes.parents starts child) (received parent) (received child))
         → TreeLawAtNodes capacity nodes.parents starts published received }
 {
     stab_tree::laws::trees_have_depths();
@@ -66,7 +66,7 @@ pub fn every_schedule_obeys_the_tree_law()
     ensures { (nodes : Nodes) (p : Parameters) (starts : List Start) (published : List ℕ) (events : List TreeEvent)
         → IsTree nodes → AreLawful p → OnePerLink nodes.parents starts → All (IsLawful p) starts
         → TreeLawAtNodes p.capacity nodes.parents starts published
-          (received (tree_replay (tree_opening p nodes.parents published starts) events)) }
+        (received (tree_replay (tree_opening p nodes.parents published starts) events)) }
 {
     stab_tree::laws::trees_have_depths();
     stab_core::laws::reachable_steps();

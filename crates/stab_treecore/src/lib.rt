@@ -7,8 +7,10 @@ pub mod laws;
 mod open;
 mod schedule;
 mod state;
+mod text;
 
 pub use event::{LinkAct, TreeEvent};
 pub use fault::{TreeStartFault, TreeStepFault};
 pub use schedule::run_schedule;
 pub use state::TreeState;
+pub use text::{push_node_counts, schedule_text};

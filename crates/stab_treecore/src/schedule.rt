@@ -1,7 +1,7 @@
 ghost use Rattle.std.specs.Prelude.{◌≡◌, All, IfOk, IfErr, OnOk};
 ghost use Rattle.stab_core.specs.Replay.{IsLawful};
 ghost use Rattle.stab_treecore.specs.NodeLaws.{HalfTreeLawAtNodes, TreeLawAtNodes};
-ghost use Rattle.stab_treecore.specs.Refusals.{OnePerLink, IsScheduleReason};
+ghost use Rattle.stab_treecore.specs.Refusals.{OnePerLink, NamesLink, IsScheduleReason};
 ghost use Rattle.stab_treecore.specs.TreeReplay.{tree_opening, tree_replay};
 ghost use Rattle.stab_treecore.specs.WholeTree.{received};
 
@@ -29,8 +29,10 @@ pub fn run_schedule(
 ) -> Result<TreeState, TreeStartFault>
     ensures replay { IfOk result (λ state.
         state ≡ tree_replay (tree_opening params tree.now.parents published.now starts.now) events.now) }
+    ensures same_tree { IfOk result (λ state. state.parents ≡ tree.now.parents) }
     ensures one_per_link { OnOk result (OnePerLink tree.now.parents starts.now) }
     ensures lawful { OnOk result (All (IsLawful params) starts.now) }
+    ensures named { OnOk result (All (NamesLink tree.now.parents) events.now) }
     ensures refused { IfErr result (IsScheduleReason params tree.now.parents starts.now events.now) }
 
     // The laws of every node.
@@ -58,8 +60,10 @@ fn replayed(
 ) -> Result<TreeState, TreeStartFault>
     ensures replay { IfOk result (λ state.
         state ≡ tree_replay (tree_opening params tree.now.parents published.now starts.now) events.now) }
+    ensures same_tree { IfOk result (λ state. state.parents ≡ tree.now.parents) }
     ensures one_per_link { OnOk result (OnePerLink tree.now.parents starts.now) }
     ensures lawful { OnOk result (All (IsLawful params) starts.now) }
+    ensures named { OnOk result (All (NamesLink tree.now.parents) events.now) }
     ensures refused { IfErr result (IsScheduleReason params tree.now.parents starts.now events.now) }
 {
     let mut state = TreeState::new(alloc, params, tree, published, starts)?;

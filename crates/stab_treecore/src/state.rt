@@ -1,10 +1,10 @@
-ghost use Rattle.std.specs.Prelude.{◌≡◌, ◌↔◌, ◌<◌, length, slice_get, is_some, option_copied, option_map, option_and_then, All, IsNone, IfOk, IfErr, OnOk, OnErr, IsErrOf};
+ghost use Rattle.std.specs.Prelude.{◌≡◌, ◌↔◌, ◌<◌, length, slice_get, is_some, option_copied, option_map, option_and_then, All, IsSome, IsNone, IfOk, IfErr, OnOk, OnErr, IsErrOf};
 ghost use Rattle.std.specs.Option.{option_map_or};
 ghost use Rattle.stab_core.specs.Link.{Grows};
 ghost use Rattle.stab_core.specs.Replay.{IsLawful};
 ghost use Rattle.stab_tree.specs.Nodes.{parent_at};
 ghost use Rattle.stab_treecore.specs.WholeTree.{WholeTree, link_into, received, source};
-ghost use Rattle.stab_treecore.specs.Refusals.{OnePerLink, IsStartReason};
+ghost use Rattle.stab_treecore.specs.Refusals.{OnePerLink, IsStartReason, NamesLink, NamesNoLink};
 ghost use Rattle.stab_treecore.specs.TreeReplay.{tree_opening};
 ghost use Rattle.stab_treecore.specs.TreeStep.{event_of, link_after, effect_on, tree_step, tree_effect};
 
@@ -71,7 +71,8 @@ impl TreeState {
     /// only where a list of that link grows.
     pub fn apply(&mut self, event: TreeEvent) -> Result<Effect, TreeStepFault>
         ensures steps { IfOk result (λ effect. (self.new ≡ tree_step self.old event) × (effect ≡ tree_effect self.old event)) }
-        ensures no_such_link { IsErrOf result TreeStepFault.NoSuchLink ↔ IsNone (parent_at self.old.parents event.child) }
+        ensures named { OnOk result (NamesLink self.old.parents event) }
+        ensures no_such_link { IsErrOf result TreeStepFault.NoSuchLink ↔ NamesNoLink self.old.parents event }
         ensures memory { IsErrOf result TreeStepFault.Memory → Grows (tree_effect self.old event) }
         ensures unchanged { OnErr result (self.new ≡ self.old) }
     {
@@ -126,6 +127,7 @@ fn step(link: &mut Option<Link>, event: Option<Event>) -> Result<Effect, TreeSte
     ensures link { IfOk result (λ _. link.new ≡ option_map (link_after event) link.old) }
     ensures kind { is_some link.new ≡ is_some link.old }
     ensures effect { IfOk result (λ effect. effect ≡ option_map_or (effect_on event) link.old Effect.Nothing) }
+    ensures named { OnOk result (IsSome link.old) }
     ensures no_such_link { IsErrOf result TreeStepFault.NoSuchLink ↔ IsNone link.old }
     ensures memory { IsErrOf result TreeStepFault.Memory → Grows (option_map_or (effect_on event) link.old Effect.Nothing) }
     ensures unchanged { OnErr result (link.new ≡ link.old) }
