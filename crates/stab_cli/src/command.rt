@@ -1,6 +1,8 @@
+ghost use Rattle.std.specs.Prelude.{◌≡◌, ◌≤◌, ◌⊎◌, length, false, None, IfErr, IsOkAnd};
+
 use crate::fault::CliFault;
-use clap::{Arg, ArgAction, ArgMatches, Command, Error};
 use clap::error::ErrorKind;
+use clap::{Arg, ArgAction, ArgMatches, Command, Error};
 use std::alloc::{AllocError, Global};
 
 /// What the program is to do.
@@ -13,7 +15,10 @@ pub enum Task {
 /// The task that these words name, the program's name first, and its file where there is one.
 ///
 /// No words are `link` without a file. Whatever `clap` refuses is a refused command line, a request for help included.
-pub fn parse(alloc: Global, words: &[String]) -> Result<(Task, Option<String>), CliFault> {
+pub fn parse(alloc: Global, words: &[String]) -> Result<(Task, Option<String>), CliFault>
+    ensures no_words { length words.now ≤ 1 → IsOkAnd result (λ r. (r.0 ≡ Task.Link false) × (r.1 ≡ None)) }
+    ensures refused { IfErr result (λ fault. (fault ≡ CliFault.CommandLine) ⊎ (fault ≡ CliFault.Memory)) }
+{
     if words.len() <= 1 {
         return Ok((Task::Link { trace: false }, None));
     }
@@ -44,15 +49,19 @@ fn command<'a>(alloc: Global) -> Result<Command<'a>, AllocError> {
 }
 
 /// The file that a subcommand names.
-fn file_of(alloc: Global, matches: &ArgMatches<'_>) -> Result<Option<String>, CliFault> {
+fn file_of(alloc: Global, matches: &ArgMatches<'_>) -> Result<Option<String>, CliFault>
+    ensures { IfErr result (λ fault. fault ≡ CliFault.Memory) }
+{
     match matches.get_str("FILE") {
         None => Ok(None),
         Some(path) => Ok(Some(String::from_str(alloc, path)?)),
     }
 }
 
-/// The fault of words that are refused.
-fn refusal(error: &Error) -> CliFault {
+/// The fault of words that are refused: memory was refused, or the words are no command line.
+fn refusal(error: &Error) -> CliFault
+    ensures { (result ≡ CliFault.CommandLine) ⊎ (result ≡ CliFault.Memory) }
+{
     if error.kind() == ErrorKind::OutOfMemory {
         CliFault::Memory
     } else {

@@ -7,7 +7,7 @@ mod fault;
 mod load;
 
 use act::act;
-use command::parse;
+use command::{Task, parse};
 use fault::CliFault;
 use std::alloc::Global;
 use std::fs;
@@ -27,16 +27,24 @@ fn main(rt: HostRuntime) -> ExitCode {
     }
 }
 
-/// Does the task that the command line names, with its file or the standard input.
+/// Does the task that the command line names.
 fn run<R: Env + Files + Input + Print + Wait + AllocGlobal>(rt: &R) -> Result<(), CliFault> {
-    let alloc = rt.alloc();
-    let words = words(rt, alloc)?;
-    let (task, path) = parse(alloc, &words)?;
+    let words = words(rt, rt.alloc())?;
+    let (task, path) = parse(rt.alloc(), &words)?;
+    perform(rt, task, path)
+}
+
+/// Does a task with its file, or with the standard input where it has none.
+fn perform<R: Files + Input + Print + Wait + AllocGlobal>(
+    rt: &R,
+    task: Task,
+    path: Option<String>,
+) -> Result<(), CliFault> {
     match path {
-        None => act(rt, alloc, task, &mut rt.reader(), &mut io::writer(rt)),
+        None => act(rt, rt.alloc(), task, &mut rt.reader(), &mut io::writer(rt)),
         Some(path) => {
             let mut file = fs::open(rt, &path).map_err(|_| CliFault::Open)?;
-            act(rt, alloc, task, &mut file, &mut io::writer(rt))
+            act(rt, rt.alloc(), task, &mut file, &mut io::writer(rt))
         }
     }
 }

@@ -13,8 +13,8 @@ use Rattle.stab_core.specs.declared.start.Start.{Start}
 use Rattle.stab_core.specs.LinkState.{LinkState, is_idle, is_holding, current_frame, has_room}
 use Rattle.stab_core.specs.Step.{open_step, step, left, receives_frame, receives_ack}
 use Rattle.stab_core.specs.Trace.{Traced, traced_opening, traced_step, traced_replay, queued_after, origins_after, taken_origin}
-use Rattle.stab_core.proofs.Echoes.{echo_left, echo_without, left-nil, left-map, without-map}
-use Rattle.stab_core.proofs.Circle.{echo_of_acks, echo_of_answer}
+use Rattle.stab_core.proofs.InOrder.{in_order_left, in_order_without, left-nil, left-map, without-map}
+use Rattle.stab_core.proofs.Circle.{acks_in_order, answer_in_order}
 use Rattle.stab_core.proofs.Sources.{stray_count, item_at, label_at, frame_at, origin_at, origin_sent, start_places, start_origins}
 use Rattle.stab_core.proofs.Kept.{Kept, kept_open, kept_offer, kept_send, kept_fewer_frames, kept_acks, kept_fresh, kept_acked, kept_close}
 
@@ -74,7 +74,8 @@ module _ (p : Parameters) (start : Start) where
         bound = inv.bound;
         kept = kept_send p start holding inv.kept;
         queued_are =
-            ap₂ (λ origins origin. origins ++ origin ∷ []) inv.queued_are (ap Sent last ∙ sym (origin_sent start t.state.acked))
+            ap₂ (λ origins origin. origins ++ origin ∷ []) inv.queued_are
+            (ap Sent last ∙ sym (origin_sent start t.state.acked))
             ∙ sym (map_push (origin_at start) inv.queued place);
         taken_are = inv.taken_are;
       }
@@ -103,8 +104,8 @@ module _ (p : Parameters) (start : Start) where
       }
 
   -- the receiver has taken the front frame's label before
-  received_old : (keep : Bool) (s : LinkState) {origins : List Origin} (place : ℕ) (queued : List ℕ) {taken : List ℕ} {bound : ℕ}
-      → origins ≡ map (origin_at start) taken
+  received_old : (keep : Bool) (s : LinkState) {origins : List Origin} (place : ℕ) (queued : List ℕ) {taken : List ℕ}
+      {bound : ℕ} → origins ≡ map (origin_at start) taken
       → Kept p start (record s { frames = map (frame_at p start s.offered) (place ∷ queued) }) (place ∷ queued) taken bound
       → Invariant p start (record {
         state = record s { frames = left keep (map (frame_at p start s.offered) (place ∷ queued)) };
@@ -117,14 +118,14 @@ module _ (p : Parameters) (start : Start) where
         queued = left keep (place ∷ queued);
         taken = taken;
         bound = bound;
-        kept = kept_fewer_frames p start frames_are (echo_left keep (place ∷ queued)) kept;
+        kept = kept_fewer_frames p start frames_are (in_order_left keep (place ∷ queued)) kept;
         queued_are = left-map (origin_at start) keep (place ∷ queued);
         taken_are = append-nil origins ∙ taken_are;
       }
 
   -- the receiver takes the front frame
-  received_fresh : (keep : Bool) (s : LinkState) {origins : List Origin} (place : ℕ) (queued : List ℕ) {taken : List ℕ} {bound : ℕ}
-      → label_at p start place ≢ s.recv_label → origins ≡ map (origin_at start) taken
+  received_fresh : (keep : Bool) (s : LinkState) {origins : List Origin} (place : ℕ) (queued : List ℕ) {taken : List ℕ}
+      {bound : ℕ} → label_at p start place ≢ s.recv_label → origins ≡ map (origin_at start) taken
       → Kept p start (record s { frames = map (frame_at p start s.offered) (place ∷ queued) }) (place ∷ queued) taken bound
       → Invariant p start (record {
         state = record s {
@@ -142,7 +143,8 @@ module _ (p : Parameters) (start : Start) where
         bound = place + 1;
         kept = kept_fresh p start keep fresh kept;
         queued_are = left-map (origin_at start) keep (place ∷ queued);
-        taken_are = ap (λ list. list ++ origin_at start place ∷ []) taken_are ∙ sym (map_push (origin_at start) taken place);
+        taken_are =
+            ap (λ list. list ++ origin_at start place ∷ []) taken_are ∙ sym (map_push (origin_at start) taken place);
       }
 
   -- the front frame is received, where there is one
@@ -195,7 +197,7 @@ module _ (p : Parameters) (start : Start) where
   after_send_ack t inv =
       cond_both (has_room p t.state.acks) (record t.state { acks = t.state.acks ++ t.state.recv_label ∷ [] }) t.state
       (λ s. Invariant p start (record { state = s; queued = t.queued; origins = t.origins }))
-      (λ _. same_places inv (kept_acks p start (echo_of_answer t.state.acks t.state.recv_label) inv.kept)) (λ _. inv)
+      (λ _. same_places inv (kept_acks p start (answer_in_order t.state.acks t.state.recv_label) inv.kept)) (λ _. inv)
 
   -- the front of these acknowledgements is received, where there is one
   acknowledged : (keep : Bool) (s : LinkState) (acks : List ℕ) {queued taken : List ℕ} {bound : ℕ}
@@ -207,7 +209,7 @@ module _ (p : Parameters) (start : Start) where
       (λ matches.
       let both = and_parts (is_holding s) (label == s.send_label) matches in
       kept_acked p start keep s both.0 (eqb-true _ _ both.1) kept)
-      (λ _. kept_acks p start (λ labels. echo_of_acks s.recv_label labels (echo_left keep (label ∷ acks))) kept)
+      (λ _. kept_acks p start (λ labels. acks_in_order s.recv_label labels (in_order_left keep (label ∷ acks))) kept)
 
   -- so for those that stand in the link
   after_recv_ack : (keep : Bool) (t : Traced) → Invariant p start t → Invariant p start (after p t (RecvAck keep))
@@ -216,12 +218,13 @@ module _ (p : Parameters) (start : Start) where
   -- a frame vanishes
   after_lose_frame : (i : ℕ) (t : Traced) → Invariant p start t → Invariant p start (after p t (LoseFrame i))
   after_lose_frame i t inv =
-      let frames_are = ap (without i) inv.kept.transit.frames_are ∙ without-map (frame_at p start t.state.offered) i inv.queued in
+      let of_places = without-map (frame_at p start t.state.offered) i inv.queued in
+      let frames_are = ap (without i) inv.kept.transit.frames_are ∙ of_places in
       record {
         queued = without i inv.queued;
         taken = inv.taken;
         bound = inv.bound;
-        kept = kept_fewer_frames p start frames_are (echo_without i inv.queued) inv.kept;
+        kept = kept_fewer_frames p start frames_are (in_order_without i inv.queued) inv.kept;
         queued_are = ap (without i) inv.queued_are ∙ without-map (origin_at start) i inv.queued;
         taken_are = inv.taken_are;
       }
@@ -230,7 +233,7 @@ module _ (p : Parameters) (start : Start) where
   after_lose_ack : (i : ℕ) (t : Traced) → Invariant p start t → Invariant p start (after p t (LoseAck i))
   after_lose_ack i t inv =
       same_places inv
-      (kept_acks p start (λ labels. echo_of_acks t.state.recv_label labels (echo_without i t.state.acks)) inv.kept)
+      (kept_acks p start (λ labels. acks_in_order t.state.recv_label labels (in_order_without i t.state.acks)) inv.kept)
 
   -- every event on an open link keeps the invariants
   after_event : (t : Traced) (e : Event) → Invariant p start t → Invariant p start (after p t e)
@@ -246,7 +249,8 @@ module _ (p : Parameters) (start : Start) where
   -- every step keeps them: a closed link stays as it is
   step_keeps : (t : Traced) (e : Event) → Invariant p start t → Invariant p start (traced_step p t e)
   step_keeps t e inv =
-      cond_both t.state.closed t (record { state = step p t.state e; queued = queued_after p t e; origins = origins_after t e })
+      cond_both t.state.closed t
+      (record { state = step p t.state e; queued = queued_after p t e; origins = origins_after t e })
       (Invariant p start) (λ _. inv)
       (λ still_open. rw (cond-false t.state.closed t.state (open_step p t.state e) still_open) (after_event t e inv))
 

@@ -18,7 +18,8 @@ others_no_more : (x : ℕ) (ys : List ℕ) → length (others x ys) ≤ length y
 others_no_more x [] = omega arith
 others_no_more x (y ∷ ys) =
     let fewer : length (others x ys) ≤ length ys = others_no_more x ys in
-    cond_both (eqb y x) (others x ys) (y ∷ others x ys) (λ kept. length kept ≤ length (y ∷ ys)) (λ same. omega arith) (λ other. omega arith)
+    cond_both (eqb y x) (others x ys) (y ∷ others x ys) (λ kept. length kept ≤ length (y ∷ ys))
+    (λ same. omega arith) (λ other. omega arith)
 
 -- an entry that stands nowhere, or there are fewer others
 absent_or_fewer : (x : ℕ) (ys : List ℕ) → Absent x ys ⊎ (length (others x ys) < length ys)
@@ -52,23 +53,30 @@ one_is_free number (suc n) used differ few =
     elim (absent_or_fewer (number (suc n)) used) [
       | inl absent ↦ (suc n, omega arith, absent)
       | inr fewer ↦
-          let (j, within, absent) = one_is_free number n (others (number (suc n)) used) (λ i k before last. differ i k before (omega arith)) (omega arith) in
-          (j, omega arith, absent_from_others (number (suc n)) (number j) used (differ j (suc n) (omega arith) (omega arith)) absent)
+          let last : ℕ = number (suc n) in
+          let fewer_differ = λ (i k : ℕ) (before : i < k) (in_list : k ≤ n). differ i k before (omega arith) in
+          let (j, within, absent) = one_is_free number n (others last used) fewer_differ (omega arith) in
+          let differs : number j ≢ last = differ j (suc n) (omega arith) (omega arith) in
+          (j, omega arith, absent_from_others last (number j) used differs absent)
     ]
 
--- an item number whose label no other item before it has, and which stands nowhere in the start
+-- Item number j is free: it is one of the first items, whose labels all differ, and its label stands nowhere in the start.
 pub record IsFree (p : Parameters) (start : Start) (j : ℕ) : Type 0 where
   pub some_labels : 2 ≤ p.labels
   pub few : j < p.labels
   pub absent : Absent (item_label p start j) (circle start.acks start.recv_label (map (λ f. f.label) start.frames))
 
 -- a start holds at most 2c + 1 labels
-few_in_start : (p : Parameters) (start : Start) → IsLawful p start → length (circle start.acks start.recv_label (map (λ f. f.label) start.frames)) ≤ 2 * p.capacity + 1
+few_in_start : (p : Parameters) (start : Start) → IsLawful p start
+    → length (circle start.acks start.recv_label (map (λ f. f.label) start.frames)) ≤ 2 * p.capacity + 1
 few_in_start p start lawful = simp (length-append, length-map) (omega arith)
 
 -- so one of the first 2c + 2 items has a label that stands nowhere in the start
-pub free_label : (p : Parameters) (start : Start) → AreLawful p → IsLawful p start → (j : ℕ) × (j ≤ 2 * p.capacity + 1) × IsFree p start j
+pub free_label : (p : Parameters) (start : Start) → AreLawful p → IsLawful p start
+    → (j : ℕ) × (j ≤ 2 * p.capacity + 1) × IsFree p start j
 free_label p start parameters lawful =
-    let (j, within, absent) = one_is_free (item_label p start) (2 * p.capacity + 1) (circle start.acks start.recv_label (map (λ f. f.label) start.frames))
-    (λ i k before last. labels_differ p start i k before (omega arith)) (few_in_start p start lawful) in
+    let used : List ℕ = circle start.acks start.recv_label (map (λ f. f.label) start.frames) in
+    let most : ℕ = 2 * p.capacity + 1 in
+    let differ = λ (i k : ℕ) (before : i < k) (in_list : k ≤ most). labels_differ p start i k before (omega arith) in
+    let (j, within, absent) = one_is_free (item_label p start) most used differ (few_in_start p start lawful) in
     (j, within, record { some_labels = omega arith; few = omega arith; absent = absent })

@@ -8,12 +8,12 @@ use Rattle.stab_core.specs.LinkState.{LinkState, is_idle, is_holding, current_fr
 use Rattle.stab_core.specs.Replay.{opening}
 use Rattle.stab_core.specs.Step.{left}
 use Rattle.stab_core.proofs.Labels.{item_label}
-use Rattle.stab_core.proofs.Echoes.{Echoes, echo_same, echo_left, echo_map, left-map}
-use Rattle.stab_core.proofs.Circle.{Absent, circle, echo_of_frames}
+use Rattle.stab_core.proofs.InOrder.{InOrder, in_order_same, in_order_left, in_order_map, left-map}
+use Rattle.stab_core.proofs.Circle.{Absent, circle, frames_in_order}
 use Rattle.stab_core.proofs.FreeLabel.{IsFree}
 use Rattle.stab_core.proofs.Sources.{stray_count, item_at, label_at, frame_at, start_places, start_frames}
-use Rattle.stab_core.proofs.Ordering.{Sending, InTransit, Delivery, sending_open, sending_offer, sending_acked, transit_open, transit_offer, transit_send, transit_echo, delivery_open, delivery_offer, delivery_send, delivery_echo, delivery_fresh}
-use Rattle.stab_core.proofs.Reading.{Reading, reading_open, reading_echo, reading_send, reading_fresh, reading_acked}
+use Rattle.stab_core.proofs.Ordering.{Sending, InTransit, Delivery, sending_open, sending_offer, sending_acked, transit_open, transit_offer, transit_send, transit_in_order, delivery_open, delivery_offer, delivery_send, delivery_in_order, delivery_fresh}
+use Rattle.stab_core.proofs.Reading.{Reading, reading_open, reading_in_order, reading_send, reading_fresh, reading_acked}
 
 -- The sender, the queue of frames and the receiver keep their order, and the circle of labels reads so for each free item
 -- number.
@@ -44,7 +44,8 @@ module _ (p : Parameters) (start : Start) where
 
   -- an offer to an idle sender
   pub kept_offer : {s : LinkState} {queued taken : List ℕ} {bound : ℕ} (item : ℕ) → is_idle s ≡ true
-      → Kept p start s queued taken bound → Kept p start (record s { offered = s.offered ++ item ∷ [] }) queued taken bound
+      → Kept p start s queued taken bound
+      → Kept p start (record s { offered = s.offered ++ item ∷ [] }) queued taken bound
   kept_offer item idle kept =
       record {
         sending = sending_offer p start item (eqb-true _ _ idle) kept.sending;
@@ -69,28 +70,28 @@ module _ (p : Parameters) (start : Start) where
 
   -- frames that vanish, or stay at the front
   pub kept_fewer_frames : {s : LinkState} {frames : List Frame} {queued fewer taken : List ℕ} {bound : ℕ}
-      → frames ≡ map (frame_at p start s.offered) fewer → Echoes queued fewer
+      → frames ≡ map (frame_at p start s.offered) fewer → InOrder queued fewer
       → Kept p start s queued taken bound → Kept p start (record s { frames = frames }) fewer taken bound
-  kept_fewer_frames {s} frames_are echo kept =
-      let echo_circle = echo_of_frames s.acks s.recv_label (echo_map (label_at p start) echo) in
+  kept_fewer_frames {s} frames_are in_order kept =
+      let circle_in_order = frames_in_order s.acks s.recv_label (in_order_map (label_at p start) in_order) in
       record {
         sending = kept.sending;
-        transit = transit_echo p start frames_are echo kept.transit;
-        delivery = delivery_echo p start echo kept.delivery;
-        readings = λ j free. reading_echo p start j free echo_circle echo (kept.readings j free);
+        transit = transit_in_order p start frames_are in_order kept.transit;
+        delivery = delivery_in_order p start in_order kept.delivery;
+        readings = λ j free. reading_in_order p start j free circle_in_order in_order (kept.readings j free);
       }
 
   -- acknowledgements that vanish, stay at the front, or are added by the receiver
   pub kept_acks : {s : LinkState} {acks queued taken : List ℕ} {bound : ℕ}
-      → ((labels : List ℕ) → Echoes (circle s.acks s.recv_label labels) (circle acks s.recv_label labels))
+      → ((labels : List ℕ) → InOrder (circle s.acks s.recv_label labels) (circle acks s.recv_label labels))
       → Kept p start s queued taken bound → Kept p start (record s { acks = acks }) queued taken bound
-  kept_acks {queued = queued} echo kept =
-      let echo_circle = echo (map (label_at p start) queued) in
+  kept_acks {queued = queued} in_order kept =
+      let circle_in_order = in_order (map (label_at p start) queued) in
       record {
         sending = kept.sending;
         transit = kept.transit;
         delivery = kept.delivery;
-        readings = λ j free. reading_echo p start j free echo_circle (echo_same queued) (kept.readings j free);
+        readings = λ j free. reading_in_order p start j free circle_in_order (in_order_same queued) (kept.readings j free);
       }
 
   -- the receiver takes the front frame, which stays there or goes
@@ -105,7 +106,7 @@ module _ (p : Parameters) (start : Start) where
       let frames_are = left-map (frame_at p start s.offered) keep (place ∷ queued) in
       record {
         sending = kept.sending;
-        transit = transit_echo p start frames_are (echo_left keep (place ∷ queued)) kept.transit;
+        transit = transit_in_order p start frames_are (in_order_left keep (place ∷ queued)) kept.transit;
         delivery = delivery_fresh p start keep fresh kept.transit.in_list.0 kept.delivery;
         readings = λ j free. reading_fresh p start j free keep (kept.readings j free);
       }
@@ -120,12 +121,13 @@ module _ (p : Parameters) (start : Start) where
       }) queued taken bound
   kept_acked keep s {label} {acks} {queued} {taken} holding matches kept =
       let own : label ≡ item_label p start s.acked = matches ∙ kept.sending.own_label in
-      let echo = subst (λ (front : ℕ). Echoes (front ∷ acks) (left keep (label ∷ acks))) own (echo_left keep (label ∷ acks)) in
+      let after : List ℕ = left keep (label ∷ acks) in
+      let in_order = subst (λ (front : ℕ). InOrder (front ∷ acks) after) own (in_order_left keep (label ∷ acks)) in
       record {
         sending = sending_acked p start (eqb-true _ _ holding) kept.sending;
         transit = kept.transit;
         delivery = kept.delivery;
-        readings = λ j free. reading_acked p start j free echo
+        readings = λ j free. reading_acked p start j free in_order
             (subst (λ (front : ℕ). Reading p start j s.acked (front ∷ acks) s.recv_label queued taken) own
             (kept.readings j free));
       }

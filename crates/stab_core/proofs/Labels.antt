@@ -15,7 +15,8 @@ Counted labels first i label =
     ((label ≡ first + i) × (first + i < max labels (first + 1))) ⊎ (label + max labels (first + 1) ≡ first + i)
 
 -- the next label counts on
-counted_next : (p : Parameters) (first i label : ℕ) → suc i < p.labels → Counted p.labels first i label → Counted p.labels first (suc i) (next p label)
+counted_next : (p : Parameters) (first i label : ℕ) → suc i < p.labels → Counted p.labels first i label
+    → Counted p.labels first (suc i) (next p label)
 counted_next p first i label few counted =
     cond_both (leb p.labels (label + 1)) 0 (label + 1) (Counted p.labels first (suc i))
     (λ turned. let past : p.labels ≤ label + 1 = leb-true _ _ turned in
@@ -24,12 +25,15 @@ counted_next p first i label few counted =
     ⊎_elim (λ straight. inl (omega arith)) (λ again. inr (omega arith)) counted)
 
 -- the labels of the first items count on
-counted_label : (p : Parameters) (start : Start) (i : ℕ) → i < p.labels → Counted p.labels start.send_label i (item_label p start i)
+counted_label : (p : Parameters) (start : Start) (i : ℕ) → i < p.labels
+    → Counted p.labels start.send_label i (item_label p start i)
 counted_label p start zero few = inl (omega arith)
-counted_label p start (suc i) few = counted_next p start.send_label i (item_label p start i) few (counted_label p start i (omega arith))
+counted_label p start (suc i) few =
+    counted_next p start.send_label i (item_label p start i) few (counted_label p start i (omega arith))
 
 -- no two of the first items have one label, as long as there are no more of them than labels
-pub labels_differ : (p : Parameters) (start : Start) (i k : ℕ) → i < k → k < p.labels → item_label p start i ≢ item_label p start k
+pub labels_differ : (p : Parameters) (start : Start) (i k : ℕ) → i < k → k < p.labels
+    → item_label p start i ≢ item_label p start k
 labels_differ p start i k before few same =
     let one : Counted p.labels start.send_label i (item_label p start i) = counted_label p start i (omega arith) in
     let other : Counted p.labels start.send_label k (item_label p start k) = counted_label p start k few in
@@ -43,5 +47,6 @@ next_differs p label some_labels =
     (λ not_yet. omega arith)
 
 -- the label after an item's label is that of the next item
-pub item_label-more : (p : Parameters) (start : Start) (i : ℕ) → item_label p start (i + 1) ≡ next p (item_label p start i)
+pub item_label-more : (p : Parameters) (start : Start) (i : ℕ)
+    → item_label p start (i + 1) ≡ next p (item_label p start i)
 item_label-more p start i = rw (add-one i)

@@ -37,8 +37,9 @@ module _ (p : Parameters) (start : Start) (t : Traced) (inv : Invariant p start 
   taken_parts =
       let strays : ℕ = stray_count start in
       let size : ℕ = length t.state.offered in
-      let all_below = AllBelow-higher inv.bound (strays + size) inv.taken inv.kept.delivery.in_list inv.kept.delivery.below in
-      parts_of strays size 0 inv.taken inv.kept.delivery.rises all_below
+      let delivery = inv.kept.delivery in
+      parts_of strays size 0 inv.taken delivery.rises
+      (AllBelow-higher inv.bound (strays + size) inv.taken delivery.in_list delivery.below)
 
   -- the strays that were delivered
   stray_items : List ℕ
@@ -53,7 +54,8 @@ module _ (p : Parameters) (start : Start) (t : Traced) (inv : Invariant p start 
   unfolding stray_items sent_items
   delivered_parts =
       inv.kept.delivery.delivered_are
-      ∙ map-parts taken_parts (item_at start t.state.offered) (slice_index (start_items start)) (slice_index t.state.offered)
+      ∙ map-parts taken_parts
+      (item_at start t.state.offered) (slice_index (start_items start)) (slice_index t.state.offered)
       (item_stray start t.state.offered) (item_sent start t.state.offered)
 
   -- the origins are those of strays, then those of offered items
@@ -96,7 +98,8 @@ module _ (p : Parameters) (start : Start) (t : Traced) (inv : Invariant p start 
   few_strays lawful =
       let strays : ℕ = stray_count start in
       let places : List ℕ = taken_parts.strays in
-      let few : length places + 0 ≤ strays = rising_few 0 strays places (omega arith) taken_parts.strays_rise taken_parts.strays_in_list in
+      let few : length places + 0 ≤ strays =
+      rising_few 0 strays places (omega arith) taken_parts.strays_rise taken_parts.strays_in_list in
       let few_in_start : strays ≤ p.capacity = simp length-map lawful.frames in
       simp length-map (omega arith)
 
@@ -145,7 +148,8 @@ pub replay_half_law : (p : Parameters) (start : Start) (events : List Event) →
 replay_half_law p start events lawful =
     let t : Traced = traced_replay p (traced_opening start) events in
     subst (λ (s : LinkState). HalfLaw p.capacity (start_items start) s.offered s.acked s.delivered)
-    (traced_replay_state p (traced_opening start) events) (_, half_law p start t (every_replay_keeps p start events) lawful)
+    (traced_replay_state p (traced_opening start) events)
+    (_, half_law p start t (every_replay_keeps p start events) lawful)
 
 -- every replay from a lawful start obeys the link law
 pub replay_link_law : (p : Parameters) (start : Start) (events : List Event) → AreLawful p → IsLawful p start

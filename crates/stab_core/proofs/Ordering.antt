@@ -7,9 +7,9 @@ use Rattle.stab_core.specs.declared.start.Start.{Start}
 use Rattle.stab_core.specs.Picks.{RisesFrom, AllBelow}
 use Rattle.stab_core.specs.Step.{left}
 use Rattle.stab_core.proofs.Labels.{item_label, item_label-more}
-use Rattle.stab_core.proofs.Echoes.{Echoes, echo_left}
-use Rattle.stab_core.proofs.Places.{NeverFalls, NeverFalls-lower, NeverFalls-echo, NeverFalls-push, RisesFrom-push, AllBelow-higher, AllBelow-echo, AllBelow-push, map_below}
-use Rattle.stab_core.proofs.Sources.{stray_count, item_at, label_at, frame_at, frame_sent, item_kept, frame_kept, start_places, start_places_never_fall, start_places_below, start_frames}
+use Rattle.stab_core.proofs.InOrder.{InOrder, in_order_left}
+use Rattle.stab_core.proofs.Places.{NeverFalls, NeverFalls-lower, NeverFalls-in_order, NeverFalls-push, RisesFrom-push, AllBelow-higher, AllBelow-in_order, AllBelow-push, map_below}
+use Rattle.stab_core.proofs.Sources.{stray_count, item_at, label_at, frame, frame_at, frame_sent, item_kept, frame_kept, start_places, start_places_never_fall, start_places_below, start_frames}
 
 -- The sender: all offered items but at most the last are acknowledged, and its label is that of the next item.
 pub record Sending (p : Parameters) (start : Start) (offered : List ℕ) (acked send_label : ℕ) : Type 0 where
@@ -18,7 +18,8 @@ pub record Sending (p : Parameters) (start : Start) (offered : List ℕ) (acked 
   pub own_label : send_label ≡ item_label p start acked
 
 -- The queue of frames: they are the frames of these places.
-pub record InTransit (p : Parameters) (start : Start) (offered : List ℕ) (frames : List Frame) (queued : List ℕ) : Type 0 where
+pub record InTransit (p : Parameters) (start : Start) (offered : List ℕ) (frames : List Frame) (queued : List ℕ)
+    : Type 0 where
   pub frames_are : frames ≡ map (frame_at p start offered) queued
   pub in_list : AllBelow (stray_count start + length offered) queued
 
@@ -84,22 +85,23 @@ module _ (p : Parameters) (start : Start) where
   -- the sender sends the frame of the item that waits
   pub transit_send : {offered queued : List ℕ} {frames : List Frame} {acked send_label : ℕ} → length offered ≡ acked + 1
       → Sending p start offered acked send_label → InTransit p start offered frames queued
-      → InTransit p start offered (frames ++ record { label = send_label; item = slice_index offered acked } ∷ [])
+      → InTransit p start offered (frames ++ frame send_label (slice_index offered acked) ∷ [])
       (queued ++ (stray_count start + acked) ∷ [])
   transit_send {offered} {queued} {acked = acked} holding sending transit =
       let place : ℕ = stray_count start + acked in
       record {
-        frames_are = ap₂ (λ fs f. fs ++ f ∷ []) transit.frames_are (sym (frame_sent p start offered acked sending.own_label))
+        frames_are =
+            ap₂ (λ fs f. fs ++ f ∷ []) transit.frames_are (sym (frame_sent p start offered acked sending.own_label))
             ∙ sym (map_push (frame_at p start offered) queued place);
         in_list = AllBelow-push (stray_count start + length offered) place queued transit.in_list (omega arith);
       }
 
   -- frames vanish, or stay at the front
-  pub transit_echo : {offered queued fewer : List ℕ} {frames frames_left : List Frame}
-      → frames_left ≡ map (frame_at p start offered) fewer → Echoes queued fewer
+  pub transit_in_order : {offered queued fewer : List ℕ} {frames frames_left : List Frame}
+      → frames_left ≡ map (frame_at p start offered) fewer → InOrder queued fewer
       → InTransit p start offered frames queued → InTransit p start offered frames_left fewer
-  transit_echo {offered} frames_are echo transit =
-      record { frames_are = frames_are; in_list = AllBelow-echo (stray_count start + length offered) echo transit.in_list }
+  transit_in_order {offered} frames_are in_order transit =
+      record { frames_are = frames_are; in_list = AllBelow-in_order (stray_count start + length offered) in_order transit.in_list }
 
   -- at the start nothing is taken
   pub delivery_open : Delivery p start [] start.recv_label [] (start_places start) [] 0
@@ -150,20 +152,20 @@ module _ (p : Parameters) (start : Start) where
       }
 
   -- so do frames that vanish, or stay at the front
-  pub delivery_echo : {offered : List ℕ} {recv_label : ℕ} {delivered queued fewer taken : List ℕ} {bound : ℕ}
-      → Echoes queued fewer → Delivery p start offered recv_label delivered queued taken bound
+  pub delivery_in_order : {offered : List ℕ} {recv_label : ℕ} {delivered queued fewer taken : List ℕ} {bound : ℕ}
+      → InOrder queued fewer → Delivery p start offered recv_label delivered queued taken bound
       → Delivery p start offered recv_label delivered fewer taken bound
-  delivery_echo {bound = bound} echo delivery =
+  delivery_in_order {bound = bound} in_order delivery =
       record {
         delivered_are = delivery.delivered_are;
         rises = delivery.rises;
         below = delivery.below;
         in_list = delivery.in_list;
         last_label = delivery.last_label;
-        never_falls = NeverFalls-echo (bound - 1) echo delivery.never_falls;
+        never_falls = NeverFalls-in_order (bound - 1) in_order delivery.never_falls;
       }
 
-  -- A frame whose label is not the receiver's lies above all that was taken: the place taken last has the receiver's label.
+  -- a frame whose label is not the receiver's lies above all that was taken, since the place taken last has that label
   fresh_is_above : {offered : List ℕ} {recv_label : ℕ} {delivered : List ℕ} {place : ℕ} {queued taken : List ℕ} {bound : ℕ}
       → label_at p start place ≢ recv_label → Delivery p start offered recv_label delivered (place ∷ queued) taken bound
       → bound ≤ place
@@ -172,8 +174,8 @@ module _ (p : Parameters) (start : Start) where
       omega (arith, delivery.never_falls.0)
 
   -- such a frame is taken, and stays at the front or goes
-  pub delivery_fresh : (keep : Bool) {offered : List ℕ} {recv_label : ℕ} {delivered : List ℕ} {place : ℕ} {queued taken : List ℕ}
-      {bound : ℕ} → label_at p start place ≢ recv_label → place < stray_count start + length offered
+  pub delivery_fresh : (keep : Bool) {offered : List ℕ} {recv_label : ℕ} {delivered : List ℕ} {place : ℕ}
+      {queued taken : List ℕ} {bound : ℕ} → label_at p start place ≢ recv_label → place < stray_count start + length offered
       → Delivery p start offered recv_label delivered (place ∷ queued) taken bound
       → Delivery p start offered (label_at p start place) (delivered ++ item_at start offered place ∷ [])
       (left keep (place ∷ queued)) (taken ++ place ∷ []) (place + 1)
@@ -183,7 +185,7 @@ module _ (p : Parameters) (start : Start) where
       let still_below : AllBelow (place + 1) taken = AllBelow-higher place (place + 1) taken (omega arith) all_below in
       let stays : place ≤ place = omega arith in
       let none_lower : NeverFalls place (left keep (place ∷ queued)) =
-      NeverFalls-echo place (echo_left keep (place ∷ queued)) (stays, delivery.never_falls.1) in
+      NeverFalls-in_order place (in_order_left keep (place ∷ queued)) (stays, delivery.never_falls.1) in
       record {
         delivered_are = ap (λ items. items ++ item_at start offered place ∷ []) delivery.delivered_are
             ∙ sym (map_push (item_at start offered) taken place);

@@ -18,8 +18,10 @@ pub record Parts (strays_below sent_below lowest : ℕ) (places : List ℕ) : Ty
   pub sent_in_list : AllBelow sent_below sent
 
 -- behind the strays there are offered items alone
-all_sent : (strays_below sent_below lowest : ℕ) (places : List ℕ) → strays_below ≤ lowest → RisesFrom lowest places → AllBelow (strays_below + sent_below) places
-    → (sent : List ℕ) × (places ≡ map (λ i. strays_below + i) sent) × RisesFrom (lowest - strays_below) sent × AllBelow sent_below sent
+all_sent : (strays_below sent_below lowest : ℕ) (places : List ℕ) → strays_below ≤ lowest → RisesFrom lowest places
+    → AllBelow (strays_below + sent_below) places
+    → (sent : List ℕ) × (places ≡ map (λ i. strays_below + i) sent)
+    × RisesFrom (lowest - strays_below) sent × AllBelow sent_below sent
 all_sent m n lowest [] behind rises below = ([], refl, tt, tt)
 all_sent m n lowest (v ∷ vs) behind rises below =
     let (sent, same, sent_rise, sent_below) = all_sent m n (v + 1) vs (omega (arith, rises.0)) rises.1 below.1 in
@@ -31,10 +33,18 @@ all_sent m n lowest (v ∷ vs) behind rises below =
     )
 
 -- rising places have these parts
-pub parts_of : (strays_below sent_below lowest : ℕ) (places : List ℕ) → RisesFrom lowest places → AllBelow (strays_below + sent_below) places
-    → Parts strays_below sent_below lowest places
+pub parts_of : (strays_below sent_below lowest : ℕ) (places : List ℕ) → RisesFrom lowest places
+    → AllBelow (strays_below + sent_below) places → Parts strays_below sent_below lowest places
 parts_of m n lowest [] rises below =
-    record { strays = []; sent = []; joined = refl; strays_rise = tt; strays_in_list = tt; sent_rise = tt; sent_in_list = tt }
+    record {
+      strays = [];
+      sent = [];
+      joined = refl;
+      strays_rise = tt;
+      strays_in_list = tt;
+      sent_rise = tt;
+      sent_in_list = tt;
+    }
 parts_of m n lowest (v ∷ vs) rises below =
     elim (cases_lt v m) [
       | inl stray ↦
@@ -49,7 +59,8 @@ parts_of m n lowest (v ∷ vs) rises below =
             sent_in_list = rest.sent_in_list;
           }
       | inr offered ↦
-          let (sent, same, sent_rise, sent_below) = all_sent m n v (v ∷ vs) offered ((let stays : v ≤ v = omega arith in stays), rises.1) below in
+          let stays : v ≤ v = omega arith in
+          let (sent, same, sent_rise, sent_below) = all_sent m n v (v ∷ vs) offered (stays, rises.1) below in
           record {
             strays = [];
             sent = sent;
@@ -62,7 +73,8 @@ parts_of m n lowest (v ∷ vs) rises below =
     ]
 
 -- each of the places below a bound is below it
-below_at : (bound : ℕ) (places : List ℕ) (k d : ℕ) → AllBelow bound places → k < length places → slice_index_or places k d < bound
+below_at : (bound : ℕ) (places : List ℕ) (k d : ℕ) → AllBelow bound places → k < length places
+    → slice_index_or places k d < bound
 below_at bound [] k d below within = absurd (omega arith)
 below_at bound (v ∷ vs) zero d below within = below.0
 below_at bound (v ∷ vs) (suc k) d below within = below_at bound vs k d below.1 (omega arith)

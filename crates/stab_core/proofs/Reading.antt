@@ -9,8 +9,8 @@ use Rattle.stab_frames.specs.Parameters.{Parameters}
 use Rattle.stab_core.specs.declared.start.Start.{Start}
 use Rattle.stab_core.specs.Step.{left}
 use Rattle.stab_core.proofs.Labels.{item_label, item_label-more, labels_differ, next_differs}
-use Rattle.stab_core.proofs.Echoes.{Echoes, echo_left, Each-echo, Each-push, left-map}
-use Rattle.stab_core.proofs.Circle.{circle, Absent, AllAre, TurnsTo, TurnsTo-echo, TurnsTo-push, TurnsTo-absent, absent_other, at_receiver, at_frames, circle_sent, echo_of_taking, echo_of_acks}
+use Rattle.stab_core.proofs.InOrder.{InOrder, in_order_left, Each-in_order, Each-push, left-map}
+use Rattle.stab_core.proofs.Circle.{circle, Absent, AllAre, TurnsTo, TurnsTo-in_order, TurnsTo-push, TurnsTo-absent, absent_other, at_receiver, at_frames, circle_sent, taking_in_order, acks_in_order}
 use Rattle.stab_core.proofs.FreeLabel.{IsFree}
 use Rattle.stab_core.proofs.Sources.{stray_count, label_at, label_sent}
 
@@ -84,16 +84,16 @@ module _ (p : Parameters) (start : Start) (j : ℕ) (free : IsFree p start j) wh
             at_turn 0 acks recv_label queued begun (rw first at absent) (λ i _ passed. absurd (omega arith))
       ]
 
-  -- an echo of the circle reads the same
-  pub reading_echo : {acked : ℕ} {acks fewer_acks : List ℕ} {recv_label : ℕ} {queued fewer taken : List ℕ}
-      → Echoes (on_circle p start acks recv_label queued) (on_circle p start fewer_acks recv_label fewer)
-      → Echoes queued fewer → Reading p start j acked acks recv_label queued taken
+  -- where labels vanish, or are repeated where they stand, the circle reads the same
+  pub reading_in_order : {acked : ℕ} {acks fewer_acks : List ℕ} {recv_label : ℕ} {queued fewer taken : List ℕ}
+      → InOrder (on_circle p start acks recv_label queued) (on_circle p start fewer_acks recv_label fewer)
+      → InOrder queued fewer → Reading p start j acked acks recv_label queued taken
       → Reading p start j acked fewer_acks recv_label fewer taken
-  reading_echo {acked} echo echo_queued reading =
+  reading_in_order {acked} in_order queued_in_order reading =
       record {
-        early = λ before. Each-echo (λ x. x ≢ item_label p start j) echo (reading.early before);
-        late = λ begun. TurnsTo-echo (item_label p start acked) echo (reading.late begun);
-        own_frames = λ begun. Each-echo (IsOwn p start acked) echo_queued (reading.own_frames begun);
+        early = λ before. Each-in_order (λ x. x ≢ item_label p start j) in_order (reading.early before);
+        late = λ begun. TurnsTo-in_order (item_label p start acked) in_order (reading.late begun);
+        own_frames = λ begun. Each-in_order (IsOwn p start acked) queued_in_order (reading.own_frames begun);
         remembered = reading.remembered;
         none_missing = reading.none_missing;
       }
@@ -127,25 +127,25 @@ module _ (p : Parameters) (start : Start) (j : ℕ) (free : IsFree p start j) wh
         none_missing = reading.none_missing;
       }
 
-  -- a frame that is taken leaves an echo of the circle, whether it stays at the front or goes
-  echo_taken : (keep : Bool) (acks : List ℕ) (recv_label place : ℕ) (queued : List ℕ)
-      → Echoes (on_circle p start acks recv_label (place ∷ queued))
+  -- a frame that is taken leaves the circle in order, whether it stays at the front or goes
+  taken_in_order : (keep : Bool) (acks : List ℕ) (recv_label place : ℕ) (queued : List ℕ)
+      → InOrder (on_circle p start acks recv_label (place ∷ queued))
       (on_circle p start acks (label_at p start place) (left keep (place ∷ queued)))
-  echo_taken keep acks recv_label place queued =
+  taken_in_order keep acks recv_label place queued =
       rw (sym (left-map (label_at p start) keep (place ∷ queued)))
-      (echo_of_taking keep acks recv_label (label_at p start place) (map (label_at p start) queued))
+      (taking_in_order keep acks recv_label (label_at p start place) (map (label_at p start) queued))
 
   -- the receiver takes the front frame: where that has the sender's label, it is one of the sender's item
   pub reading_fresh : (keep : Bool) {acked : ℕ} {acks : List ℕ} {recv_label place : ℕ} {queued taken : List ℕ}
       → Reading p start j acked acks recv_label (place ∷ queued) taken
       → Reading p start j acked acks (label_at p start place) (left keep (place ∷ queued)) (taken ++ place ∷ [])
   reading_fresh keep {acked} {acks} {recv_label} {place} {queued} {taken} reading =
-      let echo = echo_taken keep acks recv_label place queued in
+      let in_order = taken_in_order keep acks recv_label place queued in
       let more : List ℕ = taken ++ place ∷ [] in
       record {
-        early = λ before. Each-echo (λ x. x ≢ item_label p start j) echo (reading.early before);
-        late = λ begun. TurnsTo-echo (item_label p start acked) echo (reading.late begun);
-        own_frames = λ begun. Each-echo (IsOwn p start acked) (echo_left keep (place ∷ queued)) (reading.own_frames begun);
+        early = λ before. Each-in_order (λ x. x ≢ item_label p start j) in_order (reading.early before);
+        late = λ begun. TurnsTo-in_order (item_label p start acked) in_order (reading.late begun);
+        own_frames = λ begun. Each-in_order (IsOwn p start acked) (in_order_left keep (place ∷ queued)) (reading.own_frames begun);
         remembered = λ begun same.
             let is_own : place ≡ stray_count start + acked = (reading.own_frames begun).0 same in
             subst (λ (v : ℕ). Contains more v) is_own (Contains-push taken place);
@@ -169,8 +169,9 @@ module _ (p : Parameters) (start : Start) (j : ℕ) (free : IsFree p start j) wh
             let is_last : acked ≡ i = omega arith in
             let own_turn : j ≤ acked = omega arith in
             let label : ℕ = item_label p start acked in
-            let same : recv_label ≡ label =
-            at_receiver (λ x. x ≡ label) (label ∷ acks) recv_label (map (label_at p start) queued) (all_are_own own_turn reading) in
+            let labels : List ℕ = map (label_at p start) queued in
+            let all : AllAre label (circle (label ∷ acks) recv_label labels) = all_are_own own_turn reading in
+            let same : recv_label ≡ label = at_receiver (λ x. x ≡ label) (label ∷ acks) recv_label labels all in
             subst (λ (k : ℕ). Contains taken (stray_count start + k)) is_last (reading.remembered own_turn same)
       ]
 
@@ -186,24 +187,24 @@ module _ (p : Parameters) (start : Start) (j : ℕ) (free : IsFree p start j) wh
             let turn : j ≡ acked + 1 = omega arith in
             subst (λ (item : ℕ). Absent (item_label p start item) labels) turn (reading.early before)
         | inr begun ↦
-            let differs : item_label p start (acked + 1) ≢ label =
-            rw (item_label-more p start acked) (next_differs p label free.some_labels) in
-            absent_other label (item_label p start (acked + 1)) labels differs (all_are_own begun reading)
+            let after : ℕ = item_label p start (acked + 1) in
+            let differs : after ≢ label = rw (item_label-more p start acked) (next_differs p label free.some_labels) in
+            absent_other label after labels differs (all_are_own begun reading)
       ]
 
   -- the sender's own label is acknowledged, and stays at the front or goes; the next item's turn begins
   pub reading_acked : {acked : ℕ} {acks fewer_acks : List ℕ} {recv_label : ℕ} {queued taken : List ℕ}
-      → Echoes (item_label p start acked ∷ acks) fewer_acks
+      → InOrder (item_label p start acked ∷ acks) fewer_acks
       → Reading p start j acked (item_label p start acked ∷ acks) recv_label queued taken
       → Reading p start j (acked + 1) fewer_acks recv_label queued taken
-  reading_acked {acked} {acks} {fewer_acks} {recv_label} {queued} echo reading =
-      let echo_circle = echo_of_acks recv_label (map (label_at p start) queued) echo in
+  reading_acked {acked} {acks} {fewer_acks} {recv_label} {queued} in_order reading =
+      let circle_in_order = acks_in_order recv_label (map (label_at p start) queued) in_order in
       elim (cases_lt (acked + 1) j) [
         | inl before ↦
             let sooner : acked < j = omega arith in
-            before_turn (acked + 1) before (Each-echo (λ x. x ≢ item_label p start j) echo_circle (reading.early sooner))
+            before_turn (acked + 1) before (Each-in_order (λ x. x ≢ item_label p start j) circle_in_order (reading.early sooner))
         | inr begins ↦
             at_turn (acked + 1) fewer_acks recv_label queued begins
-            (Each-echo (λ x. x ≢ item_label p start (acked + 1)) echo_circle (next_is_absent begins reading))
+            (Each-in_order (λ x. x ≢ item_label p start (acked + 1)) circle_in_order (next_is_absent begins reading))
             (acked_was_taken reading)
       ]

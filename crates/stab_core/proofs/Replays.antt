@@ -10,7 +10,8 @@ use Rattle.stab_core.specs.Replay.{opening, replay}
 use Rattle.stab_core.specs.Reachable.{IsReachable}
 
 -- the replay of two lists is that of the second from where the first one led
-pub replay-append : (p : Parameters) (s : LinkState) (xs ys : List Event) → replay p s (xs ++ ys) ≡ replay p (replay p s xs) ys
+pub replay-append : (p : Parameters) (s : LinkState) (xs ys : List Event)
+    → replay p s (xs ++ ys) ≡ replay p (replay p s xs) ys
 replay-append p s [] ys = refl
 replay-append p s (e ∷ es) ys = replay-append p (step p s e) es ys
 
@@ -38,6 +39,7 @@ replay_after_close p s [] after = replay_closed p (step p s Close) after (closed
 replay_after_close p s (e ∷ es) after = replay_after_close p (step p s e) es after
 
 -- a state that is reached, and the events that then come, end in a state that is reached
-pub reach_more : (p : Parameters) (start : Start) (s : LinkState) (more : List Event) → IsReachable p start s → IsReachable p start (replay p s more)
+pub reach_more : (p : Parameters) (start : Start) (s : LinkState) (more : List Event) → IsReachable p start s
+    → IsReachable p start (replay p s more)
 reach_more p start s more (events, reached) =
     (events ++ more, ap (λ t. replay p t more) reached ∙ sym (replay-append p (opening start) events more))

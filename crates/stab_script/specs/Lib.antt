@@ -2,3 +2,5 @@ pub mod Values
 pub mod Starts
 pub mod Events
 pub mod LinkJobs
+pub mod Scripts
+pub mod Draws

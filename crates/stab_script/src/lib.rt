@@ -5,17 +5,25 @@
 //! the first check that the value fails, want of memory aside.
 #![tactic(auto)]
 
+mod act;
+mod draw;
 mod events;
 mod fault;
+mod half;
+pub mod laws;
 mod link_job;
 mod list;
+mod script;
 mod start;
 mod value;
 
+pub use act::{InAct, OutAct};
 pub use events::{event, loss, numbered_event, plain_event};
-pub use fault::PartFault;
+pub use fault::{PartFault, ScriptFault};
+pub use half::HalfScript;
 pub use link_job::{LinkJob, LinkJobFault, read_link_job};
 pub use list::{Entry, read_entries, read_list};
+pub use script::{MAX_ACTS, Script};
 pub use start::read_start;
 pub use value::{item, label, pair, read_value, whole_capped, whole_up_to};
 

@@ -1,0 +1,16 @@
+-- Drawing a list of acts word by word.
+use Rattle.std.proofs.Common.{◌≡◌, ℕ, suc, List, [], ◌∷◌, ◌++◌, map, sym, ◌∙◌, append_assoc}
+use Rattle.rand_core.specs.Stream.{Stream, next_u32}
+use Rattle.stab_script.specs.Draws.{words, after_words}
+
+module _ (fewer : ℕ) (s left : Stream) (word : ℕ) (next_is : (word, left) ≡ next_u32 s) where
+  -- the next word makes the next act
+  pub one_draw : {A : Type 0} (act_of : ℕ → A) (whole done : List A)
+      → whole ≡ done ++ map act_of (words (suc fewer) s)
+      → whole ≡ (done ++ act_of word ∷ []) ++ map act_of (words fewer left)
+  one_draw act_of whole done so_far =
+      so_far ∙ rw (← next_is) (sym (append_assoc done (act_of word ∷ []) (map act_of (words fewer left))))
+
+  -- and leaves the stream that the other words leave
+  pub one_word : (end : Stream) → end ≡ after_words (suc fewer) s → end ≡ after_words fewer left
+  one_word end so_far = so_far ∙ rw (← next_is)

@@ -1,0 +1,9 @@
+pub mod Checked
+pub mod Depths
+pub mod Described
+pub mod Links
+pub mod Places
+pub mod Roots
+pub mod Steps
+pub mod Trees
+pub mod Walks

@@ -1,0 +1,7 @@
+use Rattle.std.proofs.Common.{◌≡◌, drop}
+use Rattle.stab_tree.specs.Read.{has_same_name}
+use Rattle.stab_tree.proofs.names.have_same_name.Given as goal
+
+-- no name so far stands again
+abbrev pub invariant-loop-i : goal.invariant-loop-i
+invariant-loop-i l = has_same_name l.entries ≡ has_same_name (drop l.i l.entries)

@@ -1,0 +1,10 @@
+pub mod Depth
+pub mod Describes
+pub mod Entry
+pub mod IsTree
+pub mod Links
+pub mod Name
+pub mod Nodes
+pub mod Read
+pub mod Steps
+pub mod Stored

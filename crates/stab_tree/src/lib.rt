@@ -1,0 +1,27 @@
+//! The tree of a job: which nodes there are, and which node is the parent of each.
+//!
+//! `read_tree` takes a JSON value apart, and answers the tree that it describes or the first check
+//! that fails. A `Tree` is seen as its names and its parents' places in file order
+//! (`specs/Nodes.antt`), and its type keeps that they form a tree (`specs/IsTree.antt`): one node
+//! alone has no parent, and each node reaches it by parent steps, whose number is its depth.
+//! A link is named by its child, and links stand in the file order of their children
+//! (`specs/Links.antt`). The layer above learns from `Tree::root` that its tree is one, and from
+//! `laws` what follows for depths and links.
+#![tactic(auto)]
+
+mod entry;
+mod fault;
+pub mod laws;
+mod name;
+mod names;
+mod node;
+mod parents;
+mod read;
+#[cfg(test)]
+mod tests;
+mod tree;
+
+pub use fault::TreeFault;
+pub use node::NodeId;
+pub use read::read_tree;
+pub use tree::Tree;

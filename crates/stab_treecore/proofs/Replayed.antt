@@ -1,0 +1,266 @@
+-- What each schedule leaves of a whole tree: links that are replays from their starts, and offered a prefix of the parent's list.
+use Rattle.std.proofs.Common.{◌≡◌, ◌≢◌, ℕ, zero, suc, List, [], ◌∷◌, ◌++◌, length, map, get_or, set, slice_get, Option, Some, None, is_some, option_map, All, refl, ap, sym, ◌∙◌, subst, inl, inr, true, false}
+use Rattle.std.specs.Option.{option_map_or}
+use Rattle.std.proofs.lemmas.Bool.{cases_eq}
+use Rattle.std.proofs.lemmas.List.{get_or-set_other, set-get_or}
+use Rattle.std.proofs.lemmas.List.Elements.{All-head, All-tail}
+use Rattle.std.proofs.lemmas.Option.{none-some, same_Some}
+use Rattle.stab_frames.specs.Parameters.{Parameters, AreLawful}
+use Rattle.stab_core.specs.declared.event.Event.{Event}
+use Rattle.stab_core.specs.declared.start.Start.{Start}
+use Rattle.stab_core.specs.Link.{LinkValue}
+use Rattle.stab_core.specs.LinkLaw.{LinkLaw}
+use Rattle.stab_core.specs.LinkState.{LinkState}
+use Rattle.stab_core.specs.Reachable.{IsReachable}
+use Rattle.stab_core.specs.Replay.{IsLawful, opening, replay, start_items}
+use Rattle.stab_core.specs.Step.{step}
+use Rattle.stab_tree.specs.Depth.{HasDepths}
+use Rattle.stab_tree.specs.IsTree.{IsTree}
+use Rattle.stab_tree.specs.Links.{links_from, links_of}
+use Rattle.stab_tree.specs.Nodes.{Nodes, parent_at, root_of}
+use Rattle.stab_treecore.specs.declared.event.TreeEvent.{TreeEvent}
+use Rattle.stab_treecore.specs.ByChild.{by_child}
+use Rattle.stab_treecore.specs.NodeLaws.{start_into, garbage_into, LinkLawBetween, TreeLawAtNodes}
+use Rattle.stab_treecore.specs.Prefix.{IsPrefix}
+use Rattle.stab_treecore.specs.TreeReplay.{opened, tree_opening, tree_replay}
+use Rattle.stab_treecore.specs.TreeStep.{event_on, link_after, tree_step}
+use Rattle.stab_treecore.specs.WholeTree.{WholeTree, link_into, received, source}
+use Rattle.stab_treecore.proofs.AtNodes.{none_or_some, nodes_obey}
+use Rattle.stab_treecore.proofs.Linked.{kind-set, same_kind}
+use Rattle.stab_treecore.proofs.Opened.{linked_nodes}
+use Rattle.stab_treecore.proofs.Prefixes.{prefix_of_itself, prefix_of_prefix}
+use Rattle.stab_treecore.proofs.Stepped.{after_delivers, act_offers}
+
+-- the link is a replay from this start
+pub record IsReplayOf (p : Parameters) (start : Start) (link : LinkValue) : Type 0 where
+  pub params : link.params ≡ p
+  pub reached : IsReachable p start link.state
+
+-- A whole tree with these published items and parents: nodes with a parent have a link, which is a replay from its start and
+-- offered a prefix of the parent's list.
+pub record IsRun (p : Parameters) (parents : List (Option ℕ)) (starts : List Start) (published : List ℕ) (t : WholeTree) : Type 0 where
+  pub published_stay : t.published ≡ published
+  pub parents_stay : t.parents ≡ parents
+  pub linked : map is_some t.links ≡ map is_some t.parents
+  pub replays : (node : ℕ) (link : LinkValue) → link_into t node ≡ Some link
+      → (start : Start) × (start_into parents starts node ≡ Some start) × IsReplayOf p start link
+  pub prefixes : (node parent : ℕ) (link : LinkValue) → parent_at t.parents node ≡ Some parent → link_into t node ≡ Some link
+      → IsPrefix link.state.offered (received t parent)
+
+-- the law of one link that each step needs: the step of a reachable state is reachable
+abbrev pub StepsReach : Type 0
+StepsReach = (p : Parameters) (start : Start) (s : LinkState) (e : Event) → IsReachable p start s → IsReachable p start (step p s e)
+
+-- a replay from a start goes on as one
+after_reaches : StepsReach → (p : Parameters) (start : Start) (e : Option Event) (link : LinkValue) → IsReplayOf p start link
+    → IsReplayOf p start (link_after e link)
+after_reaches steps p start None link run = run
+after_reaches steps p start (Some e) link run =
+    record {
+      params = run.params;
+      reached = subst (λ q. IsReachable p start (step q link.state e)) (sym run.params) (steps p start link.state e run.reached);
+    }
+
+-- an element that is written in a list is there, and the others are where they were
+written_same : {A : Type 0} (xs : List (Option A)) (i : ℕ) (old new : A) → get_or xs i None ≡ Some old → get_or (set xs i (Some new)) i None ≡ Some new
+written_same [] i old new there = absurd (none-some old there)
+written_same (x ∷ xs) zero old new there = refl
+written_same (x ∷ xs) (suc i) old new there = written_same xs i old new there
+
+module _ (steps : StepsReach) (p : Parameters) (parents : List (Option ℕ)) (starts : List Start) (published : List ℕ)
+    (t : WholeTree) (e : TreeEvent) (run : IsRun p parents starts published t) where
+  -- a step on the link into a node
+  module _ (link : LinkValue) (there : link_into t e.child ≡ Some link) where
+    -- the whole tree after it
+    abbrev after : WholeTree
+    after = record t { links = set t.links e.child (Some (link_after (event_on t e link) link)) }
+
+    -- the link that was stepped
+    stepped_link : link_into after e.child ≡ Some (link_after (event_on t e link) link)
+    stepped_link = written_same t.links e.child link (link_after (event_on t e link) link) there
+
+    -- the other links
+    other_link : (node : ℕ) → node ≢ e.child → link_into after node ≡ link_into t node
+    other_link node other = get_or-set_other t.links e.child node (Some (link_after (event_on t e link) link)) None other
+
+    -- what a node received only grows
+    received_grows : (node : ℕ) → IsPrefix (received t node) (received after node)
+    received_grows node =
+        elim (cases_eq node e.child) [
+          | inl same ↦
+              rw (same, stepped_link, there) (after_delivers (event_on t e link) link)
+          | inr other ↦
+              rw (other_link node other) (prefix_of_itself (received t node))
+        ]
+
+    -- the links are still replays from their starts
+    still_replays : (node : ℕ) (found : LinkValue) → link_into after node ≡ Some found
+        → (start : Start) × (start_into parents starts node ≡ Some start) × IsReplayOf p start found
+    still_replays node found is =
+        elim (cases_eq node e.child) [
+          | inl same ↦
+              let (start, begins, was) = run.replays e.child link there in
+              let now : link_after (event_on t e link) link ≡ found =
+              same_Some (link_after (event_on t e link) link) found (sym stepped_link ∙ (ap (λ w. link_into after w) (sym same) ∙ is)) in (
+                start,
+                ap (λ w. start_into parents starts w) same ∙ begins,
+                subst (IsReplayOf p start) now (after_reaches steps p start (event_on t e link) link was),
+              )
+          | inr other ↦ run.replays node found (sym (other_link node other) ∙ is)
+        ]
+
+    -- and they still offered a prefix of the parent's list
+    still_prefixes : (node parent : ℕ) (found : LinkValue) → parent_at t.parents node ≡ Some parent → link_into after node ≡ Some found
+        → IsPrefix found.state.offered (received after parent)
+    still_prefixes node parent found child is =
+        elim (cases_eq node e.child) [
+          | inl same ↦
+              let now : link_after (event_on t e link) link ≡ found =
+              same_Some (link_after (event_on t e link) link) found (sym stepped_link ∙ (ap (λ w. link_into after w) (sym same) ∙ is)) in
+              let child_of : parent_at t.parents e.child ≡ Some parent = ap (λ w. parent_at t.parents w) (sym same) ∙ child in
+              let from_parent : source t e.child ≡ received t parent =
+              ap (λ o. option_map_or (λ q. received t q) o []) child_of in
+              let before : IsPrefix link.state.offered (received t parent) = run.prefixes e.child parent link child_of there in
+              let offers : IsPrefix (link_after (event_on t e link) link).state.offered (received t parent) =
+              act_offers (received t parent) link e.act (slice_get (source t e.child) (length link.state.offered))
+              (ap (λ list. slice_get list (length link.state.offered)) (sym from_parent)) before in
+              subst (λ l. IsPrefix l.state.offered (received after parent)) now
+              (prefix_of_prefix (link_after (event_on t e link) link).state.offered (received t parent) (received after parent) offers (received_grows parent))
+          | inr other ↦
+              prefix_of_prefix found.state.offered (received t parent) (received after parent)
+              (run.prefixes node parent found child (sym (other_link node other) ∙ is)) (received_grows parent)
+        ]
+
+    -- so it is a whole tree of the same kind
+    still_run : IsRun p parents starts published after
+    still_run =
+        let kind : is_some (Some (link_after (event_on t e link) link)) ≡ is_some (link_into t e.child) = ap is_some (sym there) in
+        record {
+          published_stay = run.published_stay;
+          parents_stay = run.parents_stay;
+          linked = kind-set t.links e.child (Some (link_after (event_on t e link) link)) kind ∙ run.linked;
+          replays = still_replays;
+          prefixes = still_prefixes;
+        }
+
+  -- each step keeps it
+  pub step_keeps : IsRun p parents starts published (tree_step t e)
+  step_keeps =
+      elim (none_or_some (link_into t e.child)) [
+        | inl none ↦
+            let same : set t.links e.child (option_map (λ link. link_after (event_on t e link) link) (link_into t e.child)) ≡ t.links =
+            ap (λ o. set t.links e.child (option_map (λ link. link_after (event_on t e link) link) o)) none
+            ∙ (ap (λ o. set t.links e.child o) (sym none) ∙ set-get_or t.links e.child None) in
+            subst (λ links. IsRun p parents starts published (record t { links = links })) (sym same) run
+        | inr some ↦
+            subst (λ o. IsRun p parents starts published (record t { links = set t.links e.child (option_map (λ link. link_after (event_on t e link) link) o) }))
+            (sym some.1) (still_run some.0 some.1)
+      ]
+
+-- each schedule keeps it
+pub replay_keeps : StepsReach → (p : Parameters) (parents : List (Option ℕ)) (starts : List Start) (published : List ℕ) (t : WholeTree) (es : List TreeEvent)
+    → IsRun p parents starts published t → IsRun p parents starts published (tree_replay t es)
+replay_keeps steps p parents starts published t [] run = run
+replay_keeps steps p parents starts published t (e ∷ es) run =
+    replay_keeps steps p parents starts published (tree_step t e) es (step_keeps steps p parents starts published t e run)
+
+-- what is made of something at a place
+mapped_at : {A B : Type 0} (f : A → B) (xs : List (Option A)) (i : ℕ) → get_or (map (option_map f) xs) i None ≡ option_map f (get_or xs i None)
+mapped_at f [] i = refl
+mapped_at f (x ∷ xs) zero = refl
+mapped_at f (x ∷ xs) (suc i) = mapped_at f xs i
+
+-- what there is after a map was there before it
+before_map : {A B : Type 0} (f : A → B) (o : Option A) (y : B) → option_map f o ≡ Some y → (x : A) × (o ≡ Some x) × (y ≡ f x)
+before_map f None y is = absurd (none-some y is)
+before_map f (Some x) y is = (x, refl, sym (same_Some (f x) y is))
+
+-- at its opening a whole tree is of this kind
+pub opening_is_run : (p : Parameters) (parents : List (Option ℕ)) (starts : List Start) (published : List ℕ) (w : ℕ)
+    → length starts ≡ length (links_from w parents)
+    → IsRun p parents starts published (tree_opening p parents published starts)
+opening_is_run p parents starts published w one_per_link =
+    let t = tree_opening p parents published starts in
+    record {
+      published_stay = refl;
+      parents_stay = refl;
+      linked = linked_nodes p parents starts w one_per_link;
+      replays =
+          λ node link is.
+          let (start, begins, at_start) = before_map (opened p) (start_into parents starts node) link
+          (sym (mapped_at (opened p) (by_child parents starts) node) ∙ is) in
+          (start, begins, record { params = ap (λ l. l.params) at_start; reached = ([], ap (λ l. l.state) at_start) });
+      prefixes =
+          λ node parent link child is.
+          let (start, begins, at_start) = before_map (opened p) (start_into parents starts node) link
+          (sym (mapped_at (opened p) (by_child parents starts) node) ∙ is) in
+          (received t parent, ap (λ l. l.state.offered ++ received t parent) (sym at_start));
+    }
+
+-- what holds of each start holds of the start of each link
+pub start_of_all : (P : Start → Type 0) (parents : List (Option ℕ)) (starts : List Start) (node : ℕ) (start : Start) → All P starts
+    → start_into parents starts node ≡ Some start → P start
+start_of_all P [] starts node start all is = absurd (none-some start is)
+start_of_all P (None ∷ parents) starts zero start all is = absurd (none-some start is)
+start_of_all P (None ∷ parents) starts (suc node) start all is = start_of_all P parents starts node start all is
+start_of_all P (Some q ∷ parents) [] zero start all is = absurd (none-some start is)
+start_of_all P (Some q ∷ parents) [] (suc node) start all is = start_of_all P parents [] node start all is
+start_of_all P (Some q ∷ parents) (s ∷ ss) zero start all is = subst P (same_Some s start is) (All-head P s ss all)
+start_of_all P (Some q ∷ parents) (s ∷ ss) (suc node) start all is = start_of_all P parents ss node start (All-tail P s ss all) is
+
+-- the law of one link that the tree law needs: every replay from a lawful start obeys the link law
+abbrev pub ReplaysObey : Type 0
+ReplaysObey =
+    (p : Parameters) (start : Start) (events : List Event) → AreLawful p → IsLawful p start
+    → let s = replay p (opening start) events in LinkLaw p.capacity (start_items start) s.offered s.acked s.delivered
+
+-- so between a parent and its child there is a link that obeys the link law
+pub run_links : ReplaysObey → (p : Parameters) (parents : List (Option ℕ)) (starts : List Start) (published : List ℕ) (t : WholeTree)
+    → IsRun p parents starts published t → AreLawful p → All (IsLawful p) starts
+    → (child parent : ℕ) → parent_at parents child ≡ Some parent
+    → LinkLawBetween p.capacity (garbage_into parents starts child) (received t parent) (received t child)
+run_links obey p parents starts published t run lawful_params lawful child parent is_child =
+    let child_of : parent_at t.parents child ≡ Some parent = ap (λ ps. parent_at ps child) run.parents_stay ∙ is_child in
+    let kind : is_some (link_into t child) ≡ true = same_kind t.links t.parents child run.linked ∙ ap is_some child_of in
+    elim (none_or_some (link_into t child)) [
+      | inl none ↦ let never : false ≡ true = sym (ap is_some none) ∙ kind in cc
+      | inr some ↦
+          let link = some.0 in
+          let (start, begins, was) = run.replays child link some.1 in
+          let (events, reached) = was.reached in
+          let fed : received t child ≡ link.state.delivered = ap (λ o. option_map_or (λ l. l.state.delivered) o t.published) some.1 in
+          let garbage : garbage_into parents starts child ≡ start_items start = ap (λ o. option_map_or start_items o []) begins in
+          let law : LinkLaw p.capacity (start_items start) link.state.offered link.state.acked link.state.delivered =
+          subst (λ s. LinkLaw p.capacity (start_items start) s.offered s.acked s.delivered) (sym reached)
+          (obey p start events lawful_params (start_of_all (IsLawful p) parents starts child start lawful begins)) in (
+            link.state.offered,
+            link.state.acked,
+            run.prefixes child parent link child_of some.1,
+            subst (λ xs. LinkLaw p.capacity xs link.state.offered link.state.acked (received t child)) (sym garbage)
+                (subst (λ xs. LinkLaw p.capacity (start_items start) link.state.offered link.state.acked xs) (sym fed) law),
+          )
+    ]
+
+-- a node without a parent received each published item
+pub run_root : (p : Parameters) (parents : List (Option ℕ)) (starts : List Start) (published : List ℕ) (t : WholeTree)
+    → IsRun p parents starts published t → (node : ℕ) → parent_at parents node ≡ None → received t node ≡ published
+run_root p parents starts published t run node root =
+    let kind : is_some (link_into t node) ≡ false =
+    same_kind t.links t.parents node run.linked ∙ ap is_some (ap (λ ps. parent_at ps node) run.parents_stay ∙ root) in
+    elim (none_or_some (link_into t node)) [
+      | inl none ↦ ap (λ o. option_map_or (λ l. l.state.delivered) o t.published) none ∙ run.published_stay
+      | inr some ↦ let never : true ≡ false = sym (ap is_some some.1) ∙ kind in cc
+    ]
+
+-- each node obeys the tree law after each schedule
+pub schedule_obeys : StepsReach → ReplaysObey → (nodes : Nodes) (p : Parameters) (starts : List Start) (published : List ℕ) (events : List TreeEvent)
+    → IsTree nodes → HasDepths nodes.parents → AreLawful p → length starts ≡ length (links_of nodes.parents) → All (IsLawful p) starts
+    → TreeLawAtNodes p.capacity nodes.parents starts published (received (tree_replay (tree_opening p nodes.parents published starts) events))
+schedule_obeys steps obey nodes p starts published events tree depths lawful_params one_per_link lawful =
+    let t = tree_replay (tree_opening p nodes.parents published starts) events in
+    let run : IsRun p nodes.parents starts published t =
+    replay_keeps steps p nodes.parents starts published (tree_opening p nodes.parents published starts) events
+    (opening_is_run p nodes.parents starts published 0 one_per_link) in
+    nodes_obey nodes tree depths p.capacity starts published (received t)
+    (run_root p nodes.parents starts published t run (root_of nodes.parents) tree.root_has_none)
+    (run_links obey p nodes.parents starts published t run lawful_params lawful)

@@ -1,0 +1,25 @@
+use Rattle.std.proofs.Common.{◌≡◌, ◌+◌, ◌∙◌, ◌∷◌, All, ap, sym, subst, get_or, drop, arith}
+use Rattle.std.proofs.lemmas.List.{at_drop_more, take_all}
+use Rattle.std.proofs.lemmas.List.Elements.{All-more}
+use Rattle.stab_treecore.specs.Refusals.{NamesLink}
+use Rattle.stab_treecore.specs.TreeReplay.{tree_replay}
+use Rattle.stab_treecore.specs.TreeStep.{tree_step}
+use Rattle.stab_treecore.proofs.schedule.replayed.Goals as goal
+
+pub loop-event-preserved : goal.loop-event-preserved
+loop-event-preserved c =
+    let stepped : c.apply.new.self ≡ tree_step c.loop-event.state c.event-item.result = c.in_ok-apply.ensures.steps.0 in
+    let names : NamesLink c.args.tree.now.parents (get_or c.args.events.now c.loop-event.event-index c.event-item.result) =
+    rw (← c.event-item.is, ← c.loop-event.invariant.0) c.in_ok-apply.ensures.named in (
+      ap (λ t. t.parents) stepped ∙ c.loop-event.invariant.0,
+      All-more (NamesLink c.args.tree.now.parents) c.args.events.now c.loop-event.event-index c.event-item.result c.loop-event-test.true c.loop-event.invariant.1 names,
+      ap (λ t. tree_replay t (drop (c.loop-event.event-index + 1) c.args.events.now)) stepped
+          ∙ (ap (λ e. tree_replay c.loop-event.state (e ∷ drop (c.loop-event.event-index + 1) c.args.events.now)) c.event-item.is
+          ∙ (sym (at_drop_more (tree_replay c.loop-event.state) c.args.events.now c.loop-event.event-index c.event-item.result c.loop-event-test.true)
+          ∙ c.loop-event.invariant.2)),
+    )
+
+pub returns-clause-named : goal.returns-clause-named
+returns-clause-named c =
+    subst (λ es. All (NamesLink c.args.tree.now.parents) es) (take_all c.loop-event.event-index c.args.events.now (omega arith))
+    c.loop-event.invariant.1

@@ -1,0 +1,10 @@
+use Rattle.std.proofs.Common.{arith}
+use Rattle.stab_treecore.proofs.Opened.{linked_nodes}
+use Rattle.stab_treecore.proofs.state.TreeState.new.Goals as goal
+
+pub invariant_of-result : goal.invariant_of-result
+invariant_of-result c =
+    rw (c.in_ok-links.ensures.links, c.as_slice.ensures.value, c.in_ok-parents.ensures.parents) (record {
+      linked = linked_nodes c.args.params c.args.tree.now.parents c.args.starts.now 0 (omega arith);
+      known_parents = c.in_ok-parents.ensures.tree.known_parents;
+    })

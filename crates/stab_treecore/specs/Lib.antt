@@ -1,0 +1,10 @@
+pub mod ByChild
+pub mod NodeLaws
+pub mod Prefix
+pub mod Refusals
+pub mod Texts
+pub mod TreeInside
+pub mod TreeLaw
+pub mod TreeReplay
+pub mod TreeStep
+pub mod WholeTree

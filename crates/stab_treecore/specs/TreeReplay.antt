@@ -1,0 +1,29 @@
+-- The opening of a whole tree, and the replay of a schedule: its steps, one after the other.
+-- Source: this project's profile. The starts are arbitrary, but for the capacity of their queues.
+use Rattle.std.specs.Prelude.{ℕ, List, [], ◌∷◌, map, Option, option_map}
+use Rattle.stab_frames.specs.Parameters.{Parameters}
+use Rattle.stab_core.specs.declared.start.Start.{Start}
+use Rattle.stab_core.specs.Link.{LinkValue, link_at}
+use Rattle.stab_core.specs.Replay.{opening}
+use Rattle.stab_treecore.specs.declared.event.TreeEvent.{TreeEvent}
+use Rattle.stab_treecore.specs.ByChild.{by_child}
+use Rattle.stab_treecore.specs.TreeStep.{tree_step}
+use Rattle.stab_treecore.specs.WholeTree.{WholeTree}
+
+-- a link at its start
+abbrev pub opened : Parameters → Start → LinkValue
+opened p start = link_at p (opening start)
+
+-- each link at its start
+abbrev pub tree_opening : Parameters → List (Option ℕ) → List ℕ → List Start → WholeTree
+tree_opening p parents published starts =
+    record {
+      published = published;
+      parents = parents;
+      links = map (option_map (opened p)) (by_child parents starts);
+    }
+
+-- the whole tree after these events
+abbrev pub tree_replay : WholeTree → List TreeEvent → WholeTree
+tree_replay t [] = t
+tree_replay t (e ∷ es) = tree_replay (tree_step t e) es

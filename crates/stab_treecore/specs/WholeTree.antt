@@ -1,0 +1,30 @@
+-- The state of a whole tree: the published items, the parent of each node, and the link into each node, all in file order.
+-- Source: this project's profile.
+use Rattle.std.specs.Prelude.{ℕ, List, [], Option, Some, None, slice_index_or}
+use Rattle.std.specs.Option.{option_map_or}
+use Rattle.stab_core.specs.Link.{LinkValue}
+use Rattle.stab_tree.specs.Nodes.{parent_at}
+
+pub record WholeTree : Type 0 where
+  -- the items that the root publishes
+  pub published : List ℕ
+  -- the parent of each node, and nothing at the root
+  pub parents : List (Option ℕ)
+  -- the link into each node, and nothing at the root
+  pub links : List (Option LinkValue)
+
+-- the link into a node; the root has none, nor has what is no node
+abbrev pub link_into : WholeTree → ℕ → Option LinkValue
+link_into t node = slice_index_or t.links node None
+
+-- what a node received: what the link into it delivered, and at the root each published item
+abbrev pub received : WholeTree → ℕ → List ℕ
+received t node = option_map_or (λ link. link.state.delivered) (link_into t node) t.published
+
+-- the items that the link into a node offers, in their order: what the parent received
+abbrev pub source : WholeTree → ℕ → List ℕ
+source t child = option_map_or (λ parent. received t parent) (parent_at t.parents child) []
+
+-- how many items of the link into a node are acknowledged
+abbrev pub acked_of : WholeTree → ℕ → Option ℕ
+acked_of t node = option_map_or (λ link. Some link.state.acked) (link_into t node) None

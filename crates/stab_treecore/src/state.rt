@@ -1,0 +1,158 @@
+ghost use Rattle.std.specs.Prelude.{◌≡◌, ◌↔◌, ◌<◌, length, slice_get, is_some, option_copied, option_map, option_and_then, All, IsSome, IsNone, IfOk, IfErr, OnOk, OnErr, IsErrOf};
+ghost use Rattle.std.specs.Option.{option_map_or};
+ghost use Rattle.stab_core.specs.Link.{Grows};
+ghost use Rattle.stab_core.specs.Replay.{IsLawful};
+ghost use Rattle.stab_tree.specs.Nodes.{parent_at};
+ghost use Rattle.stab_treecore.specs.WholeTree.{WholeTree, link_into, received, source};
+ghost use Rattle.stab_treecore.specs.Refusals.{OnePerLink, IsStartReason, NamesLink, NamesNoLink};
+ghost use Rattle.stab_treecore.specs.TreeReplay.{tree_opening};
+ghost use Rattle.stab_treecore.specs.TreeStep.{event_of, link_after, effect_on, tree_step, tree_effect};
+
+use crate::event::{LinkAct, TreeEvent};
+use crate::fault::{TreeStartFault, TreeStepFault};
+use crate::open;
+use stab_core::{Effect, Event, Link, Start};
+use stab_frames::{Item, Params};
+use stab_tree::{NodeId, Tree};
+use std::alloc::Global;
+use std::marker::Model;
+
+/// All links of a tree, with the items that its root publishes. Contracts see the published items, the parent of each
+/// node and the link into each node.
+#[derive(Debug, Drop)]
+pub struct TreeState {
+    published: Vec<Item>,
+    parents: Vec<Option<NodeId>>,
+    links: Vec<Option<Link>>,
+}
+
+impl Model for TreeState {
+    ghost use Rattle.stab_treecore.specs.WholeTree.{WholeTree};
+
+    ghost Value = { WholeTree };
+
+    ghost use Rattle.stab_treecore.specs.TreeInside.{IsSound};
+
+    ghost view = { λ t. record { published = t.published.items; parents = t.parents.items; links = t.links.items } };
+
+    ghost invariant = { λ t. IsSound (record { published = t.published.items; parents = t.parents.items; links = t.links.items }) };
+}
+
+impl TreeState {
+    /// The whole tree at its opening. Links stand in the file order of their children, and each has its start there.
+    ///
+    /// Refused are a list of starts that has not one for each link, and then the first start that no link can begin from.
+    pub fn new(
+        alloc: Global,
+        params: Params,
+        tree: &Tree,
+        published: &[Item],
+        starts: &[Start],
+    ) -> Result<TreeState, TreeStartFault>
+        ensures opening { IfOk result (λ state. state ≡ tree_opening params tree.now.parents published.now starts.now) }
+        ensures one_per_link { OnOk result (OnePerLink tree.now.parents starts.now) }
+        ensures lawful { OnOk result (All (IsLawful params) starts.now) }
+        ensures refused { IfErr result (IsStartReason params tree.now.parents starts.now) }
+    {
+        if starts.len() != usize::from(tree.link_count()) {
+            return Err(TreeStartFault::StartCount);
+        }
+        let published = Vec::from_slice(alloc, published)?;
+        let parents = open::parents(alloc, tree)?;
+        let links = open::links(alloc, params, parents.as_slice(), starts)?;
+        Ok(TreeState {
+            published,
+            parents,
+            links,
+        })
+    }
+
+    /// One step: an act on the link into a node. Where it is refused, the whole tree is as it was; memory can be refused
+    /// only where a list of that link grows.
+    pub fn apply(&mut self, event: TreeEvent) -> Result<Effect, TreeStepFault>
+        ensures steps { IfOk result (λ effect. (self.new ≡ tree_step self.old event) × (effect ≡ tree_effect self.old event)) }
+        ensures named { OnOk result (NamesLink self.old.parents event) }
+        ensures no_such_link { IsErrOf result TreeStepFault.NoSuchLink ↔ NamesNoLink self.old.parents event }
+        ensures memory { IsErrOf result TreeStepFault.Memory → Grows (tree_effect self.old event) }
+        ensures unchanged { OnErr result (self.new ≡ self.old) }
+    {
+        let item = self.next_item(event.child);
+        let place = event.child.index();
+        if place >= self.links.len() {
+            return Err(TreeStepFault::NoSuchLink);
+        }
+        step(&mut self.links[place], event_of(event.act, item))
+    }
+
+    /// What a node received: what the link into it delivered, and at the root each published item.
+    pub fn received(&self, node: NodeId) -> &[Item]
+        requires { node < length self.now.parents }
+        ensures { result.now ≡ received self.now node }
+    {
+        match &self.links[node.index()] {
+            Some(link) => link.delivered(),
+            None => self.published.as_slice(),
+        }
+    }
+
+    /// The link into a node; the root and what is no node have none.
+    pub fn link(&self, node: NodeId) -> Option<&Link>
+        ensures link { option_copied result ≡ link_into self.now node }
+        ensures none { IsNone result ↔ IsNone (parent_at self.now.parents node) }
+    {
+        self.links.get(node.index())?.as_ref()
+    }
+
+    /// The items that the link into a node offers, in their order.
+    fn source(&self, child: NodeId) -> &[Item]
+        ensures { result.now ≡ source self.now child }
+    {
+        match self.parents.get(child.index()) {
+            Some(Some(parent)) => self.received(*parent),
+            _ => &[],
+        }
+    }
+
+    /// The item that the link into a node offers next.
+    fn next_item(&self, child: NodeId) -> Option<Item>
+        ensures { result ≡ option_and_then (λ link. slice_get (source self.now child) (length link.state.offered)) (link_into self.now child) }
+    {
+        let link = self.link(child)?;
+        self.source(child).get(link.offered().len()).copied()
+    }
+}
+
+/// One step of a link, where there is one, by an event, where there is one.
+fn step(link: &mut Option<Link>, event: Option<Event>) -> Result<Effect, TreeStepFault>
+    ensures link { IfOk result (λ _. link.new ≡ option_map (link_after event) link.old) }
+    ensures kind { is_some link.new ≡ is_some link.old }
+    ensures effect { IfOk result (λ effect. effect ≡ option_map_or (effect_on event) link.old Effect.Nothing) }
+    ensures named { OnOk result (IsSome link.old) }
+    ensures no_such_link { IsErrOf result TreeStepFault.NoSuchLink ↔ IsNone link.old }
+    ensures memory { IsErrOf result TreeStepFault.Memory → Grows (option_map_or (effect_on event) link.old Effect.Nothing) }
+    ensures unchanged { OnErr result (link.new ≡ link.old) }
+{
+    let Some(link) = link else {
+        return Err(TreeStepFault::NoSuchLink);
+    };
+    match event {
+        None => Ok(Effect::Nothing),
+        Some(event) => Ok(link.apply(event)?),
+    }
+}
+
+/// The event of an act; an offer is of this item, and nothing where there is none.
+fn event_of(act: LinkAct, item: Option<Item>) -> Option<Event>
+    ensures { result ≡ event_of act item }
+{
+    Some(match act {
+        LinkAct::Offer => Event::Offer(item?),
+        LinkAct::SendFrame => Event::SendFrame,
+        LinkAct::RecvFrame { keep } => Event::RecvFrame { keep },
+        LinkAct::SendAck => Event::SendAck,
+        LinkAct::RecvAck { keep } => Event::RecvAck { keep },
+        LinkAct::LoseFrame(place) => Event::LoseFrame(place),
+        LinkAct::LoseAck(place) => Event::LoseAck(place),
+        LinkAct::Close => Event::Close,
+    })
+}
