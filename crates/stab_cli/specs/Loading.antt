@@ -2,7 +2,7 @@
 -- Source: this project's own.
 use Rattle.std.specs.Prelude.{◌≡◌, ℕ, ◌<◌, ◌≤◌, List, length, Option, IfSome}
 use Rattle.stab_cli.specs.declared.fault.CliFault.{CliFault}
-use Rattle.stab_cli.specs.declared.fault.CliFault.TheVariants.{CommandLine, Open, Read, TooLong, LinkJob, Start, Write, Memory}
+use Rattle.stab_cli.specs.declared.fault.CliFault.TheVariants.{CommandLine, Open, Read, TooLong, LinkJob, Job, Start, Tree, Write, Memory}
 
 -- the most bytes of a file
 abbrev pub most_bytes : ℕ
@@ -20,6 +20,8 @@ IsLoadFault had Open = ⊥
 IsLoadFault had Read = Unit {0}
 IsLoadFault had TooLong = IfSome had (λ it. most_bytes < length it)
 IsLoadFault had (LinkJob refusal) = ⊥
+IsLoadFault had (Job refusal) = ⊥
 IsLoadFault had (Start refusal) = ⊥
+IsLoadFault had (Tree refusal) = ⊥
 IsLoadFault had Write = ⊥
 IsLoadFault had Memory = Unit {0}

@@ -1,12 +1,14 @@
 ghost use Rattle.std.specs.Prelude.{◌≡◌, ◌≢◌, ◌++◌, List, ℕ, string_bytes, IfSome, IfOk, IfErr, OnOk};
 ghost use Rattle.std.specs.Io.KnownBytes.{Appends, Keeps};
-ghost use Rattle.stab_cli.specs.Answers.{IsLinkAnswer, IsAnswer, IsFault};
+ghost use Rattle.stab_cli.specs.Answers.{IsLinkAnswer, IsTreeAnswer, IsAnswer, IsFault};
 
 use crate::command::Task;
 use crate::fault::CliFault;
 use crate::load::load;
 use stab_core::{link_text, origins_text, run_link, trace};
+use stab_run::read_job;
 use stab_script::read_link_job;
+use stab_treecore::{run_schedule, schedule_text};
 use std::alloc::Global;
 use std::io::{Read, Write};
 use std::sync::Wait;
@@ -55,6 +57,7 @@ fn text_of<R: Read>(alloc: Global, task: Task, reader: &mut R) -> Result<String,
     let bytes = load(alloc, reader)?;
     match task {
         Task::Link { trace } => answer_link(alloc, trace, &bytes),
+        Task::Tree => answer_tree(alloc, &bytes),
     }
 }
 
@@ -72,6 +75,24 @@ fn answer_link(alloc: Global, with_trace: bool, bytes: &[u8]) -> Result<String, 
         text.push_str(&origins_text(alloc, &origins)?)?;
     }
     Ok(text)
+}
+
+/// The text of a whole tree after its schedule.
+fn answer_tree(alloc: Global, bytes: &[u8]) -> Result<String, CliFault>
+    ensures answer { IfOk result (λ text. IsTreeAnswer bytes.now (string_bytes text)) }
+    ensures fault { IfErr result (IsFault bytes.now) }
+    ensures no_write { IfErr result (λ fault. fault ≢ CliFault.Write) }
+{
+    let job = read_job(alloc, bytes)?;
+    let state = run_schedule(
+        alloc,
+        job.params(),
+        job.tree(),
+        job.items(),
+        job.starts(),
+        job.schedule(),
+    )?;
+    Ok(schedule_text(alloc, job.tree(), &state)?)
 }
 
 /// Writes a whole text, and hands on what the writer still holds back.

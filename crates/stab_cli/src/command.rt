@@ -10,6 +10,8 @@ use std::alloc::{AllocError, Global};
 pub enum Task {
     /// Replay a link job, and with `trace` tell the origins of what it delivers.
     Link { trace: bool },
+    /// Run a job's schedule over its whole tree.
+    Tree,
 }
 
 /// The task that these words name, the program's name first, and its file where there is one.
@@ -28,12 +30,11 @@ pub fn parse(alloc: Global, words: &[String]) -> Result<(Task, Option<String>), 
         Err(error) => return Err(refusal(&error)),
     };
     match matches.subcommand() {
-        Some((_, inner)) => Ok((
-            Task::Link {
-                trace: inner.get_flag("trace"),
-            },
-            file_of(alloc, inner)?,
-        )),
+        Some(("link", inner)) => {
+            let trace = inner.get_flag("trace");
+            Ok((Task::Link { trace }, file_of(alloc, inner)?))
+        }
+        Some((_, inner)) => Ok((Task::Tree, file_of(alloc, inner)?)),
         None => Err(CliFault::CommandLine),
     }
 }
@@ -43,9 +44,13 @@ fn command<'a>(alloc: Global) -> Result<Command<'a>, AllocError> {
     let trace = Arg::new(alloc, "trace")
         .long("trace")
         .action(ArgAction::SetTrue);
-    let file = Arg::new(alloc, "FILE");
-    let link = Command::new(alloc, "link").arg(trace)?.arg(file)?;
-    Command::new(alloc, "stab").subcommand(link)
+    let link = Command::new(alloc, "link")
+        .arg(trace)?
+        .arg(Arg::new(alloc, "FILE"))?;
+    let tree = Command::new(alloc, "tree").arg(Arg::new(alloc, "FILE"))?;
+    Command::new(alloc, "stab")
+        .subcommand(link)?
+        .subcommand(tree)
 }
 
 /// The file that a subcommand names.

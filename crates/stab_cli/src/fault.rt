@@ -1,5 +1,8 @@
 use stab_core::StartFault;
-use stab_script::LinkJobFault;
+use stab_run::JobFault;
+use stab_script::{LinkJobFault, ScriptFault};
+use stab_tree::TreeFault;
+use stab_treecore::TreeStartFault;
 use std::alloc::{AllocError, AllocFailed};
 use thiserror::Error;
 
@@ -21,9 +24,15 @@ pub enum CliFault {
     /// The bytes are no link job.
     #[error("{0}")]
     LinkJob(LinkJobFault),
-    /// The job's start is refused.
+    /// The bytes are no job.
+    #[error("{0}")]
+    Job(JobFault),
+    /// The start of a link job is refused.
     #[error("{0}")]
     Start(StartFault),
+    /// A start or an event of a job's schedule is refused.
+    #[error("{0}")]
+    Tree(TreeStartFault),
     /// Writing failed; a part of the text may be written.
     #[error("output: cannot be written")]
     Write,
@@ -37,17 +46,27 @@ impl CliFault {
     ghost use Rattle.stab_cli.specs.Statuses.{status_of};
 
     /// The status that the program ends with: 1 for a file or job that is refused, 2 for a command line that is refused,
-    /// 3 for a start or a write that fails, and for want of memory anywhere.
+    /// 3 for a start, a step or a write that fails, and for want of memory anywhere.
     pub fn status(&self) -> u8
         ensures { result ≡ status_of self.now }
     {
         match self {
             CliFault::CommandLine => 2,
             CliFault::LinkJob(LinkJobFault::Memory)
+            | CliFault::Job(
+                JobFault::Memory
+                | JobFault::Tree(TreeFault::Memory)
+                | JobFault::Script(ScriptFault::Memory),
+            )
             | CliFault::Start(_)
+            | CliFault::Tree(_)
             | CliFault::Write
             | CliFault::Memory => 3,
-            CliFault::Open | CliFault::Read | CliFault::TooLong | CliFault::LinkJob(_) => 1,
+            CliFault::Open
+            | CliFault::Read
+            | CliFault::TooLong
+            | CliFault::LinkJob(_)
+            | CliFault::Job(_) => 1,
         }
     }
 }
@@ -93,5 +112,27 @@ impl From<StartFault> for CliFault {
 
     fn from(refusal: StartFault) -> CliFault {
         CliFault::Start(refusal)
+    }
+}
+
+impl From<JobFault> for CliFault {
+    ghost use Rattle.std.specs.Prelude.{◌≡◌};
+    ghost use Rattle.stab_cli.specs.declared.fault.CliFault.TheVariants.{Job};
+
+    ghost from_gives = { λ refusal fault. fault ≡ Job refusal };
+
+    fn from(refusal: JobFault) -> CliFault {
+        CliFault::Job(refusal)
+    }
+}
+
+impl From<TreeStartFault> for CliFault {
+    ghost use Rattle.std.specs.Prelude.{◌≡◌};
+    ghost use Rattle.stab_cli.specs.declared.fault.CliFault.TheVariants.{Tree};
+
+    ghost from_gives = { λ refusal fault. fault ≡ Tree refusal };
+
+    fn from(refusal: TreeStartFault) -> CliFault {
+        CliFault::Tree(refusal)
     }
 }

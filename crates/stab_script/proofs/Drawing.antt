@@ -8,9 +8,11 @@ module _ (fewer : ℕ) (s left : Stream) (word : ℕ) (next_is : (word, left) �
   pub one_draw : {A : Type 0} (act_of : ℕ → A) (whole done : List A)
       → whole ≡ done ++ map act_of (words (suc fewer) s)
       → whole ≡ (done ++ act_of word ∷ []) ++ map act_of (words fewer left)
+  unfolding words
   one_draw act_of whole done so_far =
       so_far ∙ rw (← next_is) (sym (append_assoc done (act_of word ∷ []) (map act_of (words fewer left))))
 
   -- and leaves the stream that the other words leave
   pub one_word : (end : Stream) → end ≡ after_words (suc fewer) s → end ≡ after_words fewer left
+  unfolding after_words
   one_word end so_far = so_far ∙ rw (← next_is)

@@ -1,5 +1,5 @@
 -- Taking acts one by one.
-use Rattle.std.proofs.Common.{◌≡◌, ℕ, zero, suc, ◌+◌, List, [], ◌∷◌, drop, refl, ap, ◌∙◌, sym, add-one}
+use Rattle.std.proofs.Common.{◌≡◌, ℕ, zero, suc, ◌+◌, List, [], ◌∷◌, drop, refl, ap, ◌∙◌, sym}
 use Rattle.std.proofs.lemmas.List.{drop-drop}
 use Rattle.std.specs.List.{slice_get}
 use Rattle.std.specs.Prelude.{unwrap_or}

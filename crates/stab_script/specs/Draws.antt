@@ -14,11 +14,11 @@ use Rattle.stab_script.specs.declared.fault.ScriptFault.TheVariants.{TooLong, Ra
 use Rattle.stab_script.specs.Scripts.{Acts, acts}
 
 -- the next n words of 32 bits, and the stream that they leave
-abbrev pub words : ℕ → Stream → List ℕ
+unfoldable pub words : ℕ → Stream → List ℕ
 words zero s = []
 words (suc n) s = (next_u32 s).0 ∷ words n (next_u32 s).1
 
-abbrev pub after_words : ℕ → Stream → Stream
+unfoldable pub after_words : ℕ → Stream → Stream
 after_words zero s = s
 after_words (suc n) s = after_words n (next_u32 s).1
 
@@ -31,12 +31,12 @@ abbrev pub in_of_word : ℕ → ℕ → InAct
 in_of_word repeat word = if nat_lt (word % 1000) repeat then Keep else Take
 
 -- the stream after the first, the second and the third list of that length
-abbrev pub after_lists : ℕ → ℕ → Stream → Stream
+unfoldable pub after_lists : ℕ → ℕ → Stream → Stream
 after_lists zero len s = s
 after_lists (suc lists) len s = after_lists lists len (after_words len s)
 
 -- the four lists, one after the other, a word an act
-abbrev pub drawn : ℕ → ℕ → ℕ → Stream → Acts
+unfoldable pub drawn : ℕ → ℕ → ℕ → Stream → Acts
 drawn len loss repeat s =
     acts (map (out_of_word loss) (words len s)) (map (in_of_word repeat) (words len (after_lists 1 len s)))
     (map (out_of_word loss) (words len (after_lists 2 len s))) (map (in_of_word repeat) (words len (after_lists 3 len s)))

@@ -4,3 +4,4 @@ pub mod Events
 pub mod LinkJobs
 pub mod Scripts
 pub mod Draws
+pub mod ScriptEntries

@@ -45,6 +45,7 @@ impl Drawn for InAct {
     }
 }
 
+#[tactic(auto, unfolding(crate::specs::Draws::words, crate::specs::Draws::after_words))]
 // A list of acts, a word each; there is room for them.
 fn draw_list<R: Rng, A: Drawn>(rng: &mut R, len: u32, rate: u16, mut room: Vec<A>) -> Vec<A>
     requires empty { vec_len room ≡ 0 }
@@ -74,6 +75,7 @@ fn check(len: u32, loss: u16, repeat: u16) -> Result<(), ScriptFault>
 }
 
 impl Script {
+    #[tactic(auto, unfolding(crate::specs::Draws::drawn, crate::specs::Draws::after_lists))]
     /// A script of `len` acts in each list, a word of the generator for each: of frames out, frames in, acknowledgements
     /// out and acknowledgements in, one list after the other. What goes out is dropped at `loss` words of a thousand,
     /// what comes in is kept at `repeat` of a thousand. A refusal takes no word.

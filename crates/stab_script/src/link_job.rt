@@ -1,12 +1,12 @@
 ghost use Rattle.std.specs.Prelude.{◌≡◌, ◌≢◌, ◌<◌, codes, length, MatchResult, IfOk, Some, None, Ok, Err, option_and_then, option_map};
 ghost use Rattle.serde_json.specs.Find.{get, as_array};
 ghost use Rattle.serde_json.specs.View.{view, items_view};
-ghost use Rattle.stab_script.specs.Values.{value_of, capped};
+ghost use Rattle.stab_script.specs.Values.{value_of};
 ghost use Rattle.stab_script.specs.Starts.{start};
 ghost use Rattle.stab_script.specs.LinkJobs.{Members, link_job, job_of, members};
 
 use crate::list::{Entry, read_entries};
-use crate::value::{read_value, whole_capped};
+use crate::value::{capped_member, read_value};
 use serde_json::Value;
 use stab_core::{Event, Start};
 use stab_frames::{Params, ParamsFault, Sequence};
@@ -91,8 +91,8 @@ fn job_of_value(alloc: Global, value: &Value) -> Result<LinkJob, LinkJobFault>
         (λ fault. fault ≢ LinkJobFault.Memory → job_of (members (view value.now)) ≡ Err fault) }
 {
     let (Some(capacity), Some(labels)) = (
-        capped_member(value, "capacity"),
-        capped_member(value, "labels"),
+        capped_member(value, "capacity", 65535),
+        capped_member(value, "labels", 65535),
     ) else {
         return Err(LinkJobFault::Shape);
     };
@@ -100,7 +100,7 @@ fn job_of_value(alloc: Global, value: &Value) -> Result<LinkJob, LinkJobFault>
         return Err(LinkJobFault::Shape);
     };
     match list_member(value, "events") {
-        Some(events) => job_of_members(alloc, capacity, labels, start, events),
+        Some(events) => job_of_members(alloc, capacity as u16, labels as u16, start, events),
         None => Err(LinkJobFault::Shape),
     }
 }
@@ -131,13 +131,6 @@ fn job_of_members(
         }),
         None => Err(LinkJobFault::Event),
     }
-}
-
-// The whole number that a member of an object is, 65535 in place of one that is larger.
-fn capped_member(value: &Value, name: &str) -> Option<u16>
-    ensures { result ≡ option_and_then (capped 65535) (get name.now (view value.now)) }
-{
-    Some(whole_capped(value.get(name)?, 65535)? as u16)
 }
 
 // The start that the member of that name is.

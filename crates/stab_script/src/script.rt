@@ -83,10 +83,10 @@ impl Script {
         ensures { IfOk result (λ script. script ≡ self.now) }
     {
         Ok(Script {
-            frames_out: copy_of(alloc, self.frames_out.as_slice())?,
-            frames_in: copy_of(alloc, self.frames_in.as_slice())?,
-            acks_out: copy_of(alloc, self.acks_out.as_slice())?,
-            acks_in: copy_of(alloc, self.acks_in.as_slice())?,
+            frames_out: copy_of(alloc, self.frames_out())?,
+            frames_in: copy_of(alloc, self.frames_in())?,
+            acks_out: copy_of(alloc, self.acks_out())?,
+            acks_in: copy_of(alloc, self.acks_in())?,
         })
     }
 

@@ -1,4 +1,5 @@
-ghost use Rattle.std.specs.Prelude.{◌≡◌, ◌<◌, length, option_map, IfOk, OnErr};
+ghost use Rattle.std.specs.Prelude.{◌≡◌, ◌<◌, length, option_map, option_and_then, IfOk, OnErr};
+ghost use Rattle.serde_json.specs.Find.{get};
 ghost use Rattle.serde_json.specs.View.{view, items_view};
 ghost use Rattle.stab_script.specs.Values.{value_of, whole_to, capped, label, item_number, pair, pair_of_items};
 
@@ -32,6 +33,13 @@ pub fn whole_capped(value: &Value, limit: u64) -> Option<u64>
     ensures { result ≡ capped limit (view value.now) }
 {
     Some(value.as_u64()?.min(limit))
+}
+
+/// The whole number that a member of an object is, and the limit in place of one that is larger.
+pub fn capped_member(value: &Value, name: &str, limit: u64) -> Option<u64>
+    ensures { result ≡ option_and_then (capped limit) (get name.now (view value.now)) }
+{
+    whole_capped(value.get(name)?, limit)
 }
 
 /// A label, and as well a place in a queue: a whole number of 16 bits.

@@ -1,0 +1,222 @@
+use crate::{InAct, OutAct, Script, ScriptFault};
+use rand_core::utils::NextWord;
+use rand_core::{Rng, utils};
+use rand_pcg::Pcg32;
+use std::alloc::{AllocError, Global};
+use std::marker::Model;
+use std::process::Abort;
+use std::test::Fail;
+
+// The words of the worked example.
+const WORDS: [u32; 6] = [2707161783, 97, 824, 955, 955, 566];
+
+// A generator of those words, and then of zeros; a contract sees how many of them it gave.
+#[derive(Drop)]
+struct FewWords {
+    given: u32,
+}
+
+impl Model for FewWords {
+    ghost use Rattle.std.specs.Prelude.{ℕ};
+
+    ghost Value = { ℕ };
+
+    ghost view = { λ g. g.given };
+}
+
+impl NextWord<u32> for FewWords {
+    ghost use Rattle.std.specs.Prelude.{◌+◌, ◌%◌, ◌^◌, slice_index, ◌∷◌, []};
+
+    ghost step = { λ given. (slice_index (2707161783 ∷ 97 ∷ 824 ∷ 955 ∷ 955 ∷ 566 ∷ []) given, (given + 1) % 2 ^ 32) };
+
+    fn next_word(&mut self) -> u32 {
+        let word = WORDS.get(self.given as usize).copied().unwrap_or(0);
+        self.given = self.given.wrapping_add(1);
+        word
+    }
+}
+
+impl Rng for FewWords {
+    ghost use Rattle.rand_core.specs.Steps.{stream_of, steps_u32};
+
+    ghost stream = { stream_of (steps_u32 ⟦<FewWords as NextWord<u32>>⟧.step) };
+
+    fn next_u32(&mut self) -> u32 {
+        self.next_word()
+    }
+
+    fn next_u64(&mut self) -> u64 {
+        utils::next_u64_via_u32(self)
+    }
+
+    fn fill_bytes(&mut self, dst: &mut [u8]) {
+        utils::fill_bytes_via_u32(self, dst)
+    }
+}
+
+// The four lists of a script are these.
+fn assert_lists(
+    rt: &impl Abort,
+    script: &Script,
+    frames_out: &[OutAct],
+    frames_in: &[InAct],
+    acks_out: &[OutAct],
+    acks_in: &[InAct],
+) {
+    assert_eq!(rt; script.frames_out(), frames_out);
+    assert_eq!(rt; script.frames_in(), frames_in);
+    assert_eq!(rt; script.acks_out(), acks_out);
+    assert_eq!(rt; script.acks_in(), acks_in);
+}
+
+// The two scripts have the same lists.
+fn assert_same(rt: &impl Abort, left: &Script, right: &Script) {
+    assert_lists(
+        rt,
+        left,
+        right.frames_out(),
+        right.frames_in(),
+        right.acks_out(),
+        right.acks_in(),
+    );
+}
+
+#[test]
+fn a_drawn_script(rt: HostRuntime) -> Result<(), Fail> {
+    let mut words = FewWords { given: 0 };
+    let script = Script::draw(rt.alloc(), &mut words, 6, 100, 0)?;
+    let (pass, lost) = (OutAct::Pass, OutAct::Drop);
+    let frames_out = [pass, lost, pass, pass, pass, pass];
+    let takes = [InAct::Take; 6];
+    assert_lists(&rt, &script, &frames_out, &takes, &[lost; 6], &takes);
+    assert_eq!(rt; words.given, 24);
+    let seeded = Script::from_seed(rt.alloc(), 42, 54, 6, 100, 0)?;
+    let drawn = Script::draw(rt.alloc(), &mut Pcg32::new(42, 54), 6, 100, 0)?;
+    assert_same(&rt, &seeded, &drawn);
+    Ok(())
+}
+
+#[test]
+fn one_draw_of_each_list(rt: HostRuntime) -> Result<(), Fail> {
+    let script = Script::draw(rt.alloc(), &mut FewWords { given: 0 }, 1, 800, 100)?;
+    assert_lists(
+        &rt,
+        &script,
+        &[OutAct::Drop],
+        &[InAct::Keep],
+        &[OutAct::Pass],
+        &[InAct::Take],
+    );
+    Ok(())
+}
+
+#[test]
+fn the_published_words_of_pcg32(rt: HostRuntime) {
+    let mut words = Pcg32::new(42, 54);
+    let published = [
+        0xa15c02b7, 0x7b47f409, 0xba1d3330, 0x83d2f293, 0xbfa4784b, 0xcbed606e,
+    ];
+    for want in published {
+        assert_eq!(rt; words.next_u32(), want);
+    }
+}
+
+#[test]
+fn limits_of_draws(rt: HostRuntime) -> Result<(), Fail> {
+    let rows = [
+        (100001, 1001, 1001, Some(ScriptFault::TooLong)),
+        (1, 1001, 0, Some(ScriptFault::RateOutOfRange)),
+        (1, 0, 1001, Some(ScriptFault::RateOutOfRange)),
+        (100000, 1000, 1000, None),
+    ];
+    for (len, loss, repeat, want) in rows {
+        let seeded = Script::from_seed(rt.alloc(), 42, 54, len, loss, repeat).err();
+        assert_eq!(rt; seeded, want, "{len} acts at {loss} and {repeat}");
+        let mut words = FewWords { given: 0 };
+        let drawn = Script::draw(rt.alloc(), &mut words, len, loss, repeat).err();
+        assert_eq!(rt; drawn, want, "{len} acts at {loss} and {repeat}");
+        let taken = if want.is_none() { 400000 } else { 0 };
+        assert_eq!(rt; words.given, taken, "{len} acts at {loss} and {repeat}");
+    }
+    let none = Script::from_seed(rt.alloc(), 42, 54, 0, 0, 0)?;
+    assert_lists(&rt, &none, &[], &[], &[], &[]);
+    let all = Script::from_seed(rt.alloc(), 42, 54, 2, 1000, 1000)?;
+    let (lost, kept) = ([OutAct::Drop; 2], [InAct::Keep; 2]);
+    assert_lists(&rt, &all, &lost, &kept, &lost, &kept);
+    Ok(())
+}
+
+// The script with lists of these lengths, of any acts.
+fn of_lengths(alloc: Global, lengths: [usize; 4]) -> Result<Option<ScriptFault>, AllocError> {
+    let frames_out = vec![in alloc; OutAct::Evict; lengths[0]]?;
+    let frames_in = vec![in alloc; InAct::Keep; lengths[1]]?;
+    let acks_out = vec![in alloc; OutAct::Drop; lengths[2]]?;
+    let acks_in = vec![in alloc; InAct::Take; lengths[3]]?;
+    Ok(Script::new(frames_out, frames_in, acks_out, acks_in).err())
+}
+
+#[test]
+fn limits_of_scripts(rt: HostRuntime) -> Result<(), Fail> {
+    let rows = [
+        ([100000, 100000, 100000, 100000], None),
+        ([100001, 0, 0, 0], Some(ScriptFault::TooLong)),
+        ([0, 100001, 0, 0], Some(ScriptFault::TooLong)),
+        ([0, 0, 100001, 0], Some(ScriptFault::TooLong)),
+        ([0, 0, 0, 100001], Some(ScriptFault::TooLong)),
+    ];
+    for (lengths, want) in rows {
+        assert_eq!(rt; of_lengths(rt.alloc(), lengths)?, want, "{lengths:?}");
+    }
+    Ok(())
+}
+
+#[test]
+fn each_half_takes_its_own_acts(rt: HostRuntime) -> Result<(), Fail> {
+    let alloc = rt.alloc();
+    let frames_out = vec![in alloc; OutAct::Drop, OutAct::Pass, OutAct::Evict]?;
+    let acks_in = vec![in alloc; InAct::Keep]?;
+    let script = Script::new(
+        frames_out,
+        Vec::new(alloc),
+        vec![in alloc; OutAct::Evict]?,
+        acks_in,
+    )?;
+    let copy = script.copy(alloc)?;
+    assert_same(&rt, &script, &copy);
+    let (mut send, mut recv) = copy.split();
+    assert_eq!(rt; send.peek_out(), OutAct::Drop);
+    for want in [
+        OutAct::Drop,
+        OutAct::Pass,
+        OutAct::Evict,
+        OutAct::Pass,
+        OutAct::Pass,
+    ] {
+        assert_eq!(rt; send.next_out(), want);
+    }
+    assert_eq!(rt; send.peek_in(), InAct::Keep);
+    assert_eq!(rt; send.next_in(), InAct::Keep);
+    assert_eq!(rt; send.next_in(), InAct::Take);
+    assert_eq!(rt; recv.next_out(), OutAct::Evict);
+    assert_eq!(rt; recv.next_out(), OutAct::Pass);
+    assert_eq!(rt; recv.next_in(), InAct::Take);
+    let (mut send, _recv) = Script::none(alloc).split();
+    assert_eq!(rt;
+        (send.next_out(), send.next_in()),
+        (OutAct::Pass, InAct::Take)
+    );
+    Ok(())
+}
+
+#[test]
+fn texts_of_refused_scripts(rt: HostRuntime) -> Result<(), Fail> {
+    let texts = [
+        (ScriptFault::TooLong, "job: script too long"),
+        (ScriptFault::RateOutOfRange, "job: rate out of range"),
+        (ScriptFault::Memory, "out of memory"),
+    ];
+    for (fault, want) in texts {
+        assert_eq!(rt; fault.to_string(rt.alloc())?.as_str(), want);
+    }
+    Ok(())
+}
