@@ -5,7 +5,7 @@ ghost use Rattle.stab_cli.specs.Answers.{IsLinkAnswer, IsTreeAnswer, IsAnswer, I
 use crate::command::Task;
 use crate::fault::CliFault;
 use crate::load::load;
-use stab_core::{link_text, origins_text, run_link, trace};
+use stab_core::{link_text, origins_text, run_link, run_traced};
 use stab_run::read_job;
 use stab_script::read_link_job;
 use stab_treecore::{run_schedule, schedule_text};
@@ -68,12 +68,13 @@ fn answer_link(alloc: Global, with_trace: bool, bytes: &[u8]) -> Result<String, 
     ensures no_write { IfErr result (λ fault. fault ≢ CliFault.Write) }
 {
     let job = read_link_job(alloc, bytes)?;
-    let link = run_link(alloc, job.params, &job.start, job.events.as_slice())?;
-    let mut text = link_text(alloc, &link)?;
-    if with_trace {
-        let origins = trace(alloc, job.params, &job.start, job.events.as_slice())?;
-        text.push_str(&origins_text(alloc, &origins)?)?;
+    if !with_trace {
+        let link = run_link(alloc, job.params, &job.start, job.events.as_slice())?;
+        return Ok(link_text(alloc, &link)?);
     }
+    let (link, origins) = run_traced(alloc, job.params, &job.start, job.events.as_slice())?;
+    let mut text = link_text(alloc, &link)?;
+    text.push_str(&origins_text(alloc, &origins)?)?;
     Ok(text)
 }
 

@@ -24,7 +24,7 @@ pub use replay::run_link;
 pub use sender::Sender;
 pub use start::{Start, StartFault};
 pub use text::{link_text, origins_text, push_items_line, push_number};
-pub use tracer::trace;
+pub use tracer::{run_traced, trace};
 
 #[cfg(test)]
 mod tests;

@@ -1,7 +1,7 @@
 ghost use Rattle.std.specs.Prelude.{◌≡◌, ◌+◌, length, false, IfOk, IfErr, OnOk, OnErr};
 ghost use Rattle.stab_core.specs.Replay.{opening, replay, start_items, IsLawful};
 ghost use Rattle.stab_core.specs.Trace.{Traced, strays_from, traced_opening, traced_step, traced_replay, Explains};
-ghost use Rattle.stab_core.specs.Link.{IsReason};
+ghost use Rattle.stab_core.specs.Link.{link_at, IsReason};
 ghost use Rattle.stab_core.specs.Tracer.{tracer_at, LeavesFrames};
 
 use crate::event::{Effect, Event};
@@ -27,12 +27,31 @@ pub fn trace(
     ensures lawful { IfOk result (λ origins. IsLawful params start.now) }
     ensures refused { IfErr result (IsReason params start.now) }
 {
+    let (link, origins) = run_traced(alloc, params, start, events)?;
+    drop(link);
+    laws::every_replay_is_explained();
+    Ok(origins)
+}
+
+/// The link after these events, as `run_link` gives it, and the origins of what it delivered, as `trace` gives them, of one
+/// replay.
+pub fn run_traced(
+    alloc: Global,
+    params: Params,
+    start: &Start,
+    events: &[Event],
+) -> Result<(Link, Vec<Origin>), StartFault>
+    ensures link { IfOk result (λ both. both.0 ≡ link_at params (replay params (opening start.now) events.now)) }
+    ensures origins { IfOk result (λ both. both.1.items ≡ (traced_replay params (traced_opening start.now) events.now).origins) }
+    ensures lawful { IfOk result (λ both. IsLawful params start.now) }
+    ensures refused { IfErr result (IsReason params start.now) }
+{
     let mut tracer = Tracer::new(alloc, params, start)?;
     for event in events {
         tracer.apply(*event)?;
     }
     laws::every_replay_is_explained();
-    Ok(tracer.into_origins())
+    Ok(tracer.into_parts())
 }
 
 /// A link, with the origin of each queued frame and of each delivered item.
@@ -136,17 +155,17 @@ impl Tracer {
         Ok(())
     }
 
-    fn into_origins(self) -> Vec<Origin>
-        ensures { result.items ≡ self.traced.origins }
+    fn into_parts(self) -> (Link, Vec<Origin>)
+        ensures link { result.0 ≡ link_at self.params self.traced.state }
+        ensures origins { result.1.items ≡ self.traced.origins }
     {
         let Tracer {
             link,
             queued,
             origins,
         } = self;
-        drop(link);
         drop(queued);
-        origins
+        (link, origins)
     }
 }
 
