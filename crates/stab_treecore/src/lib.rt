@@ -1,4 +1,9 @@
 //! All links of a tree under one schedule: the tree law at every node.
+//!
+//! Contracts see a [`TreeState`] as the published items, the parent of each node and the link into each node; each call is
+//! a step of the definitions in `specs/`, which know no vector, clock or thread. The layer above uses one fact: what
+//! [`run_schedule`] answers is the replay of the schedule from the starts, and the tree law holds of it at every node.
+//! The laws alone, for whatever runs the links, stand in [`laws`].
 #![tactic(auto)]
 
 mod event;
@@ -14,3 +19,6 @@ pub use fault::{TreeStartFault, TreeStepFault};
 pub use schedule::run_schedule;
 pub use state::TreeState;
 pub use text::{push_node_counts, schedule_text};
+
+#[cfg(test)]
+mod tests;

@@ -1,0 +1,225 @@
+use crate::{
+    LinkAct, TreeEvent, TreeStartFault, TreeState, TreeStepFault, push_node_counts, run_schedule,
+    schedule_text,
+};
+use serde_json::Value;
+use stab_core::{Effect, Start, StartFault};
+use stab_frames::{Frame, Item, Params, Sequence};
+use stab_tree::{NodeId, Tree, TreeFault, read_tree};
+use std::alloc::{AllocError, Global};
+use std::process::Abort;
+use std::test::Fail;
+
+/// The chain r, a, b.
+const CHAIN: &str =
+    "[{\"name\":\"r\"},{\"name\":\"a\",\"parent\":\"r\"},{\"name\":\"b\",\"parent\":\"a\"}]";
+
+/// The published items of the chain's tests.
+const ITEMS: [Item; 7] = [10, 11, 12, 13, 14, 15, 16];
+
+/// The acts of the worst start, and the two that leave the sender idle.
+const WORST: [LinkAct; 14] = [
+    LinkAct::Offer,
+    LinkAct::RecvAck { keep: false },
+    LinkAct::SendAck,
+    LinkAct::Offer,
+    LinkAct::RecvAck { keep: false },
+    LinkAct::RecvFrame { keep: false },
+    LinkAct::SendAck,
+    LinkAct::Offer,
+    LinkAct::RecvAck { keep: false },
+    LinkAct::Offer,
+    LinkAct::SendFrame,
+    LinkAct::RecvFrame { keep: false },
+    LinkAct::SendAck,
+    LinkAct::RecvAck { keep: false },
+];
+
+/// One item goes from the parent to the child, undisturbed.
+const ROUND: [LinkAct; 5] = [
+    LinkAct::Offer,
+    LinkAct::SendFrame,
+    LinkAct::RecvFrame { keep: false },
+    LinkAct::SendAck,
+    LinkAct::RecvAck { keep: false },
+];
+
+fn tree(rt: &impl Abort, alloc: Global, text: &str) -> Result<Tree, TreeFault> {
+    let value = Value::from_str(alloc, text).expect(rt, "JSON");
+    read_tree(alloc, &value)
+}
+
+/// A start with these frames, each with label 2, and these acknowledgements, each 0.
+fn start(alloc: Global, items: &[Item], acks: usize) -> Result<Start, AllocError> {
+    let mut frames = Sequence::new(alloc);
+    for item in items {
+        frames.push(Frame {
+            label: 2,
+            item: *item,
+        })?;
+    }
+    let mut labels = Sequence::new(alloc);
+    for _ in 0..acks {
+        labels.push(0)?;
+    }
+    Ok(Start {
+        frames,
+        acks: labels,
+        send_label: 0,
+        recv_label: 1,
+    })
+}
+
+/// Adds these acts on the link into a node.
+fn push_acts(
+    schedule: &mut Vec<TreeEvent>,
+    child: NodeId,
+    acts: &[LinkAct],
+) -> Result<(), AllocError> {
+    for act in acts {
+        schedule.push(TreeEvent { child, act: *act })?;
+    }
+    Ok(())
+}
+
+#[test]
+fn two_links_under_one_schedule(rt: HostRuntime) -> Result<(), Fail> {
+    let tree = tree(&rt, rt.alloc(), CHAIN)?;
+    let a = tree.find("a").expect(&rt, "a node");
+    let b = tree.find("b").expect(&rt, "a node");
+    let starts = [start(rt.alloc(), &[99], 1)?, start(rt.alloc(), &[98], 1)?];
+    let mut schedule = Vec::new(rt.alloc());
+    push_acts(&mut schedule, a, &WORST)?;
+    push_acts(&mut schedule, a, &ROUND)?;
+    push_acts(&mut schedule, a, &ROUND)?;
+    push_acts(&mut schedule, a, &ROUND)?;
+    push_acts(&mut schedule, b, &WORST)?;
+    push_acts(&mut schedule, b, &ROUND)?;
+    let params = Params::new(1, 4)?;
+    let state = run_schedule(
+        rt.alloc(),
+        params,
+        &tree,
+        &ITEMS,
+        &starts,
+        schedule.as_slice(),
+    )?;
+    assert_eq!(rt; state.received(a), [99, 13, 14, 15, 16].as_slice());
+    assert_eq!(rt; state.received(b), [98, 15, 16].as_slice());
+    assert_eq!(rt; state.link(b).map(|link| link.acked()), Some(5));
+    let text = schedule_text(rt.alloc(), &tree, &state)?;
+    assert_eq!(rt;
+        text.as_str(),
+        "r depth 0 received 7 acked -\nitems: 10 11 12 13 14 15 16\na depth 1 received 5 acked 7\nitems: 99 13 14 15 16\nb depth 2 received 3 acked 5\nitems: 98 15 16\n"
+    );
+    Ok(())
+}
+
+#[test]
+fn refused_schedules(rt: HostRuntime) -> Result<(), Fail> {
+    let tree = tree(&rt, rt.alloc(), CHAIN)?;
+    let params = Params::new(1, 4)?;
+    let one = [start(rt.alloc(), &[99], 1)?];
+    let refused = run_schedule(rt.alloc(), params, &tree, &ITEMS, &one, &[]);
+    assert_eq!(rt; refused.err(), Some(TreeStartFault::StartCount));
+    let second = [
+        start(rt.alloc(), &[99], 1)?,
+        start(rt.alloc(), &[98, 97], 1)?,
+    ];
+    let refused = run_schedule(rt.alloc(), params, &tree, &ITEMS, &second, &[]);
+    assert_eq!(rt;
+        refused.err(),
+        Some(TreeStartFault::Start(StartFault::TooManyFrames))
+    );
+    let both = [
+        start(rt.alloc(), &[99], 2)?,
+        start(rt.alloc(), &[98, 97], 1)?,
+    ];
+    let refused = run_schedule(rt.alloc(), params, &tree, &ITEMS, &both, &[]);
+    assert_eq!(rt;
+        refused.err(),
+        Some(TreeStartFault::Start(StartFault::TooManyAcks))
+    );
+    let starts = [start(rt.alloc(), &[99], 1)?, start(rt.alloc(), &[98], 1)?];
+    let on_root = [TreeEvent {
+        child: tree.root(),
+        act: LinkAct::Offer,
+    }];
+    let refused = run_schedule(rt.alloc(), params, &tree, &ITEMS, &starts, &on_root);
+    assert_eq!(rt;
+        refused.err(),
+        Some(TreeStartFault::Step(TreeStepFault::NoSuchLink))
+    );
+    Ok(())
+}
+
+#[test]
+fn offer_of_nothing(rt: HostRuntime) -> Result<(), Fail> {
+    let tree = tree(&rt, rt.alloc(), CHAIN)?;
+    let a = tree.find("a").expect(&rt, "a node");
+    let b = tree.find("b").expect(&rt, "a node");
+    let starts = [start(rt.alloc(), &[99], 1)?, start(rt.alloc(), &[98], 1)?];
+    let mut state = TreeState::new(rt.alloc(), Params::new(1, 4)?, &tree, &ITEMS, &starts)?;
+    let steps = [
+        (b, LinkAct::Offer, Ok(Effect::Nothing)),
+        (a, LinkAct::RecvFrame { keep: true }, Ok(Effect::Fresh(99))),
+        (b, LinkAct::Offer, Ok(Effect::Held)),
+        (b, LinkAct::LoseFrame(0), Ok(Effect::Lost)),
+        (b, LinkAct::LoseAck(1), Ok(Effect::Nothing)),
+        (b, LinkAct::Close, Ok(Effect::Closed)),
+        (tree.root(), LinkAct::Offer, Err(TreeStepFault::NoSuchLink)),
+        (
+            NodeId::new(3),
+            LinkAct::Close,
+            Err(TreeStepFault::NoSuchLink),
+        ),
+    ];
+    for (child, act, want) in steps {
+        assert_eq!(rt;
+            state.apply(TreeEvent { child, act }),
+            want,
+            "{child:?} {act:?}"
+        );
+    }
+    assert!(rt; state.link(tree.root()).is_none());
+    assert!(rt; state.link(NodeId::new(3)).is_none());
+    Ok(())
+}
+
+#[test]
+fn a_lone_root(rt: HostRuntime) -> Result<(), Fail> {
+    let tree = tree(&rt, rt.alloc(), "[{\"name\":\"r\"}]")?;
+    let state = run_schedule(rt.alloc(), Params::new(1, 4)?, &tree, &[7, 8], &[], &[])?;
+    let text = schedule_text(rt.alloc(), &tree, &state)?;
+    assert_eq!(rt; text.as_str(), "r depth 0 received 2 acked -\nitems: 7 8\n");
+    Ok(())
+}
+
+#[test]
+fn the_first_line_of_a_node(rt: HostRuntime) -> Result<(), Fail> {
+    let mut text = String::new(rt.alloc());
+    push_node_counts(&mut text, "a", 1, 5, Some(7))?;
+    assert_eq!(rt; text.as_str(), "a depth 1 received 5 acked 7");
+    Ok(())
+}
+
+#[test]
+fn texts_of_faults(rt: HostRuntime) -> Result<(), Fail> {
+    let texts = [
+        (TreeStartFault::StartCount, "start: wrong number of starts"),
+        (
+            TreeStartFault::Start(StartFault::TooManyFrames),
+            "start: too many frames",
+        ),
+        (TreeStartFault::Start(StartFault::Memory), "out of memory"),
+        (
+            TreeStartFault::Step(TreeStepFault::NoSuchLink),
+            "step: no such link",
+        ),
+        (TreeStartFault::Step(TreeStepFault::Memory), "out of memory"),
+    ];
+    for (fault, want) in texts {
+        assert_eq!(rt; fault.to_string(rt.alloc())?.as_str(), want);
+    }
+    Ok(())
+}
