@@ -1,0 +1,5 @@
+pub mod Counts
+pub mod Shapes
+pub mod Linked
+pub mod Entries
+pub mod Schedules

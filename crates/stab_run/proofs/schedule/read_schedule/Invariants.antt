@@ -1,0 +1,12 @@
+use Rattle.std.proofs.Common.{◌≡◌, drop}
+use Rattle.serde_json.specs.View.{items_view}
+use Rattle.stab_script.specs.Values.{entries}
+use Rattle.stab_run.specs.ScheduleEntries.{named_act, schedule}
+use Rattle.stab_run.proofs.Schedules.{schedule_after}
+use Rattle.stab_run.proofs.schedule.read_schedule.Given as goal
+
+-- what was read, and then what is left, gives the whole schedule
+abbrev pub invariant-loop-value : goal.invariant-loop-value
+invariant-loop-value l =
+    schedule l.tree.names (items_view l.values)
+    ≡ schedule_after l.tree.names l.all_known l.events (entries named_act (items_view (drop l.value-index l.values)))

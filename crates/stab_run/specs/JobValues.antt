@@ -1,0 +1,30 @@
+-- The value of a job: parameters and a tree, a start and a script for each link, published items, a number of turns and a schedule.
+-- Source: this project's profile.
+use Rattle.std.specs.Prelude.{◌≡◌, ℕ, ◌≤◌, List, length}
+use Rattle.stab_frames.specs.Parameters.{Parameters}
+use Rattle.stab_core.specs.declared.start.Start.{Start}
+use Rattle.stab_script.specs.Scripts.{Acts}
+use Rattle.stab_tree.specs.Links.{links_of}
+use Rattle.stab_tree.specs.Nodes.{Nodes}
+use Rattle.stab_treecore.specs.declared.event.TreeEvent.{TreeEvent}
+
+pub record JobValue : Type 0 where
+  pub params : Parameters
+  pub tree : Nodes
+  pub items : List ℕ
+  pub starts : List Start
+  pub scripts : List Acts
+  pub turns : ℕ
+  pub schedule : List TreeEvent
+
+-- how many links the nodes have
+abbrev pub links : Nodes → ℕ
+links t = length (links_of t.parents)
+
+-- there is one start and one script for each link, and the items and turns are within their limits
+pub record IsJob (j : JobValue) : Type 0 where
+  pub one_start_each : length j.starts ≡ links j.tree
+  pub one_script_each : length j.scripts ≡ links j.tree
+  pub few_items : length j.items ≤ 10000
+  pub some_turns : 1 ≤ j.turns
+  pub few_turns : j.turns ≤ 1000000

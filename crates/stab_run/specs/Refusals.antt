@@ -1,0 +1,16 @@
+-- What a job is refused with where a part of it is: with the part's own fault, and with want of memory alone where that was refused.
+-- Source: this project's own.
+use Rattle.stab_script.specs.declared.fault.ScriptFault.{ScriptFault}
+use Rattle.stab_script.specs.declared.fault.ScriptFault.TheVariants as script_fault
+use Rattle.stab_tree.specs.declared.fault.TreeFault.{TreeFault}
+use Rattle.stab_tree.specs.declared.fault.TreeFault.TheVariants as tree_fault
+use Rattle.stab_run.specs.declared.fault.JobFault.{JobFault}
+use Rattle.stab_run.specs.declared.fault.JobFault.TheVariants.{Tree, Script, Memory}
+
+abbrev pub tree_refused : TreeFault → JobFault
+tree_refused tree_fault.Memory = Memory
+tree_refused refusal = Tree refusal
+
+abbrev pub script_refused : ScriptFault → JobFault
+script_refused script_fault.Memory = Memory
+script_refused refusal = Script refusal

@@ -1,0 +1,131 @@
+ghost use Rattle.std.specs.Prelude.{◌≡◌};
+
+use stab_core::Start;
+use stab_frames::{Item, Params, Sequence};
+use stab_script::Script;
+use stab_tree::Tree;
+use stab_treecore::TreeEvent;
+use std::marker::Model;
+
+/// What a run goes by: the parameters of every link, the tree, the items that its root publishes, a start and a script
+/// for each link in the file order of their children, the number of turns, and a schedule. No reader takes memory.
+#[derive(Debug, Drop)]
+pub struct Job {
+    params: Params,
+    tree: Tree,
+    items: Sequence<Item>,
+    starts: Sequence<Start>,
+    scripts: Sequence<Script>,
+    turns: u32,
+    schedule: Sequence<TreeEvent>,
+}
+
+impl Model for Job {
+    ghost use Rattle.stab_run.specs.JobValues.{JobValue, IsJob};
+
+    ghost Value = { JobValue };
+
+    ghost view = { λ j. record {
+      params = j.params;
+      tree = j.tree;
+      items = j.items;
+      starts = j.starts;
+      scripts = j.scripts;
+      turns = j.turns;
+      schedule = j.schedule;
+    } };
+
+    ghost invariant = { λ j. IsJob (record {
+      params = j.params;
+      tree = j.tree;
+      items = j.items;
+      starts = j.starts;
+      scripts = j.scripts;
+      turns = j.turns;
+      schedule = j.schedule;
+    }) };
+}
+
+impl Job {
+    ghost use Rattle.stab_run.specs.JobValues.{JobValue, IsJob};
+
+    /// The job of these parts.
+    pub(crate) fn from_parts(
+        params: Params,
+        tree: Tree,
+        items: Sequence<Item>,
+        starts: Sequence<Start>,
+        scripts: Sequence<Script>,
+        turns: u32,
+        schedule: Sequence<TreeEvent>,
+    ) -> Job
+        requires { let its_parts : JobValue = record { params = params; tree = tree; items = items; starts = starts; scripts = scripts; turns = turns; schedule = schedule } in IsJob its_parts }
+        ensures { result ≡ record { params = params; tree = tree; items = items; starts = starts; scripts = scripts; turns = turns; schedule = schedule } }
+    {
+        Job {
+            params,
+            tree,
+            items,
+            starts,
+            scripts,
+            turns,
+            schedule,
+        }
+    }
+
+    /// The parameters of every link.
+    pub fn params(&self) -> Params
+        ensures params { result ≡ self.now.params }
+        ensures job { IsJob self.now }
+    {
+        self.params
+    }
+
+    /// The tree, whose links the starts and scripts are for.
+    pub fn tree(&self) -> &Tree
+        ensures tree { result.now ≡ self.now.tree }
+        ensures job { IsJob self.now }
+    {
+        &self.tree
+    }
+
+    /// The items that the root publishes: at most 10,000.
+    pub fn items(&self) -> &[Item]
+        ensures items { result.now ≡ self.now.items }
+        ensures job { IsJob self.now }
+    {
+        self.items.as_slice()
+    }
+
+    /// What stands in each link at the start: one for each link, in the file order of their children.
+    pub fn starts(&self) -> &[Start]
+        ensures starts { result.now ≡ self.now.starts }
+        ensures job { IsJob self.now }
+    {
+        self.starts.as_slice()
+    }
+
+    /// What each link is to lose and to repeat: one for each link, in the file order of their children.
+    pub fn scripts(&self) -> &[Script]
+        ensures scripts { result.now ≡ self.now.scripts }
+        ensures job { IsJob self.now }
+    {
+        self.scripts.as_slice()
+    }
+
+    /// How many turns each worker of a run has: 1 to 1,000,000.
+    pub fn turns(&self) -> u32
+        ensures turns { result ≡ self.now.turns }
+        ensures job { IsJob self.now }
+    {
+        self.turns
+    }
+
+    /// The events of the run under one schedule.
+    pub fn schedule(&self) -> &[TreeEvent]
+        ensures schedule { result.now ≡ self.now.schedule }
+        ensures job { IsJob self.now }
+    {
+        self.schedule.as_slice()
+    }
+}
