@@ -1,6 +1,6 @@
 -- What the program writes for what it reads, and why it may not.
 -- Source: this project's own.
-use Rattle.std.specs.Prelude.{◌≡◌, ◌≢◌, ℕ, ◌<◌, Bool, List, [], ◌++◌, length, if◌then◌else◌, Ok, Err}
+use Rattle.std.specs.Prelude.{◌≡◌, ◌≢◌, ℕ, ◌<◌, Bool, List, [], ◌++◌, length, All, if◌then◌else◌, Ok, Err}
 use Rattle.stab_core.specs.declared.event.Event.{Event}
 use Rattle.stab_core.specs.Replay.{opening, replay, IsLawful}
 use Rattle.stab_core.specs.Trace.{traced_opening, traced_replay}
@@ -11,7 +11,7 @@ use Rattle.stab_script.specs.declared.link_job.LinkJobFault.TheVariants.{Memory 
 use Rattle.stab_run.specs.declared.fault.JobFault.TheVariants.{Memory as no_memory}
 use Rattle.stab_run.specs.JobValues.{JobValue}
 use Rattle.stab_run.specs.Jobs.{job as whole_job}
-use Rattle.stab_treecore.specs.Refusals.{IsScheduleReason}
+use Rattle.stab_treecore.specs.Refusals.{NamesLink, IsScheduleReason}
 use Rattle.stab_treecore.specs.Texts.{schedule_text}
 use Rattle.stab_treecore.specs.TreeReplay.{tree_opening, tree_replay}
 use Rattle.stab_script.specs.LinkJobs.{link_job}
@@ -39,10 +39,12 @@ abbrev pub tree_answer : JobValue → List ℕ
 tree_answer job =
     schedule_text job.tree (tree_replay (tree_opening job.params job.tree.parents job.items job.starts) job.schedule)
 
--- these bytes are a job, and this is the text of its tree
+-- these bytes are a job with lawful starts whose schedule names links alone, and this is the text of its tree
 pub record IsTreeAnswer (input text : List ℕ) : Type 0 where
   pub job : JobValue
   pub read : whole_job input ≡ Ok job
+  pub lawful : All (IsLawful job.params) job.starts
+  pub named : All (NamesLink job.tree.parents) job.schedule
   pub the_text : text ≡ tree_answer job
 
 -- the text of a task for these bytes
@@ -50,16 +52,34 @@ abbrev pub IsAnswer : Task → List ℕ → List ℕ → Type 0
 IsAnswer (Link trace) input text = IsLinkAnswer trace input text
 IsAnswer WholeTreeTask input text = IsTreeAnswer input text
 
--- why a task may have no answer for these bytes
-abbrev pub IsFault : List ℕ → CliFault → Type 0
-IsFault input CommandLine = ⊥
-IsFault input Open = ⊥
-IsFault input Read = Unit {0}
-IsFault input TooLong = most_bytes < length input
-IsFault input (LinkJob refusal) = refusal ≢ out_of_memory → link_job input ≡ Err refusal
-IsFault input (Job refusal) = refusal ≢ no_memory → whole_job input ≡ Err refusal
-IsFault input (Start refusal) = (job : OneLink) × (link_job input ≡ Ok job) × IsReason job.params job.start refusal
-IsFault input (Tree refusal) =
+-- why a link job has no answer
+abbrev pub IsLinkFault : List ℕ → CliFault → Type 0
+IsLinkFault input CommandLine = ⊥
+IsLinkFault input Open = ⊥
+IsLinkFault input Read = Unit {0}
+IsLinkFault input TooLong = most_bytes < length input
+IsLinkFault input (LinkJob refusal) = refusal ≢ out_of_memory → link_job input ≡ Err refusal
+IsLinkFault input (Job refusal) = ⊥
+IsLinkFault input (Start refusal) = (job : OneLink) × (link_job input ≡ Ok job) × IsReason job.params job.start refusal
+IsLinkFault input (Tree refusal) = ⊥
+IsLinkFault input Write = Unit {0}
+IsLinkFault input Memory = Unit {0}
+
+-- why a job has no answer
+abbrev pub IsTreeFault : List ℕ → CliFault → Type 0
+IsTreeFault input CommandLine = ⊥
+IsTreeFault input Open = ⊥
+IsTreeFault input Read = Unit {0}
+IsTreeFault input TooLong = most_bytes < length input
+IsTreeFault input (LinkJob refusal) = ⊥
+IsTreeFault input (Job refusal) = refusal ≢ no_memory → whole_job input ≡ Err refusal
+IsTreeFault input (Start refusal) = ⊥
+IsTreeFault input (Tree refusal) =
     (job : JobValue) × (whole_job input ≡ Ok job) × IsScheduleReason job.params job.tree.parents job.starts job.schedule refusal
-IsFault input Write = Unit {0}
-IsFault input Memory = Unit {0}
+IsTreeFault input Write = Unit {0}
+IsTreeFault input Memory = Unit {0}
+
+-- why a task has no answer for these bytes
+abbrev pub IsFault : Task → List ℕ → CliFault → Type 0
+IsFault (Link trace) input fault = IsLinkFault input fault
+IsFault WholeTreeTask input fault = IsTreeFault input fault

@@ -1,6 +1,6 @@
 ghost use Rattle.std.specs.Prelude.{◌≡◌, ◌≢◌, ◌++◌, List, ℕ, string_bytes, IfSome, IfOk, IfErr, OnOk};
 ghost use Rattle.std.specs.Io.KnownBytes.{Appends, Keeps};
-ghost use Rattle.stab_cli.specs.Answers.{IsLinkAnswer, IsTreeAnswer, IsAnswer, IsFault};
+ghost use Rattle.stab_cli.specs.Answers.{IsLinkAnswer, IsTreeAnswer, IsAnswer, IsLinkFault, IsTreeFault, IsFault};
 
 use crate::command::Task;
 use crate::fault::CliFault;
@@ -25,7 +25,7 @@ pub fn act<T: Wait, R: Read, W: Write>(
 ) -> Result<(), CliFault>
     ensures answer { OnOk result (IfSome (R.remaining reader.old) (λ input.
         (text : List ℕ) × IsAnswer task input text × Appends (W.contents writer.old) (W.contents writer.new) text)) }
-    ensures fault { IfErr result (λ fault. IfSome (R.remaining reader.old) (λ input. IsFault input fault)) }
+    ensures fault { IfErr result (λ fault. IfSome (R.remaining reader.old) (λ input. IsFault task input fault)) }
     ensures nothing { IfErr result (λ fault. fault ≢ CliFault.Write → Keeps (W.contents writer.old) (W.contents writer.new)) }
 {
     let _ = rt;
@@ -41,7 +41,7 @@ fn answer<R: Read, W: Write>(
 ) -> Result<(), CliFault>
     ensures answer { OnOk result (IfSome (R.remaining reader.old) (λ input.
         (text : List ℕ) × IsAnswer task input text × Appends (W.contents writer.old) (W.contents writer.new) text)) }
-    ensures fault { IfErr result (λ fault. IfSome (R.remaining reader.old) (λ input. IsFault input fault)) }
+    ensures fault { IfErr result (λ fault. IfSome (R.remaining reader.old) (λ input. IsFault task input fault)) }
     ensures nothing { IfErr result (λ fault. fault ≢ CliFault.Write → Keeps (W.contents writer.old) (W.contents writer.new)) }
 {
     let text = text_of(alloc, task, reader)?;
@@ -51,7 +51,7 @@ fn answer<R: Read, W: Write>(
 /// The text of a task for what the reader gives.
 fn text_of<R: Read>(alloc: Global, task: Task, reader: &mut R) -> Result<String, CliFault>
     ensures answer { IfOk result (λ text. IfSome (R.remaining reader.old) (λ input. IsAnswer task input (string_bytes text))) }
-    ensures fault { IfErr result (λ fault. IfSome (R.remaining reader.old) (λ input. IsFault input fault)) }
+    ensures fault { IfErr result (λ fault. IfSome (R.remaining reader.old) (λ input. IsFault task input fault)) }
     ensures no_write { IfErr result (λ fault. fault ≢ CliFault.Write) }
 {
     let bytes = load(alloc, reader)?;
@@ -64,7 +64,7 @@ fn text_of<R: Read>(alloc: Global, task: Task, reader: &mut R) -> Result<String,
 /// The text of a link job, with the origins of what it delivers where they are asked for.
 fn answer_link(alloc: Global, with_trace: bool, bytes: &[u8]) -> Result<String, CliFault>
     ensures answer { IfOk result (λ text. IsLinkAnswer with_trace bytes.now (string_bytes text)) }
-    ensures fault { IfErr result (IsFault bytes.now) }
+    ensures fault { IfErr result (IsLinkFault bytes.now) }
     ensures no_write { IfErr result (λ fault. fault ≢ CliFault.Write) }
 {
     let job = read_link_job(alloc, bytes)?;
@@ -81,7 +81,7 @@ fn answer_link(alloc: Global, with_trace: bool, bytes: &[u8]) -> Result<String, 
 /// The text of a whole tree after its schedule.
 fn answer_tree(alloc: Global, bytes: &[u8]) -> Result<String, CliFault>
     ensures answer { IfOk result (λ text. IsTreeAnswer bytes.now (string_bytes text)) }
-    ensures fault { IfErr result (IsFault bytes.now) }
+    ensures fault { IfErr result (IsTreeFault bytes.now) }
     ensures no_write { IfErr result (λ fault. fault ≢ CliFault.Write) }
 {
     let job = read_job(alloc, bytes)?;

@@ -34,8 +34,8 @@ pub fn parse(alloc: Global, words: &[String]) -> Result<(Task, Option<String>), 
             let trace = inner.get_flag("trace");
             Ok((Task::Link { trace }, file_of(alloc, inner)?))
         }
-        Some((_, inner)) => Ok((Task::Tree, file_of(alloc, inner)?)),
-        None => Err(CliFault::CommandLine),
+        Some(("tree", inner)) => Ok((Task::Tree, file_of(alloc, inner)?)),
+        _ => Err(CliFault::CommandLine),
     }
 }
 

@@ -7,7 +7,7 @@ use std::alloc::{AllocError, AllocFailed};
 use thiserror::Error;
 
 /// What the program prints behind `stab: ` where it cannot do its task.
-#[derive(Clone, Copy, Debug, PartialEq, Eq, Hash, Error)]
+#[derive(Clone, Copy, Debug, PartialEq, Eq, Error)]
 pub enum CliFault {
     /// The command line names no task; a request for help is one of these.
     #[error("command line refused")]

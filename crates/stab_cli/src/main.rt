@@ -43,7 +43,7 @@ fn perform<R: Files + Input + Print + Wait + AllocGlobal>(
     match path {
         None => act(rt, rt.alloc(), task, &mut rt.reader(), &mut io::writer(rt)),
         Some(path) => {
-            let mut file = fs::open(rt, &path).map_err(|_| CliFault::Open)?;
+            let mut file = fs::open(rt, &path).map_err(refused_file)?;
             act(rt, rt.alloc(), task, &mut file, &mut io::writer(rt))
         }
     }
@@ -56,6 +56,15 @@ fn words<R: Env + AllocGlobal>(rt: &R, alloc: Global) -> Result<Vec<String>, Cli
         words.push(word)?;
     }
     Ok(words)
+}
+
+/// The fault of a file that cannot be opened, for want of memory or another cause.
+fn refused_file(error: io::Error) -> CliFault {
+    if error.kind() == ErrorKind::OutOfMemory {
+        CliFault::Memory
+    } else {
+        CliFault::Open
+    }
 }
 
 /// The fault of words that cannot be had: memory was refused, or one is no text.

@@ -13,7 +13,7 @@ pub record IsLawful (p : Parameters) (start : Start) : Type 0 where
   pub frames : length start.frames ≤ p.capacity
   pub acks : length start.acks ≤ p.capacity
 
--- the start of a link that nobody disturbed: no entries, the send label 0, and a receive label that no label equals
+-- the start of a link that nobody disturbed: no entries, the send label 0, and a receive label that no sender which begins so ever uses
 abbrev pub clean_start : Start
 clean_start = record { frames = []; acks = []; send_label = 0; recv_label = 65535 }
 

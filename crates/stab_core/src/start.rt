@@ -44,7 +44,7 @@ impl Start {
     ghost use Rattle.std.specs.Prelude.{◌≡◌, IfOk};
     ghost use Rattle.stab_core.specs.Replay.{clean_start};
 
-    /// The clean start: empty queues, the send label 0, and a receive label that no label of a link equals. It takes no memory.
+    /// The clean start: empty queues, the send label 0, and a receive label that no sender of a link that begins so ever uses. It takes no memory.
     pub fn clean(alloc: Global) -> Start
         ensures { result ≡ clean_start }
     {

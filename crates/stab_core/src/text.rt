@@ -42,7 +42,7 @@ pub fn origins_text(alloc: Global, origins: &[Origin]) -> Result<String, AllocEr
     Ok(text)
 }
 
-/// Adds a line: the label, then each item after one space.
+/// Adds a line: the label, then each item after one space. Where memory is refused, a part of the line may stand.
 #[tactic(auto, unfolding(crate::specs::Texts::numbers_line))]
 pub fn push_items_line(text: &mut String, label: &str, items: &[Item]) -> Result<(), AllocError>
     ensures { OnOk result (string_bytes text.new ≡ string_bytes text.old ++ numbers_line label.now items.now) }
@@ -54,7 +54,7 @@ pub fn push_items_line(text: &mut String, label: &str, items: &[Item]) -> Result
     text.push_str("\n")
 }
 
-/// Adds one space and a number.
+/// Adds one space and a number. Where memory is refused, the space alone may stand.
 pub fn push_number(text: &mut String, number: u64) -> Result<(), AllocError>
     ensures { OnOk result (string_bytes text.new ≡ string_bytes text.old ++ number_entry number) }
 {

@@ -15,13 +15,13 @@ const MAX_LABELS: u16 = 1000;
 #[derive(Clone, Copy, Debug, PartialEq, Eq, Hash, Error)]
 pub enum ParamsFault {
     /// The capacity is 0 or over 64.
-    #[error("capacity out of range")]
+    #[error("job: capacity out of range")]
     CapacityOutOfRange,
     /// There are fewer labels than twice the capacity and two.
-    #[error("too few labels")]
+    #[error("job: too few labels")]
     LabelsTooFew,
     /// There are more than 1000 labels.
-    #[error("too many labels")]
+    #[error("job: too many labels")]
     LabelsTooMany,
 }
 

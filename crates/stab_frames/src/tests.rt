@@ -63,9 +63,9 @@ fn a_sequence_grows_at_its_end(rt: HostRuntime) -> Result<(), Fail> {
 #[test]
 fn texts_of_refused_parameters(rt: HostRuntime) -> Result<(), Fail> {
     let texts = [
-        (ParamsFault::CapacityOutOfRange, "capacity out of range"),
-        (ParamsFault::LabelsTooFew, "too few labels"),
-        (ParamsFault::LabelsTooMany, "too many labels"),
+        (ParamsFault::CapacityOutOfRange, "job: capacity out of range"),
+        (ParamsFault::LabelsTooFew, "job: too few labels"),
+        (ParamsFault::LabelsTooMany, "job: too many labels"),
     ];
     for (fault, want) in texts {
         assert_eq!(rt; fault.to_string(rt.alloc())?.as_str(), want);

@@ -1,5 +1,7 @@
+pub mod Bytes
 pub mod Counts
-pub mod Shapes
-pub mod Linked
 pub mod Entries
+pub mod Linked
+pub mod Refused
 pub mod Schedules
+pub mod Shapes

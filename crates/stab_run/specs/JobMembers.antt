@@ -20,7 +20,7 @@ pub record Members : Type 0 where
   pub turns : ℕ
   pub schedule : Items
 
--- what a member means, where it is there; nothing is as well
+-- what a member means, where it is there; an absent one is as good
 abbrev pub if_there : {X : Type 0} → (Data → Option X) → Option Data → Option (Option X)
 if_there meaning None = Some None
 if_there meaning (Some d) = option_map Some (meaning d)

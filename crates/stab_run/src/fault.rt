@@ -20,7 +20,7 @@ pub enum JobFault {
     #[error("job: wrong shape")]
     Shape,
     /// The capacity and the number of labels are no parameters of a link.
-    #[error("job: {0}")]
+    #[error("{0}")]
     Params(ParamsFault),
     /// The tree is none.
     #[error("{0}")]

@@ -27,7 +27,7 @@ pub(crate) struct LentMembers<'v> {
     pub(crate) scripts: Option<&'v [Value]>,
 }
 
-// The turns that a job names, or as many as it has where it names none.
+// The turns that a job names, or 100,000 where it names none.
 fn turns_of(value: &Value) -> Option<u64>
     ensures { result ≡ turns_of (get (codes "turns") (view value.now)) }
 {

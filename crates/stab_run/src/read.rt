@@ -1,4 +1,4 @@
-ghost use Rattle.std.specs.Prelude.{◌≡◌, ◌≢◌, ◌<◌, codes, true, length, MatchResult, Some, None, Ok, Err, option_map, option_copied};
+ghost use Rattle.std.specs.Prelude.{◌≡◌, ◌≢◌, ◌<◌, codes, true, length, IfErr, IfSome, MatchResult, Some, None, Ok, Err, option_map, option_copied};
 ghost use Rattle.serde_json.specs.Find.{get};
 ghost use Rattle.serde_json.specs.View.{view};
 ghost use Rattle.stab_script.specs.Values.{value_of};
@@ -6,6 +6,7 @@ ghost use Rattle.stab_run.specs.JobLinks.{scripts_of};
 ghost use Rattle.stab_run.specs.JobMembers.{members};
 ghost use Rattle.stab_run.specs.JobValues.{links};
 ghost use Rattle.stab_run.specs.Jobs.{job, job_from, job_of, job_counted, count_fault, is_known_version};
+ghost use Rattle.stab_run.specs.Refusals.{is_of_value};
 ghost use Rattle.stab_run.specs.MembersInside.{scripts_in, have_shape, shown};
 
 use crate::fault::JobFault;
@@ -16,7 +17,7 @@ use crate::schedule::read_schedule;
 use serde_json::Value;
 use stab_frames::{Params, Sequence};
 use stab_script::{Script, ScriptFault, read_value};
-use stab_tree::{Tree, read_tree};
+use stab_tree::{Tree, TreeFault, read_tree};
 use std::alloc::Global;
 
 /// The most items that a job may have.
@@ -28,11 +29,18 @@ const MAX_EVENTS: usize = 1_000_000;
 /// The most turns that a job may name.
 const MAX_TURNS: u64 = 1_000_000;
 
+#[tactic(auto, using(crate::proofs::Bytes::some_bytes))]
 /// The job that these bytes mean, or the first check that they fail; memory may be refused before a later check.
 pub fn read_job(alloc: Global, bytes: &[u8]) -> Result<Job, JobFault>
     ensures job { MatchResult result
         (λ its_job. job bytes.now ≡ Ok its_job)
         (λ fault. fault ≢ JobFault.Memory → job bytes.now ≡ Err fault) }
+    ensures json { result ≡ Err JobFault.Json → value_of bytes.now ≡ None }
+
+    // Want of memory is told as that alone.
+    ensures memory { result ≡ Err JobFault.Memory → 0 < length bytes.now }
+    ensures tree_memory { result ≢ Err (JobFault.Tree TreeFault.Memory) }
+    ensures script_memory { result ≢ Err (JobFault.Script ScriptFault.Memory) }
 {
     match read_value(alloc, bytes)? {
         Some(value) => job_of_value(alloc, &value),
@@ -42,9 +50,10 @@ pub fn read_job(alloc: Global, bytes: &[u8]) -> Result<Job, JobFault>
 
 // The job that a value means, or the first check that it fails.
 fn job_of_value(alloc: Global, value: &Value) -> Result<Job, JobFault>
-    ensures { MatchResult result
+    ensures job { MatchResult result
         (λ its_job. job_from (Some (view value.now)) ≡ Ok its_job)
         (λ fault. fault ≢ JobFault.Memory → job_from (Some (view value.now)) ≡ Err fault) }
+    ensures told { IfErr result (λ fault. is_of_value fault ≡ true) }
 {
     if !has_known_version(value) {
         return Err(JobFault::Version);
@@ -65,12 +74,14 @@ fn has_known_version(value: &Value) -> bool
     }
 }
 
+#[tactic(auto, using(crate::proofs::Refused::tree_tells))]
 // The job of these members, or the first check that they fail.
 fn job_of_members(alloc: Global, members: LentMembers<'_>) -> Result<Job, JobFault>
     requires { have_shape (option_copied members.scripts) ≡ true }
-    ensures { MatchResult result
+    ensures job { MatchResult result
         (λ its_job. job_of (Some (shown members.entry)) ≡ Ok its_job)
         (λ fault. fault ≢ JobFault.Memory → job_of (Some (shown members.entry)) ≡ Err fault) }
+    ensures told { IfErr result (λ fault. is_of_value fault ≡ true) }
 {
     let params = Params::new(members.capacity, members.labels)?;
     let tree = read_tree(alloc, members.tree)?;
@@ -84,7 +95,8 @@ fn job_of_members(alloc: Global, members: LentMembers<'_>) -> Result<Job, JobFau
 // The first of the checks of numbers of entries that these members fail.
 fn first_miscount(tree: &Tree, members: &LentMembers<'_>) -> Option<JobFault>
     requires { have_shape (option_copied members.now.scripts) ≡ true }
-    ensures { result ≡ count_fault (links tree.now) (shown members.now) }
+    ensures fault { result ≡ count_fault (links tree.now) (shown members.now) }
+    ensures told { IfSome result (λ fault. is_of_value fault ≡ true) }
 {
     let links = usize::from(tree.link_count());
     if members.items.len() > MAX_ITEMS {
@@ -124,6 +136,7 @@ fn scripts_of(
     }
 }
 
+#[tactic(auto, using(crate::proofs::Refused::script_tells))]
 // The job of these members on their tree, where the numbers of entries are right, or the first check that they fail.
 fn job_on(
     alloc: Global,
@@ -135,9 +148,10 @@ fn job_on(
     requires labels { params.labels ≡ members.labels }
     requires shape { have_shape (option_copied members.scripts) ≡ true }
     requires counted { count_fault (links tree) (shown members) ≡ None }
-    ensures { MatchResult result
+    ensures job { MatchResult result
         (λ its_job. job_counted (shown members.entry) tree None ≡ Ok its_job)
         (λ fault. fault ≢ JobFault.Memory → job_counted (shown members.entry) tree None ≡ Err fault) }
+    ensures told { IfErr result (λ fault. is_of_value fault ≡ true) }
 {
     let link_count = tree.link_count();
     let scripts = scripts_of(alloc, link_count, members.scripts)?;

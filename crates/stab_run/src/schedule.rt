@@ -1,5 +1,6 @@
-ghost use Rattle.std.specs.Prelude.{◌≡◌, ◌≢◌, MatchResult, Ok, Err, option_map};
+ghost use Rattle.std.specs.Prelude.{◌≡◌, ◌≢◌, IfErr, true, MatchResult, Ok, Err, option_map};
 ghost use Rattle.serde_json.specs.View.{view, items_view};
+ghost use Rattle.stab_run.specs.Refusals.{is_of_value};
 ghost use Rattle.stab_run.specs.ScheduleEntries.{NamedAct, link_act, plain_act, loss_act, named_act, act_of_items, schedule};
 
 use crate::fault::JobFault;
@@ -70,9 +71,10 @@ pub(crate) fn read_schedule(
     tree: &Tree,
     values: &[Value],
 ) -> Result<Sequence<TreeEvent>, JobFault>
-    ensures { MatchResult result
+    ensures schedule { MatchResult result
         (λ events. schedule tree.now.names (items_view values.now) ≡ Ok events)
         (λ fault. fault ≢ JobFault.Memory → schedule tree.now.names (items_view values.now) ≡ Err fault) }
+    ensures told { IfErr result (λ fault. is_of_value fault ≡ true) }
 {
     let mut events = Sequence::with_capacity(alloc, values.len())?;
     let mut all_known = true;

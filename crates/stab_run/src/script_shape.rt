@@ -1,4 +1,4 @@
-//! Whether a value has the shape of a script, asked before any script is made: a job that is refused draws none.
+//! Whether a value has the shape of a script, asked before any script is made: a job of a wrong shape, or with a wrong number of anything, draws none.
 
 ghost use Rattle.std.specs.Prelude.{◌≡◌, is_some};
 ghost use Rattle.serde_json.specs.Find.{get};

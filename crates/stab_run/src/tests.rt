@@ -1,0 +1,5 @@
+//! Jobs at the values of the worked examples: what each means, and how each is refused.
+
+mod faults;
+mod parts;
+mod refusals;

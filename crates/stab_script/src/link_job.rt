@@ -26,7 +26,7 @@ pub enum LinkJobFault {
     #[error("job: wrong shape")]
     Shape,
     /// The capacity and the number of labels are no parameters of a link.
-    #[error("job: {0}")]
+    #[error("{0}")]
     Params(ParamsFault),
     /// There are more than 1,000,000 events.
     #[error("job: too many events")]

@@ -1,0 +1,66 @@
+use crate::JobFault;
+use stab_frames::ParamsFault;
+use stab_script::ScriptFault;
+use stab_tree::TreeFault;
+use std::test::Fail;
+
+#[test]
+fn texts_of_refused_jobs(rt: HostRuntime) -> Result<(), Fail> {
+    let texts = [
+        (JobFault::Json, "job: not JSON"),
+        (JobFault::Version, "job: unknown version"),
+        (JobFault::Shape, "job: wrong shape"),
+        (JobFault::TooManyItems, "job: too many items"),
+        (JobFault::TooManyEvents, "job: too many events"),
+        (JobFault::StartCount, "job: wrong number of starts"),
+        (JobFault::ScriptCount, "job: wrong number of scripts"),
+        (JobFault::TurnsOutOfRange, "job: turns out of range"),
+        (JobFault::Event, "job: bad event"),
+        (JobFault::UnknownNode, "job: unknown node"),
+        (JobFault::Memory, "out of memory"),
+    ];
+    for (fault, want) in texts {
+        assert_eq!(rt; fault.to_string(rt.alloc())?.as_str(), want);
+    }
+    Ok(())
+}
+
+#[test]
+fn texts_of_refused_parts(rt: HostRuntime) -> Result<(), Fail> {
+    let texts = [
+        (
+            JobFault::Params(ParamsFault::CapacityOutOfRange),
+            "job: capacity out of range",
+        ),
+        (
+            JobFault::Params(ParamsFault::LabelsTooFew),
+            "job: too few labels",
+        ),
+        (
+            JobFault::Params(ParamsFault::LabelsTooMany),
+            "job: too many labels",
+        ),
+        (JobFault::Tree(TreeFault::Cycle), "tree: cycle"),
+        (JobFault::Script(ScriptFault::TooLong), "job: script too long"),
+        (
+            JobFault::Script(ScriptFault::RateOutOfRange),
+            "job: rate out of range",
+        ),
+    ];
+    for (fault, want) in texts {
+        assert_eq!(rt; fault.to_string(rt.alloc())?.as_str(), want);
+    }
+    Ok(())
+}
+
+#[test]
+fn want_of_memory_is_told_as_that_alone(rt: HostRuntime) -> Result<(), Fail> {
+    assert_eq!(rt; JobFault::from(TreeFault::Memory), JobFault::Memory);
+    assert_eq!(rt; JobFault::from(ScriptFault::Memory), JobFault::Memory);
+    assert_eq!(rt; JobFault::from(TreeFault::Cycle), JobFault::Tree(TreeFault::Cycle));
+    assert_eq!(rt;
+        JobFault::from(ScriptFault::TooLong),
+        JobFault::Script(ScriptFault::TooLong)
+    );
+    Ok(())
+}
