@@ -1,7 +1,14 @@
 -- Drawing a list of acts word by word.
-use Rattle.std.proofs.Common.{◌≡◌, ℕ, suc, List, [], ◌∷◌, ◌++◌, map, sym, ◌∙◌, append_assoc}
+use Rattle.std.proofs.Common.{◌≡◌, ℕ, suc, ◌-◌, ◌≤◌, List, [], ◌∷◌, ◌++◌, map, sym, ◌∙◌, append_assoc}
 use Rattle.rand_core.specs.Stream.{Stream, next_u32}
 use Rattle.stab_script.specs.Draws.{words, after_words}
+
+-- what was drawn, and then what the words that are left will give, is the whole list; there is room for the rest
+pub record HasDrawn {A : Type 0} (act_of : ℕ → A) (len drawn : ℕ) (start now : Stream) (acts : List A) (count capacity : ℕ) : Type 0 where
+  pub whole : map act_of (words len start) ≡ acts ++ map act_of (words (len - drawn) now)
+  pub rest : after_words len start ≡ after_words (len - drawn) now
+  pub counted : count ≡ drawn
+  pub reserved : len ≤ capacity
 
 module _ (fewer : ℕ) (s left : Stream) (word : ℕ) (next_is : (word, left) ≡ next_u32 s) where
   -- the next word makes the next act

@@ -53,7 +53,7 @@ fn draw_list<R: Rng, A: Drawn>(rng: &mut R, len: u32, rate: u16, mut room: Vec<A
     ensures acts { result.items ≡ map (A.of_word rate) (words len (R.stream rng.old)) }
     ensures words { R.stream rng.new ≡ after_words len (R.stream rng.old) }
 {
-    for i in 0..len {
+    for _drawn in 0..len {
         room.push_reserved(A::of_word(rate, rng.next_u32()));
     }
     room

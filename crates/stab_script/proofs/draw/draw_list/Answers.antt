@@ -3,14 +3,16 @@ use Rattle.std.proofs.Common.{◌≡◌, ℕ, suc, ◌+◌, ◌-◌, arith}
 use Rattle.stab_script.proofs.Drawing.{one_draw, one_word}
 use Rattle.stab_script.proofs.draw.draw_list.Goals as goal
 
-pub loop-i-preserved : goal.loop-i-preserved
-loop-i-preserved g c =
+pub loop-drawn-preserved : goal.loop-drawn-preserved
+loop-drawn-preserved g c =
     let act_of = g.A.Drawn.of_word c.args.rate in
-    let fewer : ℕ = c.args.len - (c.loop-i.i + 1) in
-    let one_fewer : c.args.len - c.loop-i.i ≡ suc fewer = omega arith in (
-      rw (c.push_reserved.ensures.items, c.of_word.ensures)
-          (one_draw fewer _ _ _ c.next_u32.ensures act_of _ _ (rw one_fewer at c.loop-i.invariant.0)),
-      one_word fewer _ _ _ c.next_u32.ensures _ (rw one_fewer at c.loop-i.invariant.1),
-      omega arith,
-      omega arith,
-    )
+    let fewer : ℕ = c.args.len - (c.loop-drawn._drawn + 1) in
+    let one_fewer : c.args.len - c.loop-drawn._drawn ≡ suc fewer = omega arith in
+    record {
+      whole =
+          rw (c.push_reserved.ensures.items, c.of_word.ensures)
+          (one_draw fewer _ _ _ c.next_u32.ensures act_of _ _ (rw one_fewer at c.loop-drawn.invariant.whole));
+      rest = one_word fewer _ _ _ c.next_u32.ensures _ (rw one_fewer at c.loop-drawn.invariant.rest);
+      counted = omega (arith, c.loop-drawn.invariant.counted);
+      reserved = omega (arith, c.loop-drawn.invariant.reserved);
+    }
