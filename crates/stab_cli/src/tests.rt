@@ -309,8 +309,20 @@ const LONE_ROOT: &str = r#"{"capacity":1,"labels":4,"tree":[{"name":"r"}],"items
 /// The acts of the worst start and what follows it, on the link into this node: one round that finds it, and so many more.
 fn push_steps(schedule: &mut String, child: &str, rounds: usize) -> Result<(), AllocError> {
     let worst = [
-        "offer", "recv_ack", "send_ack", "offer", "recv_ack", "recv_frame", "send_ack", "offer", "recv_ack", "offer",
-        "send_frame", "recv_frame", "send_ack", "recv_ack",
+        "offer",
+        "recv_ack",
+        "send_ack",
+        "offer",
+        "recv_ack",
+        "recv_frame",
+        "send_ack",
+        "offer",
+        "recv_ack",
+        "offer",
+        "send_frame",
+        "recv_frame",
+        "send_ack",
+        "recv_ack",
     ];
     for act in worst {
         push_step(schedule, child, act)?;
@@ -346,7 +358,8 @@ fn two_links_under_one_schedule(rt: HostRuntime) -> Result<(), Fail> {
     job.push_str("]}")?;
     let (ended, written) = outcome(&rt, rt.alloc(), Task::Tree, job.as_bytes());
     assert_eq!(rt; ended, Ok(()));
-    let want = "r depth 0 received 7 acked -\nitems: 10 11 12 13 14 15 16\na depth 1 received 5 acked 7\nitems: 99 13 14 15 16\nb depth 2 received 3 acked 5\nitems: 98 15 16\n";
+    let want =
+        "r depth 0 received 7 acked -\nitems: 10 11 12 13 14 15 16\na depth 1 received 5 acked 7\nitems: 99 13 14 15 16\nb depth 2 received 3 acked 5\nitems: 98 15 16\n";
     assert_eq!(rt; written.as_slice(), want.as_bytes());
     Ok(())
 }
@@ -355,11 +368,16 @@ fn two_links_under_one_schedule(rt: HostRuntime) -> Result<(), Fail> {
 fn a_lone_root_and_an_offer_of_nothing(rt: HostRuntime) {
     let (ended, written) = outcome(&rt, rt.alloc(), Task::Tree, LONE_ROOT.as_bytes());
     assert_eq!(rt; ended, Ok(()));
-    assert_eq!(rt; written.as_slice(), b"r depth 0 received 2 acked -\nitems: 7 8\n".as_slice());
-    let job = r#"{"capacity":1,"labels":4,"tree":[{"name":"r"},{"name":"a","parent":"r"},{"name":"b","parent":"a"}],"items":[7],"schedule":[["b","offer"],["b","send_frame"],["b","recv_frame"]]}"#;
+    assert_eq!(rt;
+        written.as_slice(),
+        b"r depth 0 received 2 acked -\nitems: 7 8\n".as_slice()
+    );
+    let job =
+        r#"{"capacity":1,"labels":4,"tree":[{"name":"r"},{"name":"a","parent":"r"},{"name":"b","parent":"a"}],"items":[7],"schedule":[["b","offer"],["b","send_frame"],["b","recv_frame"]]}"#;
     let (ended, written) = outcome(&rt, rt.alloc(), Task::Tree, job.as_bytes());
     assert_eq!(rt; ended, Ok(()));
-    let want = "r depth 0 received 1 acked -\nitems: 7\na depth 1 received 0 acked 0\nitems:\nb depth 2 received 0 acked 0\nitems:\n";
+    let want =
+        "r depth 0 received 1 acked -\nitems: 7\na depth 1 received 0 acked 0\nitems:\nb depth 2 received 0 acked 0\nitems:\n";
     assert_eq!(rt; written.as_slice(), want.as_bytes());
 }
 
@@ -411,7 +429,12 @@ fn refused_trees_and_schedules(rt: HostRuntime) -> Result<(), Fail> {
             "job: rate out of range",
         ),
         ("{}", CliFault::Job(JobFault::Shape), 1, "job: wrong shape"),
-        (r#"{"version":3}"#, CliFault::Job(JobFault::Version), 1, "job: unknown version"),
+        (
+            r#"{"version":3}"#,
+            CliFault::Job(JobFault::Version),
+            1,
+            "job: unknown version",
+        ),
     ];
     for (job, fault, status, text) in rows {
         let (ended, written) = outcome(&rt, rt.alloc(), Task::Tree, job.as_bytes());

@@ -1,9 +1,9 @@
 -- Facts on the origins that the code keeps beside a link's frames.
-use Rattle.std.proofs.Common.{◌≡◌, ℕ, zero, suc, ◌+◌, ◌<◌, ◌≤◌, ◌↔◌, Bool, true, false, IsTrue, if◌then◌else◌, length-take, min, List, [], ◌∷◌, ◌++◌, length, take, refl, ap, sym, ◌∙◌, arith, add-one, add-zero, add_assoc}
+use Rattle.std.proofs.Common.{◌≡◌, ℕ, zero, suc, ◌+◌, ◌<◌, ◌≤◌, ◌↔◌, Bool, true, false, IsTrue, if◌then◌else◌, length-take, List, [], ◌∷◌, ◌++◌, length, take, refl, ap, sym, ◌∙◌, arith, add-one, add-zero}
 use Rattle.stab_frames.specs.declared.frame.Frame.{Frame}
 use Rattle.stab_frames.specs.Queue.{Queue, queue, without}
 use Rattle.stab_core.specs.declared.origin.Origin.{Origin}
-use Rattle.stab_core.specs.declared.origin.Origin.TheVariants.{Stray, Sent}
+use Rattle.stab_core.specs.declared.origin.Origin.TheVariants.{Stray}
 use Rattle.stab_core.specs.Trace.{strays_from}
 
 -- two lists of one length keep pace when each loses its entry at one place

@@ -1,6 +1,6 @@
 -- What contracts see of a link of the code: its parameters beside its state; and the fault of a start that is refused.
 -- Source: this project's own.
-use Rattle.std.specs.Prelude.{◌≡◌, ℕ, ◌<◌, ◌≤◌, length}
+use Rattle.std.specs.Prelude.{◌≡◌, ◌<◌, ◌≤◌, length}
 use Rattle.stab_frames.specs.Parameters.{Parameters}
 use Rattle.stab_core.specs.declared.event.Event.{Event}
 use Rattle.stab_core.specs.declared.event.Effect.{Effect}

@@ -1,8 +1,7 @@
 -- How the fields of a link of the code show its value, and what they keep.
 -- Source: this project's own.
-use Rattle.std.specs.Prelude.{◌≡◌, ℕ, ◌+◌, ◌==◌, ◌≤◌, length, slice_index, if◌then◌else◌, Some, None}
+use Rattle.std.specs.Prelude.{◌≡◌, ◌+◌, ◌==◌, ◌≤◌, length, slice_index, if◌then◌else◌, Some, None}
 use Rattle.stab_core.specs.declared.link.Link.TheInside.{Inside}
-use Rattle.stab_core.specs.LinkState.{LinkState}
 use Rattle.stab_core.specs.Link.{LinkValue, link_at}
 
 -- the state that the fields show

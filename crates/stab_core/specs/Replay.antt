@@ -1,7 +1,6 @@
 -- The opening of a link, and the replay of an event list from a state: its steps, one after the other.
 -- Source: this project's profile. A start is arbitrary, but for the capacity of its two queues.
 use Rattle.std.specs.Prelude.{ℕ, ◌≤◌, List, [], ◌∷◌, length, map, false}
-use Rattle.stab_frames.specs.declared.frame.Frame.{Frame}
 use Rattle.stab_frames.specs.Parameters.{Parameters}
 use Rattle.stab_core.specs.declared.event.Event.{Event}
 use Rattle.stab_core.specs.declared.start.Start.{Start}

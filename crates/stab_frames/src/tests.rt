@@ -63,7 +63,10 @@ fn a_sequence_grows_at_its_end(rt: HostRuntime) -> Result<(), Fail> {
 #[test]
 fn texts_of_refused_parameters(rt: HostRuntime) -> Result<(), Fail> {
     let texts = [
-        (ParamsFault::CapacityOutOfRange, "job: capacity out of range"),
+        (
+            ParamsFault::CapacityOutOfRange,
+            "job: capacity out of range",
+        ),
         (ParamsFault::LabelsTooFew, "job: too few labels"),
         (ParamsFault::LabelsTooMany, "job: too many labels"),
     ];

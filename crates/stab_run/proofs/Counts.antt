@@ -82,7 +82,7 @@ pub parts_of_job : (m : Members) (t : Nodes) (params : Parameters) (n : ℕ) (st
     → IsJob (record { params = params; tree = t; items = m.items; starts = starts; scripts = made; turns = m.turns; schedule = events })
 parts_of_job m t params n starts made events counted each are_starts are_made some few =
     let passes = none_fails (nat_lt 10000 (length m.items)) (nat_lt 1000000 (count m.schedule))
-        (is_miscounted (links t) m.starts) (is_miscounted (links t) m.scripts) _ _ _ _ counted in
+    (is_miscounted (links t) m.starts) (is_miscounted (links t) m.scripts) _ _ _ _ counted in
     record {
       one_start_each = ap length are_starts ∙ ap (λ k. length (starts_of k m.starts)) each ∙ starts_length (links t) m.starts passes.2;
       one_script_each = scripts_length (links t) m.scripts made passes.3 (ap (λ k. scripts_of k m.scripts) (sym each) ∙ are_made);

@@ -53,10 +53,7 @@ pub(crate) fn empty_scripts(alloc: Global, links: u16) -> Result<Sequence<Script
 
 #[tactic(auto, using(crate::proofs::Linked::made_at_first, crate::proofs::Linked::made_more, crate::proofs::Linked::made_fault, crate::proofs::Linked::made_no_shape, crate::proofs::Linked::made_at_end))]
 /// The scripts of these entries, each of which has the shape of one, or the first fault among them.
-pub(crate) fn read_scripts(
-    alloc: Global,
-    values: &[Value],
-) -> Result<Sequence<Script>, ScriptFault>
+pub(crate) fn read_scripts(alloc: Global, values: &[Value]) -> Result<Sequence<Script>, ScriptFault>
     requires { IsSome (entries scripted (items_view values.now)) }
     ensures { MatchResult result
         (λ scripts. all_made (scripts_in values.now) ≡ Ok scripts)

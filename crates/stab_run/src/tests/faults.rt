@@ -41,7 +41,10 @@ fn texts_of_refused_parts(rt: HostRuntime) -> Result<(), Fail> {
             "job: too many labels",
         ),
         (JobFault::Tree(TreeFault::Cycle), "tree: cycle"),
-        (JobFault::Script(ScriptFault::TooLong), "job: script too long"),
+        (
+            JobFault::Script(ScriptFault::TooLong),
+            "job: script too long",
+        ),
         (
             JobFault::Script(ScriptFault::RateOutOfRange),
             "job: rate out of range",
@@ -57,7 +60,10 @@ fn texts_of_refused_parts(rt: HostRuntime) -> Result<(), Fail> {
 fn want_of_memory_is_told_as_that_alone(rt: HostRuntime) -> Result<(), Fail> {
     assert_eq!(rt; JobFault::from(TreeFault::Memory), JobFault::Memory);
     assert_eq!(rt; JobFault::from(ScriptFault::Memory), JobFault::Memory);
-    assert_eq!(rt; JobFault::from(TreeFault::Cycle), JobFault::Tree(TreeFault::Cycle));
+    assert_eq!(rt;
+        JobFault::from(TreeFault::Cycle),
+        JobFault::Tree(TreeFault::Cycle)
+    );
     assert_eq!(rt;
         JobFault::from(ScriptFault::TooLong),
         JobFault::Script(ScriptFault::TooLong)

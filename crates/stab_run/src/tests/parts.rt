@@ -22,7 +22,8 @@ fn a_lone_root(rt: HostRuntime) -> Result<(), Fail> {
 
 #[test]
 fn what_is_absent(rt: HostRuntime) -> Result<(), Fail> {
-    let text = "{\"capacity\":3,\"labels\":8,\"tree\":[{\"name\":\"a\",\"parent\":\"r\"},{\"name\":\"r\"},{\"name\":\"b\",\"parent\":\"a\"}],\"items\":[],\"more\":null}";
+    let text =
+        "{\"capacity\":3,\"labels\":8,\"tree\":[{\"name\":\"a\",\"parent\":\"r\"},{\"name\":\"r\"},{\"name\":\"b\",\"parent\":\"a\"}],\"items\":[],\"more\":null}";
     let job = read_job(rt.alloc(), text.as_bytes())?;
     assert_eq!(rt; job.tree().link_count(), 2);
     assert_eq!(rt; (job.starts().len(), job.scripts().len()), (2, 2));
@@ -44,7 +45,8 @@ fn what_is_absent(rt: HostRuntime) -> Result<(), Fail> {
 
 #[test]
 fn starts_and_scripts_of_two_links(rt: HostRuntime) -> Result<(), Fail> {
-    let text = "{\"version\":1,\"capacity\":1,\"labels\":4,\"tree\":[{\"name\":\"r\"},{\"name\":\"a\",\"parent\":\"r\"},{\"name\":\"b\",\"parent\":\"a\"}],\"items\":[10],\"starts\":[{\"frames\":[[2,99]],\"acks\":[0],\"send\":0,\"recv\":1},{\"send\":5,\"recv\":6}],\"scripts\":[{\"frames_out\":\"PDE\",\"acks_in\":\"TK\"},null],\"turns\":1000000}";
+    let text =
+        "{\"version\":1,\"capacity\":1,\"labels\":4,\"tree\":[{\"name\":\"r\"},{\"name\":\"a\",\"parent\":\"r\"},{\"name\":\"b\",\"parent\":\"a\"}],\"items\":[10],\"starts\":[{\"frames\":[[2,99]],\"acks\":[0],\"send\":0,\"recv\":1},{\"send\":5,\"recv\":6}],\"scripts\":[{\"frames_out\":\"PDE\",\"acks_in\":\"TK\"},null],\"turns\":1000000}";
     let job = read_job(rt.alloc(), text.as_bytes())?;
     let [first, second] = job.starts() else {
         assert!(rt; false);
@@ -71,7 +73,8 @@ fn starts_and_scripts_of_two_links(rt: HostRuntime) -> Result<(), Fail> {
 
 #[test]
 fn each_act_of_a_schedule(rt: HostRuntime) -> Result<(), Fail> {
-    let text = "{\"capacity\":1,\"labels\":4,\"tree\":[{\"name\":\"r\"},{\"name\":\"a\",\"parent\":\"r\"}],\"items\":[],\"turns\":1,\"schedule\":[[\"r\",\"offer\"],[\"a\",\"send_frame\"],[\"a\",\"recv_frame\"],[\"a\",\"recv_frame_keep\"],[\"a\",\"send_ack\"],[\"a\",\"recv_ack\"],[\"a\",\"recv_ack_keep\"],[\"a\",\"lose_frame\",5],[\"a\",\"lose_ack\",65535],[\"r\",\"close\"]]}";
+    let text =
+        "{\"capacity\":1,\"labels\":4,\"tree\":[{\"name\":\"r\"},{\"name\":\"a\",\"parent\":\"r\"}],\"items\":[],\"turns\":1,\"schedule\":[[\"r\",\"offer\"],[\"a\",\"send_frame\"],[\"a\",\"recv_frame\"],[\"a\",\"recv_frame_keep\"],[\"a\",\"send_ack\"],[\"a\",\"recv_ack\"],[\"a\",\"recv_ack_keep\"],[\"a\",\"lose_frame\",5],[\"a\",\"lose_ack\",65535],[\"r\",\"close\"]]}";
     let job = read_job(rt.alloc(), text.as_bytes())?;
     let acts = [
         (0, LinkAct::Offer),

@@ -104,10 +104,16 @@ fn too_many_items(rt: HostRuntime) -> Result<(), Fail> {
     let start = "{\"capacity\":1,\"labels\":4,\"tree\":[{\"name\":\"r\"}],\"turns\":0,\"items\":[";
     let most = listed(rt.alloc(), "7", 10_000)?;
     let most = format!(in rt.alloc(); "{start}{most}]}}")?;
-    assert_eq!(rt; refusal(rt.alloc(), most.as_str()), Some(JobFault::TurnsOutOfRange));
+    assert_eq!(rt;
+        refusal(rt.alloc(), most.as_str()),
+        Some(JobFault::TurnsOutOfRange)
+    );
     let more = listed(rt.alloc(), "7", 10_001)?;
     let more = format!(in rt.alloc(); "{start}{more}]}}")?;
-    assert_eq!(rt; refusal(rt.alloc(), more.as_str()), Some(JobFault::TooManyItems));
+    assert_eq!(rt;
+        refusal(rt.alloc(), more.as_str()),
+        Some(JobFault::TooManyItems)
+    );
     Ok(())
 }
 
@@ -119,7 +125,10 @@ fn too_many_events(rt: HostRuntime) -> Result<(), Fail> {
     assert_eq!(rt; job.schedule().len(), 1_000_000);
     let more = listed(rt.alloc(), "0", 1_000_001)?;
     let more = format!(in rt.alloc(); "{LONE_ROOT_WITH}\"schedule\":[{more}]}}")?;
-    assert_eq!(rt; refusal(rt.alloc(), more.as_str()), Some(JobFault::TooManyEvents));
+    assert_eq!(rt;
+        refusal(rt.alloc(), more.as_str()),
+        Some(JobFault::TooManyEvents)
+    );
     Ok(())
 }
 
@@ -150,7 +159,11 @@ fn cycles(rt: HostRuntime) -> Result<(), Fail> {
         let job = format!(in rt.alloc();
             "{{\"capacity\":1,\"labels\":4,\"tree\":{row},\"items\":[7,8]}}"
         )?;
-        assert_eq!(rt; refusal(rt.alloc(), job.as_str()), Some(JobFault::Tree(want)), "{row}");
+        assert_eq!(rt;
+            refusal(rt.alloc(), job.as_str()),
+            Some(JobFault::Tree(want)),
+            "{row}"
+        );
     }
     Ok(())
 }
@@ -195,9 +208,16 @@ fn wrong_shapes(rt: HostRuntime) -> Result<(), Fail> {
 fn versions(rt: HostRuntime) -> Result<(), Fail> {
     for version in ["0", "2", "1.0", "\"1\"", "true", "null", "[1]"] {
         let job = format!(in rt.alloc(); "{{\"version\":{version}}}")?;
-        assert_eq!(rt; refusal(rt.alloc(), job.as_str()), Some(JobFault::Version), "{version}");
+        assert_eq!(rt;
+            refusal(rt.alloc(), job.as_str()),
+            Some(JobFault::Version),
+            "{version}"
+        );
     }
-    assert_eq!(rt; refusal_with(rt.alloc(), LONE_ROOT_WITH, "\"version\":1")?, None);
+    assert_eq!(rt;
+        refusal_with(rt.alloc(), LONE_ROOT_WITH, "\"version\":1")?,
+        None
+    );
     Ok(())
 }
 

@@ -1,6 +1,5 @@
 use Rattle.std.proofs.Common.{◌≡◌, drop}
 use Rattle.stab_core.specs.Replay.{opening, replay}
-use Rattle.stab_core.specs.Link.{link_at}
 use Rattle.stab_core.proofs.replay.run_link.Given as goal
 
 -- the replay of what is left, from the state so far, is that of all the events
