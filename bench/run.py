@@ -18,6 +18,7 @@ HERE = os.path.dirname(os.path.abspath(__file__))
 BUILD = os.path.join(HERE, "build")
 PROGRAM = os.path.join(HERE, "..", "crates", "stab_cli", "out", "stab_cli")
 RUNS = 5
+MAX_TREE_STEPS = 900_000  # more do not fit a file of 16,777,216 bytes
 
 
 def full_start(draw, capacity, labels):
@@ -90,6 +91,7 @@ def jobs(quick):
         for count in sizes:
             yield ["link"], f"link of capacity {capacity}", count, lambda c=capacity, n=count: link_job(c, n)
     for count in sizes:
+        count = min(count, MAX_TREE_STEPS)
         yield ["tree"], "64 nodes", count, lambda n=count: tree_job(n)
     yield ["tree"], "64 nodes, no schedule", 0, lambda: tree_job(0)
     yield ["tree"], "4 x 100,000 letters", 400_000, scripts_job
