@@ -76,12 +76,12 @@ impl TreeState {
         ensures memory { IsErrOf result TreeStepFault.Memory → Grows (tree_effect self.old event) }
         ensures unchanged { OnErr result (self.new ≡ self.old) }
     {
-        let item = self.next_item(event.child);
         let place = event.child.index();
         if place >= self.links.len() {
             return Err(TreeStepFault::NoSuchLink);
         }
-        step(&mut self.links[place], event_of(event.act, item))
+        let event = self.event_on(event);
+        step(&mut self.links[place], event)
     }
 
     /// What a node received: what the link into it delivered, and at the root each published item.
@@ -120,6 +120,24 @@ impl TreeState {
         let link = self.link(child)?;
         self.source(child).get(link.offered().len()).copied()
     }
+
+    /// The event of an act on the link into its child; an offer is of the item that comes next, and nothing where there is
+    /// none.
+    fn event_on(&self, event: TreeEvent) -> Option<Event>
+        ensures { result ≡ event_of event.act
+            (option_and_then (λ link. slice_get (source self.now event.child) (length link.state.offered)) (link_into self.now event.child)) }
+    {
+        Some(match event.act {
+            LinkAct::Offer => Event::Offer(self.next_item(event.child)?),
+            LinkAct::SendFrame => Event::SendFrame,
+            LinkAct::RecvFrame { keep } => Event::RecvFrame { keep },
+            LinkAct::SendAck => Event::SendAck,
+            LinkAct::RecvAck { keep } => Event::RecvAck { keep },
+            LinkAct::LoseFrame(place) => Event::LoseFrame(place),
+            LinkAct::LoseAck(place) => Event::LoseAck(place),
+            LinkAct::Close => Event::Close,
+        })
+    }
 }
 
 /// One step of a link, where there is one, by an event, where there is one.
@@ -139,20 +157,4 @@ fn step(link: &mut Option<Link>, event: Option<Event>) -> Result<Effect, TreeSte
         None => Ok(Effect::Nothing),
         Some(event) => Ok(link.apply(event)?),
     }
-}
-
-/// The event of an act; an offer is of this item, and nothing where there is none.
-fn event_of(act: LinkAct, item: Option<Item>) -> Option<Event>
-    ensures { result ≡ event_of act item }
-{
-    Some(match act {
-        LinkAct::Offer => Event::Offer(item?),
-        LinkAct::SendFrame => Event::SendFrame,
-        LinkAct::RecvFrame { keep } => Event::RecvFrame { keep },
-        LinkAct::SendAck => Event::SendAck,
-        LinkAct::RecvAck { keep } => Event::RecvAck { keep },
-        LinkAct::LoseFrame(place) => Event::LoseFrame(place),
-        LinkAct::LoseAck(place) => Event::LoseAck(place),
-        LinkAct::Close => Event::Close,
-    })
 }
