@@ -12,23 +12,21 @@ const TAKE_ACK: Event = Event::RecvAck { keep: false };
 
 const KEEP_ACK: Event = Event::RecvAck { keep: true };
 
-/// A start of these frames, as pairs of a label and an item, and these acknowledgements.
+/// A frame of a label and an item.
+fn frame(label: Label, item: Item) -> Frame {
+    Frame { label, item }
+}
+
+/// A start of these frames and these acknowledgements.
 fn start(
     alloc: Global,
-    frames: &[(Label, Item)],
+    frames: &[Frame],
     acks: &[Label],
     send_label: Label,
     recv_label: Label,
 ) -> Result<Start, AllocError> {
-    let mut queued = Sequence::new(alloc);
-    for (label, item) in frames {
-        queued.push(Frame {
-            label: *label,
-            item: *item,
-        })?;
-    }
     Ok(Start {
-        frames: queued,
+        frames: Sequence::from_vec(frames.to_vec(alloc)?),
         acks: Sequence::from_vec(acks.to_vec(alloc)?),
         send_label,
         recv_label,
@@ -72,6 +70,18 @@ fn worst_events() -> [Event; 12] {
     ]
 }
 
+/// Fails the test where an event of these has not the effect beside it.
+fn assert_steps(
+    rt: &impl Abort,
+    link: &mut Link,
+    steps: &[(Event, Effect)],
+) -> Result<(), AllocError> {
+    for (event, effect) in steps {
+        assert_eq!(rt; link.apply(*event)?, *effect, "{event:?}");
+    }
+    Ok(())
+}
+
 /// Fails the test where the text of the link is not this one.
 fn assert_text(
     rt: &(impl Abort + Alloc<A = Global>),
@@ -110,7 +120,7 @@ fn first_item_already_held(rt: HostRuntime) -> Result<(), Fail> {
 #[test]
 fn worst_start(rt: HostRuntime) -> Result<(), Fail> {
     let params = Params::new(1, 4)?;
-    let start = start(rt.alloc(), &[(2, 99)], &[0], 0, 1)?;
+    let start = start(rt.alloc(), &[frame(2, 99)], &[0], 0, 1)?;
     let link = run_link(rt.alloc(), params, &start, &worst_events())?;
     assert_text(
         &rt,
@@ -132,7 +142,7 @@ fn worst_start(rt: HostRuntime) -> Result<(), Fail> {
 #[test]
 fn no_events(rt: HostRuntime) -> Result<(), Fail> {
     let params = Params::new(1, 4)?;
-    let start = start(rt.alloc(), &[(2, 99)], &[0], 0, 1)?;
+    let start = start(rt.alloc(), &[frame(2, 99)], &[0], 0, 1)?;
     let link = run_link(rt.alloc(), params, &start, &[])?;
     assert_text(
         &rt,
@@ -146,7 +156,7 @@ fn no_events(rt: HostRuntime) -> Result<(), Fail> {
 fn idle_sender_ignores(rt: HostRuntime) -> Result<(), Fail> {
     let params = Params::new(1, 4)?;
     let mut link = Link::new(rt.alloc(), params, &start(rt.alloc(), &[], &[0], 0, 1)?)?;
-    assert_eq!(rt; link.apply(TAKE_ACK)?, Effect::Ignored);
+    assert_steps(&rt, &mut link, &[(TAKE_ACK, Effect::Ignored)])?;
     assert_eq!(rt; link.ack_at(0), None);
     assert_eq!(rt; link.acked(), 0);
     assert_eq!(rt; link.send_label(), 0);
@@ -159,12 +169,18 @@ fn full_queue_loses_the_new_frame(rt: HostRuntime) -> Result<(), Fail> {
     let mut link = Link::new(
         rt.alloc(),
         params,
-        &start(rt.alloc(), &[(2, 99)], &[], 0, 1)?,
+        &start(rt.alloc(), &[frame(2, 99)], &[], 0, 1)?,
     )?;
-    assert_eq!(rt; link.apply(Event::Offer(10))?, Effect::Held);
-    assert_eq!(rt; link.apply(Event::SendFrame)?, Effect::Lost);
+    assert_steps(
+        &rt,
+        &mut link,
+        &[
+            (Event::Offer(10), Effect::Held),
+            (Event::SendFrame, Effect::Lost),
+        ],
+    )?;
     assert_eq!(rt; link.frame_count(), 1);
-    assert_eq!(rt; link.frame_at(0), Some(Frame { label: 2, item: 99 }));
+    assert_eq!(rt; link.frame_at(0), Some(frame(2, 99)));
     Ok(())
 }
 
@@ -174,13 +190,16 @@ fn kept_frame_delivers_once(rt: HostRuntime) -> Result<(), Fail> {
     let mut link = Link::new(
         rt.alloc(),
         params,
-        &start(rt.alloc(), &[(2, 99)], &[], 0, 1)?,
+        &start(rt.alloc(), &[frame(2, 99)], &[], 0, 1)?,
     )?;
-    assert_eq!(rt; link.apply(KEEP_FRAME)?, Effect::Fresh(99));
-    assert_eq!(rt; link.apply(KEEP_FRAME)?, Effect::Old);
+    assert_steps(
+        &rt,
+        &mut link,
+        &[(KEEP_FRAME, Effect::Fresh(99)), (KEEP_FRAME, Effect::Old)],
+    )?;
     assert_eq!(rt; link.delivered(), [99].as_slice());
     assert_eq!(rt; link.recv_label(), 2);
-    assert_eq!(rt; link.frame_at(0), Some(Frame { label: 2, item: 99 }));
+    assert_eq!(rt; link.frame_at(0), Some(frame(2, 99)));
     Ok(())
 }
 
@@ -188,10 +207,16 @@ fn kept_frame_delivers_once(rt: HostRuntime) -> Result<(), Fail> {
 fn kept_acknowledgement_counts_once(rt: HostRuntime) -> Result<(), Fail> {
     let params = Params::new(1, 4)?;
     let mut link = Link::new(rt.alloc(), params, &start(rt.alloc(), &[], &[0], 0, 1)?)?;
-    assert_eq!(rt; link.apply(Event::Offer(10))?, Effect::Held);
-    assert_eq!(rt; link.apply(KEEP_ACK)?, Effect::Acked);
-    assert_eq!(rt; link.apply(Event::Offer(11))?, Effect::Held);
-    assert_eq!(rt; link.apply(KEEP_ACK)?, Effect::Ignored);
+    assert_steps(
+        &rt,
+        &mut link,
+        &[
+            (Event::Offer(10), Effect::Held),
+            (KEEP_ACK, Effect::Acked),
+            (Event::Offer(11), Effect::Held),
+            (KEEP_ACK, Effect::Ignored),
+        ],
+    )?;
     assert_eq!(rt; link.acked(), 1);
     assert_eq!(rt; link.send_label(), 1);
     assert_eq!(rt; link.ack_count(), 1);
@@ -215,16 +240,24 @@ fn label_out_of_range(rt: HostRuntime) -> Result<(), Fail> {
 fn nothing_after_the_close(rt: HostRuntime) -> Result<(), Fail> {
     let params = Params::new(1, 4)?;
     let mut link = Link::new(rt.alloc(), params, &start(rt.alloc(), &[], &[], 0, 3)?)?;
-    let events = rounds(rt.alloc(), 7, 8)?;
-    let (before, after) = events.split_at_checked(3).ok_or("ten events")?;
-    for event in before {
-        link.apply(*event)?;
-    }
-    assert_eq!(rt; link.apply(Event::Close)?, Effect::Closed);
-    for event in after {
-        assert_eq!(rt; link.apply(*event)?, Effect::Nothing, "{event:?}");
-    }
-    assert_eq!(rt; link.apply(Event::Close)?, Effect::Nothing);
+    assert_steps(
+        &rt,
+        &mut link,
+        &[
+            (Event::Offer(7), Effect::Held),
+            (Event::SendFrame, Effect::Sent),
+            (TAKE_FRAME, Effect::Fresh(7)),
+            (Event::Close, Effect::Closed),
+            (Event::SendAck, Effect::Nothing),
+            (TAKE_ACK, Effect::Nothing),
+            (Event::Offer(8), Effect::Nothing),
+            (Event::SendFrame, Effect::Nothing),
+            (TAKE_FRAME, Effect::Nothing),
+            (Event::SendAck, Effect::Nothing),
+            (TAKE_ACK, Effect::Nothing),
+            (Event::Close, Effect::Nothing),
+        ],
+    )?;
     assert_eq!(rt; link.delivered(), [7].as_slice());
     assert_eq!(rt; link.offered(), [7].as_slice());
     assert_eq!(rt; link.acked(), 0);
@@ -240,12 +273,12 @@ fn overfull_starts(rt: HostRuntime) -> Result<(), Fail> {
     let alloc = rt.alloc();
     let rows = [
         (
-            start(alloc, &[(0, 1), (1, 2)], &[], 0, 1)?,
+            start(alloc, &[frame(0, 1), frame(1, 2)], &[], 0, 1)?,
             StartFault::TooManyFrames,
             "start: too many frames",
         ),
         (
-            start(alloc, &[(0, 1), (1, 2)], &[0, 1], 0, 1)?,
+            start(alloc, &[frame(0, 1), frame(1, 2)], &[0, 1], 0, 1)?,
             StartFault::TooManyFrames,
             "start: too many frames",
         ),
@@ -270,14 +303,20 @@ fn loss_by_place(rt: HostRuntime) -> Result<(), Fail> {
     let mut link = Link::new(
         rt.alloc(),
         params,
-        &start(rt.alloc(), &[(2, 99)], &[0], 0, 1)?,
+        &start(rt.alloc(), &[frame(2, 99)], &[0], 0, 1)?,
     )?;
-    assert_eq!(rt; link.apply(Event::LoseFrame(5))?, Effect::Nothing);
-    assert_eq!(rt; link.frame_at(0), Some(Frame { label: 2, item: 99 }));
-    assert_eq!(rt; link.apply(Event::LoseFrame(0))?, Effect::Lost);
+    assert_steps(&rt, &mut link, &[(Event::LoseFrame(5), Effect::Nothing)])?;
+    assert_eq!(rt; link.frame_at(0), Some(frame(2, 99)));
+    assert_steps(
+        &rt,
+        &mut link,
+        &[
+            (Event::LoseFrame(0), Effect::Lost),
+            (Event::LoseAck(1), Effect::Nothing),
+            (Event::LoseAck(0), Effect::Lost),
+        ],
+    )?;
     assert_eq!(rt; link.frame_at(0), None);
-    assert_eq!(rt; link.apply(Event::LoseAck(1))?, Effect::Nothing);
-    assert_eq!(rt; link.apply(Event::LoseAck(0))?, Effect::Lost);
     assert_eq!(rt; link.ack_count(), 0);
     Ok(())
 }
@@ -285,7 +324,7 @@ fn loss_by_place(rt: HostRuntime) -> Result<(), Fail> {
 #[test]
 fn why_two_labels_are_too_few(rt: HostRuntime) -> Result<(), Fail> {
     let params = Params::new(1, 4)?;
-    let start = start(rt.alloc(), &[(0, 99)], &[0], 0, 1)?;
+    let start = start(rt.alloc(), &[frame(0, 99)], &[0], 0, 1)?;
     let mut events = vec![in rt.alloc(); Event::Offer(10), TAKE_ACK, Event::SendAck, TAKE_FRAME]?;
     for item in 11..14 {
         events.extend_from_slice(&[
@@ -317,10 +356,16 @@ fn loss_behind_the_front(rt: HostRuntime) -> Result<(), Fail> {
     let mut link = Link::new(
         rt.alloc(),
         params,
-        &start(rt.alloc(), &[(1, 20), (2, 21)], &[], 0, 0)?,
+        &start(rt.alloc(), &[frame(1, 20), frame(2, 21)], &[], 0, 0)?,
     )?;
-    assert_eq!(rt; link.apply(Event::LoseFrame(1))?, Effect::Lost);
-    assert_eq!(rt; link.apply(TAKE_FRAME)?, Effect::Fresh(20));
+    assert_steps(
+        &rt,
+        &mut link,
+        &[
+            (Event::LoseFrame(1), Effect::Lost),
+            (TAKE_FRAME, Effect::Fresh(20)),
+        ],
+    )?;
     assert_eq!(rt; link.delivered(), [20].as_slice());
     assert_eq!(rt; link.frame_count(), 0);
     assert_eq!(rt; link.recv_label(), 1);
@@ -347,7 +392,7 @@ fn the_clean_start_and_a_copy(rt: HostRuntime) -> Result<(), Fail> {
     let clean = Start::clean(rt.alloc());
     assert_eq!(rt; clean.frames.len() + clean.acks.len(), 0);
     assert_eq!(rt; (clean.send_label, clean.recv_label), (0, 65535));
-    let start = start(rt.alloc(), &[(2, 99)], &[0], 0, 1)?;
+    let start = start(rt.alloc(), &[frame(2, 99)], &[0], 0, 1)?;
     let copy = start.copy(rt.alloc())?;
     assert_eq!(rt; copy.frames.as_slice(), start.frames.as_slice());
     assert_eq!(rt; copy.acks.as_slice(), start.acks.as_slice());
@@ -367,10 +412,10 @@ fn a_sender_and_a_receiver(rt: HostRuntime) -> Result<(), Fail> {
     );
     assert!(rt; sender.hold(7));
     assert!(rt; !sender.hold(8), "it holds an item");
-    assert_eq!(rt; sender.frame(), Some(Frame { label: 3, item: 7 }));
+    assert_eq!(rt; sender.frame(), Some(frame(3, 7)));
     let mut receiver = Receiver::new(2);
-    assert_eq!(rt; receiver.on_frame(Frame { label: 3, item: 7 }), Some(7));
-    assert_eq!(rt; receiver.on_frame(Frame { label: 3, item: 7 }), None);
+    assert_eq!(rt; receiver.on_frame(frame(3, 7)), Some(7));
+    assert_eq!(rt; receiver.on_frame(frame(3, 7)), None);
     assert!(rt; !sender.on_ack(params, 2), "another label");
     assert!(rt; sender.on_ack(params, receiver.ack()));
     assert_eq!(rt; sender.label(), 0);
