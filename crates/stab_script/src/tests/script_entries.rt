@@ -1,3 +1,4 @@
+use super::scripts::{assert_lists, assert_same, seeded};
 use crate::{InAct, OutAct, PartFault, Script, ScriptFault, read_script};
 use serde_json::Value;
 use std::alloc::{AllocError, Global};
@@ -10,20 +11,18 @@ fn entry(alloc: Global, text: &str) -> Result<Script, Fail> {
 
 #[test]
 fn scripts_of_letters(rt: HostRuntime) -> Result<(), Fail> {
-    let script = entry(rt.alloc(), "{\"frames_out\":\"PDE\",\"acks_in\":\"TK\"}")?;
-    let outs = [OutAct::Pass, OutAct::Drop, OutAct::Evict];
-    assert_eq!(rt; script.frames_out(), outs.as_slice());
-    assert_eq!(rt; script.acks_in(), [InAct::Take, InAct::Keep].as_slice());
-    assert!(rt; script.frames_in().is_empty());
-    assert!(rt; script.acks_out().is_empty());
-    let other = entry(
-        rt.alloc(),
+    let alloc = rt.alloc();
+    let (pass, lost, evicted) = (OutAct::Pass, OutAct::Drop, OutAct::Evict);
+    let (take, keep) = (InAct::Take, InAct::Keep);
+    let first = entry(alloc, "{\"frames_out\":\"PDE\",\"acks_in\":\"TK\"}")?;
+    assert_lists(&rt, &first, &[pass, lost, evicted], &[], &[], &[take, keep]);
+    let second = entry(
+        alloc,
         "{\"frames_in\":\"K\",\"acks_out\":\"E\",\"length\":null}",
     )?;
-    assert_eq!(rt; other.frames_in(), [InAct::Keep].as_slice());
-    assert_eq!(rt; other.acks_out(), [OutAct::Evict].as_slice());
-    let none = entry(rt.alloc(), "null")?;
-    assert!(rt; none.frames_out().is_empty());
+    assert_lists(&rt, &second, &[], &[keep], &[evicted], &[]);
+    let none = entry(alloc, "null")?;
+    assert_lists(&rt, &none, &[], &[], &[], &[]);
     Ok(())
 }
 
@@ -31,11 +30,8 @@ fn scripts_of_letters(rt: HostRuntime) -> Result<(), Fail> {
 fn scripts_of_a_seed(rt: HostRuntime) -> Result<(), Fail> {
     let text = "{\"seed\":[42,54],\"length\":6,\"loss\":100,\"repeat\":0,\"frames_out\":7}";
     let script = entry(rt.alloc(), text)?;
-    let drawn = Script::from_seed(rt.alloc(), 42, 54, 6, 100, 0)?;
-    assert_eq!(rt; script.frames_out(), drawn.frames_out());
-    assert_eq!(rt; script.frames_in(), drawn.frames_in());
-    assert_eq!(rt; script.acks_out(), drawn.acks_out());
-    assert_eq!(rt; script.acks_in(), drawn.acks_in());
+    let drawn = seeded(rt.alloc(), 42, 54, 6, 100, 0)?;
+    assert_same(&rt, &script, &drawn);
     Ok(())
 }
 
@@ -91,17 +87,32 @@ fn refused_script_entries(rt: HostRuntime) -> Result<(), Fail> {
     Ok(())
 }
 
-// An entry with this many letters in each list, and then one more letter in the last.
-fn long_entry(alloc: Global, letters: u32, last: &str) -> Result<String, AllocError> {
-    let mut outs = String::new(alloc);
-    let mut ins = String::new(alloc);
-    for _ in 0..letters {
-        outs.push_str("E")?;
-        ins.push_str("K")?;
+// A letter, repeated.
+fn repeated(alloc: Global, letter: &str, count: u32) -> Result<String, AllocError> {
+    let mut text = String::new(alloc);
+    for _ in 0..count {
+        text.push_str(letter)?;
     }
-    format!(in alloc;
-        "{{\"frames_out\":\"{outs}\",\"frames_in\":\"{ins}\",\"acks_out\":\"{outs}\",\"acks_in\":\"{ins}{last}\"}}"
-    )
+    Ok(text)
+}
+
+// An entry with this many letters in each list, and then one more letter in the last.
+fn long_entry(alloc: Global, count: u32, last: &str) -> Result<String, AllocError> {
+    let outs = repeated(alloc, "E", count)?;
+    let ins = repeated(alloc, "K", count)?;
+    let lists = [
+        ("{\"frames_out\":\"", outs.as_str()),
+        ("\",\"frames_in\":\"", ins.as_str()),
+        ("\",\"acks_out\":\"", outs.as_str()),
+        ("\",\"acks_in\":\"", ins.as_str()),
+        (last, "\"}"),
+    ];
+    let mut text = String::new(alloc);
+    for (key, letters) in lists {
+        text.push_str(key)?;
+        text.push_str(letters)?;
+    }
+    Ok(text)
 }
 
 #[test]

@@ -1,4 +1,4 @@
-use crate::{InAct, OutAct, Script, ScriptFault};
+use crate::{HalfScript, InAct, OutAct, Script, ScriptFault};
 use rand_core::utils::NextWord;
 use rand_core::{Rng, utils};
 use rand_pcg::Pcg32;
@@ -54,8 +54,18 @@ impl Rng for FewWords {
     }
 }
 
+// The acts of a list are these.
+fn assert_acts<T: Eq>(rt: &impl Abort, list: &[T], acts: &[T]) {
+    assert!(rt;
+        list == acts,
+        "{} acts where {} are wanted, or others",
+        list.len(),
+        acts.len()
+    );
+}
+
 // The four lists of a script are these.
-fn assert_lists(
+pub(super) fn assert_lists(
     rt: &impl Abort,
     script: &Script,
     frames_out: &[OutAct],
@@ -63,14 +73,14 @@ fn assert_lists(
     acks_out: &[OutAct],
     acks_in: &[InAct],
 ) {
-    assert_eq!(rt; script.frames_out(), frames_out);
-    assert_eq!(rt; script.frames_in(), frames_in);
-    assert_eq!(rt; script.acks_out(), acks_out);
-    assert_eq!(rt; script.acks_in(), acks_in);
+    assert_acts(rt, script.frames_out(), frames_out);
+    assert_acts(rt, script.frames_in(), frames_in);
+    assert_acts(rt, script.acks_out(), acks_out);
+    assert_acts(rt, script.acks_in(), acks_in);
 }
 
 // The two scripts have the same lists.
-fn assert_same(rt: &impl Abort, left: &Script, right: &Script) {
+pub(super) fn assert_same(rt: &impl Abort, left: &Script, right: &Script) {
     assert_lists(
         rt,
         left,
@@ -81,24 +91,47 @@ fn assert_same(rt: &impl Abort, left: &Script, right: &Script) {
     );
 }
 
+// The script drawn from a seed.
+pub(super) fn seeded(
+    alloc: Global,
+    state: u64,
+    stream: u64,
+    len: u32,
+    loss: u16,
+    repeat: u16,
+) -> Result<Script, ScriptFault> {
+    Script::from_seed(alloc, state, stream, len, loss, repeat)
+}
+
+// The script drawn from the first words.
+fn from_words(
+    alloc: Global,
+    words: &mut FewWords,
+    len: u32,
+    loss: u16,
+    repeat: u16,
+) -> Result<Script, ScriptFault> {
+    Script::draw(alloc, words, len, loss, repeat)
+}
+
 #[test]
 fn a_drawn_script(rt: HostRuntime) -> Result<(), Fail> {
     let mut words = FewWords { given: 0 };
-    let script = Script::draw(rt.alloc(), &mut words, 6, 100, 0)?;
+    let script = from_words(rt.alloc(), &mut words, 6, 100, 0)?;
     let (pass, lost) = (OutAct::Pass, OutAct::Drop);
     let frames_out = [pass, lost, pass, pass, pass, pass];
     let takes = [InAct::Take; 6];
     assert_lists(&rt, &script, &frames_out, &takes, &[lost; 6], &takes);
     assert_eq!(rt; words.given, 24);
-    let seeded = Script::from_seed(rt.alloc(), 42, 54, 6, 100, 0)?;
-    let drawn = Script::draw(rt.alloc(), &mut Pcg32::new(42, 54), 6, 100, 0)?;
-    assert_same(&rt, &seeded, &drawn);
+    let by_seed = seeded(rt.alloc(), 42, 54, 6, 100, 0)?;
+    let by_generator = Script::draw(rt.alloc(), &mut Pcg32::new(42, 54), 6, 100, 0)?;
+    assert_same(&rt, &by_seed, &by_generator);
     Ok(())
 }
 
 #[test]
 fn one_draw_of_each_list(rt: HostRuntime) -> Result<(), Fail> {
-    let script = Script::draw(rt.alloc(), &mut FewWords { given: 0 }, 1, 800, 100)?;
+    let script = from_words(rt.alloc(), &mut FewWords { given: 0 }, 1, 800, 100)?;
     assert_lists(
         &rt,
         &script,
@@ -130,17 +163,17 @@ fn limits_of_draws(rt: HostRuntime) -> Result<(), Fail> {
         (100000, 1000, 1000, None),
     ];
     for (len, loss, repeat, want) in rows {
-        let seeded = Script::from_seed(rt.alloc(), 42, 54, len, loss, repeat).err();
-        assert_eq!(rt; seeded, want, "{len} acts at {loss} and {repeat}");
+        let by_seed = seeded(rt.alloc(), 42, 54, len, loss, repeat).err();
+        assert_eq!(rt; by_seed, want, "{len} acts at {loss} and {repeat}");
         let mut words = FewWords { given: 0 };
-        let drawn = Script::draw(rt.alloc(), &mut words, len, loss, repeat).err();
-        assert_eq!(rt; drawn, want, "{len} acts at {loss} and {repeat}");
+        let by_words = from_words(rt.alloc(), &mut words, len, loss, repeat).err();
+        assert_eq!(rt; by_words, want, "{len} acts at {loss} and {repeat}");
         let taken = if want.is_none() { 400000 } else { 0 };
         assert_eq!(rt; words.given, taken, "{len} acts at {loss} and {repeat}");
     }
-    let none = Script::from_seed(rt.alloc(), 42, 54, 0, 0, 0)?;
+    let none = seeded(rt.alloc(), 42, 54, 0, 0, 0)?;
     assert_lists(&rt, &none, &[], &[], &[], &[]);
-    let all = Script::from_seed(rt.alloc(), 42, 54, 2, 1000, 1000)?;
+    let all = seeded(rt.alloc(), 42, 54, 2, 1000, 1000)?;
     let (lost, kept) = ([OutAct::Drop; 2], [InAct::Keep; 2]);
     assert_lists(&rt, &all, &lost, &kept, &lost, &kept);
     Ok(())
@@ -170,42 +203,54 @@ fn limits_of_scripts(rt: HostRuntime) -> Result<(), Fail> {
     Ok(())
 }
 
-#[test]
-fn each_half_takes_its_own_acts(rt: HostRuntime) -> Result<(), Fail> {
-    let alloc = rt.alloc();
-    let frames_out = vec![in alloc; OutAct::Drop, OutAct::Pass, OutAct::Evict]?;
-    let acks_in = vec![in alloc; InAct::Keep]?;
+// The next acts for what goes out are these; each is seen before it is taken.
+fn assert_outs(rt: &impl Abort, half: &mut HalfScript, acts: &[OutAct]) {
+    for act in acts {
+        assert_eq!(rt; half.peek_out(), *act);
+        assert_eq!(rt; half.next_out(), *act);
+    }
+}
+
+// The next acts for what comes in are these; each is seen before it is taken.
+fn assert_ins(rt: &impl Abort, half: &mut HalfScript, acts: &[InAct]) {
+    for act in acts {
+        assert_eq!(rt; half.peek_in(), *act);
+        assert_eq!(rt; half.next_in(), *act);
+    }
+}
+
+// A script with acts in three of its lists.
+fn some_acts(alloc: Global) -> Result<Script, Fail> {
     let script = Script::new(
-        frames_out,
+        vec![in alloc; OutAct::Drop, OutAct::Pass, OutAct::Evict]?,
         Vec::new(alloc),
         vec![in alloc; OutAct::Evict]?,
-        acks_in,
+        vec![in alloc; InAct::Keep]?,
     )?;
-    let copy = script.copy(alloc)?;
+    Ok(script)
+}
+
+#[test]
+fn each_half_takes_its_own_acts(rt: HostRuntime) -> Result<(), Fail> {
+    let script = some_acts(rt.alloc())?;
+    let copy = script.copy(rt.alloc())?;
     assert_same(&rt, &script, &copy);
     let (mut send, mut recv) = copy.split();
-    assert_eq!(rt; send.peek_out(), OutAct::Drop);
-    for want in [
-        OutAct::Drop,
-        OutAct::Pass,
-        OutAct::Evict,
-        OutAct::Pass,
-        OutAct::Pass,
-    ] {
-        assert_eq!(rt; send.next_out(), want);
-    }
-    assert_eq!(rt; send.peek_in(), InAct::Keep);
-    assert_eq!(rt; send.next_in(), InAct::Keep);
-    assert_eq!(rt; send.next_in(), InAct::Take);
-    assert_eq!(rt; recv.next_out(), OutAct::Evict);
-    assert_eq!(rt; recv.next_out(), OutAct::Pass);
-    assert_eq!(rt; recv.next_in(), InAct::Take);
-    let (mut send, _recv) = Script::none(alloc).split();
-    assert_eq!(rt;
-        (send.next_out(), send.next_in()),
-        (OutAct::Pass, InAct::Take)
-    );
+    let (pass, lost, evicted) = (OutAct::Pass, OutAct::Drop, OutAct::Evict);
+    assert_outs(&rt, &mut send, &[lost, pass, evicted, pass, pass]);
+    assert_ins(&rt, &mut send, &[InAct::Keep, InAct::Take]);
+    assert_outs(&rt, &mut recv, &[evicted, pass]);
+    assert_ins(&rt, &mut recv, &[InAct::Take]);
     Ok(())
+}
+
+#[test]
+fn a_script_without_acts(rt: HostRuntime) {
+    let (mut send, mut recv) = Script::none(rt.alloc()).split();
+    assert_outs(&rt, &mut send, &[OutAct::Pass, OutAct::Pass]);
+    assert_ins(&rt, &mut send, &[InAct::Take]);
+    assert_outs(&rt, &mut recv, &[OutAct::Pass]);
+    assert_ins(&rt, &mut recv, &[InAct::Take]);
 }
 
 #[test]
