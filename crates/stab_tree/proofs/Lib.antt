@@ -2,6 +2,7 @@ pub mod Checked
 pub mod Depths
 pub mod Described
 pub mod Links
+pub mod NameSet
 pub mod Places
 pub mod Roots
 pub mod Steps

@@ -1,5 +1,5 @@
-ghost use Rattle.std.specs.Prelude.{◌≡◌, ◌≤◌, ◌⊎◌, Some, None, IfOk, IfErr, OnOk, length, map, string_bytes};
-ghost use Rattle.std.specs.List.{list_all, list_any, position};
+ghost use Rattle.std.specs.Prelude.{◌≡◌, ◌≤◌, ◌⊎◌, Some, None, IfOk, IfErr, OnOk, false, length, map, string_bytes};
+ghost use Rattle.std.specs.List.{list_all, list_any};
 ghost use Rattle.std.specs.Str.{bytes_eq};
 ghost use Rattle.stab_tree.specs.Entry.{Entry};
 ghost use Rattle.stab_tree.specs.Name.{is_name};
@@ -10,6 +10,7 @@ use crate::entry::EntryRef;
 use crate::fault::TreeFault;
 use crate::name;
 use crate::node::NodeId;
+use indexmap::IndexSet;
 use std::alloc::{AllocError, Global};
 
 /// The most nodes that a tree has.
@@ -55,28 +56,26 @@ pub(crate) fn check_names(entries: &[EntryRef<'_>]) -> Result<(), TreeFault>
     Ok(())
 }
 
-/// The names of the entries, copied.
-pub(crate) fn copy_names(alloc: Global, entries: &[EntryRef<'_>]) -> Result<Vec<String>, AllocError>
-    ensures { IfOk result (λ names. map string_bytes names.items ≡ names_of entries.now) }
+/// The names of the entries, copied in file order. A name that stands twice is kept once.
+pub(crate) fn copy_names(
+    alloc: Global,
+    entries: &[EntryRef<'_>],
+) -> Result<IndexSet<String>, AllocError>
+    ensures { has_same_name entries.now ≡ false
+        → IfOk result (λ names. map string_bytes names.keys ≡ names_of entries.now) }
 {
-    let mut names = Vec::with_capacity(alloc, entries.len())?;
+    let mut names = IndexSet::with_capacity(alloc, entries.len())?;
     for entry in entries {
-        names.push(String::from_str(alloc, entry.name())?)?;
+        names.insert(String::from_str(alloc, entry.name())?)?;
     }
     Ok(names)
 }
 
-fn position(names: &[String], name: &str) -> Option<usize>
-    ensures { result ≡ position (λ s. bytes_eq (string_bytes s) name.now) names.now }
-{
-    names.iter().position(|s| s.as_str() == name)
-}
-
 /// The node of that name.
-pub(crate) fn find(names: &[String], name: &str) -> Option<NodeId>
-    requires { length names.now ≤ 64 }
-    ensures { result ≡ place_of (map string_bytes names.now) name.now }
+pub(crate) fn find(names: &IndexSet<String>, name: &str) -> Option<NodeId>
+    requires { length names.now.keys ≤ 64 }
+    ensures { result ≡ place_of (map string_bytes names.now.keys) name.now }
 {
-    let place = position(names, name)?;
+    let place = names.get_index_of(name)?;
     Some(NodeId::new(place as u16))
 }

@@ -8,12 +8,13 @@ use crate::entry::EntryRef;
 use crate::fault::TreeFault;
 use crate::names;
 use crate::node::NodeId;
+use indexmap::IndexSet;
 use std::alloc::Global;
 
 /// The parent of an entry, where it is the name of a node.
-fn find_parent(names: &[String], entry: &EntryRef<'_>) -> Option<Option<NodeId>>
-    requires { length names.now ≤ 64 }
-    ensures { result ≡ parent_of (map string_bytes names.now) entry.now }
+fn find_parent(names: &IndexSet<String>, entry: &EntryRef<'_>) -> Option<Option<NodeId>>
+    requires { length names.now.keys ≤ 64 }
+    ensures { result ≡ parent_of (map string_bytes names.now.keys) entry.now }
 {
     match entry.parent() {
         None => Some(None),
@@ -24,13 +25,13 @@ fn find_parent(names: &[String], entry: &EntryRef<'_>) -> Option<Option<NodeId>>
 /// The parents of the entries.
 pub(crate) fn find_parents(
     alloc: Global,
-    names: &[String],
+    names: &IndexSet<String>,
     entries: &[EntryRef<'_>],
 ) -> Result<Vec<Option<NodeId>>, TreeFault>
-    requires { length names.now ≤ 64 }
-    ensures ok { IfOk result (λ ps. parents_of (map string_bytes names.now) entries.now ≡ Some ps.items) }
+    requires { length names.now.keys ≤ 64 }
+    ensures ok { IfOk result (λ ps. parents_of (map string_bytes names.now.keys) entries.now ≡ Some ps.items) }
     ensures unknown { result ≡ Err TreeFault.UnknownParent
-        → parents_of (map string_bytes names.now) entries.now ≡ None }
+        → parents_of (map string_bytes names.now.keys) entries.now ≡ None }
     ensures refusals { IfErr result (λ e. (e ≡ TreeFault.UnknownParent) ⊎ (e ≡ TreeFault.Memory)) }
 {
     let mut parents = Vec::with_capacity(alloc, entries.len())?;

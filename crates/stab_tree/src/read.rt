@@ -18,7 +18,7 @@ fn build(alloc: Global, entries: &[EntryRef<'_>]) -> Result<Tree, TreeFault>
         → tree_of_named entries.now None ≡ Err fault) }
 {
     let names = names::copy_names(alloc, entries)?;
-    let parents = parents::find_parents(alloc, names.as_slice(), entries)?;
+    let parents = parents::find_parents(alloc, &names, entries)?;
     let root = parents::only_root(parents.as_slice())?;
     let depths = parents::find_depths(alloc, parents.as_slice())?;
     Ok(Tree::from_parts(names, parents, depths, root))

@@ -2,12 +2,13 @@ ghost use Rattle.std.specs.Prelude.{◌≡◌, ◌≢◌, ◌↔◌, ◌+◌, �
 
 use crate::names;
 use crate::node::NodeId;
+use indexmap::IndexSet;
 use std::marker::Model;
 
 /// The nodes of a tree, in file order. No call of its takes memory.
 #[derive(Debug, Drop)]
 pub struct Tree {
-    names: Vec<String>,
+    names: IndexSet<String>,
     parents: Vec<Option<NodeId>>,
     depths: Vec<u16>,
     root: NodeId,
@@ -21,12 +22,12 @@ impl Model for Tree {
     ghost Value = { Nodes };
 
     ghost view = { λ t. record {
-      names = map string_bytes t.names.items;
+      names = map string_bytes t.names.keys;
       parents = t.parents.items;
     } };
 
     ghost invariant = { λ t. IsStored
-        (record { names = map string_bytes t.names.items; parents = t.parents.items })
+        (record { names = map string_bytes t.names.keys; parents = t.parents.items })
         t.depths.items t.root };
 }
 
@@ -39,15 +40,15 @@ impl Tree {
 
     /// The tree of these parts.
     pub(crate) fn from_parts(
-        names: Vec<String>,
+        names: IndexSet<String>,
         parents: Vec<Option<NodeId>>,
         depths: Vec<u16>,
         root: NodeId,
     ) -> Tree
         requires { IsStored
-            (record { names = map string_bytes names.items; parents = parents.items })
+            (record { names = map string_bytes names.keys; parents = parents.items })
             depths.items root }
-        ensures { result ≡ record { names = map string_bytes names.items; parents = parents.items } }
+        ensures { result ≡ record { names = map string_bytes names.keys; parents = parents.items } }
     {
         Tree {
             names,
@@ -108,7 +109,7 @@ impl Tree {
         ensures found { IfSome result (λ node. slice_get self.now.names node ≡ Some name.now) }
         ensures absent { IfNone result (All (λ s. s ≢ name.now) self.now.names) }
     {
-        names::find(self.names.as_slice(), name)
+        names::find(&self.names, name)
     }
 
     /// The number of links: one for each node but the root.

@@ -1,7 +1,8 @@
-use Rattle.std.proofs.Common.{◌≡◌, map, string_bytes, take}
-use Rattle.stab_tree.specs.Read.{names_of}
+use Rattle.std.proofs.Common.{◌≡◌, false, map, string_bytes, take}
+use Rattle.stab_tree.specs.Read.{has_same_name, names_of}
 use Rattle.stab_tree.proofs.names.copy_names.Given as goal
 
--- the names so far are those of the entries so far
+-- the names so far are those of the entries so far, where none stands twice
 abbrev pub invariant-loop-entry : goal.invariant-loop-entry
-invariant-loop-entry l = map string_bytes l.names.items ≡ names_of (take l.entry-index l.entries)
+invariant-loop-entry l =
+    has_same_name l.entries ≡ false → map string_bytes l.names.keys ≡ names_of (take l.entry-index l.entries)
