@@ -18,18 +18,21 @@ impl Model for NodeId {
 }
 
 impl NodeId {
+    /// The node at this place of its file.
     pub fn new(place: u16) -> NodeId
         ensures { result ≡ place }
     {
         NodeId(place)
     }
 
+    /// The place of the node in its file, from 0.
     pub fn place(self) -> u16
         ensures { result ≡ self }
     {
         self.0
     }
 
+    /// The same place, for use as an index.
     pub fn index(self) -> usize
         ensures { result ≡ self }
     {

@@ -75,6 +75,7 @@ impl Tree {
         self.root
     }
 
+    /// The parent of the node; the root has none.
     pub fn parent(&self, node: NodeId) -> Option<NodeId>
         requires { node < length self.now.parents }
         ensures value { result ≡ parent_at self.now.parents node }
@@ -95,6 +96,7 @@ impl Tree {
         self.depths[node.index()]
     }
 
+    /// The name of the node, as its file has it.
     pub fn name(&self, node: NodeId) -> &str
         requires { node < length self.now.parents }
         ensures { slice_get self.now.names node ≡ Some result.now }
@@ -102,7 +104,7 @@ impl Tree {
         self.names[node.index()].as_str()
     }
 
-    /// The node of that name.
+    /// The node of that name, where there is one. It is looked up by hash.
     pub fn find(&self, name: &str) -> Option<NodeId>
         ensures value { result ≡ place_of self.now.names name.now }
         ensures known { IfSome result (λ node. node < length self.now.parents) }
