@@ -1,4 +1,5 @@
-ghost use Rattle.std.specs.Prelude.{◌≡◌, ◌≤◌, ◌⊎◌, length, false, None, IfErr, IsOkAnd};
+ghost use Rattle.std.specs.Prelude.{◌≡◌, ◌≤◌, ◌⊎◌, codes, length, false, None, option_map, string_bytes, IfOk, IfErr, IsOkAnd};
+ghost use Rattle.clap.specs.Matches.{found_of, first_value};
 
 use crate::fault::CliFault;
 use clap::error::ErrorKind;
@@ -55,7 +56,8 @@ fn command<'a>(alloc: Global) -> Result<Command<'a>, AllocError> {
 
 /// The file that a subcommand names.
 fn file_of(alloc: Global, matches: &ArgMatches<'_>) -> Result<Option<String>, CliFault>
-    ensures { IfErr result (λ fault. fault ≡ CliFault.Memory) }
+    ensures file { IfOk result (λ file. option_map string_bytes file ≡ first_value (found_of matches.now) (codes "FILE")) }
+    ensures memory { IfErr result (λ fault. fault ≡ CliFault.Memory) }
 {
     match matches.get_str("FILE") {
         None => Ok(None),

@@ -1,22 +1,54 @@
-use crate::read_job;
-use stab_frames::Frame;
-use stab_script::{InAct, OutAct};
+use crate::{Job, JobFault, read_job};
+use stab_core::Start;
+use stab_frames::{Frame, Item, Label};
+use stab_script::{InAct, OutAct, Script};
 use stab_tree::NodeId;
 use stab_treecore::{LinkAct, TreeEvent};
+use std::alloc::Global;
+use std::process::Abort;
 use std::test::Fail;
+
+// What the text of a job is read as.
+fn job(alloc: Global, text: &str) -> Result<Job, JobFault> {
+    read_job(alloc, text.as_bytes())
+}
+
+// A job has so many nodes and links, these items and turns, and no schedule.
+fn assert_tree(rt: &impl Abort, job: &Job, counts: (u16, u16), items: &[Item], turns: u32) {
+    assert_eq!(rt; (job.tree().len(), job.tree().link_count()), counts);
+    assert!(rt; job.items() == items);
+    assert_eq!(rt; job.turns(), turns);
+    assert!(rt; job.schedule().is_empty());
+}
+
+// A start holds these frames, acknowledgements and labels.
+fn assert_start(
+    rt: &impl Abort,
+    start: &Start,
+    frames: &[Frame],
+    acks: &[Label],
+    labels: (Label, Label),
+) {
+    assert!(rt; start.frames.as_slice() == frames);
+    assert!(rt; start.acks.as_slice() == acks);
+    assert_eq!(rt; (start.send_label, start.recv_label), labels);
+}
+
+// The acts of a script's sender are these, and its receiver has none.
+fn assert_script(rt: &impl Abort, script: &Script, frames_out: &[OutAct], acks_in: &[InAct]) {
+    assert!(rt; script.frames_out() == frames_out);
+    assert!(rt; script.acks_in() == acks_in);
+    assert!(rt; script.frames_in().is_empty());
+    assert!(rt; script.acks_out().is_empty());
+}
 
 #[test]
 fn a_lone_root(rt: HostRuntime) -> Result<(), Fail> {
     let text = "{\"capacity\":1,\"labels\":4,\"tree\":[{\"name\":\"r\"}],\"items\":[7,8]}";
-    let job = read_job(rt.alloc(), text.as_bytes())?;
+    let job = job(rt.alloc(), text)?;
+    assert_tree(&rt, &job, (1, 0), &[7, 8], 100_000);
     assert_eq!(rt; (job.params().capacity(), job.params().labels()), (1, 4));
-    assert_eq!(rt; (job.tree().len(), job.tree().link_count()), (1, 0));
-    assert_eq!(rt; job.tree().find("r"), Some(NodeId::new(0)));
-    assert_eq!(rt; job.items(), [7, 8].as_slice());
-    assert!(rt; job.starts().is_empty());
-    assert!(rt; job.scripts().is_empty());
-    assert_eq!(rt; job.turns(), 100_000);
-    assert!(rt; job.schedule().is_empty());
+    assert_eq!(rt; (job.starts().len(), job.scripts().len()), (0, 0));
     Ok(())
 }
 
@@ -24,22 +56,15 @@ fn a_lone_root(rt: HostRuntime) -> Result<(), Fail> {
 fn what_is_absent(rt: HostRuntime) -> Result<(), Fail> {
     let text =
         "{\"capacity\":3,\"labels\":8,\"tree\":[{\"name\":\"a\",\"parent\":\"r\"},{\"name\":\"r\"},{\"name\":\"b\",\"parent\":\"a\"}],\"items\":[],\"more\":null}";
-    let job = read_job(rt.alloc(), text.as_bytes())?;
-    assert_eq!(rt; job.tree().link_count(), 2);
+    let job = job(rt.alloc(), text)?;
+    assert_tree(&rt, &job, (3, 2), &[], 100_000);
     assert_eq!(rt; (job.starts().len(), job.scripts().len()), (2, 2));
     for start in job.starts() {
-        assert!(rt; start.frames.is_empty());
-        assert!(rt; start.acks.is_empty());
-        assert_eq!(rt; (start.send_label, start.recv_label), (0, 65535));
+        assert_start(&rt, start, &[], &[], (0, 65535));
     }
     for script in job.scripts() {
-        assert!(rt; script.frames_out().is_empty());
-        assert!(rt; script.frames_in().is_empty());
-        assert!(rt; script.acks_out().is_empty());
-        assert!(rt; script.acks_in().is_empty());
+        assert_script(&rt, script, &[], &[]);
     }
-    assert_eq!(rt; job.turns(), 100_000);
-    assert!(rt; job.schedule().is_empty());
     Ok(())
 }
 
@@ -47,27 +72,20 @@ fn what_is_absent(rt: HostRuntime) -> Result<(), Fail> {
 fn starts_and_scripts_of_two_links(rt: HostRuntime) -> Result<(), Fail> {
     let text =
         "{\"version\":1,\"capacity\":1,\"labels\":4,\"tree\":[{\"name\":\"r\"},{\"name\":\"a\",\"parent\":\"r\"},{\"name\":\"b\",\"parent\":\"a\"}],\"items\":[10],\"starts\":[{\"frames\":[[2,99]],\"acks\":[0],\"send\":0,\"recv\":1},{\"send\":5,\"recv\":6}],\"scripts\":[{\"frames_out\":\"PDE\",\"acks_in\":\"TK\"},null],\"turns\":1000000}";
-    let job = read_job(rt.alloc(), text.as_bytes())?;
+    let job = job(rt.alloc(), text)?;
+    assert_tree(&rt, &job, (3, 2), &[10], 1_000_000);
     let [first, second] = job.starts() else {
-        assert!(rt; false);
-        return Ok(());
+        return Err(Fail::from("two starts"));
     };
-    let frames = [Frame { label: 2, item: 99 }];
-    assert_eq!(rt; first.frames.as_slice(), frames.as_slice());
-    assert_eq!(rt; first.acks.as_slice(), [0].as_slice());
-    assert_eq!(rt; (first.send_label, first.recv_label), (0, 1));
-    assert_eq!(rt; (second.send_label, second.recv_label), (5, 6));
+    let frame = Frame { label: 2, item: 99 };
+    assert_start(&rt, first, &[frame], &[0], (0, 1));
+    assert_start(&rt, second, &[], &[], (5, 6));
     let [first, second] = job.scripts() else {
-        assert!(rt; false);
-        return Ok(());
+        return Err(Fail::from("two scripts"));
     };
     let outs = [OutAct::Pass, OutAct::Drop, OutAct::Evict];
-    assert_eq!(rt; first.frames_out(), outs.as_slice());
-    assert!(rt; first.frames_in().is_empty());
-    assert!(rt; first.acks_out().is_empty());
-    assert_eq!(rt; first.acks_in(), [InAct::Take, InAct::Keep].as_slice());
-    assert!(rt; second.frames_out().is_empty());
-    assert_eq!(rt; job.turns(), 1_000_000);
+    assert_script(&rt, first, &outs, &[InAct::Take, InAct::Keep]);
+    assert_script(&rt, second, &[], &[]);
     Ok(())
 }
 
@@ -75,7 +93,7 @@ fn starts_and_scripts_of_two_links(rt: HostRuntime) -> Result<(), Fail> {
 fn each_act_of_a_schedule(rt: HostRuntime) -> Result<(), Fail> {
     let text =
         "{\"capacity\":1,\"labels\":4,\"tree\":[{\"name\":\"r\"},{\"name\":\"a\",\"parent\":\"r\"}],\"items\":[],\"turns\":1,\"schedule\":[[\"r\",\"offer\"],[\"a\",\"send_frame\"],[\"a\",\"recv_frame\"],[\"a\",\"recv_frame_keep\"],[\"a\",\"send_ack\"],[\"a\",\"recv_ack\"],[\"a\",\"recv_ack_keep\"],[\"a\",\"lose_frame\",5],[\"a\",\"lose_ack\",65535],[\"r\",\"close\"]]}";
-    let job = read_job(rt.alloc(), text.as_bytes())?;
+    let job = job(rt.alloc(), text)?;
     let acts = [
         (0, LinkAct::Offer),
         (1, LinkAct::SendFrame),

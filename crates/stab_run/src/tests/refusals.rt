@@ -21,10 +21,18 @@ fn refusal(alloc: Global, job: &str) -> Option<JobFault> {
     read_job(alloc, job.as_bytes()).err()
 }
 
+// How a job of these pieces is refused, or `None` where it is read.
+fn refusal_of(alloc: Global, pieces: &[&str]) -> Result<Option<JobFault>, AllocError> {
+    let mut job = String::new(alloc);
+    for piece in pieces {
+        job.push_str(piece)?;
+    }
+    Ok(refusal(alloc, job.as_str()))
+}
+
 // How a job is refused that goes on with this member.
 fn refusal_with(alloc: Global, start: &str, member: &str) -> Result<Option<JobFault>, AllocError> {
-    let job = format!(in alloc; "{start}{member}}}")?;
-    Ok(refusal(alloc, job.as_str()))
+    refusal_of(alloc, &[start, member, "}"])
 }
 
 // So many entries, one after the other.
@@ -99,36 +107,36 @@ fn refused_members(rt: HostRuntime) -> Result<(), Fail> {
     Ok(())
 }
 
+// How a job is refused that publishes so many items and takes no turn.
+fn refusal_of_items(alloc: Global, count: u32) -> Result<Option<JobFault>, AllocError> {
+    let items = listed(alloc, "7", count)?;
+    let pieces = [
+        "{\"capacity\":1,\"labels\":4,\"tree\":[{\"name\":\"r\"}],\"turns\":0,\"items\":[",
+        items.as_str(),
+        "]}",
+    ];
+    refusal_of(alloc, &pieces)
+}
+
 #[test]
 fn too_many_items(rt: HostRuntime) -> Result<(), Fail> {
-    let start = "{\"capacity\":1,\"labels\":4,\"tree\":[{\"name\":\"r\"}],\"turns\":0,\"items\":[";
-    let most = listed(rt.alloc(), "7", 10_000)?;
-    let most = format!(in rt.alloc(); "{start}{most}]}}")?;
-    assert_eq!(rt;
-        refusal(rt.alloc(), most.as_str()),
-        Some(JobFault::TurnsOutOfRange)
-    );
-    let more = listed(rt.alloc(), "7", 10_001)?;
-    let more = format!(in rt.alloc(); "{start}{more}]}}")?;
-    assert_eq!(rt;
-        refusal(rt.alloc(), more.as_str()),
-        Some(JobFault::TooManyItems)
-    );
+    let most = refusal_of_items(rt.alloc(), 10_000)?;
+    assert_eq!(rt; most, Some(JobFault::TurnsOutOfRange));
+    let more = refusal_of_items(rt.alloc(), 10_001)?;
+    assert_eq!(rt; more, Some(JobFault::TooManyItems));
     Ok(())
 }
 
 #[test]
 fn too_many_events(rt: HostRuntime) -> Result<(), Fail> {
-    let most = listed(rt.alloc(), "[\"r\",\"close\"]", 1_000_000)?;
-    let most = format!(in rt.alloc(); "{LONE_ROOT_WITH}\"schedule\":[{most}]}}")?;
-    let job = read_job(rt.alloc(), most.as_bytes())?;
-    assert_eq!(rt; job.schedule().len(), 1_000_000);
-    let more = listed(rt.alloc(), "0", 1_000_001)?;
-    let more = format!(in rt.alloc(); "{LONE_ROOT_WITH}\"schedule\":[{more}]}}")?;
-    assert_eq!(rt;
-        refusal(rt.alloc(), more.as_str()),
-        Some(JobFault::TooManyEvents)
-    );
+    for (entry, count, want) in [
+        ("[\"r\",\"close\"]", 1_000_000, None),
+        ("0", 1_000_001, Some(JobFault::TooManyEvents)),
+    ] {
+        let entries = listed(rt.alloc(), entry, count)?;
+        let pieces = [LONE_ROOT_WITH, "\"schedule\":[", entries.as_str(), "]}"];
+        assert_eq!(rt; refusal_of(rt.alloc(), &pieces)?, want, "{count} events");
+    }
     Ok(())
 }
 
@@ -156,14 +164,13 @@ fn cycles(rt: HostRuntime) -> Result<(), Fail> {
         ("[{}]", TreeFault::Shape),
     ];
     for (row, want) in rows {
-        let job = format!(in rt.alloc();
-            "{{\"capacity\":1,\"labels\":4,\"tree\":{row},\"items\":[7,8]}}"
-        )?;
-        assert_eq!(rt;
-            refusal(rt.alloc(), job.as_str()),
-            Some(JobFault::Tree(want)),
-            "{row}"
-        );
+        let pieces = [
+            "{\"capacity\":1,\"labels\":4,\"tree\":",
+            row,
+            ",\"items\":[7,8]}",
+        ];
+        let fault = refusal_of(rt.alloc(), &pieces)?;
+        assert_eq!(rt; fault, Some(JobFault::Tree(want)), "{row}");
     }
     Ok(())
 }
@@ -207,12 +214,8 @@ fn wrong_shapes(rt: HostRuntime) -> Result<(), Fail> {
 #[test]
 fn versions(rt: HostRuntime) -> Result<(), Fail> {
     for version in ["0", "2", "1.0", "\"1\"", "true", "null", "[1]"] {
-        let job = format!(in rt.alloc(); "{{\"version\":{version}}}")?;
-        assert_eq!(rt;
-            refusal(rt.alloc(), job.as_str()),
-            Some(JobFault::Version),
-            "{version}"
-        );
+        let fault = refusal_with(rt.alloc(), "{\"version\":", version)?;
+        assert_eq!(rt; fault, Some(JobFault::Version), "{version}");
     }
     assert_eq!(rt;
         refusal_with(rt.alloc(), LONE_ROOT_WITH, "\"version\":1")?,
@@ -237,8 +240,13 @@ fn bad_events(rt: HostRuntime) -> Result<(), Fail> {
         "[\"r\",\"lose_ack\",0,0]",
     ];
     for entry in entries {
-        let member = format!(in rt.alloc(); "\"schedule\":[[\"x\",\"close\"],{entry}]")?;
-        let fault = refusal_with(rt.alloc(), LONE_ROOT_WITH, member.as_str())?;
+        let pieces = [
+            LONE_ROOT_WITH,
+            "\"schedule\":[[\"x\",\"close\"],",
+            entry,
+            "]}",
+        ];
+        let fault = refusal_of(rt.alloc(), &pieces)?;
         assert_eq!(rt; fault, Some(JobFault::Event), "{entry}");
     }
     Ok(())
@@ -291,8 +299,8 @@ fn order_of_the_checks(rt: HostRuntime) -> Result<(), Fail> {
     let tree = "[{\"name\":\"r\"},{\"name\":\"a\",\"parent\":\"r\"}]";
     for (row, want) in rows {
         let members = row.replace(rt.alloc(), "T", tree)?;
-        let job = format!(in rt.alloc(); "{{{members}}}")?;
-        assert_eq!(rt; refusal(rt.alloc(), job.as_str()), Some(want), "{row}");
+        let fault = refusal_with(rt.alloc(), "{", members.as_str())?;
+        assert_eq!(rt; fault, Some(want), "{row}");
     }
     Ok(())
 }

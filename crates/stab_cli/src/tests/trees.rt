@@ -1,0 +1,143 @@
+use super::*;
+use stab_script::ScriptFault;
+use stab_tree::TreeFault;
+
+const LONE_ROOT: &str = r#"{"capacity":1,"labels":4,"tree":[{"name":"r"}],"items":[7,8]}"#;
+
+/// The acts of the worst start and what follows it, on the link into this node: one round that finds it, and so many more.
+fn push_steps(schedule: &mut String, child: &str, rounds: usize) -> Result<(), AllocError> {
+    let worst = [
+        "offer",
+        "recv_ack",
+        "send_ack",
+        "offer",
+        "recv_ack",
+        "recv_frame",
+        "send_ack",
+        "offer",
+        "recv_ack",
+        "offer",
+        "send_frame",
+        "recv_frame",
+        "send_ack",
+        "recv_ack",
+    ];
+    for act in worst {
+        push_step(schedule, child, act)?;
+    }
+    for _ in 0..rounds {
+        for act in ["offer", "send_frame", "recv_frame", "send_ack", "recv_ack"] {
+            push_step(schedule, child, act)?;
+        }
+    }
+    Ok(())
+}
+
+fn push_step(schedule: &mut String, child: &str, act: &str) -> Result<(), AllocError> {
+    if !schedule.is_empty() {
+        schedule.push_str(",")?;
+    }
+    for piece in ["[\"", child, "\",\"", act, "\"]"] {
+        schedule.push_str(piece)?;
+    }
+    Ok(())
+}
+
+#[test]
+fn two_links_under_one_schedule(rt: HostRuntime) -> Result<(), Fail> {
+    let mut schedule = String::new(rt.alloc());
+    push_steps(&mut schedule, "a", 3)?;
+    push_steps(&mut schedule, "b", 1)?;
+    let mut job = String::from_str(
+        rt.alloc(),
+        r#"{"capacity":1,"labels":4,"tree":[{"name":"r"},{"name":"a","parent":"r"},{"name":"b","parent":"a"}],"items":[10,11,12,13,14,15,16],"starts":[{"frames":[[2,99]],"acks":[0],"send":0,"recv":1},{"frames":[[2,98]],"acks":[0],"send":0,"recv":1}],"schedule":["#,
+    )?;
+    job.push_str(&schedule)?;
+    job.push_str("]}")?;
+    assert_answer(
+        &rt,
+        Task::Tree,
+        &job,
+        "r depth 0 received 7 acked -\nitems: 10 11 12 13 14 15 16\na depth 1 received 5 acked 7\nitems: 99 13 14 15 16\nb depth 2 received 3 acked 5\nitems: 98 15 16\n",
+    );
+    Ok(())
+}
+
+#[test]
+fn a_lone_root(rt: HostRuntime) {
+    assert_answer(
+        &rt,
+        Task::Tree,
+        LONE_ROOT,
+        "r depth 0 received 2 acked -\nitems: 7 8\n",
+    );
+}
+
+#[test]
+fn an_offer_of_nothing(rt: HostRuntime) {
+    assert_answer(
+        &rt,
+        Task::Tree,
+        r#"{"capacity":1,"labels":4,"tree":[{"name":"r"},{"name":"a","parent":"r"},{"name":"b","parent":"a"}],"items":[7],"schedule":[["b","offer"],["b","send_frame"],["b","recv_frame"]]}"#,
+        "r depth 0 received 1 acked -\nitems: 7\na depth 1 received 0 acked 0\nitems:\nb depth 2 received 0 acked 0\nitems:\n",
+    );
+}
+
+#[test]
+fn a_job_cut_short(rt: HostRuntime) -> Result<(), Fail> {
+    let whole = LONE_ROOT.as_bytes();
+    let fault = CliFault::Job(JobFault::Json);
+    for len in 0..whole.len() {
+        assert_refused(&rt, Task::Tree, &whole[..len], fault);
+    }
+    assert_fault(&rt, fault, 1, "job: not JSON")?;
+    Ok(())
+}
+
+#[test]
+fn refused_trees_and_schedules(rt: HostRuntime) -> Result<(), Fail> {
+    let rows = [
+        (
+            r#"{"capacity":1,"labels":4,"tree":[{"name":"r"}],"items":[7,8],"schedule":[["r","offer"]]}"#,
+            CliFault::Tree(TreeStartFault::Step(TreeStepFault::NoSuchLink)),
+            3,
+            "step: no such link",
+        ),
+        (
+            r#"{"capacity":1,"labels":4,"tree":[{"name":"r"},{"name":"a","parent":"r"},{"name":"b","parent":"a"}],"items":[7],"starts":[{"send":0,"recv":1},{"frames":[[0,1],[1,2]],"send":0,"recv":1}]}"#,
+            CliFault::Tree(TreeStartFault::Start(StartFault::TooManyFrames)),
+            3,
+            "start: too many frames",
+        ),
+        (
+            r#"{"capacity":1,"labels":4,"tree":[{"name":"r"},{"name":"a","parent":"b"},{"name":"b","parent":"a"}],"items":[7]}"#,
+            CliFault::Job(JobFault::Tree(TreeFault::Cycle)),
+            1,
+            "tree: cycle",
+        ),
+        (
+            r#"{"capacity":1,"labels":4,"tree":[],"items":[7]}"#,
+            CliFault::Job(JobFault::Tree(TreeFault::NoRoot)),
+            1,
+            "tree: no root",
+        ),
+        (
+            r#"{"capacity":1,"labels":4,"tree":[{"name":"r"},{"name":"a","parent":"r"}],"items":[7],"scripts":[{"seed":[42,54],"length":1,"loss":1001,"repeat":0}]}"#,
+            CliFault::Job(JobFault::Script(ScriptFault::RateOutOfRange)),
+            1,
+            "job: rate out of range",
+        ),
+        ("{}", CliFault::Job(JobFault::Shape), 1, "job: wrong shape"),
+        (
+            r#"{"version":3}"#,
+            CliFault::Job(JobFault::Version),
+            1,
+            "job: unknown version",
+        ),
+    ];
+    for (job, fault, status, text) in rows {
+        assert_refused(&rt, Task::Tree, job.as_bytes(), fault);
+        assert_fault(&rt, fault, status, text)?;
+    }
+    Ok(())
+}

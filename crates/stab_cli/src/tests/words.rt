@@ -1,0 +1,74 @@
+use super::*;
+
+/// The words of a command line.
+fn words(alloc: Global, line: &[&str]) -> Result<Vec<String>, AllocError> {
+    let mut words = Vec::new(alloc);
+    for word in line {
+        words.push(String::from_str(alloc, word)?)?;
+    }
+    Ok(words)
+}
+
+/// What the words of a command line are parsed as.
+fn parsed(
+    alloc: Global,
+    line: &[&str],
+) -> Result<Result<(Task, Option<String>), CliFault>, AllocError> {
+    Ok(parse(alloc, &words(alloc, line)?))
+}
+
+#[test]
+fn command_lines(rt: HostRuntime) -> Result<(), Fail> {
+    let rows = [
+        (["stab"].as_slice(), PLAIN, None),
+        (["stab", "link"].as_slice(), PLAIN, None),
+        (["stab", "link", "--trace"].as_slice(), TRACED, None),
+        (
+            ["stab", "link", "job.json", "--trace"].as_slice(),
+            TRACED,
+            Some("job.json"),
+        ),
+        (
+            ["stab", "link", "--", "--trace"].as_slice(),
+            PLAIN,
+            Some("--trace"),
+        ),
+        (["stab", "tree"].as_slice(), Task::Tree, None),
+        (
+            ["stab", "tree", "job.json"].as_slice(),
+            Task::Tree,
+            Some("job.json"),
+        ),
+    ];
+    for (line, task, path) in rows {
+        let (its_task, its_path) = parsed(rt.alloc(), line)??;
+        assert_eq!(rt; its_task, task, "{line:?}");
+        assert_eq!(rt; its_path.as_deref(), path, "{line:?}");
+    }
+    Ok(())
+}
+
+#[test]
+fn unknown_flag_and_help(rt: HostRuntime) -> Result<(), Fail> {
+    let lines = [
+        ["stab", "run", "--fast"].as_slice(),
+        ["stab", "link", "--fast"].as_slice(),
+        ["stab", "tree", "--trace"].as_slice(),
+        ["stab", "--trace"].as_slice(),
+        ["stab", "job.json"].as_slice(),
+        ["stab", "--help"].as_slice(),
+        ["stab", "help"].as_slice(),
+        ["stab", "link", "--help"].as_slice(),
+        ["stab", "--version"].as_slice(),
+        ["stab", "link", "one.json", "two.json"].as_slice(),
+    ];
+    for line in lines {
+        assert_eq!(rt;
+            parsed(rt.alloc(), line)?,
+            Err(CliFault::CommandLine),
+            "{line:?}"
+        );
+    }
+    assert_fault(&rt, CliFault::CommandLine, 2, "command line refused")?;
+    Ok(())
+}
