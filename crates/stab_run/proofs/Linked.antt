@@ -1,13 +1,9 @@
 -- Starts and scripts, link by link.
-use Rattle.std.proofs.Common.{◌≡◌, ℕ, zero, suc, ◌+◌, List, [], ◌∷◌, ◌++◌, length, replicate, drop, Option, Some, None, IsSome, unwrap_or, Result, Ok, Err, refl, sym, ap, ◌∙◌, append_assoc, add-one}
+use Rattle.std.proofs.Common.{◌≡◌, ℕ, ◌+◌, List, [], ◌∷◌, ◌++◌, replicate, Option, Some, None, IsSome, unwrap_or, Result, Ok, Err, refl, sym, ap, ◌∙◌, append_assoc}
 use Rattle.std.proofs.lemmas.List.{replicate-append-replicate, append-nil}
-use Rattle.serde_json.specs.Data.{Data, Items, item}
-use Rattle.serde_json.specs.View.{view, items_view}
-use Rattle.serde_json.specs.declared.value.Value.{Value}
 use Rattle.stab_script.specs.declared.fault.ScriptFault.{ScriptFault}
 use Rattle.stab_script.specs.Scripts.{Acts}
-use Rattle.stab_script.specs.ScriptEntries.{scripted, script, part_of}
-use Rattle.stab_script.specs.Values.{◌>>=◌, entries}
+use Rattle.stab_script.specs.Values.{◌>>=◌}
 use Rattle.stab_run.specs.JobLinks.{before, all_made}
 
 -- one more at the end of as many alike is one more of them

@@ -35,6 +35,9 @@ const WORST: [LinkAct; 14] = [
     LinkAct::RecvAck { keep: false },
 ];
 
+/// What the worst start has in its queues, at each of the chain's two links.
+const WORST_STARTS: [(&[Item], usize); 2] = [(&[99], 1), (&[98], 1)];
+
 /// One item goes from the parent to the child, undisturbed.
 const ROUND: [LinkAct; 5] = [
     LinkAct::Offer,
@@ -49,8 +52,8 @@ fn tree(rt: &impl Abort, alloc: Global, text: &str) -> Result<Tree, TreeFault> {
     read_tree(alloc, &value)
 }
 
-/// A start with these frames, each with label 2, and these acknowledgements, each 0.
-fn start(alloc: Global, items: &[Item], acks: usize) -> Result<Start, AllocError> {
+/// Frames of these items, each with label 2.
+fn frames(alloc: Global, items: &[Item]) -> Result<Sequence<Frame>, AllocError> {
     let mut frames = Sequence::new(alloc);
     for item in items {
         frames.push(Frame {
@@ -58,16 +61,26 @@ fn start(alloc: Global, items: &[Item], acks: usize) -> Result<Start, AllocError
             item: *item,
         })?;
     }
-    let mut labels = Sequence::new(alloc);
-    for _ in 0..acks {
-        labels.push(0)?;
-    }
+    Ok(frames)
+}
+
+/// A start with frames of these items, and so many acknowledgements, each 0.
+fn start(alloc: Global, items: &[Item], acks: usize) -> Result<Start, AllocError> {
     Ok(Start {
-        frames,
-        acks: labels,
+        frames: frames(alloc, items)?,
+        acks: Sequence::from_vec(vec![in alloc; 0; acks]?),
         send_label: 0,
         recv_label: 1,
     })
+}
+
+/// A start for each link: the items of its frames, and how many acknowledgements it holds.
+fn starts(alloc: Global, links: &[(&[Item], usize)]) -> Result<Vec<Start>, AllocError> {
+    let mut starts = Vec::new(alloc);
+    for (items, acks) in links {
+        starts.push(start(alloc, *items, *acks)?)?;
+    }
+    Ok(starts)
 }
 
 /// Adds these acts on the link into a node.
@@ -82,30 +95,45 @@ fn push_acts(
     Ok(())
 }
 
+/// The schedule of two links: each finds the worst start, and then items go on undisturbed.
+fn two_links(alloc: Global, a: NodeId, b: NodeId) -> Result<Vec<TreeEvent>, AllocError> {
+    let mut schedule = Vec::new(alloc);
+    for (child, acts) in [
+        (a, WORST.as_slice()),
+        (a, ROUND.as_slice()),
+        (a, ROUND.as_slice()),
+        (a, ROUND.as_slice()),
+        (b, WORST.as_slice()),
+        (b, ROUND.as_slice()),
+    ] {
+        push_acts(&mut schedule, child, acts)?;
+    }
+    Ok(schedule)
+}
+
+/// How a schedule of the chain from these starts is refused, or `None` where it is not.
+fn refusal(
+    alloc: Global,
+    tree: &Tree,
+    links: &[(&[Item], usize)],
+    events: &[TreeEvent],
+) -> Result<Option<TreeStartFault>, Fail> {
+    let params = Params::new(1, 4)?;
+    let starts = starts(alloc, links)?;
+    Ok(run_schedule(alloc, params, tree, &ITEMS, &starts, events).err())
+}
+
 #[test]
 fn two_links_under_one_schedule(rt: HostRuntime) -> Result<(), Fail> {
     let tree = tree(&rt, rt.alloc(), CHAIN)?;
     let a = tree.find("a").expect(&rt, "a node");
     let b = tree.find("b").expect(&rt, "a node");
-    let starts = [start(rt.alloc(), &[99], 1)?, start(rt.alloc(), &[98], 1)?];
-    let mut schedule = Vec::new(rt.alloc());
-    push_acts(&mut schedule, a, &WORST)?;
-    push_acts(&mut schedule, a, &ROUND)?;
-    push_acts(&mut schedule, a, &ROUND)?;
-    push_acts(&mut schedule, a, &ROUND)?;
-    push_acts(&mut schedule, b, &WORST)?;
-    push_acts(&mut schedule, b, &ROUND)?;
+    let starts = starts(rt.alloc(), &WORST_STARTS)?;
+    let schedule = two_links(rt.alloc(), a, b)?;
     let params = Params::new(1, 4)?;
-    let state = run_schedule(
-        rt.alloc(),
-        params,
-        &tree,
-        &ITEMS,
-        &starts,
-        schedule.as_slice(),
-    )?;
-    assert_eq!(rt; state.received(a), [99, 13, 14, 15, 16].as_slice());
-    assert_eq!(rt; state.received(b), [98, 15, 16].as_slice());
+    let state = run_schedule(rt.alloc(), params, &tree, &ITEMS, &starts, &schedule)?;
+    assert!(rt; state.received(a) == [99, 13, 14, 15, 16].as_slice());
+    assert!(rt; state.received(b) == [98, 15, 16].as_slice());
     assert_eq!(rt; state.link(b).map(|link| link.acked()), Some(5));
     let text = schedule_text(rt.alloc(), &tree, &state)?;
     assert_eq!(rt;
@@ -116,38 +144,35 @@ fn two_links_under_one_schedule(rt: HostRuntime) -> Result<(), Fail> {
 }
 
 #[test]
-fn refused_schedules(rt: HostRuntime) -> Result<(), Fail> {
+fn refused_starts(rt: HostRuntime) -> Result<(), Fail> {
     let tree = tree(&rt, rt.alloc(), CHAIN)?;
-    let params = Params::new(1, 4)?;
-    let one = [start(rt.alloc(), &[99], 1)?];
-    let refused = run_schedule(rt.alloc(), params, &tree, &ITEMS, &one, &[]);
-    assert_eq!(rt; refused.err(), Some(TreeStartFault::StartCount));
-    let second = [
-        start(rt.alloc(), &[99], 1)?,
-        start(rt.alloc(), &[98, 97], 1)?,
+    let frames = Some(TreeStartFault::Start(StartFault::TooManyFrames));
+    let acks = Some(TreeStartFault::Start(StartFault::TooManyAcks));
+    let one: [(&[Item], usize); 1] = [(&[99], 1)];
+    let second: [(&[Item], usize); 2] = [(&[99], 1), (&[98, 97], 1)];
+    let both: [(&[Item], usize); 2] = [(&[99], 2), (&[98, 97], 1)];
+    let rows = [
+        (one.as_slice(), Some(TreeStartFault::StartCount)),
+        (second.as_slice(), frames),
+        (both.as_slice(), acks),
+        (WORST_STARTS.as_slice(), None),
     ];
-    let refused = run_schedule(rt.alloc(), params, &tree, &ITEMS, &second, &[]);
-    assert_eq!(rt;
-        refused.err(),
-        Some(TreeStartFault::Start(StartFault::TooManyFrames))
-    );
-    let both = [
-        start(rt.alloc(), &[99], 2)?,
-        start(rt.alloc(), &[98, 97], 1)?,
-    ];
-    let refused = run_schedule(rt.alloc(), params, &tree, &ITEMS, &both, &[]);
-    assert_eq!(rt;
-        refused.err(),
-        Some(TreeStartFault::Start(StartFault::TooManyAcks))
-    );
-    let starts = [start(rt.alloc(), &[99], 1)?, start(rt.alloc(), &[98], 1)?];
+    for (links, want) in rows {
+        assert_eq!(rt; refusal(rt.alloc(), &tree, links, &[])?, want);
+    }
+    Ok(())
+}
+
+#[test]
+fn schedule_on_the_root(rt: HostRuntime) -> Result<(), Fail> {
+    let tree = tree(&rt, rt.alloc(), CHAIN)?;
     let on_root = [TreeEvent {
         child: tree.root(),
         act: LinkAct::Offer,
     }];
-    let refused = run_schedule(rt.alloc(), params, &tree, &ITEMS, &starts, &on_root);
+    let fault = refusal(rt.alloc(), &tree, &WORST_STARTS, &on_root)?;
     assert_eq!(rt;
-        refused.err(),
+        fault,
         Some(TreeStartFault::Step(TreeStepFault::NoSuchLink))
     );
     Ok(())
@@ -158,7 +183,7 @@ fn offer_of_nothing(rt: HostRuntime) -> Result<(), Fail> {
     let tree = tree(&rt, rt.alloc(), CHAIN)?;
     let a = tree.find("a").expect(&rt, "a node");
     let b = tree.find("b").expect(&rt, "a node");
-    let starts = [start(rt.alloc(), &[99], 1)?, start(rt.alloc(), &[98], 1)?];
+    let starts = starts(rt.alloc(), &WORST_STARTS)?;
     let mut state = TreeState::new(rt.alloc(), Params::new(1, 4)?, &tree, &ITEMS, &starts)?;
     let steps = [
         (b, LinkAct::Offer, Ok(Effect::Nothing)),

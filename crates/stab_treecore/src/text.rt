@@ -60,7 +60,7 @@ fn push_lines(
 }
 
 /// Adds the first line of a node without its end: its name, its depth, how many items it received, and how many are
-/// acknowledged on the link into it.
+/// acknowledged on the link into it. Where memory is refused, part of the line may stand.
 #[tactic(auto, unfolding(crate::specs::Texts::node_counts))]
 pub fn push_node_counts(
     text: &mut String,
