@@ -25,7 +25,7 @@ pub use events::{event, loss, numbered_event, plain_event};
 pub use fault::{PartFault, ScriptFault};
 pub use half::HalfScript;
 pub use link_job::{LinkJob, LinkJobFault, read_link_job};
-pub use list::{Entry, read_entries, read_list};
+pub use list::{Entry, read_entries, read_list, take_entries};
 pub use script::{MAX_ACTS, Script};
 pub use script_entry::read_script;
 pub use start::read_start;

@@ -5,7 +5,7 @@ ghost use Rattle.stab_script.specs.Values.{value_of};
 ghost use Rattle.stab_script.specs.Starts.{start};
 ghost use Rattle.stab_script.specs.LinkJobs.{Members, link_job, job_of, members};
 
-use crate::list::{Entry, read_entries};
+use crate::list::{Entry, take_entries};
 use crate::value::{capped_member, read_value};
 use serde_json::Value;
 use stab_core::{Event, Start};
@@ -79,24 +79,24 @@ pub fn read_link_job(alloc: Global, bytes: &[u8]) -> Result<LinkJob, LinkJobFaul
     ensures memory { result ≡ Err LinkJobFault.Memory → 0 < length bytes.now }
 {
     match read_value(alloc, bytes)? {
-        Some(value) => job_of_value(alloc, &value),
+        Some(value) => job_of_value(alloc, value),
         None => Err(LinkJobFault::Json),
     }
 }
 
 // The link job that a value means, or the first check that it fails.
-fn job_of_value(alloc: Global, value: &Value) -> Result<LinkJob, LinkJobFault>
+fn job_of_value(alloc: Global, value: Value) -> Result<LinkJob, LinkJobFault>
     ensures { MatchResult result
-        (λ job. job_of (members (view value.now)) ≡ Ok job)
-        (λ fault. fault ≢ LinkJobFault.Memory → job_of (members (view value.now)) ≡ Err fault) }
+        (λ job. job_of (members (view value)) ≡ Ok job)
+        (λ fault. fault ≢ LinkJobFault.Memory → job_of (members (view value)) ≡ Err fault) }
 {
     let (Some(capacity), Some(labels)) = (
-        capped_member(value, "capacity", 65535),
-        capped_member(value, "labels", 65535),
+        capped_member(&value, "capacity", 65535),
+        capped_member(&value, "labels", 65535),
     ) else {
         return Err(LinkJobFault::Shape);
     };
-    let Some(start) = start_member(alloc, value)? else {
+    let Some(start) = start_member(alloc, &value)? else {
         return Err(LinkJobFault::Shape);
     };
     match list_member(value, "events") {
@@ -112,9 +112,9 @@ fn job_of_members(
     capacity: u16,
     labels: u16,
     start: Start,
-    events: &[Value],
+    events: Vec<Value>,
 ) -> Result<LinkJob, LinkJobFault>
-    ensures { let its_members : Members = record { capacity = capacity; labels = labels; start = start; events = items_view events.now } in
+    ensures { let its_members : Members = record { capacity = capacity; labels = labels; start = start; events = items_view events.items } in
         MatchResult result
         (λ job. job_of (Some its_members) ≡ Ok job)
         (λ fault. fault ≢ LinkJobFault.Memory → job_of (Some its_members) ≡ Err fault) }
@@ -123,7 +123,7 @@ fn job_of_members(
     if events.len() > MAX_EVENTS {
         return Err(LinkJobFault::TooManyEvents);
     }
-    match read_entries(alloc, events)? {
+    match take_entries(alloc, events)? {
         Some(events) => Ok(LinkJob {
             params,
             start,
@@ -143,10 +143,13 @@ fn start_member(alloc: Global, value: &Value) -> Result<Option<Start>, AllocErro
     }
 }
 
-// The values of the list that a member of an object is.
-fn list_member<'v>(value: &'v Value, name: &str) -> Option<&'v [Value]>
-    ensures { option_map (λ list. items_view list.now) result
-        ≡ option_and_then as_array (get name.now (view value.now)) }
+// The values of the list that a member of an object is, taken out of it.
+fn list_member(mut value: Value, name: &str) -> Option<Vec<Value>>
+    ensures { option_map (λ list. items_view list.items) result
+        ≡ option_and_then as_array (get name.now (view value)) }
 {
-    Some(value.get(name)?.as_array()?.as_slice())
+    match value.get_mut(name)?.take() {
+        Value::Array(list) => Some(list),
+        _ => None,
+    }
 }

@@ -51,6 +51,24 @@ pub fn read_entries<T: Entry>(
     Ok(Some(read))
 }
 
+/// The entries of a list that is handed over, in their order, or `None` where one of them means nothing. Each value is
+/// dropped when it has been read, while it is still at hand, and not in a second pass over all of them.
+pub fn take_entries<T: Entry>(
+    alloc: Global,
+    values: Vec<Value>,
+) -> Result<Option<Sequence<T>>, AllocError>
+    ensures { IfOk result (λ list. list ≡ entries T.meaning (items_view values.items)) }
+{
+    let mut read = Sequence::with_capacity(alloc, values.len())?;
+    for value in values {
+        let Some(entry) = T::read(alloc, &value)? else {
+            return Ok(None);
+        };
+        read.push(entry)?;
+    }
+    Ok(Some(read))
+}
+
 /// The entries of a list, which where it is absent is empty; `None` where the value is no list, or one of the
 /// entries means nothing.
 pub fn read_list<T: Entry>(
