@@ -301,6 +301,15 @@ pub few_picked : (items places picked : List ℕ) → Picks items places picked 
 few_picked items places picked picks =
     omega (arith, length_picked items places picked picks, few_rising 0 (length items) places picks.rising picks.in_list (omega arith))
 
+-- what is picked is in the list
+pub picked_is_member : (items places picked : List ℕ) (x : ℕ) → Picks items places picked → Contains picked x
+    → Contains items x
+picked_is_member items places picked x picks member =
+    let (k, within, is) =
+    member_is_chosen items places x (subst (λ (xs : List ℕ). Contains xs x) picks.the_items member) in
+    let in_list : get_or places k 0 < length items = below_bound (length items) places k picks.in_list within in
+    stands_is_member items x (get_or places k 0) (record { within = in_list; is_there = is })
+
 -- what is picked from a picked list is picked from the whole
 pub picks_chosen : (items ps picked qs chosen : List ℕ) → Picks items ps picked → Picks picked qs chosen
     → Picks items (at_places ps qs) chosen

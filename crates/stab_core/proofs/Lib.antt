@@ -14,3 +14,4 @@ pub mod Reading
 pub mod Kept
 pub mod Events
 pub mod LinkLaws
+pub mod CounterExamples
