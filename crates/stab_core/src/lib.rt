@@ -25,7 +25,9 @@ pub use receiver::Receiver;
 pub use replay::run_link;
 pub use sender::Sender;
 pub use start::{Start, StartFault};
-pub use text::{link_text, origins_text, push_items_line, push_number};
+pub use text::{
+    link_text, origins_text, push_items_line, push_link_text, push_number, push_origins_text,
+};
 pub use tracer::{run_traced, trace};
 
 #[cfg(test)]

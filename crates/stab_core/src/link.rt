@@ -124,19 +124,16 @@ impl Link {
         let Some(frame) = self.frames.front() else {
             return Ok(Effect::Nothing);
         };
-        let fresh = frame.label != self.receiver.ack();
-        if fresh {
+        let effect = if self.receiver.is_fresh(frame) {
             self.delivered.push(frame.item)?;
-        }
-        self.receiver.on_frame(frame);
+            Effect::Fresh(self.receiver.take(frame))
+        } else {
+            Effect::Old
+        };
         if !keep {
             self.frames.take();
         }
-        Ok(if fresh {
-            Effect::Fresh(frame.item)
-        } else {
-            Effect::Old
-        })
+        Ok(effect)
     }
 
     fn send_ack(&mut self) -> Effect

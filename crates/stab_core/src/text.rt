@@ -11,35 +11,51 @@ use itoa::Buffer;
 use stab_frames::{Frame, Item, Label};
 use std::alloc::{AllocError, Global};
 
-/// The eight lines of a link: what was delivered and offered, how much is acknowledged, both labels, both queues, and
-/// whether it is closed.
-#[tactic(auto, unfolding(crate::specs::Texts::link_text))]
+/// The eight lines of a link: what was delivered and offered, how much is acknowledged, both
+/// labels, both queues, and whether it is closed.
 pub fn link_text(alloc: Global, link: &Link) -> Result<String, AllocError>
     ensures { IfOk result (λ text. string_bytes text ≡ link_text link.now.state) }
 {
     let mut text = String::new(alloc);
-    push_items_line(&mut text, "delivered:", link.delivered())?;
-    push_items_line(&mut text, "offered:", link.offered())?;
-    push_number_line(&mut text, "acked:", link.acked())?;
-    push_number_line(&mut text, "send label:", u64::from(link.send_label()))?;
-    push_number_line(&mut text, "recv label:", u64::from(link.recv_label()))?;
-    push_frames_line(&mut text, link)?;
-    push_acks_line(&mut text, link)?;
-    push_closed_line(&mut text, link.is_closed())?;
+    push_link_text(&mut text, link)?;
     Ok(text)
 }
 
-/// The line of the origins of the delivered items: `s` and the place of a stray, `i` and the place of an offered item.
-#[tactic(auto, unfolding(crate::specs::Texts::origins_text))]
+/// Adds the eight lines of a link. Where memory is refused, a part of them may have been added.
+#[tactic(auto, unfolding(crate::specs::Texts::link_text))]
+pub fn push_link_text(text: &mut String, link: &Link) -> Result<(), AllocError>
+    ensures { OnOk result (string_bytes text.new ≡ string_bytes text.old ++ link_text link.now.state) }
+{
+    push_items_line(text, "delivered:", link.delivered())?;
+    push_items_line(text, "offered:", link.offered())?;
+    push_number_line(text, "acked:", link.acked())?;
+    push_number_line(text, "send label:", u64::from(link.send_label()))?;
+    push_number_line(text, "recv label:", u64::from(link.recv_label()))?;
+    push_frames_line(text, link)?;
+    push_acks_line(text, link)?;
+    push_closed_line(text, link.is_closed())
+}
+
+/// The line of the origins of the delivered items: `s` and the place of a stray, `i` and the place
+/// of an offered item.
 pub fn origins_text(alloc: Global, origins: &[Origin]) -> Result<String, AllocError>
     ensures { IfOk result (λ text. string_bytes text ≡ origins_text origins.now) }
 {
-    let mut text = String::from_str(alloc, "origins:")?;
-    for origin in origins {
-        push_origin(&mut text, *origin)?;
-    }
-    text.push_str("\n")?;
+    let mut text = String::new(alloc);
+    push_origins_text(&mut text, origins)?;
     Ok(text)
+}
+
+/// Adds the line of these origins. Where memory is refused, a part of it may have been added.
+#[tactic(auto, unfolding(crate::specs::Texts::origins_text))]
+pub fn push_origins_text(text: &mut String, origins: &[Origin]) -> Result<(), AllocError>
+    ensures { OnOk result (string_bytes text.new ≡ string_bytes text.old ++ origins_text origins.now) }
+{
+    text.push_str("origins:")?;
+    for origin in origins {
+        push_origin(text, *origin)?;
+    }
+    text.push_str("\n")
 }
 
 /// Adds a line: the label, then each item after one space. Where memory is refused, a part of the line may stand.

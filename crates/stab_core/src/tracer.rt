@@ -133,14 +133,15 @@ impl Tracer {
         requires { self.old.traced.state.closed ≡ false }
         ensures { OnOk result (self.new ≡ tracer_at self.old.params (traced_step self.old.params self.old.traced (Event.RecvFrame keep))) }
     {
-        self.origins.reserve(1)?;
-        if let Effect::Fresh(_) = self.link.apply(Event::RecvFrame { keep })? {
-            if let Some(origin) = self.queued.front() {
-                self.origins.push_reserved(origin);
-            }
-        }
+        let front = self.queued.front();
+        let effect = self.link.apply(Event::RecvFrame { keep })?;
         if !keep {
             self.queued.take();
+        }
+        if let Effect::Fresh(_) = effect {
+            if let Some(origin) = front {
+                self.origins.push(origin)?;
+            }
         }
         Ok(())
     }
