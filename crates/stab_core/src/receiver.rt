@@ -3,7 +3,8 @@ ghost use Rattle.std.specs.Prelude.{◌≡◌, ◌==◌, not, Some, None, if◌t
 use stab_frames::{Frame, Item, Label};
 use std::marker::Model;
 
-/// The receiver's half of a link: the label that it took last. Contracts see it as that label.
+/// The receiver's half of a link: it remembers the label that it took last. Contracts see it as
+/// that label.
 ///
 /// No call takes memory.
 #[derive(Debug, Drop)]
