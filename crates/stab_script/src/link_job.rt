@@ -136,7 +136,7 @@ fn read_members(alloc: Global, value: Value) -> Result<Option<Members>, AllocErr
 
 /// The start that the member of that name is.
 fn start_member(alloc: Global, value: &Value) -> Result<Option<Start>, AllocError>
-    ensures { IfOk result (λ it. it ≡ option_and_then start (get (codes "start") (view value.now))) }
+    ensures { IfOk result (λ its_start. its_start ≡ option_and_then start (get (codes "start") (view value.now))) }
 {
     match value.get("start") {
         Some(start) => StartEntry::read(alloc, start),

@@ -27,7 +27,7 @@ impl<'v> Entry<'v> for StartEntry {
 /// The start of a link, where the value means one.
 pub fn read_start(alloc: Global, value: &Value) -> Result<Start, PartFault>
     ensures { MatchResult result
-        (λ it. start (view value.now) ≡ Some it)
+        (λ its_start. start (view value.now) ≡ Some its_start)
         (λ fault. fault ≢ PartFault.Memory → (fault ≡ PartFault.Shape) × (start (view value.now) ≡ None)) }
 {
     match StartEntry::read(alloc, value) {
@@ -39,7 +39,7 @@ pub fn read_start(alloc: Global, value: &Value) -> Result<Start, PartFault>
 
 /// The start, or `None` where the value means none; only memory can be refused.
 fn start_of(alloc: Global, value: &Value) -> Result<Option<Start>, AllocError>
-    ensures { IfOk result (λ it. it ≡ start (view value.now)) }
+    ensures { IfOk result (λ its_start. its_start ≡ start (view value.now)) }
 {
     let Some(frames) = read_list::<Frame>(alloc, value.get("frames"))? else {
         return Ok(None);
