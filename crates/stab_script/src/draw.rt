@@ -9,14 +9,15 @@ use rand_core::Rng;
 use rand_pcg::Pcg32;
 use std::alloc::Global;
 
-/// The most words of a thousand that a rate may name.
+/// The largest rate, which is a number of words in a thousand.
 const MAX_RATE: u16 = 1000;
 
-// An act that is made of a word.
+/// An act that is made of a word.
 trait Drawn: Sized + Drop {
     // The act of a word, at a rate.
     ghost of_word: { ℕ → ℕ → Self };
 
+    /// The act of a word, at a rate.
     fn of_word(rate: u16, word: u32) -> Self
         ensures { result ≡ of_word rate word };
 }
@@ -25,7 +26,7 @@ impl Drawn for OutAct {
     ghost of_word = { out_of_word };
 
     fn of_word(loss: u16, word: u32) -> OutAct {
-        if word % 1000 < u32::from(loss) {
+        if word % u32::from(MAX_RATE) < u32::from(loss) {
             OutAct::Drop
         } else {
             OutAct::Pass
@@ -37,7 +38,7 @@ impl Drawn for InAct {
     ghost of_word = { in_of_word };
 
     fn of_word(repeat: u16, word: u32) -> InAct {
-        if word % 1000 < u32::from(repeat) {
+        if word % u32::from(MAX_RATE) < u32::from(repeat) {
             InAct::Keep
         } else {
             InAct::Take
@@ -45,8 +46,8 @@ impl Drawn for InAct {
     }
 }
 
+/// A list of acts, a word each; there is room for them.
 #[tactic(auto, unfolding(crate::specs::Draws::words, crate::specs::Draws::after_words))]
-// A list of acts, a word each; there is room for them.
 fn draw_list<R: Rng, A: Drawn>(rng: &mut R, len: u32, rate: u16, mut room: Vec<A>) -> Vec<A>
     requires empty { vec_len room ≡ 0 }
     requires reserved { len ≤ vec_capacity room }
@@ -59,7 +60,7 @@ fn draw_list<R: Rng, A: Drawn>(rng: &mut R, len: u32, rate: u16, mut room: Vec<A
     room
 }
 
-// Whether the numbers of a draw are refused.
+/// The first check that the numbers of a draw fail.
 fn check(len: u32, loss: u16, repeat: u16) -> Result<(), ScriptFault>
     ensures { MatchResult result
         (λ _. draw_fault len loss repeat ≡ None)
@@ -75,10 +76,11 @@ fn check(len: u32, loss: u16, repeat: u16) -> Result<(), ScriptFault>
 }
 
 impl Script {
+    /// A script of `len` acts in each list, a word of the generator for each: of frames out, frames
+    /// in, acknowledgements out and acknowledgements in, one list after the other. What goes out is
+    /// dropped at `loss` words in a thousand, what comes in is kept at `repeat` in a thousand. A
+    /// refusal takes no word.
     #[tactic(auto, unfolding(crate::specs::Draws::drawn, crate::specs::Draws::after_lists))]
-    /// A script of `len` acts in each list, a word of the generator for each: of frames out, frames in, acknowledgements
-    /// out and acknowledgements in, one list after the other. What goes out is dropped at `loss` words of a thousand,
-    /// what comes in is kept at `repeat` of a thousand. A refusal takes no word.
     pub fn draw<R: Rng>(
         alloc: Global,
         rng: &mut R,

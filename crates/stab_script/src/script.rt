@@ -11,8 +11,8 @@ use std::marker::Model;
 /// The most acts that a list of a script may have.
 pub const MAX_ACTS: u32 = 100_000;
 
-/// What a link is to lose and to repeat: a list of acts for each of frames going out, frames coming in,
-/// acknowledgements going out and acknowledgements coming in. Past its end a list passes or takes.
+/// What a link is to lose and to repeat: a list of acts for each of frames going out, frames coming
+/// in, acknowledgements going out and acknowledgements coming in. Past its end a list passes or takes.
 #[derive(Debug, Drop)]
 pub struct Script {
     frames_out: Sequence<OutAct>,
@@ -26,7 +26,7 @@ impl Model for Script {
 
     ghost Value = { Acts };
 
-    ghost view = { λ s. acts s.frames_out s.frames_in s.acks_out s.acks_in };
+    ghost view = { λ script. acts script.frames_out script.frames_in script.acks_out script.acks_in };
 }
 
 impl Script {
@@ -49,7 +49,7 @@ impl Script {
         Ok(Script::from_lists(frames_out, frames_in, acks_out, acks_in))
     }
 
-    // The script of these lists, of any length.
+    /// The script of these lists, of any length.
     pub(crate) fn from_lists(
         frames_out: Vec<OutAct>,
         frames_in: Vec<InAct>,
@@ -83,10 +83,10 @@ impl Script {
         ensures { IfOk result (λ script. script ≡ self.now) }
     {
         Ok(Script {
-            frames_out: copy_of(alloc, self.frames_out())?,
-            frames_in: copy_of(alloc, self.frames_in())?,
-            acks_out: copy_of(alloc, self.acks_out())?,
-            acks_in: copy_of(alloc, self.acks_in())?,
+            frames_out: self.frames_out.copy(alloc)?,
+            frames_in: self.frames_in.copy(alloc)?,
+            acks_out: self.acks_out.copy(alloc)?,
+            acks_in: self.acks_in.copy(alloc)?,
         })
     }
 
@@ -128,11 +128,4 @@ impl Script {
             HalfScript::new(self.acks_out, self.frames_in),
         )
     }
-}
-
-// The same elements once more.
-fn copy_of<T: Copy>(alloc: Global, elements: &[T]) -> Result<Sequence<T>, AllocError>
-    ensures { IfOk result (λ copy. copy ≡ elements.now) }
-{
-    Ok(Sequence::from_vec(Vec::from_slice(alloc, elements)?))
 }
