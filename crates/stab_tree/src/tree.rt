@@ -85,6 +85,13 @@ impl Tree {
         self.parents[node.index()]
     }
 
+    /// The parents of all nodes, in file order.
+    pub fn parents(&self) -> &[Option<NodeId>]
+        ensures value { result.now ≡ self.now.parents }
+    {
+        self.parents.as_slice()
+    }
+
     /// The number of parent steps from the node to the root.
     #[tactic(auto, unfolding(crate::specs::Steps::depth_of))]
     pub fn depth(&self, node: NodeId) -> u16
