@@ -4,8 +4,8 @@ use Rattle.std.proofs.lemmas.List.Folds.{list_all_at}
 use Rattle.std.proofs.lemmas.List.FromFn.{length-range_with_len, get_or-range_with_len}
 use Rattle.std.proofs.lemmas.List.Recursion.{and_at, and_from_places}
 use Rattle.std.specs.List.{list_all, range_with_len}
+use Rattle.stab_tree.specs.Parents.{have_depths}
 use Rattle.stab_tree.specs.Nodes.{parent_at}
-use Rattle.stab_tree.specs.Read.{have_depths}
 use Rattle.stab_tree.specs.Steps.{steps_within, depth_at}
 use Rattle.stab_tree.proofs.Steps.{option_cases, steps-child}
 

@@ -1,8 +1,8 @@
 -- The nodes without a parent, counted and found.
-use Rattle.std.proofs.Common.{◌≡◌, ℕ, zero, suc, ◌+◌, ◌<◌, ◌≤◌, List, [], ◌∷◌, length, Option, Some, None, is_none, cond, inl, inr, one-add, refl, arith}
+use Rattle.std.proofs.Common.{◌≡◌, ℕ, zero, suc, ◌+◌, ◌<◌, ◌≤◌, List, [], ◌∷◌, length, Option, Some, None, is_none, not, unwrap_or, cond, inl, inr, one-add, refl, arith}
 use Rattle.std.specs.List.{count_by, position}
 use Rattle.std.proofs.lemmas.Bool.{cases_lt, lt-ltb, le-ltb}
-use Rattle.std.proofs.lemmas.List.Sums.{sum_by-cons}
+use Rattle.std.proofs.lemmas.List.Sums.{prefix_len-le-length, sum_by-cons}
 use Rattle.stab_tree.specs.Nodes.{parent_at, root_of}
 
 -- the count at one node more
@@ -43,16 +43,12 @@ root-alone (None ∷ ps) (suc w) one within e = absurd (each_has ps w (omega (ar
 root-alone (Some p ∷ ps) zero one within e = cc
 root-alone (Some p ∷ ps) (suc w) one within e = omega (arith, root-alone ps w (omega (arith, count-cons (Some p) ps)) (omega arith) e)
 
--- where no root is found, none counts
-pub count-none : (ps : List (Option ℕ)) → position is_none ps ≡ None → count_by is_none ps ≡ 0
-count-none ps none = count-zero ps (elim (cases_lt (root_of ps) (length ps)) [ inl h ↦ (let no = lt-ltb _ _ h in cc) | inr h ↦ h ])
-
--- where a root is found, it is the first, and some count
-pub count-found : (ps : List (Option ℕ)) (r : ℕ) → position is_none ps ≡ Some r → (r ≡ root_of ps) × (r < length ps) × (1 ≤ count_by is_none ps)
-count-found ps r found =
+-- the first root, and the number of nodes where there is none
+pub root_or_number : (ps : List (Option ℕ)) → unwrap_or (position is_none ps) (length ps) ≡ root_of ps
+root_or_number ps =
     elim (cases_lt (root_of ps) (length ps)) [
-      | inl h ↦ (let same : r ≡ root_of ps = (let in_list = lt-ltb _ _ h in cc) in (same, omega arith, count-some ps h))
-      | inr h ↦ (let past = le-ltb _ _ h in cc)
+      | inl inside ↦ rw (lt-ltb _ _ inside) refl
+      | inr past ↦ rw (le-ltb _ _ past) (omega (arith, prefix_len-le-length (λ o. not (is_none o)) ps))
     ]
 
 -- where none counts, none is found

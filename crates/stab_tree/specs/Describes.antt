@@ -3,9 +3,8 @@
 use Rattle.std.specs.Prelude.{◌≡◌, ℕ, ◌<◌, List, length, slice_get, Option, Some, None, ⊤}
 use Rattle.serde_json.specs.Data.{Data}
 use Rattle.stab_tree.specs.Depth.{EndsAfter}
-use Rattle.stab_tree.specs.Entry.{Entry, entries_of}
+use Rattle.stab_tree.specs.Entry.{Entry, entries_of, names_of}
 use Rattle.stab_tree.specs.Nodes.{Nodes, parent_at}
-use Rattle.stab_tree.specs.Read.{names_of}
 
 -- an entry without a parent stands for a node without one, one with a parent for a child of the
 -- node of that name

@@ -34,7 +34,7 @@ impl Model for Tree {
 impl Tree {
     ghost use Rattle.stab_tree.specs.IsTree.{IsTree};
     ghost use Rattle.stab_tree.specs.Links.{links_of, link_place_of};
-    ghost use Rattle.stab_tree.specs.Nodes.{parent_at, root_of, place_of};
+    ghost use Rattle.stab_tree.specs.Nodes.{most_nodes, parent_at, root_of, place_of};
     ghost use Rattle.stab_tree.specs.Steps.{ancestor, depth_at, depth_of};
     ghost use Rattle.stab_tree.specs.Stored.{IsStored};
 
@@ -62,7 +62,7 @@ impl Tree {
     pub fn len(&self) -> u16
         ensures value { result ≡ length self.now.parents }
         ensures some { 1 ≤ result }
-        ensures few { result ≤ 64 }
+        ensures few { result ≤ most_nodes }
     {
         self.parents.len() as u16
     }
@@ -83,6 +83,13 @@ impl Tree {
         ensures root { IsNone result ↔ (node ≡ root_of self.now.parents) }
     {
         self.parents[node.index()]
+    }
+
+    /// The parents of all nodes, in file order.
+    pub fn parents(&self) -> &[Option<NodeId>]
+        ensures value { result.now ≡ self.now.parents }
+    {
+        self.parents.as_slice()
     }
 
     /// The number of parent steps from the node to the root.

@@ -1,5 +1,5 @@
 use Rattle.std.proofs.Common.{◌≡◌, ◌++◌, map, string_bytes, option_map, drop}
-use Rattle.stab_tree.specs.Read.{parents_of}
+use Rattle.stab_tree.specs.Parents.{parents_of}
 use Rattle.stab_tree.proofs.parents.find_parents.Given as goal
 
 -- the parents so far stand before those of the entries that are left
