@@ -5,7 +5,7 @@ use Rattle.std.proofs.lemmas.Bool.{cases_lt}
 use Rattle.std.proofs.lemmas.List.{get_or_default, get_or-map, length-map}
 use Rattle.std.proofs.lemmas.List.Elements.{Contains-append_right}
 use Rattle.stab_core.specs.Picks.{RisesFrom, AllBelow}
-use Rattle.stab_treecore.specs.TreeLaw.{NoneLacking}
+use Rattle.stab_treecore.specs.TreeLaw.{NoneMissingBefore}
 use Rattle.stab_treecore.proofs.Rising.{later_is_higher, below_bound}
 use Rattle.stab_treecore.proofs.Chosen.{at_places}
 use Rattle.stab_treecore.proofs.Parts.{raised}
@@ -62,13 +62,13 @@ chosen_is_member ps qs q member =
       is_there = get_or-map (λ place. slice_index ps place) qs k 0 0 here.within ∙ ap (λ place. get_or ps place 0) here.is_there;
     })
 
--- Where nothing is lacking, so many places lie before one that is so much above the first ones.
-pub enough_before : (most_missing count i q m : ℕ) (ps : List ℕ) → NoneLacking most_missing ps → RisesFrom 0 ps → Contains ps q
+-- Where none is missing before the last place, so many places lie before one that is so much above the first ones.
+pub enough_before : (most_missing count i q m : ℕ) (ps : List ℕ) → NoneMissingBefore most_missing ps → RisesFrom 0 ps → Contains ps q
     → most_missing + count ≤ i → i < q → StandsAt ps i m → count ≤ m
-enough_before most_missing zero i q m ps none_lacking rises last high before here = omega arith
-enough_before most_missing (suc count) i q m ps none_lacking rises last high before here =
-    let (k, there) = member_stands ps (i - 1) (none_lacking (i - 1) q (omega arith) (omega arith) last) in
-    let counted : count ≤ k = enough_before most_missing count (i - 1) q k ps none_lacking rises last (omega arith) (omega arith) there in
+enough_before most_missing zero i q m ps none_missing rises last high before here = omega arith
+enough_before most_missing (suc count) i q m ps none_missing rises last high before here =
+    let (k, there) = member_stands ps (i - 1) (none_missing (i - 1) q (omega arith) (omega arith) last) in
+    let counted : count ≤ k = enough_before most_missing count (i - 1) q k ps none_missing rises last (omega arith) (omega arith) there in
     let earlier : k < m = lower_is_earlier 0 ps k m rises there.within here.within (omega (arith, there.is_there, here.is_there)) in
     omega arith
 

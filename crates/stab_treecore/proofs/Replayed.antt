@@ -25,7 +25,7 @@ use Rattle.stab_treecore.specs.Prefix.{IsPrefix}
 use Rattle.stab_treecore.specs.TreeReplay.{opened, tree_opening, tree_replay}
 use Rattle.stab_treecore.specs.TreeStep.{event_on, link_after, tree_step}
 use Rattle.stab_treecore.specs.WholeTree.{WholeTree, link_into, received, source}
-use Rattle.stab_treecore.proofs.AtNodes.{none_or_some, nodes_obey}
+use Rattle.stab_treecore.proofs.AtNodes.{none_or_some, nodes_obey, one_capacity}
 use Rattle.stab_treecore.proofs.Linked.{kind-set, same_kind}
 use Rattle.stab_treecore.proofs.Opened.{linked_nodes}
 use Rattle.stab_treecore.proofs.Prefixes.{prefix_of_itself, prefix_of_prefix}
@@ -261,6 +261,8 @@ schedule_obeys steps obey nodes p starts published events tree depths lawful_par
     let run : IsRun p nodes.parents starts published t =
     replay_keeps steps p nodes.parents starts published (tree_opening p nodes.parents published starts) events
     (opening_is_run p nodes.parents starts published 0 one_per_link) in
-    nodes_obey nodes tree depths p.capacity starts published (received t)
+    one_capacity nodes tree depths p.capacity starts published (received t)
+    (nodes_obey nodes tree depths published (received t)
     (run_root p nodes.parents starts published t run (root_of nodes.parents) tree.root_has_none)
-    (run_links obey p nodes.parents starts published t run lawful_params lawful)
+    (λ _. p.capacity) starts
+    (run_links obey p nodes.parents starts published t run lawful_params lawful))

@@ -6,7 +6,7 @@ use Rattle.std.proofs.lemmas.List.Elements.{Contains-get_or}
 use Rattle.stab_core.specs.Picks.{RisesFrom, AllBelow, Picks}
 use Rattle.stab_core.specs.LinkLaw.{HalfLawAt, NoneMissing, LinkLaw}
 use Rattle.stab_treecore.specs.Prefix.{IsPrefix}
-use Rattle.stab_treecore.specs.TreeLaw.{HalfTreeLawAt, NoneLacking, TreeLaw}
+use Rattle.stab_treecore.specs.TreeLaw.{HalfTreeLawAt, NoneMissingBefore, TreeLaw}
 use Rattle.stab_treecore.proofs.Rising.{below_bound, few_rising}
 use Rattle.stab_treecore.proofs.Chosen.{at_places, picks_chosen, picks_of_prefix, length_picked}
 use Rattle.stab_treecore.proofs.Parts.{raised, picks_joined, Parted, parted, front_rises, items_parted}
@@ -60,10 +60,10 @@ module _ (capacity most_strays acked : ℕ) (start_items garbage published recei
         taken_picked = picks_chosen published above up.taken high (at_places up.taken high) up.taken_picked high_picked;
       }
 
-  -- where nothing is lacking at the parent and nothing later is missing on the link, nothing is lacking at the child
-  pub child_lacks_none : (most_missing : ℕ) → NoneLacking most_missing above → NoneMissing capacity acked places
-      → NoneLacking (most_missing + (2 * capacity + 1)) (at_places above parted_places.high)
-  child_lacks_none most_missing none_lacking none_missing i q enough before last =
+  -- where none is missing at the parent before its last place, nor on the link, none is missing at the child
+  pub child_misses_none : (most_missing : ℕ) → NoneMissingBefore most_missing above → NoneMissing capacity acked places
+      → NoneMissingBefore (most_missing + (2 * capacity + 1)) (at_places above parted_places.high)
+  child_misses_none most_missing at_parent on_link i q enough before last =
       let low = parted_places.low in
       let high = parted_places.high in
       let strays = length up.strays in
@@ -72,24 +72,24 @@ module _ (capacity most_strays acked : ℕ) (start_items garbage published recei
       let in_taken : last_place < length up.taken = below_bound (length up.taken) high k parted_places.high_below k_within in
       let as_many : length up.taken ≡ length above = length_picked published above up.taken up.taken_picked in
       let last_above : Contains above q = stands_is_member above q last_place (record { within = omega arith; is_there = k_is }) in
-      let (m, there) = member_stands above i (none_lacking i q (omega arith) before last_above) in
+      let (m, there) = member_stands above i (at_parent i q (omega arith) before last_above) in
       let rises : RisesFrom 0 above = up.taken_picked.rising in
       let earlier : m < last_place =
       lower_is_earlier 0 above m last_place rises there.within (omega arith) (omega (arith, there.is_there)) in
       let far_enough : 2 * capacity + 1 ≤ m =
-      enough_before most_missing (2 * capacity + 1) i q m above none_lacking rises last_above enough before there in
+      enough_before most_missing (2 * capacity + 1) i q m above at_parent rises last_above enough before there in
       let offered_below : strays + last_place < length offered =
       member_is_below (length offered) places (strays + last_place) link.taken_picked.in_list
       (subst (λ ps. Contains ps (strays + last_place)) (sym parted_places.both)
       (raised_is_member strays low high last_place (Contains-get_or high k 0 k_within))) in
       let acked_before : strays + m < acked = omega (arith, link.one_waits_at_most) in
-      let taken_here : Contains places (strays + m) = none_missing (strays + m) (omega arith) acked_before in
+      let taken_here : Contains places (strays + m) = on_link (strays + m) (omega arith) acked_before in
       let chosen : Contains high m =
       member_is_raised strays m low high parted_places.low_below (subst (λ ps. Contains ps (strays + m)) parted_places.both taken_here) in
       subst (λ x. Contains (at_places above high) x) there.is_there (chosen_is_member above high m chosen)
 
 -- the root has every published item and no stray
-pub root_half : (published : List ℕ) → (places : List ℕ) × HalfTreeLawAt 0 [] published published places × NoneLacking 0 places
+pub root_half : (published : List ℕ) → (places : List ℕ) × HalfTreeLawAt 0 [] published published places × NoneMissingBefore 0 places
 root_half published = (
   all_places published,
   record {
@@ -110,9 +110,59 @@ pub tree_law_below : (capacity most_strays most_missing acked : ℕ) (start_item
     → TreeLaw most_strays most_missing garbage published received
     → LinkLaw capacity start_items offered acked delivered
     → TreeLaw (most_strays + capacity) (most_missing + (2 * capacity + 1)) (start_items ++ garbage) published delivered
-tree_law_below capacity most_strays most_missing acked start_items garbage published received offered delivered begins (above, up, none_lacking) (places, link, none_missing) =
+tree_law_below capacity most_strays most_missing acked start_items garbage published received offered delivered begins (above, up, at_parent) (places, link, on_link) =
     let parts = parted_places capacity most_strays acked start_items garbage published received offered delivered above places begins up link in (
       at_places above parts.high,
       child_half capacity most_strays acked start_items garbage published received offered delivered above places begins up link,
-      child_lacks_none capacity most_strays acked start_items garbage published received offered delivered above places begins up link most_missing none_lacking none_missing,
+      child_misses_none capacity most_strays acked start_items garbage published received offered delivered above places begins up link most_missing at_parent on_link,
     )
+
+-- the half tree law of a list that begins with an opening
+pub half_past_opening : (most_strays : ℕ) (opening garbage published delivered places : List ℕ)
+    → HalfTreeLawAt most_strays garbage published delivered places
+    → HalfTreeLawAt (most_strays + length opening) (opening ++ garbage) published (opening ++ delivered) places
+half_past_opening most_strays opening garbage published delivered places half = record {
+  strays = opening ++ half.strays;
+  stray_places = all_places opening ++ raised (length opening) half.stray_places;
+  taken = half.taken;
+  parts = ap (λ xs. opening ++ xs) half.parts ∙ sym (append_assoc opening half.strays half.taken);
+  few_strays = omega (arith, half.few_strays, length-append opening half.strays);
+  strays_picked =
+      picks_joined opening garbage (all_places opening) half.stray_places opening half.strays (all_picked opening) half.strays_picked;
+  taken_picked = half.taken_picked;
+}
+
+-- the tree law of a list that begins with an opening
+pub tree_law_past_opening : (most_strays most_missing : ℕ) (opening garbage published delivered : List ℕ)
+    → TreeLaw most_strays most_missing garbage published delivered
+    → TreeLaw (most_strays + length opening) most_missing (opening ++ garbage) published (opening ++ delivered)
+tree_law_past_opening most_strays most_missing opening garbage published delivered (places, half, none_missing) =
+    (places, half_past_opening most_strays opening garbage published delivered places half, none_missing)
+
+-- the tree law of the child, whose list begins with an opening
+pub tree_law_below_opening : (capacity most_strays most_missing acked : ℕ) (opening start_items garbage published received offered delivered : List ℕ)
+    → IsPrefix offered received
+    → TreeLaw most_strays most_missing garbage published received
+    → LinkLaw capacity start_items offered acked delivered
+    → TreeLaw (most_strays + capacity + length opening) (most_missing + (2 * capacity + 1)) (opening ++ (start_items ++ garbage)) published (opening ++ delivered)
+tree_law_below_opening capacity most_strays most_missing acked opening start_items garbage published received offered delivered begins above law =
+    tree_law_past_opening (most_strays + capacity) (most_missing + (2 * capacity + 1)) opening (start_items ++ garbage) published delivered
+    (tree_law_below capacity most_strays most_missing acked start_items garbage published received offered delivered begins above law)
+
+-- larger bounds hold where smaller ones do
+pub larger_bounds : (few most_strays first most_missing : ℕ) (garbage published received : List ℕ)
+    → few ≤ most_strays → first ≤ most_missing
+    → TreeLaw few first garbage published received → TreeLaw most_strays most_missing garbage published received
+larger_bounds few most_strays first most_missing garbage published received more later (places, half, none_missing) = (
+  places,
+  record {
+    strays = half.strays;
+    stray_places = half.stray_places;
+    taken = half.taken;
+    parts = half.parts;
+    few_strays = omega (arith, half.few_strays);
+    strays_picked = half.strays_picked;
+    taken_picked = half.taken_picked;
+  },
+  λ i q enough before last. none_missing i q (omega arith) before last,
+)

@@ -20,11 +20,11 @@ abbrev pub HalfTreeLaw : ℕ → List ℕ → List ℕ → List ℕ → Type 0
 HalfTreeLaw most_strays garbage published received =
     (places : List ℕ) × HalfTreeLawAt most_strays garbage published received places
 
--- before each of these places no place is lacking, except among the first ones
-abbrev pub NoneLacking : ℕ → List ℕ → Type 0
-NoneLacking most_missing places = (i q : ℕ) → most_missing ≤ i → i < q → Contains places q → Contains places i
+-- before each of these places no place is missing, except among the first ones
+abbrev pub NoneMissingBefore : ℕ → List ℕ → Type 0
+NoneMissingBefore most_missing places = (i q : ℕ) → most_missing ≤ i → i < q → Contains places q → Contains places i
 
--- the tree law: the half tree law, and for the same places none is lacking
+-- the tree law: the half tree law, and for the same places none is missing before the last
 abbrev pub TreeLaw : ℕ → ℕ → List ℕ → List ℕ → List ℕ → Type 0
 TreeLaw most_strays most_missing garbage published received =
-    (places : List ℕ) × HalfTreeLawAt most_strays garbage published received places × NoneLacking most_missing places
+    (places : List ℕ) × HalfTreeLawAt most_strays garbage published received places × NoneMissingBefore most_missing places
