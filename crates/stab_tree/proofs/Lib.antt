@@ -1,6 +1,7 @@
 pub mod Checked
 pub mod Depths
 pub mod Described
+pub mod ForCallers
 pub mod Links
 pub mod NameSet
 pub mod Places

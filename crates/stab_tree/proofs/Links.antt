@@ -1,7 +1,6 @@
 -- The links of a tree, by place.
 use Rattle.std.proofs.Common.{◌≡◌, ℕ, zero, suc, ◌+◌, ◌-◌, ◌<◌, ◌≤◌, eqb, List, [], ◌∷◌, length, get_or, Option, Some, None, is_none, IsSome, slice_get, ◌⊎◌, inl, inr, ⊎_elim, refl, sym, ap, ◌∙◌, arith}
 use Rattle.std.proofs.lemmas.Bool.{cases_lt, eq-eqb, ne_eqb}
-use Rattle.std.proofs.Math.ListN.{get_or-eq_default}
 use Rattle.std.proofs.lemmas.Option.{slice_get-get_or, slice_get_within, get_or_from_slice_get}
 use Rattle.std.specs.List.{count_by}
 use Rattle.stab_tree.specs.Links.{links_from, links_of, link_place_of, HasLinks}
@@ -9,7 +8,7 @@ use Rattle.stab_tree.specs.Nodes.{parent_at, root_of}
 use Rattle.stab_tree.proofs.Places.{position-is, position-none}
 use Rattle.stab_tree.proofs.Checked.{root_inside}
 use Rattle.stab_tree.proofs.Roots.{count-cons, count-none_before, root-none, root-alone}
-use Rattle.stab_tree.proofs.Steps.{option_cases, some_value}
+use Rattle.stab_tree.proofs.Steps.{child_is_node, option_cases, some_value}
 
 -- there are as many links as nodes with a parent
 pub length-links_from : (w : ℕ) (ps : List (Option ℕ)) → length (links_from w ps) + count_by is_none ps ≡ length ps
@@ -103,7 +102,7 @@ link_of_place ps k one within =
 link_of_child : (ps : List (Option ℕ)) (w p : ℕ) → count_by is_none ps ≡ 1 → parent_at ps w ≡ Some p → (k : ℕ) × LinkInto ps k w
 link_of_child ps w p one e =
     let number = length-links_from 0 ps in
-    let inside : w < length ps = elim (cases_lt w (length ps)) [ inl h ↦ h | inr h ↦ (let past = get_or-eq_default ps None h in cc) ] in
+    let inside = child_is_node ps w p e in
     let apart : w ≡ root_of ps → ⊥ = λ same. let none = root-none ps (root_inside ps one) in let here : parent_at ps (root_of ps) ≡ Some p = rw same at e in let no : None ≡ Some p = sym none ∙ here in cc in
     elim (cases_lt w (root_of ps)) [
       | inl before ↦ (w, link_before_root ps w one before)

@@ -1,5 +1,5 @@
 -- Parent steps that end at a node without a parent.
-use Rattle.std.proofs.Common.{◌≡◌, ℕ, zero, suc, ◌+◌, ◌<◌, List, Option, Some, None, IsSome, option_map, ◌⊎◌, inl, inr, refl, sym, ap, ◌∙◌, arith}
+use Rattle.std.proofs.Common.{◌≡◌, ℕ, zero, suc, ◌+◌, ◌<◌, List, [], ◌∷◌, length, Option, Some, None, IsSome, option_map, ◌⊎◌, inl, inr, refl, sym, ap, ◌∙◌, arith}
 use Rattle.stab_tree.specs.Nodes.{parent_at}
 use Rattle.stab_tree.specs.Steps.{ancestor, steps_within}
 
@@ -12,6 +12,12 @@ option_cases (Some x) = inr (x, refl)
 pub some_value : {X : Type 0} → (o : Option X) → IsSome o → (x : X) × (o ≡ Some x)
 some_value None some = cc
 some_value (Some x) some = (x, refl)
+
+-- a node that has a parent is one of the nodes
+pub child_is_node : (ps : List (Option ℕ)) (w p : ℕ) → parent_at ps w ≡ Some p → w < length ps
+child_is_node [] w p e = cc
+child_is_node (o ∷ ps) zero p e = omega arith
+child_is_node (o ∷ ps) (suc w) p e = omega (arith, child_is_node ps w p e)
 
 -- a step from a node with a parent goes on from there
 pub ancestor-suc : (ps : List (Option ℕ)) (k w p : ℕ) → parent_at ps w ≡ Some p → ancestor ps (suc k) w ≡ ancestor ps k p
