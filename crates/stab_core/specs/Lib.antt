@@ -8,6 +8,7 @@ pub mod LinkLaw
 pub mod Trace
 pub mod Halves
 pub mod Link
+pub mod LinkActs
 pub mod LinkInside
 pub mod Texts
 pub mod Tracer

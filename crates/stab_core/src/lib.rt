@@ -5,6 +5,7 @@
 //! replay of the event list from the start, and every such replay obeys the link law.
 #![tactic(auto)]
 
+mod act;
 mod event;
 pub mod laws;
 mod link;
@@ -16,6 +17,7 @@ mod start;
 mod text;
 mod tracer;
 
+pub use act::LinkAct;
 pub use event::{Effect, Event};
 pub use link::Link;
 pub use origin::Origin;

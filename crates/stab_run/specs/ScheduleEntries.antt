@@ -9,8 +9,8 @@ use Rattle.serde_json.specs.Find.{as_str, as_array}
 use Rattle.stab_script.specs.Values.{◌>>=◌, entries}
 use Rattle.stab_script.specs.Events.{plain_event, loss}
 use Rattle.stab_tree.specs.Nodes.{place_of}
-use Rattle.stab_treecore.specs.declared.event.LinkAct.{LinkAct}
-use Rattle.stab_treecore.specs.declared.event.LinkAct.TheVariants.{Offer, SendFrame, RecvFrame, SendAck, RecvAck, LoseFrame, LoseAck, Close}
+use Rattle.stab_core.specs.declared.act.LinkAct.{LinkAct}
+use Rattle.stab_core.specs.declared.act.LinkAct.TheVariants.{Offer, SendFrame, RecvFrame, SendAck, RecvAck, LoseFrame, LoseAck, Close}
 use Rattle.stab_treecore.specs.declared.event.TreeEvent.{TreeEvent}
 use Rattle.stab_run.specs.declared.fault.JobFault.{JobFault}
 use Rattle.stab_run.specs.declared.fault.JobFault.TheVariants as fault

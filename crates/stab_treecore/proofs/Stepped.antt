@@ -7,10 +7,11 @@ use Rattle.stab_core.specs.declared.event.Event.TheVariants as event
 use Rattle.stab_core.specs.Link.{LinkValue}
 use Rattle.stab_core.specs.LinkState.{LinkState, is_idle, is_holding, current_frame, has_room}
 use Rattle.stab_core.specs.Step.{step, open_step, left, receives_frame, receives_ack}
-use Rattle.stab_treecore.specs.declared.event.LinkAct.{LinkAct}
-use Rattle.stab_treecore.specs.declared.event.LinkAct.TheVariants.{Offer, SendFrame, RecvFrame, SendAck, RecvAck, LoseFrame, LoseAck, Close}
+use Rattle.stab_core.specs.declared.act.LinkAct.{LinkAct}
+use Rattle.stab_core.specs.declared.act.LinkAct.TheVariants.{Offer, SendFrame, RecvFrame, SendAck, RecvAck, LoseFrame, LoseAck, Close}
 use Rattle.stab_treecore.specs.Prefix.{IsPrefix}
-use Rattle.stab_treecore.specs.TreeStep.{event_of, link_after}
+use Rattle.stab_core.specs.LinkActs.{event_of}
+use Rattle.stab_treecore.specs.TreeStep.{link_after}
 use Rattle.stab_treecore.proofs.Prefixes.{prefix_of_itself, prefix_of_grown, prefix_with_next}
 
 -- what holds of both choices holds of the one that is taken

@@ -1,28 +1,15 @@
 -- The step of the whole tree: one act on the link into one node. An offer is of the item of the parent's list that comes next.
 -- Source: this project's profile.
-use Rattle.std.specs.Prelude.{ℕ, length, slice_get, slice_set, Option, Some, None, option_map}
+use Rattle.std.specs.Prelude.{length, slice_get, slice_set, Option, Some, None, option_map}
 use Rattle.std.specs.Option.{option_map_or}
 use Rattle.stab_core.specs.declared.event.Event.{Event}
-use Rattle.stab_core.specs.declared.event.Event.TheVariants as event
 use Rattle.stab_core.specs.declared.event.Effect.{Effect}
 use Rattle.stab_core.specs.declared.event.Effect.TheVariants.{Nothing}
 use Rattle.stab_core.specs.Link.{LinkValue, link_at}
+use Rattle.stab_core.specs.LinkActs.{event_of}
 use Rattle.stab_core.specs.Step.{step, effect}
-use Rattle.stab_treecore.specs.declared.event.LinkAct.{LinkAct}
-use Rattle.stab_treecore.specs.declared.event.LinkAct.TheVariants.{Offer, SendFrame, RecvFrame, SendAck, RecvAck, LoseFrame, LoseAck, Close}
 use Rattle.stab_treecore.specs.declared.event.TreeEvent.{TreeEvent}
 use Rattle.stab_treecore.specs.WholeTree.{WholeTree, link_into, source}
-
--- the event of an act; an offer is of this item, and nothing where there is none
-abbrev pub event_of : LinkAct → Option ℕ → Option Event
-event_of Offer item = option_map event.Offer item
-event_of SendFrame item = Some event.SendFrame
-event_of (RecvFrame keep) item = Some (event.RecvFrame keep)
-event_of SendAck item = Some event.SendAck
-event_of (RecvAck keep) item = Some (event.RecvAck keep)
-event_of (LoseFrame place) item = Some (event.LoseFrame place)
-event_of (LoseAck place) item = Some (event.LoseAck place)
-event_of Close item = Some event.Close
 
 -- the event on the link into its child: an offer is of the item after those that the link was offered
 abbrev pub event_on : WholeTree → TreeEvent → LinkValue → Option Event

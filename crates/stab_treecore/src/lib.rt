@@ -14,9 +14,10 @@ mod schedule;
 mod state;
 mod text;
 
-pub use event::{LinkAct, TreeEvent};
+pub use event::TreeEvent;
 pub use fault::{TreeStartFault, TreeStepFault};
 pub use schedule::run_schedule;
+pub use stab_core::LinkAct;
 pub use state::TreeState;
 pub use text::{push_node_counts, schedule_text};
 

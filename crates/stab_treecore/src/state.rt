@@ -1,14 +1,15 @@
 ghost use Rattle.std.specs.Prelude.{◌≡◌, ◌↔◌, ◌<◌, length, slice_get, is_some, option_copied, option_map, option_and_then, All, IsSome, IsNone, IfOk, IfErr, OnOk, OnErr, IsErrOf};
 ghost use Rattle.std.specs.Option.{option_map_or};
 ghost use Rattle.stab_core.specs.Link.{Grows};
+ghost use Rattle.stab_core.specs.LinkActs.{event_of};
 ghost use Rattle.stab_core.specs.Replay.{IsLawful};
 ghost use Rattle.stab_tree.specs.Nodes.{parent_at};
 ghost use Rattle.stab_treecore.specs.WholeTree.{WholeTree, link_into, received, source};
 ghost use Rattle.stab_treecore.specs.Refusals.{OnePerLink, IsStartReason, NamesLink, NamesNoLink};
 ghost use Rattle.stab_treecore.specs.TreeReplay.{tree_opening};
-ghost use Rattle.stab_treecore.specs.TreeStep.{event_of, link_after, effect_on, tree_step, tree_effect};
+ghost use Rattle.stab_treecore.specs.TreeStep.{link_after, effect_on, tree_step, tree_effect};
 
-use crate::event::{LinkAct, TreeEvent};
+use crate::event::TreeEvent;
 use crate::fault::{TreeStartFault, TreeStepFault};
 use crate::open;
 use stab_core::{Effect, Event, Link, Start};
@@ -127,16 +128,7 @@ impl TreeState {
         ensures { result ≡ event_of event.act
             (option_and_then (λ link. slice_get (source self.now event.child) (length link.state.offered)) (link_into self.now event.child)) }
     {
-        Some(match event.act {
-            LinkAct::Offer => Event::Offer(self.next_item(event.child)?),
-            LinkAct::SendFrame => Event::SendFrame,
-            LinkAct::RecvFrame { keep } => Event::RecvFrame { keep },
-            LinkAct::SendAck => Event::SendAck,
-            LinkAct::RecvAck { keep } => Event::RecvAck { keep },
-            LinkAct::LoseFrame(place) => Event::LoseFrame(place),
-            LinkAct::LoseAck(place) => Event::LoseAck(place),
-            LinkAct::Close => Event::Close,
-        })
+        event.act.event(self.next_item(event.child))
     }
 }
 
