@@ -8,7 +8,7 @@ pub mod Linked
 pub mod Opened
 pub mod Prefixes
 pub mod Stepped
-pub mod Summed
 pub mod AtNodes
 pub mod Replayed
+pub mod Refused
 pub mod Lines

@@ -97,9 +97,7 @@ pub fn tree_law_at_every_node()
         → TreeLawOfNodes (strays_bound nodes.parents capacity_into)
         (missing_bound nodes.parents capacity_into) (path_garbage nodes.parents starts)
         nodes.parents published received }
-{
-    stab_tree::laws::trees_have_depths();
-}
+{}
 
 /// The same, where each node's list but the root's begins with an opening of its own.
 pub fn tree_law_at_every_opened_node()
@@ -113,9 +111,7 @@ pub fn tree_law_at_every_opened_node()
         → TreeLawOfNodes (opened_strays_bound nodes.parents capacity_into opening_of)
         (missing_bound nodes.parents capacity_into)
         (opened_path_garbage nodes.parents starts opening_of) nodes.parents published received }
-{
-    stab_tree::laws::trees_have_depths();
-}
+{}
 
 /// Where all links have one capacity, the bounds of a node at depth d are d times those of one link.
 pub fn bounds_of_one_capacity()
@@ -133,9 +129,7 @@ pub fn bounds_of_one_capacity()
         (missing_bound nodes.parents (λ _. capacity)) (path_garbage nodes.parents starts)
         nodes.parents published received
         → TreeLawAtNodes capacity nodes.parents starts published received }
-{
-    stab_tree::laws::trees_have_depths();
-}
+{}
 
 /// Larger bounds hold where smaller ones do.
 pub fn tree_law_of_larger_bounds()
@@ -162,7 +156,6 @@ pub fn every_schedule_obeys_the_tree_law()
         → TreeLawAtNodes p.capacity nodes.parents starts published
         (received (tree_replay (tree_opening p nodes.parents published starts) events)) }
 {
-    stab_tree::laws::trees_have_depths();
     stab_core::laws::reachable_steps();
     stab_core::laws::every_replay_obeys_the_link_law();
 }

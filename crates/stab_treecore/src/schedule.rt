@@ -33,7 +33,7 @@ pub fn run_schedule(
     ensures one_per_link { OnOk result (OnePerLink tree.now.parents starts.now) }
     ensures lawful { OnOk result (All (IsLawful params) starts.now) }
     ensures named { OnOk result (All (NamesLink tree.now.parents) events.now) }
-    ensures refused { IfErr result (IsScheduleReason params tree.now.parents starts.now events.now) }
+    ensures refused { IfErr result (IsScheduleReason params tree.now.parents published.now starts.now events.now) }
 
     // The laws of every node.
     ensures half_tree_law { IfOk result (λ state.
@@ -64,7 +64,7 @@ fn replayed(
     ensures one_per_link { OnOk result (OnePerLink tree.now.parents starts.now) }
     ensures lawful { OnOk result (All (IsLawful params) starts.now) }
     ensures named { OnOk result (All (NamesLink tree.now.parents) events.now) }
-    ensures refused { IfErr result (IsScheduleReason params tree.now.parents starts.now events.now) }
+    ensures refused { IfErr result (IsScheduleReason params tree.now.parents published.now starts.now events.now) }
 {
     let mut state = TreeState::new(alloc, params, tree, published, starts)?;
     for event in events {

@@ -1,13 +1,12 @@
-ghost use Rattle.std.specs.Prelude.{◌≡◌, ◌↔◌, ◌<◌, length, slice_get, is_some, option_copied, option_map, option_and_then, All, IsSome, IsNone, IfOk, IfErr, OnOk, OnErr, IsErrOf};
+ghost use Rattle.std.specs.Prelude.{◌≡◌, ◌↔◌, ◌<◌, length, is_some, option_copied, option_map, All, IsSome, IsNone, IfOk, IfErr, OnOk, OnErr, IsErrOf};
 ghost use Rattle.std.specs.Option.{option_map_or};
 ghost use Rattle.stab_core.specs.Link.{Grows};
-ghost use Rattle.stab_core.specs.LinkActs.{event_of};
 ghost use Rattle.stab_core.specs.Replay.{IsLawful};
 ghost use Rattle.stab_tree.specs.Nodes.{parent_at};
 ghost use Rattle.stab_treecore.specs.WholeTree.{WholeTree, link_into, received, source};
 ghost use Rattle.stab_treecore.specs.Refusals.{OnePerLink, IsStartReason, NamesLink, NamesNoLink};
 ghost use Rattle.stab_treecore.specs.TreeReplay.{tree_opening};
-ghost use Rattle.stab_treecore.specs.TreeStep.{link_after, effect_on, tree_step, tree_effect};
+ghost use Rattle.stab_treecore.specs.TreeStep.{next_item, link_after, effect_on, tree_step, tree_effect};
 
 use crate::event::TreeEvent;
 use crate::fault::{TreeStartFault, TreeStepFault};
@@ -58,12 +57,12 @@ impl TreeState {
         if starts.len() != usize::from(tree.link_count()) {
             return Err(TreeStartFault::StartCount);
         }
-        let published = Vec::from_slice(alloc, published)?;
-        let parents = open::parents(alloc, tree)?;
-        let links = open::links(alloc, params, parents.as_slice(), starts)?;
+        open::check(params, starts)?;
+        let links = open::links(alloc, params, tree.parents(), starts)?;
+        let _root = tree.root();
         Ok(TreeState {
-            published,
-            parents,
+            published: Vec::from_slice(alloc, published)?,
+            parents: Vec::from_slice(alloc, tree.parents())?,
             links,
         })
     }
@@ -81,7 +80,7 @@ impl TreeState {
         if place >= self.links.len() {
             return Err(TreeStepFault::NoSuchLink);
         }
-        let event = self.event_on(event);
+        let event = event.act.event(self.next_item(event.child));
         step(&mut self.links[place], event)
     }
 
@@ -114,21 +113,12 @@ impl TreeState {
         }
     }
 
-    /// The item that the link into a node offers next.
+    /// The item that the link into a node is to be offered next.
     fn next_item(&self, child: NodeId) -> Option<Item>
-        ensures { result ≡ option_and_then (λ link. slice_get (source self.now child) (length link.state.offered)) (link_into self.now child) }
+        ensures { result ≡ next_item self.now child }
     {
         let link = self.link(child)?;
         self.source(child).get(link.offered().len()).copied()
-    }
-
-    /// The event of an act on the link into its child; an offer is of the item that comes next, and nothing where there is
-    /// none.
-    fn event_on(&self, event: TreeEvent) -> Option<Event>
-        ensures { result ≡ event_of event.act
-            (option_and_then (λ link. slice_get (source self.now event.child) (length link.state.offered)) (link_into self.now event.child)) }
-    {
-        event.act.event(self.next_item(event.child))
     }
 }
 
