@@ -2,7 +2,7 @@
 -- from the front, the receiver's label, the frames' labels from the front.
 use Rattle.std.proofs.Common.{◌≡◌, ◌≢◌, ℕ, Bool, true, false, refl, List, [], ◌∷◌, ◌++◌, append_assoc}
 use Rattle.std.specs.List.{AllByRecursion as Each}
-use Rattle.stab_core.specs.Step.{left}
+use Rattle.stab_core.specs.Step.{after_front}
 use Rattle.stab_core.proofs.InOrder.{InOrder, nothing, skip, repeat, again, in_order_same, in_order_behind, in_order_before, Each-in_order, Each-push, Each-weaker}
 
 -- the labels on the circle, where the frames have these labels
@@ -74,7 +74,7 @@ acks_in_order recv_label labels in_order = in_order_before (recv_label ∷ label
 
 -- so does a frame that the receiver takes, whether it stays at the front or goes
 pub taking_in_order : (keep : Bool) (acks : List ℕ) (recv_label label : ℕ) (labels : List ℕ)
-    → InOrder (circle acks recv_label (label ∷ labels)) (circle acks label (left keep (label ∷ labels)))
+    → InOrder (circle acks recv_label (label ∷ labels)) (circle acks label (after_front keep (label ∷ labels)))
 taking_in_order true acks recv_label label labels = in_order_behind acks (skip (repeat (in_order_same (label ∷ labels))))
 taking_in_order false acks recv_label label labels = in_order_behind acks (skip (in_order_same (label ∷ labels)))
 

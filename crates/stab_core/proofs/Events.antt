@@ -11,9 +11,9 @@ use Rattle.stab_core.specs.declared.origin.Origin.{Origin}
 use Rattle.stab_core.specs.declared.origin.Origin.TheVariants.{Sent}
 use Rattle.stab_core.specs.declared.start.Start.{Start}
 use Rattle.stab_core.specs.LinkState.{LinkState, is_idle, is_holding, current_frame, has_room}
-use Rattle.stab_core.specs.Step.{open_step, step, left, receives_frame, receives_ack}
+use Rattle.stab_core.specs.Step.{open_step, step, after_front, receives_frame, receives_ack}
 use Rattle.stab_core.specs.Trace.{Traced, traced_opening, traced_step, traced_replay, queued_after, origins_after, taken_origin}
-use Rattle.stab_core.proofs.InOrder.{in_order_left, in_order_without, left-nil, left-map, without-map}
+use Rattle.stab_core.proofs.InOrder.{in_order_after_front, in_order_without, after_front-nil, after_front-map, without-map}
 use Rattle.stab_core.proofs.Circle.{acks_in_order, answer_in_order}
 use Rattle.stab_core.proofs.Sources.{stray_count, item_at, label_at, frame_at, origin_at, origin_sent, start_places, start_origins}
 use Rattle.stab_core.proofs.Kept.{Kept, kept_open, kept_offer, kept_send, kept_fewer_frames, kept_acks, kept_fresh, kept_acked, kept_close}
@@ -99,7 +99,7 @@ module _ (p : Parameters) (start : Start) where
       let t : LinkState = record s { frames = frames } in
       record {
         state = receives_frame keep t (slice_get frames 0);
-        queued = left keep (map (origin_at start) queued);
+        queued = after_front keep (map (origin_at start) queued);
         origins = origins ++ taken_origin t (slice_get frames 0) (slice_get (map (origin_at start) queued) 0);
       }
 
@@ -108,18 +108,18 @@ module _ (p : Parameters) (start : Start) where
       {bound : ℕ} → origins ≡ map (origin_at start) taken
       → Kept p start (record s { frames = map (frame_at p start s.offered) (place ∷ queued) }) (place ∷ queued) taken bound
       → Invariant p start (record {
-        state = record s { frames = left keep (map (frame_at p start s.offered) (place ∷ queued)) };
-        queued = left keep (map (origin_at start) (place ∷ queued));
+        state = record s { frames = after_front keep (map (frame_at p start s.offered) (place ∷ queued)) };
+        queued = after_front keep (map (origin_at start) (place ∷ queued));
         origins = origins ++ [];
       })
   received_old keep s {origins} place queued {taken} {bound} taken_are kept =
-      let frames_are = left-map (frame_at p start s.offered) keep (place ∷ queued) in
+      let frames_are = after_front-map (frame_at p start s.offered) keep (place ∷ queued) in
       record {
-        queued = left keep (place ∷ queued);
+        queued = after_front keep (place ∷ queued);
         taken = taken;
         bound = bound;
-        kept = kept_fewer_frames p start frames_are (in_order_left keep (place ∷ queued)) kept;
-        queued_are = left-map (origin_at start) keep (place ∷ queued);
+        kept = kept_fewer_frames p start frames_are (in_order_after_front keep (place ∷ queued)) kept;
+        queued_are = after_front-map (origin_at start) keep (place ∷ queued);
         taken_are = append-nil origins ∙ taken_are;
       }
 
@@ -129,20 +129,20 @@ module _ (p : Parameters) (start : Start) where
       → Kept p start (record s { frames = map (frame_at p start s.offered) (place ∷ queued) }) (place ∷ queued) taken bound
       → Invariant p start (record {
         state = record s {
-          frames = left keep (map (frame_at p start s.offered) (place ∷ queued));
+          frames = after_front keep (map (frame_at p start s.offered) (place ∷ queued));
           recv_label = label_at p start place;
           delivered = s.delivered ++ item_at start s.offered place ∷ [];
         };
-        queued = left keep (map (origin_at start) (place ∷ queued));
+        queued = after_front keep (map (origin_at start) (place ∷ queued));
         origins = origins ++ origin_at start place ∷ [];
       })
   received_fresh keep s place queued {taken} fresh taken_are kept =
       record {
-        queued = left keep (place ∷ queued);
+        queued = after_front keep (place ∷ queued);
         taken = taken ++ place ∷ [];
         bound = place + 1;
         kept = kept_fresh p start keep fresh kept;
-        queued_are = left-map (origin_at start) keep (place ∷ queued);
+        queued_are = after_front-map (origin_at start) keep (place ∷ queued);
         taken_are =
             ap (λ list. list ++ origin_at start place ∷ []) taken_are ∙ sym (map_push (origin_at start) taken place);
       }
@@ -158,20 +158,20 @@ module _ (p : Parameters) (start : Start) where
         taken = taken;
         bound = bound;
         kept = kept;
-        queued_are = left-nil keep;
+        queued_are = after_front-nil keep;
         taken_are = append-nil origins ∙ taken_are;
       }
   received keep s {origins} (place ∷ queued) taken_are kept =
       by_test
       (λ old. Invariant p start (record {
         state =
-            if old then record s { frames = left keep (map (frame_at p start s.offered) (place ∷ queued)) }
+            if old then record s { frames = after_front keep (map (frame_at p start s.offered) (place ∷ queued)) }
             else record s {
-              frames = left keep (map (frame_at p start s.offered) (place ∷ queued));
+              frames = after_front keep (map (frame_at p start s.offered) (place ∷ queued));
               recv_label = label_at p start place;
               delivered = s.delivered ++ item_at start s.offered place ∷ [];
             };
-        queued = left keep (map (origin_at start) (place ∷ queued));
+        queued = after_front keep (map (origin_at start) (place ∷ queued));
         origins = origins ++ (if old then [] else origin_at start place ∷ []);
       }))
       (label_at p start place == s.recv_label)
@@ -186,7 +186,7 @@ module _ (p : Parameters) (start : Start) where
       Kept p start (record t.state { frames = frames }) inv.queued inv.taken inv.bound
       → Invariant p start (record {
         state = receives_frame keep (record t.state { frames = frames }) (slice_get frames 0);
-        queued = left keep queued;
+        queued = after_front keep queued;
         origins = t.origins ++ taken_origin (record t.state { frames = frames }) (slice_get frames 0) (slice_get queued 0);
       }))
       (sym inv.kept.transit.frames_are) (sym inv.queued_are)
@@ -209,7 +209,7 @@ module _ (p : Parameters) (start : Start) where
       (λ matches.
       let both = and_parts (is_holding s) (label == s.send_label) matches in
       kept_acked p start keep s both.0 (eqb-true _ _ both.1) kept)
-      (λ _. kept_acks p start (λ labels. acks_in_order s.recv_label labels (in_order_left keep (label ∷ acks))) kept)
+      (λ _. kept_acks p start (λ labels. acks_in_order s.recv_label labels (in_order_after_front keep (label ∷ acks))) kept)
 
   -- so for those that stand in the link
   after_recv_ack : (keep : Bool) (t : Traced) → Invariant p start t → Invariant p start (after p t (RecvAck keep))

@@ -3,7 +3,7 @@
 use Rattle.std.proofs.Common.{◌≡◌, ℕ, zero, suc, Bool, true, false, List, [], ◌∷◌, ◌++◌, map, refl, ap}
 use Rattle.std.specs.List.{AllByRecursion as Each}
 use Rattle.stab_frames.specs.Queue.{without}
-use Rattle.stab_core.specs.Step.{left}
+use Rattle.stab_core.specs.Step.{after_front}
 
 -- the second list has entries of the first in their order, where some may be missing and others repeated
 pub data InOrder {A : Type 0} : List A → List A → Type 0 where
@@ -27,10 +27,10 @@ in_order_without zero (x ∷ xs) = skip (in_order_same xs)
 in_order_without (suc i) (x ∷ xs) = again (in_order_without i xs)
 
 -- and what is left when its front was received
-pub in_order_left : {A : Type 0} (keep : Bool) (xs : List A) → InOrder xs (left keep xs)
-in_order_left true xs = in_order_same xs
-in_order_left false [] = nothing
-in_order_left false (x ∷ xs) = skip (in_order_same xs)
+pub in_order_after_front : {A : Type 0} (keep : Bool) (xs : List A) → InOrder xs (after_front keep xs)
+in_order_after_front true xs = in_order_same xs
+in_order_after_front false [] = nothing
+in_order_after_front false (x ∷ xs) = skip (in_order_same xs)
 
 -- a function's values are in the order of the lists
 pub in_order_map : {A B : Type 0} (f : A → B) {xs ys : List A} → InOrder xs ys → InOrder (map f xs) (map f ys)
@@ -72,12 +72,12 @@ without-map f zero (x ∷ xs) = refl
 without-map f (suc i) (x ∷ xs) = ap (λ rest. f x ∷ rest) (without-map f i xs)
 
 -- where nothing was queued nothing is left
-pub left-nil : {A : Type 0} (keep : Bool) → left {A = A} keep [] ≡ []
-left-nil true = refl
-left-nil false = refl
+pub after_front-nil : {A : Type 0} (keep : Bool) → after_front {A = A} keep [] ≡ []
+after_front-nil true = refl
+after_front-nil false = refl
 
 -- taking the front of a function's values is taking that of the places
-pub left-map : {A B : Type 0} (f : A → B) (keep : Bool) (xs : List A) → left keep (map f xs) ≡ map f (left keep xs)
-left-map f true xs = refl
-left-map f false [] = refl
-left-map f false (x ∷ xs) = refl
+pub after_front-map : {A B : Type 0} (f : A → B) (keep : Bool) (xs : List A) → after_front keep (map f xs) ≡ map f (after_front keep xs)
+after_front-map f true xs = refl
+after_front-map f false [] = refl
+after_front-map f false (x ∷ xs) = refl

@@ -6,9 +6,9 @@ use Rattle.stab_frames.specs.Parameters.{Parameters, next}
 use Rattle.stab_core.specs.declared.start.Start.{Start}
 use Rattle.stab_core.specs.LinkState.{LinkState, is_idle, is_holding, current_frame}
 use Rattle.stab_core.specs.Replay.{opening}
-use Rattle.stab_core.specs.Step.{left}
+use Rattle.stab_core.specs.Step.{after_front}
 use Rattle.stab_core.proofs.Labels.{item_label}
-use Rattle.stab_core.proofs.InOrder.{InOrder, in_order_same, in_order_left, in_order_map, left-map}
+use Rattle.stab_core.proofs.InOrder.{InOrder, in_order_same, in_order_after_front, in_order_map, after_front-map}
 use Rattle.stab_core.proofs.Circle.{Absent, circle, frames_in_order}
 use Rattle.stab_core.proofs.FreeLabel.{IsFree}
 use Rattle.stab_core.proofs.Sources.{stray_count, item_at, label_at, frame_at, start_places, start_frames}
@@ -98,15 +98,15 @@ module _ (p : Parameters) (start : Start) where
   pub kept_fresh : (keep : Bool) {s : LinkState} {place : ℕ} {queued taken : List ℕ} {bound : ℕ}
       → label_at p start place ≢ s.recv_label → Kept p start s (place ∷ queued) taken bound
       → Kept p start (record s {
-        frames = left keep (map (frame_at p start s.offered) (place ∷ queued));
+        frames = after_front keep (map (frame_at p start s.offered) (place ∷ queued));
         recv_label = label_at p start place;
         delivered = s.delivered ++ item_at start s.offered place ∷ [];
-      }) (left keep (place ∷ queued)) (taken ++ place ∷ []) (place + 1)
+      }) (after_front keep (place ∷ queued)) (taken ++ place ∷ []) (place + 1)
   kept_fresh keep {s} {place} {queued} fresh kept =
-      let frames_are = left-map (frame_at p start s.offered) keep (place ∷ queued) in
+      let frames_are = after_front-map (frame_at p start s.offered) keep (place ∷ queued) in
       record {
         sending = kept.sending;
-        transit = transit_in_order p start frames_are (in_order_left keep (place ∷ queued)) kept.transit;
+        transit = transit_in_order p start frames_are (in_order_after_front keep (place ∷ queued)) kept.transit;
         delivery = delivery_fresh p start keep fresh kept.transit.in_list.0 kept.delivery;
         readings = λ j free. reading_fresh p start j free keep (kept.readings j free);
       }
@@ -115,14 +115,14 @@ module _ (p : Parameters) (start : Start) where
   pub kept_acked : (keep : Bool) (s : LinkState) {label : ℕ} {acks queued taken : List ℕ} {bound : ℕ}
       → is_holding s ≡ true → label ≡ s.send_label → Kept p start (record s { acks = label ∷ acks }) queued taken bound
       → Kept p start (record s {
-        acks = left keep (label ∷ acks);
+        acks = after_front keep (label ∷ acks);
         acked = s.acked + 1;
         send_label = next p s.send_label;
       }) queued taken bound
   kept_acked keep s {label} {acks} {queued} {taken} holding matches kept =
       let own : label ≡ item_label p start s.acked = matches ∙ kept.sending.own_label in
-      let after : List ℕ = left keep (label ∷ acks) in
-      let in_order = subst (λ (front : ℕ). InOrder (front ∷ acks) after) own (in_order_left keep (label ∷ acks)) in
+      let after : List ℕ = after_front keep (label ∷ acks) in
+      let in_order = subst (λ (front : ℕ). InOrder (front ∷ acks) after) own (in_order_after_front keep (label ∷ acks)) in
       record {
         sending = sending_acked p start (eqb-true _ _ holding) kept.sending;
         transit = kept.transit;

@@ -1,3 +1,5 @@
+pub mod ForCallers
+pub mod Growing
 pub mod Entries
 pub mod Tracing
 pub mod Replays
@@ -11,5 +13,5 @@ pub mod Ordering
 pub mod Reading
 pub mod Kept
 pub mod Events
-pub mod Parts
 pub mod LinkLaws
+pub mod CounterExamples

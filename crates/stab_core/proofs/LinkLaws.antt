@@ -1,7 +1,8 @@
 -- The laws of a replay, read off the invariants.
-use Rattle.std.proofs.Common.{◌≡◌, ℕ, ◌+◌, ◌-◌, ◌≤◌, List, [], ◌∷◌, ◌++◌, map, length, slice_index, refl, sym, ◌∙◌, ap, subst, arith}
+use Rattle.std.proofs.Common.{◌≡◌, ℕ, ◌+◌, ◌<◌, ◌≤◌, List, [], ◌∷◌, ◌++◌, map, length, slice_index, refl, sym, ◌∙◌, ap, ap₂, subst, Contains, arith}
+use mathlib.Core.List.{map-map}
 use Rattle.std.proofs.lemmas.Bool.{cond_both, cond-true}
-use Rattle.std.proofs.lemmas.List.{length-map}
+use Rattle.std.proofs.lemmas.List.{length-map, map-append}
 use Rattle.stab_frames.specs.Parameters.{Parameters, AreLawful}
 use Rattle.stab_core.specs.declared.event.Event.{Event}
 use Rattle.stab_core.specs.declared.origin.Origin.TheVariants.{Stray, Sent}
@@ -12,8 +13,7 @@ use Rattle.stab_core.specs.Step.{step}
 use Rattle.stab_core.specs.Picks.{Picks}
 use Rattle.stab_core.specs.LinkLaw.{HalfLaw, HalfLawAt, LinkLaw, NoneMissing}
 use Rattle.stab_core.specs.Trace.{Traced, traced_opening, traced_step, traced_replay, Explains}
-use Rattle.stab_core.proofs.Places.{RisesFrom-lower, AllBelow-higher, rising_few}
-use Rattle.stab_core.proofs.Parts.{Parts, parts_of, sent_contains, map-parts}
+use Rattle.stab_core.proofs.ForCallers.{few_rising, below_higher, map_below, member_is_raised, raised, Parted, parted}
 use Rattle.stab_core.proofs.Sources.{stray_count, item_at, origin_at, item_sent, item_stray, origin_sent, origin_stray}
 use Rattle.stab_core.proofs.FreeLabel.{free_label}
 use Rattle.stab_core.proofs.Events.{Invariant, every_replay_keeps}
@@ -31,50 +31,63 @@ traced_replay_state p t [] = refl
 traced_replay_state p t (e ∷ events) =
     traced_replay_state p (traced_step p t e) events ∙ ap (λ s. replay p s events) (traced_step_state p t e)
 
+-- what a function has at parted places, it has at the low ones and then at the high ones
+map-parted : {A : Type 0} (bound : ℕ) {more lowest : ℕ} {places : List ℕ} (parts : Parted bound more lowest places)
+    (at_place at_low at_high : ℕ → A) → ((v : ℕ) → v < bound → at_place v ≡ at_low v)
+    → ((i : ℕ) → at_place (bound + i) ≡ at_high i)
+    → map at_place places ≡ map at_low parts.low ++ map at_high parts.high
+map-parted bound {more} parts at_place at_low at_high on_low on_high =
+    ap (map at_place) parts.both
+    ∙ map-append at_place parts.low (raised bound parts.high)
+    ∙ ap₂ (λ front back. front ++ back)
+    (map_below at_place at_low bound parts.low on_low parts.low_below)
+    (map-map at_place (λ (i : ℕ). bound + i) parts.high
+    ∙ map_below (λ i. at_place (bound + i)) at_high more parts.high (λ i _. on_high i) parts.high_below)
+
 module _ (p : Parameters) (start : Start) (t : Traced) (inv : Invariant p start t) where
   -- the taken places are those of strays, then those of offered items
-  taken_parts : Parts (stray_count start) (length t.state.offered) 0 inv.taken
+  taken_parts : Parted (stray_count start) (length t.state.offered) 0 inv.taken
   taken_parts =
       let strays : ℕ = stray_count start in
       let size : ℕ = length t.state.offered in
       let delivery = inv.kept.delivery in
-      parts_of strays size 0 inv.taken delivery.rises
-      (AllBelow-higher inv.bound (strays + size) inv.taken delivery.in_list delivery.below)
+      parted strays size 0 inv.taken delivery.rises
+      (below_higher inv.bound (strays + size) inv.taken delivery.in_list delivery.below)
 
   -- the strays that were delivered
   stray_items : List ℕ
-  stray_items = map (slice_index (start_items start)) taken_parts.strays
+  stray_items = map (slice_index (start_items start)) taken_parts.low
 
   -- the offered items that were delivered
   sent_items : List ℕ
-  sent_items = map (slice_index t.state.offered) taken_parts.sent
+  sent_items = map (slice_index t.state.offered) taken_parts.high
 
   -- the delivered list is strays, then offered items
   delivered_parts : t.state.delivered ≡ stray_items ++ sent_items
   unfolding stray_items sent_items
   delivered_parts =
       inv.kept.delivery.delivered_are
-      ∙ map-parts taken_parts
+      ∙ map-parted (stray_count start) taken_parts
       (item_at start t.state.offered) (slice_index (start_items start)) (slice_index t.state.offered)
       (item_stray start t.state.offered) (item_sent start t.state.offered)
 
   -- the origins are those of strays, then those of offered items
-  origin_parts : t.origins ≡ map Stray taken_parts.strays ++ map Sent taken_parts.sent
+  origin_parts : t.origins ≡ map Stray taken_parts.low ++ map Sent taken_parts.high
   origin_parts =
-      inv.taken_are ∙ map-parts taken_parts (origin_at start) Stray Sent (origin_stray start) (origin_sent start)
+      inv.taken_are ∙ map-parted (stray_count start) taken_parts (origin_at start) Stray Sent (origin_stray start) (origin_sent start)
 
   -- the strays are picked from the start's items
-  strays_picked : Picks (start_items start) taken_parts.strays stray_items
+  strays_picked : Picks (start_items start) taken_parts.low stray_items
   unfolding stray_items
-  strays_picked = record { rising = taken_parts.strays_rise; in_list = taken_parts.strays_in_list; the_items = refl }
+  strays_picked = record { rising = taken_parts.low_rise; in_list = taken_parts.low_below; the_items = refl }
 
   -- the others are picked from the offered list
-  sent_picked : Picks t.state.offered taken_parts.sent sent_items
+  sent_picked : Picks t.state.offered taken_parts.high sent_items
   unfolding sent_items
   sent_picked =
       record {
-        rising = RisesFrom-lower 0 (0 - stray_count start) taken_parts.sent (omega arith) taken_parts.sent_rise;
-        in_list = taken_parts.sent_in_list;
+        rising = taken_parts.high_rise;
+        in_list = taken_parts.high_below;
         the_items = refl;
       }
 
@@ -82,8 +95,8 @@ module _ (p : Parameters) (start : Start) (t : Traced) (inv : Invariant p start 
   explained : Explains (start_items start) t.state.offered t.origins t.state.delivered
   explained =
       record {
-        stray_places = taken_parts.strays;
-        places = taken_parts.sent;
+        stray_places = taken_parts.low;
+        places = taken_parts.high;
         strays = stray_items;
         taken = sent_items;
         in_order = origin_parts;
@@ -97,21 +110,21 @@ module _ (p : Parameters) (start : Start) (t : Traced) (inv : Invariant p start 
   unfolding stray_items
   few_strays lawful =
       let strays : ℕ = stray_count start in
-      let places : List ℕ = taken_parts.strays in
-      let few : length places + 0 ≤ strays =
-      rising_few 0 strays places (omega arith) taken_parts.strays_rise taken_parts.strays_in_list in
+      let places : List ℕ = taken_parts.low in
+      let few : 0 + length places ≤ strays =
+      few_rising 0 strays places taken_parts.low_rise taken_parts.low_below (omega arith) in
       let few_in_start : strays ≤ p.capacity = simp length-map lawful.frames in
       simp length-map (omega arith)
 
   -- the half law holds at the places of the offered items that were taken
   half_law : IsLawful p start
-      → HalfLawAt p.capacity (start_items start) t.state.offered t.state.acked t.state.delivered taken_parts.sent
+      → HalfLawAt p.capacity (start_items start) t.state.offered t.state.acked t.state.delivered taken_parts.high
   half_law lawful =
       record {
         acked_were_offered = inv.kept.sending.acked_were_offered;
         one_waits_at_most = inv.kept.sending.one_waits_at_most;
         strays = stray_items;
-        stray_places = taken_parts.strays;
+        stray_places = taken_parts.low;
         taken = sent_items;
         parts = delivered_parts;
         few_strays = few_strays lawful;
@@ -120,10 +133,13 @@ module _ (p : Parameters) (start : Start) (t : Traced) (inv : Invariant p start 
       }
 
   -- from a free item number on none is missing there, so none from 2c + 1 on
-  none_missing : AreLawful p → IsLawful p start → NoneMissing p.capacity t.state.acked taken_parts.sent
+  none_missing : AreLawful p → IsLawful p start → NoneMissing p.capacity t.state.acked taken_parts.high
   none_missing parameters lawful i late passed =
       let (j, within, free) = free_label p start parameters lawful in
-      sent_contains i taken_parts ((inv.kept.readings j free).none_missing i (omega arith) passed)
+      let place : ℕ = stray_count start + i in
+      let taken : Contains inv.taken place = (inv.kept.readings j free).none_missing i (omega arith) passed in
+      member_is_raised (stray_count start) i taken_parts.low taken_parts.high taken_parts.low_below
+      (subst (λ (places : List ℕ). Contains places place) taken_parts.both taken)
 
 -- every replay is explained by its origins
 pub replay_explained : (p : Parameters) (start : Start) (events : List Event)

@@ -5,10 +5,11 @@ use Rattle.stab_frames.specs.declared.frame.Frame.{Frame}
 use Rattle.stab_frames.specs.Parameters.{Parameters, next}
 use Rattle.stab_core.specs.declared.start.Start.{Start}
 use Rattle.stab_core.specs.Picks.{RisesFrom, AllBelow}
-use Rattle.stab_core.specs.Step.{left}
+use Rattle.stab_core.specs.Step.{after_front}
 use Rattle.stab_core.proofs.Labels.{item_label, item_label-more}
-use Rattle.stab_core.proofs.InOrder.{InOrder, in_order_left}
-use Rattle.stab_core.proofs.Places.{NeverFalls, NeverFalls-lower, NeverFalls-in_order, NeverFalls-push, RisesFrom-push, AllBelow-higher, AllBelow-in_order, AllBelow-push, map_below}
+use Rattle.stab_core.proofs.InOrder.{InOrder, in_order_after_front}
+use Rattle.stab_core.proofs.ForCallers.{rises_push, below_higher, below_push, map_below}
+use Rattle.stab_core.proofs.Places.{NeverFalls, NeverFalls-lower, NeverFalls-in_order, NeverFalls-push, AllBelow-in_order}
 use Rattle.stab_core.proofs.Sources.{stray_count, item_at, label_at, frame, frame_at, frame_sent, item_kept, frame_kept, start_places, start_places_never_fall, start_places_below, start_frames}
 
 -- The sender: all offered items but at most the last are acknowledged, and its label is that of the next item.
@@ -65,7 +66,7 @@ module _ (p : Parameters) (start : Start) where
       let strays : ℕ = stray_count start in
       record {
         frames_are = start_frames p start;
-        in_list = AllBelow-higher strays (strays + 0) (start_places start) (omega arith) (start_places_below start);
+        in_list = below_higher strays (strays + 0) (start_places start) (omega arith) (start_places_below start);
       }
 
   -- an offer leaves the frames as they are
@@ -78,7 +79,7 @@ module _ (p : Parameters) (start : Start) where
         frames_are = transit.frames_are
             ∙ map_below (frame_at p start offered) (frame_at p start more) (strays + length offered) queued
             (frame_kept p start offered (item ∷ [])) transit.in_list;
-        in_list = AllBelow-higher (strays + length offered) (strays + length more) queued
+        in_list = below_higher (strays + length offered) (strays + length more) queued
             (omega (arith, length_push offered item)) transit.in_list;
       }
 
@@ -93,13 +94,13 @@ module _ (p : Parameters) (start : Start) where
         frames_are =
             ap₂ (λ fs f. fs ++ f ∷ []) transit.frames_are (sym (frame_sent p start offered acked sending.own_label))
             ∙ sym (map_push (frame_at p start offered) queued place);
-        in_list = AllBelow-push (stray_count start + length offered) place queued transit.in_list (omega arith);
+        in_list = below_push (stray_count start + length offered) place queued transit.in_list (omega arith);
       }
 
   -- frames vanish, or stay at the front
-  pub transit_in_order : {offered queued fewer : List ℕ} {frames frames_left : List Frame}
-      → frames_left ≡ map (frame_at p start offered) fewer → InOrder queued fewer
-      → InTransit p start offered frames queued → InTransit p start offered frames_left fewer
+  pub transit_in_order : {offered queued fewer : List ℕ} {frames remaining : List Frame}
+      → remaining ≡ map (frame_at p start offered) fewer → InOrder queued fewer
+      → InTransit p start offered frames queued → InTransit p start offered remaining fewer
   transit_in_order {offered} frames_are in_order transit =
       record { frames_are = frames_are; in_list = AllBelow-in_order (stray_count start + length offered) in_order transit.in_list }
 
@@ -124,7 +125,7 @@ module _ (p : Parameters) (start : Start) where
       record {
         delivered_are = delivery.delivered_are
             ∙ map_below (item_at start offered) (item_at start (offered ++ item ∷ [])) size taken
-            (item_kept start offered (item ∷ [])) (AllBelow-higher bound size taken delivery.in_list delivery.below);
+            (item_kept start offered (item ∷ [])) (below_higher bound size taken delivery.in_list delivery.below);
         rises = delivery.rises;
         below = delivery.below;
         in_list = omega (arith, delivery.in_list, length_push offered item);
@@ -141,7 +142,7 @@ module _ (p : Parameters) (start : Start) where
       let place : ℕ = stray_count start + acked in
       let lowest : ℕ = bound - 1 in
       let all_below : AllBelow (place + 1) queued =
-      AllBelow-higher (stray_count start + length offered) (place + 1) queued (omega arith) in_list in
+      below_higher (stray_count start + length offered) (place + 1) queued (omega arith) in_list in
       record {
         delivered_are = delivery.delivered_are;
         rises = delivery.rises;
@@ -178,20 +179,20 @@ module _ (p : Parameters) (start : Start) where
       {queued taken : List ℕ} {bound : ℕ} → label_at p start place ≢ recv_label → place < stray_count start + length offered
       → Delivery p start offered recv_label delivered (place ∷ queued) taken bound
       → Delivery p start offered (label_at p start place) (delivered ++ item_at start offered place ∷ [])
-      (left keep (place ∷ queued)) (taken ++ place ∷ []) (place + 1)
+      (after_front keep (place ∷ queued)) (taken ++ place ∷ []) (place + 1)
   delivery_fresh keep {offered} {place = place} {queued} {taken} {bound} fresh in_list delivery =
       let above : bound ≤ place = fresh_is_above fresh delivery in
-      let all_below : AllBelow place taken = AllBelow-higher bound place taken above delivery.below in
-      let still_below : AllBelow (place + 1) taken = AllBelow-higher place (place + 1) taken (omega arith) all_below in
+      let all_below : AllBelow place taken = below_higher bound place taken above delivery.below in
+      let still_below : AllBelow (place + 1) taken = below_higher place (place + 1) taken (omega arith) all_below in
       let stays : place ≤ place = omega arith in
-      let none_lower : NeverFalls place (left keep (place ∷ queued)) =
-      NeverFalls-in_order place (in_order_left keep (place ∷ queued)) (stays, delivery.never_falls.1) in
+      let none_lower : NeverFalls place (after_front keep (place ∷ queued)) =
+      NeverFalls-in_order place (in_order_after_front keep (place ∷ queued)) (stays, delivery.never_falls.1) in
       record {
         delivered_are = ap (λ items. items ++ item_at start offered place ∷ []) delivery.delivered_are
             ∙ sym (map_push (item_at start offered) taken place);
-        rises = RisesFrom-push 0 place taken (omega arith) all_below delivery.rises;
-        below = AllBelow-push (place + 1) place taken still_below (omega arith);
+        rises = rises_push 0 place taken (omega arith) all_below delivery.rises;
+        below = below_push (place + 1) place taken still_below (omega arith);
         in_list = omega arith;
         last_label = λ other same. ap (label_at p start) (let equal : other ≡ place = omega arith in equal);
-        never_falls = NeverFalls-lower (place + 1 - 1) place (left keep (place ∷ queued)) (omega arith) none_lower;
+        never_falls = NeverFalls-lower (place + 1 - 1) place (after_front keep (place ∷ queued)) (omega arith) none_lower;
       }

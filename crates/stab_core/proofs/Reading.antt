@@ -7,9 +7,9 @@ use Rattle.std.proofs.lemmas.List.{map_push}
 use Rattle.std.proofs.lemmas.List.Elements.{Contains-push, Contains-append_left}
 use Rattle.stab_frames.specs.Parameters.{Parameters}
 use Rattle.stab_core.specs.declared.start.Start.{Start}
-use Rattle.stab_core.specs.Step.{left}
+use Rattle.stab_core.specs.Step.{after_front}
 use Rattle.stab_core.proofs.Labels.{item_label, item_label-more, labels_differ, next_differs}
-use Rattle.stab_core.proofs.InOrder.{InOrder, in_order_left, Each-in_order, Each-push, left-map}
+use Rattle.stab_core.proofs.InOrder.{InOrder, in_order_after_front, Each-in_order, Each-push, after_front-map}
 use Rattle.stab_core.proofs.Circle.{circle, Absent, AllAre, TurnsTo, TurnsTo-in_order, TurnsTo-push, TurnsTo-absent, absent_other, at_receiver, at_frames, circle_sent, taking_in_order, acks_in_order}
 use Rattle.stab_core.proofs.FreeLabel.{IsFree}
 use Rattle.stab_core.proofs.Sources.{stray_count, label_at, label_sent}
@@ -130,22 +130,22 @@ module _ (p : Parameters) (start : Start) (j : ℕ) (free : IsFree p start j) wh
   -- a frame that is taken leaves the circle in order, whether it stays at the front or goes
   taken_in_order : (keep : Bool) (acks : List ℕ) (recv_label place : ℕ) (queued : List ℕ)
       → InOrder (on_circle p start acks recv_label (place ∷ queued))
-      (on_circle p start acks (label_at p start place) (left keep (place ∷ queued)))
+      (on_circle p start acks (label_at p start place) (after_front keep (place ∷ queued)))
   taken_in_order keep acks recv_label place queued =
-      rw (sym (left-map (label_at p start) keep (place ∷ queued)))
+      rw (sym (after_front-map (label_at p start) keep (place ∷ queued)))
       (taking_in_order keep acks recv_label (label_at p start place) (map (label_at p start) queued))
 
   -- the receiver takes the front frame: where that has the sender's label, it is one of the sender's item
   pub reading_fresh : (keep : Bool) {acked : ℕ} {acks : List ℕ} {recv_label place : ℕ} {queued taken : List ℕ}
       → Reading p start j acked acks recv_label (place ∷ queued) taken
-      → Reading p start j acked acks (label_at p start place) (left keep (place ∷ queued)) (taken ++ place ∷ [])
+      → Reading p start j acked acks (label_at p start place) (after_front keep (place ∷ queued)) (taken ++ place ∷ [])
   reading_fresh keep {acked} {acks} {recv_label} {place} {queued} {taken} reading =
       let in_order = taken_in_order keep acks recv_label place queued in
       let more : List ℕ = taken ++ place ∷ [] in
       record {
         early = λ before. Each-in_order (λ x. x ≢ item_label p start j) in_order (reading.early before);
         late = λ begun. TurnsTo-in_order (item_label p start acked) in_order (reading.late begun);
-        own_frames = λ begun. Each-in_order (IsOwn p start acked) (in_order_left keep (place ∷ queued)) (reading.own_frames begun);
+        own_frames = λ begun. Each-in_order (IsOwn p start acked) (in_order_after_front keep (place ∷ queued)) (reading.own_frames begun);
         remembered = λ begun same.
             let is_own : place ≡ stray_count start + acked = (reading.own_frames begun).0 same in
             subst (λ (v : ℕ). Contains more v) is_own (Contains-push taken place);

@@ -12,7 +12,8 @@ use Rattle.stab_core.specs.Replay.{start_items}
 use Rattle.stab_core.specs.Picks.{AllBelow}
 use Rattle.stab_core.specs.Trace.{strays_from}
 use Rattle.stab_core.proofs.Labels.{item_label}
-use Rattle.stab_core.proofs.Places.{NeverFalls, map_below}
+use Rattle.stab_core.proofs.ForCallers.{map_below}
+use Rattle.stab_core.proofs.Places.{NeverFalls}
 
 -- how many items stand in the start
 abbrev pub stray_count : Start → ℕ

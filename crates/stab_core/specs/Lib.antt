@@ -14,3 +14,4 @@ pub mod Texts
 pub mod Tracer
 pub mod TracerInside
 pub mod Reachable
+pub mod CounterExamples

@@ -6,27 +6,38 @@ use Rattle.stab_core.specs.Picks.{Picks}
 
 -- With these places in the offered list: all offered items but at most the last are acknowledged, and the delivered list is
 -- strays picked from the start's items, then items picked from the offered list at those places.
-pub record HalfLawAt (capacity : ℕ) (start_items offered : List ℕ) (acked : ℕ) (delivered places : List ℕ) : Type 0 where
+pub record HalfLawAt (most_strays : ℕ) (start_items offered : List ℕ) (acked : ℕ) (delivered places : List ℕ)
+    : Type 0 where
   pub acked_were_offered : acked ≤ length offered
   pub one_waits_at_most : length offered ≤ acked + 1
   pub strays : List ℕ
   pub stray_places : List ℕ
   pub taken : List ℕ
   pub parts : delivered ≡ strays ++ taken
-  pub few_strays : length strays ≤ capacity
+  pub few_strays : length strays ≤ most_strays
   pub strays_picked : Picks start_items stray_places strays
   pub taken_picked : Picks offered places taken
 
--- the half law
+-- the half law: there are at most this many strays
 abbrev pub HalfLaw : ℕ → List ℕ → List ℕ → ℕ → List ℕ → Type 0
-HalfLaw capacity start_items offered acked delivered =
-    (places : List ℕ) × HalfLawAt capacity start_items offered acked delivered places
+HalfLaw most_strays start_items offered acked delivered =
+    (places : List ℕ) × HalfLawAt most_strays start_items offered acked delivered places
+
+-- from this place on, no acknowledged item is missing from these places
+abbrev pub NoneMissingFrom : ℕ → ℕ → List ℕ → Type 0
+NoneMissingFrom first acked places = (i : ℕ) → first ≤ i → i < acked → Contains places i
+
+-- the link law with these bounds: the half law, and for the same places only some of the first acknowledged items are missing
+abbrev pub LinkLawWithin : ℕ → ℕ → List ℕ → List ℕ → ℕ → List ℕ → Type 0
+LinkLawWithin most_strays most_missing start_items offered acked delivered =
+    (places : List ℕ)
+    × HalfLawAt most_strays start_items offered acked delivered places
+    × NoneMissingFrom most_missing acked places
 
 -- of the acknowledged items only some among the first 2c + 1 are missing from these places
 abbrev pub NoneMissing : ℕ → ℕ → List ℕ → Type 0
-NoneMissing capacity acked places = (i : ℕ) → 2 * capacity + 1 ≤ i → i < acked → Contains places i
+NoneMissing capacity = NoneMissingFrom (2 * capacity + 1)
 
--- the link law: the half law, and for the same places no later acknowledged item is missing
+-- the link law: at most c strays, and only some of the first 2c + 1 acknowledged items are missing
 abbrev pub LinkLaw : ℕ → List ℕ → List ℕ → ℕ → List ℕ → Type 0
-LinkLaw capacity start_items offered acked delivered =
-    (places : List ℕ) × HalfLawAt capacity start_items offered acked delivered places × NoneMissing capacity acked places
+LinkLaw capacity = LinkLawWithin capacity (2 * capacity + 1)

@@ -12,11 +12,15 @@ pub record IsLawful (p : Parameters) (start : Start) : Type 0 where
   pub frames : length start.frames ≤ p.capacity
   pub acks : length start.acks ≤ p.capacity
 
--- the start of a link that nobody disturbed: no entries, the send label 0, and a receive label that no sender which begins so ever uses
-abbrev pub clean_start : Start
-clean_start = record { frames = []; acks = []; send_label = 0; recv_label = 65535 }
+-- the largest u16: a sender that begins with the label 0 never uses it
+abbrev pub unused_label : ℕ
+unused_label = 65535
 
--- the items that stand in a start's frames, the front first
+-- the start of a link that nobody disturbed: empty queues, and a receiver that remembers no label of its sender
+abbrev pub clean_start : Start
+clean_start = record { frames = []; acks = []; send_label = 0; recv_label = unused_label }
+
+-- the items in a start's frames, the front first
 abbrev pub start_items : Start → List ℕ
 start_items start = map (λ f. f.item) start.frames
 

@@ -11,31 +11,34 @@ use Rattle.stab_core.specs.declared.event.Effect.TheVariants.{Nothing, Held, Sen
 use Rattle.stab_core.specs.LinkState.{LinkState, is_idle, is_holding, current_frame, has_room}
 
 -- a queue after its front was received: a kept front stays
-abbrev pub left : {A : Type 0} → Bool → List A → List A
-left keep entries = if keep then entries else drop 1 entries
+abbrev pub after_front : {A : Type 0} → Bool → List A → List A
+after_front keep entries = if keep then entries else drop 1 entries
+
+-- the receiver takes a frame: it remembers the label and delivers the item
+abbrev pub takes : LinkState → Frame → LinkState
+takes s f = record s { recv_label = f.label; delivered = s.delivered ++ f.item ∷ [] }
 
 -- the receiver sees a frame: it takes it exactly if the label is not the one that it remembers
 abbrev pub sees_frame : LinkState → Frame → LinkState
-sees_frame s f =
-    if f.label == s.recv_label then s
-    else record s { recv_label = f.label; delivered = s.delivered ++ f.item ∷ [] }
+sees_frame s f = if f.label == s.recv_label then s else takes s f
 
--- the sender sees an acknowledgement: it goes on to the next label exactly if it waits for this one
+-- the sender goes on to the next label: its item counts as acknowledged
+abbrev pub goes_on : Parameters → LinkState → LinkState
+goes_on p s = record s { acked = s.acked + 1; send_label = next p s.send_label }
+
+-- the sender sees an acknowledgement: it goes on exactly if it waits for this one
 abbrev pub sees_ack : Parameters → LinkState → ℕ → LinkState
-sees_ack p s label =
-    if is_holding s && (label == s.send_label)
-    then record s { acked = s.acked + 1; send_label = next p s.send_label }
-    else s
+sees_ack p s label = if is_holding s && (label == s.send_label) then goes_on p s else s
 
 -- the front frame is received, where there is one
 abbrev pub receives_frame : Bool → LinkState → Option Frame → LinkState
 receives_frame keep s None = s
-receives_frame keep s (Some f) = sees_frame (record s { frames = left keep s.frames }) f
+receives_frame keep s (Some f) = sees_frame (record s { frames = after_front keep s.frames }) f
 
 -- the front acknowledgement is received, where there is one
 abbrev pub receives_ack : Parameters → Bool → LinkState → Option ℕ → LinkState
 receives_ack p keep s None = s
-receives_ack p keep s (Some label) = sees_ack p (record s { acks = left keep s.acks }) label
+receives_ack p keep s (Some label) = sees_ack p (record s { acks = after_front keep s.acks }) label
 
 -- the step of an open link
 abbrev pub open_step : Parameters → LinkState → Event → LinkState

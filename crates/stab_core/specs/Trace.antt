@@ -10,7 +10,7 @@ use Rattle.stab_core.specs.declared.origin.Origin.{Origin}
 use Rattle.stab_core.specs.declared.origin.Origin.TheVariants.{Stray, Sent}
 use Rattle.stab_core.specs.declared.start.Start.{Start}
 use Rattle.stab_core.specs.LinkState.{LinkState, is_holding, has_room}
-use Rattle.stab_core.specs.Step.{step, left}
+use Rattle.stab_core.specs.Step.{step, after_front}
 use Rattle.stab_core.specs.Replay.{opening}
 use Rattle.stab_core.specs.Picks.{Picks}
 
@@ -36,7 +36,7 @@ queued_after p t SendFrame =
     if is_holding t.state && has_room p t.state.frames
     then t.queued ++ Sent (length t.state.offered - 1) ∷ []
     else t.queued
-queued_after p t (RecvFrame keep) = left keep t.queued
+queued_after p t (RecvFrame keep) = after_front keep t.queued
 queued_after p t SendAck = t.queued
 queued_after p t (RecvAck keep) = t.queued
 queued_after p t (LoseFrame place) = without place t.queued

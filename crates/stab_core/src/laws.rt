@@ -1,8 +1,12 @@
 //! Laws over the definitions alone: they name no link, queue or list of the code, so that every layer above may use
 //! them for whatever runs the same steps. Each is a function with an empty body; its contract is the law.
 
-ghost use Rattle.std.specs.Prelude.{◌≡◌, ◌+◌, ◌≤◌, List, [], ◌∷◌, ◌++◌, length};
-ghost use Rattle.stab_core.specs.LinkLaw.{HalfLaw, LinkLaw};
+ghost use Rattle.std.specs.Prelude.{◌≡◌, ℕ, ◌+◌, ◌≤◌, List, [], ◌∷◌, ◌++◌, length, fold};
+ghost use Rattle.stab_core.specs.CounterExamples.{two_labels, two_labels_start, two_labels_events};
+ghost use Rattle.stab_core.specs.CounterExamples.{any_ack_step, any_ack_start, any_ack_events};
+ghost use Rattle.stab_core.specs.CounterExamples.{any_frame_step, any_frame_start, any_frame_events};
+ghost use Rattle.stab_core.specs.CounterExamples.{four_labels, worst_start, worst_events};
+ghost use Rattle.stab_core.specs.LinkLaw.{HalfLaw, LinkLaw, LinkLawWithin};
 ghost use Rattle.stab_core.specs.LinkState.{LinkState};
 ghost use Rattle.stab_core.specs.Reachable.{IsReachable};
 ghost use Rattle.stab_core.specs.Replay.{IsLawful, opening, replay, start_items};
@@ -49,4 +53,41 @@ pub fn every_replay_obeys_the_link_law()
 /// The half law alone, which says nothing of missing items, and for which the number of labels does not matter.
 pub fn every_replay_obeys_the_half_law()
     ensures { (p : Parameters) (start : Start) (events : List Event) → IsLawful p start → let s = replay p (opening start) events in HalfLaw p.capacity (start_items start) s.offered s.acked s.delivered }
+{}
+
+/// Two labels are too few: from a lawful start this event list breaks the link law, since an item after the first
+/// `2c + 1` is acknowledged and was not delivered.
+pub fn two_labels_break_the_link_law()
+    ensures lawful { IsLawful two_labels two_labels_start }
+    ensures broken { let s = replay two_labels (opening two_labels_start) two_labels_events in
+        ¬ LinkLaw two_labels.capacity (start_items two_labels_start) s.offered s.acked s.delivered }
+{}
+
+/// A sender that goes on at any acknowledgement breaks the link law, under lawful parameters and from a lawful start.
+pub fn any_acknowledgement_breaks_the_link_law()
+    ensures parameters { AreLawful four_labels }
+    ensures lawful { IsLawful four_labels any_ack_start }
+    ensures broken { let s = fold (any_ack_step four_labels) (opening any_ack_start) any_ack_events in
+        ¬ LinkLaw four_labels.capacity (start_items any_ack_start) s.offered s.acked s.delivered }
+{}
+
+/// A receiver that takes every frame breaks the half law: it delivers an item twice.
+pub fn every_frame_breaks_the_half_law()
+    ensures parameters { AreLawful four_labels }
+    ensures lawful { IsLawful four_labels any_frame_start }
+    ensures broken { let s = fold (any_frame_step four_labels) (opening any_frame_start) any_frame_events in
+        ¬ HalfLaw four_labels.capacity (start_items any_frame_start) s.offered s.acked s.delivered }
+{}
+
+/// The bounds of the link law are reached for the capacity 1: after this event list a stray was delivered and the first
+/// three acknowledged items were not. So no smaller bound holds, on strays or on missing items.
+pub fn bounds_are_reached()
+    ensures parameters { AreLawful four_labels }
+    ensures lawful { IsLawful four_labels worst_start }
+    ensures reached { let s = replay four_labels (opening worst_start) worst_events in
+        (s.offered ≡ 10 ∷ 11 ∷ 12 ∷ 13 ∷ []) × (s.acked ≡ 3) × (s.delivered ≡ 99 ∷ 13 ∷ []) }
+    ensures one_stray { (most_missing : ℕ) → let s = replay four_labels (opening worst_start) worst_events in
+        ¬ LinkLawWithin 0 most_missing (start_items worst_start) s.offered s.acked s.delivered }
+    ensures three_missing { (most_strays : ℕ) → let s = replay four_labels (opening worst_start) worst_events in
+        ¬ LinkLawWithin most_strays 2 (start_items worst_start) s.offered s.acked s.delivered }
 {}

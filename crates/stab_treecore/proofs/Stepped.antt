@@ -6,7 +6,7 @@ use Rattle.stab_core.specs.declared.event.Event.{Event}
 use Rattle.stab_core.specs.declared.event.Event.TheVariants as event
 use Rattle.stab_core.specs.Link.{LinkValue}
 use Rattle.stab_core.specs.LinkState.{LinkState, is_idle, is_holding, current_frame, has_room}
-use Rattle.stab_core.specs.Step.{step, open_step, left, receives_frame, receives_ack}
+use Rattle.stab_core.specs.Step.{step, open_step, after_front, receives_frame, receives_ack}
 use Rattle.stab_core.specs.declared.act.LinkAct.{LinkAct}
 use Rattle.stab_core.specs.declared.act.LinkAct.TheVariants.{Offer, SendFrame, RecvFrame, SendAck, RecvAck, LoseFrame, LoseAck, Close}
 use Rattle.stab_treecore.specs.Prefix.{IsPrefix}
@@ -27,8 +27,8 @@ Delivers before s = IsPrefix before s.delivered
 receives_delivers : (keep : Bool) (s : LinkState) (front : Option Frame) → Delivers s.delivered (receives_frame keep s front)
 receives_delivers keep s None = prefix_of_itself s.delivered
 receives_delivers keep s (Some f) =
-    of_both (Delivers s.delivered) (f.label == s.recv_label) (record s { frames = left keep s.frames })
-    (record s { frames = left keep s.frames; recv_label = f.label; delivered = s.delivered ++ f.item ∷ [] })
+    of_both (Delivers s.delivered) (f.label == s.recv_label) (record s { frames = after_front keep s.frames })
+    (record s { frames = after_front keep s.frames; recv_label = f.label; delivered = s.delivered ++ f.item ∷ [] })
     (prefix_of_itself s.delivered) (prefix_of_grown s.delivered f.item)
 
 -- an acknowledgement that is received leaves the delivered list
@@ -36,8 +36,8 @@ ack_delivers : (p : Parameters) (keep : Bool) (s : LinkState) (front : Option �
 ack_delivers p keep s None = prefix_of_itself s.delivered
 ack_delivers p keep s (Some label) =
     of_both (Delivers s.delivered) (is_holding s && (label == s.send_label))
-    (record s { acks = left keep s.acks; acked = s.acked + 1; send_label = next p s.send_label })
-    (record s { acks = left keep s.acks })
+    (record s { acks = after_front keep s.acks; acked = s.acked + 1; send_label = next p s.send_label })
+    (record s { acks = after_front keep s.acks })
     (prefix_of_itself s.delivered) (prefix_of_itself s.delivered)
 
 -- each step of an open link only adds to the delivered list
@@ -85,8 +85,8 @@ OffersFrom list s = IsPrefix s.offered list
 receives_offers : (list : List ℕ) (keep : Bool) (s : LinkState) (front : Option Frame) → OffersFrom list s → OffersFrom list (receives_frame keep s front)
 receives_offers list keep s None begins = begins
 receives_offers list keep s (Some f) begins =
-    of_both (OffersFrom list) (f.label == s.recv_label) (record s { frames = left keep s.frames })
-    (record s { frames = left keep s.frames; recv_label = f.label; delivered = s.delivered ++ f.item ∷ [] }) begins begins
+    of_both (OffersFrom list) (f.label == s.recv_label) (record s { frames = after_front keep s.frames })
+    (record s { frames = after_front keep s.frames; recv_label = f.label; delivered = s.delivered ++ f.item ∷ [] }) begins begins
 
 -- an acknowledgement that is received leaves the offered list
 ack_offers : (list : List ℕ) (p : Parameters) (keep : Bool) (s : LinkState) (front : Option ℕ) → OffersFrom list s
@@ -94,8 +94,8 @@ ack_offers : (list : List ℕ) (p : Parameters) (keep : Bool) (s : LinkState) (f
 ack_offers list p keep s None begins = begins
 ack_offers list p keep s (Some label) begins =
     of_both (OffersFrom list) (is_holding s && (label == s.send_label))
-    (record s { acks = left keep s.acks; acked = s.acked + 1; send_label = next p s.send_label })
-    (record s { acks = left keep s.acks }) begins begins
+    (record s { acks = after_front keep s.acks; acked = s.acked + 1; send_label = next p s.send_label })
+    (record s { acks = after_front keep s.acks }) begins begins
 
 -- a step of an open link adds the next item, or leaves the offered list
 open_offers : (list : List ℕ) (p : Parameters) (s : LinkState) (e : Event) → OffersFrom list s → OffersNext list s e → OffersFrom list (open_step p s e)
