@@ -3,7 +3,7 @@ use Rattle.std.proofs.Common.{◌≡◌, ◌<◌, ℕ, List, [], ◌∷◌, leng
 use Rattle.std.proofs.lemmas.Str.{is_utf8-from_IsUtf8}
 use Rattle.serde_json.proofs.OnLiterals.{serde_json_on_literals}
 use Rattle.serde_json.specs.Data.{Data}
-use Rattle.stab_script.specs.Values.{value_of}
+use Rattle.stab_json.specs.Values.{value_of}
 
 -- no bytes stand for no value
 value_of_no_bytes : value_of [] ≡ None

@@ -7,7 +7,7 @@ use Rattle.serde_json.specs.declared.value.Value.{Value}
 use Rattle.stab_script.specs.declared.fault.ScriptFault.{ScriptFault}
 use Rattle.stab_script.specs.Scripts.{Acts, no_acts}
 use Rattle.stab_script.specs.ScriptEntries.{scripted}
-use Rattle.stab_script.specs.Values.{◌>>=◌, count, entries}
+use Rattle.stab_json.specs.Values.{◌>>=◌, count, entries}
 use Rattle.stab_frames.specs.Parameters.{Parameters}
 use Rattle.stab_core.specs.declared.start.Start.{Start}
 use Rattle.stab_core.specs.Replay.{clean_start}

@@ -3,7 +3,7 @@ use Rattle.std.proofs.Common.{◌≡◌, ℕ, ◌+◌, List, [], ◌∷◌, ◌+
 use Rattle.std.proofs.lemmas.List.{replicate-append-replicate, append-nil}
 use Rattle.stab_script.specs.declared.fault.ScriptFault.{ScriptFault}
 use Rattle.stab_script.specs.Scripts.{Acts}
-use Rattle.stab_script.specs.Values.{◌>>=◌}
+use Rattle.stab_json.specs.Values.{◌>>=◌}
 use Rattle.stab_run.specs.JobLinks.{before, all_made}
 
 -- one more at the end of as many alike is one more of them

@@ -4,7 +4,7 @@ use Rattle.serde_json.specs.Data.{Data}
 use Rattle.serde_json.specs.View.{view, items_view}
 use Rattle.serde_json.specs.declared.value.Value.{Value}
 use Rattle.stab_script.specs.ScriptEntries.{letters, scripted}
-use Rattle.stab_script.specs.Values.{◌>>=◌, entries}
+use Rattle.stab_json.specs.Values.{◌>>=◌, entries}
 use Rattle.stab_run.specs.MembersInside.{scripts_in}
 
 -- an element more has the shape or not

@@ -8,7 +8,7 @@ use Rattle.stab_script.specs.declared.fault.ScriptFault.{ScriptFault}
 use Rattle.stab_script.specs.Scripts.{Acts}
 use Rattle.stab_script.specs.ScriptEntries.{scripted}
 use Rattle.stab_script.specs.Starts.{start}
-use Rattle.stab_script.specs.Values.{◌>>=◌, whole, capped, item_number, list_of}
+use Rattle.stab_json.specs.Values.{◌>>=◌, whole, capped, item_number, list_of}
 
 pub record Members : Type 0 where
   pub capacity : ℕ

@@ -8,7 +8,7 @@ use Rattle.stab_frames.specs.declared.params.ParamsFault.{ParamsFault}
 use Rattle.stab_frames.specs.Parameters.{fault_of}
 use Rattle.stab_script.specs.declared.fault.ScriptFault.{ScriptFault}
 use Rattle.stab_script.specs.Scripts.{Acts}
-use Rattle.stab_script.specs.Values.{value_of, whole, count}
+use Rattle.stab_json.specs.Values.{value_of, whole, count}
 use Rattle.stab_tree.specs.declared.fault.TreeFault.{TreeFault}
 use Rattle.stab_tree.specs.Nodes.{Nodes}
 use Rattle.stab_tree.specs.Read.{tree_of}

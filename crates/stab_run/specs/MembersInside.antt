@@ -6,7 +6,7 @@ use Rattle.serde_json.specs.declared.value.Value.{Value}
 use Rattle.stab_script.specs.declared.fault.ScriptFault.{ScriptFault}
 use Rattle.stab_script.specs.Scripts.{Acts}
 use Rattle.stab_script.specs.ScriptEntries.{scripted}
-use Rattle.stab_script.specs.Values.{entries}
+use Rattle.stab_json.specs.Values.{entries}
 use Rattle.stab_run.specs.declared.members.LentMembers.{LentMembers}
 use Rattle.stab_run.specs.JobMembers.{Members}
 

@@ -6,7 +6,7 @@ use Rattle.stab_core.specs.declared.event.Event.{Event}
 use Rattle.stab_core.specs.declared.event.Event.TheVariants as event
 use Rattle.serde_json.specs.Data.{Data, Items, no_items, item}
 use Rattle.serde_json.specs.Find.{as_str, as_array}
-use Rattle.stab_script.specs.Values.{◌>>=◌, entries}
+use Rattle.stab_json.specs.Values.{◌>>=◌, entries}
 use Rattle.stab_script.specs.Events.{plain_event, loss}
 use Rattle.stab_tree.specs.Nodes.{place_of}
 use Rattle.stab_core.specs.declared.act.LinkAct.{LinkAct}

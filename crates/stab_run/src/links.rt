@@ -3,14 +3,15 @@ ghost use Rattle.serde_json.specs.View.{items_view};
 ghost use Rattle.stab_core.specs.Replay.{clean_start};
 ghost use Rattle.stab_script.specs.Scripts.{no_acts};
 ghost use Rattle.stab_script.specs.ScriptEntries.{scripted};
-ghost use Rattle.stab_script.specs.Values.{entries};
+ghost use Rattle.stab_json.specs.Values.{entries};
 ghost use Rattle.stab_run.specs.JobLinks.{all_made, starts_of};
 ghost use Rattle.stab_run.specs.MembersInside.{scripts_in};
 
 use serde_json::Value;
 use stab_core::Start;
 use stab_frames::Sequence;
-use stab_script::{Entry, Script, ScriptFault};
+use stab_json::Entry;
+use stab_script::{Script, ScriptEntry, ScriptFault};
 use std::alloc::{AllocError, Global};
 
 #[tactic(auto, using(crate::proofs::Linked::one_more_alike))]
@@ -61,7 +62,7 @@ pub(crate) fn read_scripts(alloc: Global, values: &[Value]) -> Result<Sequence<S
 {
     let mut scripts = Sequence::with_capacity(alloc, values.len())?;
     for value in values {
-        let Some(read) = <Result<Script, ScriptFault>>::read(alloc, value)? else {
+        let Some(read) = ScriptEntry::read(alloc, value)? else {
             unreachable!()
         };
         scripts.push(read?)?;

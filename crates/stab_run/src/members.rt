@@ -3,7 +3,7 @@ ghost use Rattle.serde_json.specs.Find.{get, as_array};
 ghost use Rattle.serde_json.specs.View.{view, items_view};
 ghost use Rattle.stab_script.specs.ScriptEntries.{scripted};
 ghost use Rattle.stab_script.specs.Starts.{start};
-ghost use Rattle.stab_script.specs.Values.{capped, entries, item_number, list_of};
+ghost use Rattle.stab_json.specs.Values.{capped, entries, item_number, list_of};
 ghost use Rattle.stab_run.specs.MembersInside.{scripts_in, have_shape, shown};
 ghost use Rattle.stab_run.specs.JobMembers.{members, if_there, turns_of, entries_of};
 
@@ -11,7 +11,8 @@ use crate::script_shape::have_script_shape;
 use serde_json::Value;
 use stab_core::Start;
 use stab_frames::{Item, Sequence};
-use stab_script::{Entry, Script, ScriptFault, capped_member, read_entries};
+use stab_json::{capped_member, read_entries};
+use stab_script::StartEntry;
 use std::alloc::{AllocError, Global};
 
 /// The members of a job, lent by its value, each of its stated shape. The tree and the schedule are not looked at, and no script is made.
@@ -75,7 +76,7 @@ fn items_of(alloc: Global, value: &Value) -> Result<Option<Sequence<Item>>, Allo
         return Ok(None);
     };
     match items.as_array() {
-        Some(items) => read_entries(alloc, items.as_slice()),
+        Some(items) => read_entries::<Item>(alloc, items.as_slice()),
         None => Ok(None),
     }
 }
@@ -91,7 +92,7 @@ fn starts_of(alloc: Global, value: &Value) -> Result<Option<Option<Sequence<Star
     let Some(starts) = starts.as_array() else {
         return Ok(None);
     };
-    match read_entries(alloc, starts.as_slice())? {
+    match read_entries::<StartEntry>(alloc, starts.as_slice())? {
         Some(starts) => Ok(Some(Some(starts))),
         None => Ok(None),
     }

@@ -1,7 +1,7 @@
 ghost use Rattle.std.specs.Prelude.{◌≡◌, ◌≢◌, ◌<◌, codes, true, length, IfErr, IfSome, MatchResult, Some, None, Ok, Err, option_map, option_copied};
 ghost use Rattle.serde_json.specs.Find.{get};
 ghost use Rattle.serde_json.specs.View.{view};
-ghost use Rattle.stab_script.specs.Values.{value_of};
+ghost use Rattle.stab_json.specs.Values.{value_of};
 ghost use Rattle.stab_run.specs.JobLinks.{scripts_of};
 ghost use Rattle.stab_run.specs.JobMembers.{members};
 ghost use Rattle.stab_run.specs.JobValues.{links};
@@ -16,7 +16,8 @@ use crate::members::{LentMembers, read_members};
 use crate::schedule::read_schedule;
 use serde_json::Value;
 use stab_frames::{Params, Sequence};
-use stab_script::{Script, ScriptFault, read_value};
+use stab_json::read_value;
+use stab_script::{Script, ScriptFault};
 use stab_tree::{Tree, TreeFault, read_tree};
 use std::alloc::Global;
 

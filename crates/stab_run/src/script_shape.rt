@@ -4,10 +4,10 @@ ghost use Rattle.std.specs.Prelude.{◌≡◌, is_some};
 ghost use Rattle.serde_json.specs.Find.{get};
 ghost use Rattle.serde_json.specs.View.{view, items_view};
 ghost use Rattle.stab_script.specs.ScriptEntries.{out_letter, in_letter, letters, letters_or_absent, lettered, seeded, scripted};
-ghost use Rattle.stab_script.specs.Values.{entries};
+ghost use Rattle.stab_json.specs.Values.{entries};
 
 use serde_json::Value;
-use stab_script::{capped_member, pair};
+use stab_json::{capped_member, pair};
 
 // Whether a letter names an act for what goes out.
 fn is_out_letter(letter: u8) -> bool

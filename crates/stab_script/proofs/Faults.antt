@@ -5,7 +5,7 @@ use Rattle.stab_frames.specs.Parameters.{fault_of}
 use Rattle.stab_core.specs.declared.event.Event.{Event}
 use Rattle.stab_script.specs.declared.link_job.LinkJobFault.TheVariants as fault
 use Rattle.stab_script.specs.Events.{event}
-use Rattle.stab_script.specs.Values.{entries}
+use Rattle.stab_json.specs.Values.{entries}
 use Rattle.stab_script.specs.LinkJobs.{Members, job_with, job_under, job_of}
 
 counted_is_json : (too_many : Bool) (m : Members) (o : Option (List Event))

@@ -6,7 +6,7 @@ use Rattle.stab_core.specs.declared.event.Event.{Event}
 use Rattle.stab_core.specs.declared.event.Event.TheVariants.{Offer, SendFrame, RecvFrame, SendAck, RecvAck, LoseFrame, LoseAck, Close}
 use Rattle.serde_json.specs.Data.{Data, null, boolean, number, string, array, object}
 use Rattle.serde_json.specs.Find.{as_str}
-use Rattle.stab_script.specs.Values.{◌>>=◌, label, item_number, pair}
+use Rattle.stab_json.specs.Values.{◌>>=◌, label, item_number, pair}
 
 -- a word that names an event by itself
 abbrev pub plain_event : List ℕ → Option Event

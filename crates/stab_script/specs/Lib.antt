@@ -1,4 +1,3 @@
-pub mod Values
 pub mod Starts
 pub mod Events
 pub mod LinkJobs

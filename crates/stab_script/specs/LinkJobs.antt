@@ -10,7 +10,7 @@ use Rattle.serde_json.specs.Find.{get, as_array}
 use Rattle.stab_script.specs.declared.link_job.LinkJob.{LinkJob}
 use Rattle.stab_script.specs.declared.link_job.LinkJobFault.{LinkJobFault}
 use Rattle.stab_script.specs.declared.link_job.LinkJobFault.TheVariants as fault
-use Rattle.stab_script.specs.Values.{◌>>=◌, value_of, capped, count, entries}
+use Rattle.stab_json.specs.Values.{◌>>=◌, value_of, most_u16, capped, count, entries}
 use Rattle.stab_script.specs.Starts.{start}
 use Rattle.stab_script.specs.Events.{event}
 
@@ -23,8 +23,8 @@ pub record Members : Type 0 where
 
 abbrev pub members : Data → Option Members
 members d = do
-  its_capacity ← get (codes "capacity") d >>= capped 65535
-  its_labels ← get (codes "labels") d >>= capped 65535
+  its_capacity ← get (codes "capacity") d >>= capped most_u16
+  its_labels ← get (codes "labels") d >>= capped most_u16
   its_start ← get (codes "start") d >>= start
   its_events ← get (codes "events") d >>= as_array
   Some (record { capacity = its_capacity; labels = its_labels; start = its_start; events = its_events })

@@ -10,7 +10,7 @@ use Rattle.stab_script.specs.declared.act.InAct.TheVariants.{Take, Keep}
 use Rattle.stab_script.specs.declared.fault.PartFault.{PartFault}
 use Rattle.stab_script.specs.declared.fault.PartFault.TheVariants.{Shape, Script}
 use Rattle.stab_script.specs.declared.fault.ScriptFault.{ScriptFault}
-use Rattle.stab_script.specs.Values.{◌>>=◌, whole, capped, pair}
+use Rattle.stab_json.specs.Values.{◌>>=◌, most_u16, most_u32, whole, capped, pair}
 use Rattle.stab_script.specs.Scripts.{Acts, acts, no_acts, script_of}
 use Rattle.stab_script.specs.Draws.{draw_script, pcg32_words}
 
@@ -47,9 +47,9 @@ seeded seed d = do
   parts ← pair seed
   state ← whole parts.0
   stream ← whole parts.1
-  len ← get (codes "length") d >>= capped 4294967295
-  loss ← get (codes "loss") d >>= capped 65535
-  repeat ← get (codes "repeat") d >>= capped 65535
+  len ← get (codes "length") d >>= capped most_u32
+  loss ← get (codes "loss") d >>= capped most_u16
+  repeat ← get (codes "repeat") d >>= capped most_u16
   Some (draw_script len loss repeat (pcg32_words state stream))
 
 -- an object with a seed is drawn; one without has letters

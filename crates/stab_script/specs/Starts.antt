@@ -1,19 +1,10 @@
--- Starts: what a JSON value means as a frame, and as the start of a link.
+-- Starts: what a JSON value means as the start of a link.
 -- Source: this project's profile. The capacity bounds a start where a link begins, not here.
 use Rattle.std.specs.Prelude.{codes, Option, Some}
-use Rattle.stab_frames.specs.declared.frame.Frame.{Frame}
 use Rattle.stab_core.specs.declared.start.Start.{Start}
 use Rattle.serde_json.specs.Data.{Data}
 use Rattle.serde_json.specs.Find.{get}
-use Rattle.stab_script.specs.Values.{◌>>=◌, label, item_number, pair, list_or_absent}
-
--- a frame: a list of a label and an item
-abbrev pub frame : Data → Option Frame
-frame d = do
-  parts ← pair d
-  its_label ← label parts.0
-  its_item ← item_number parts.1
-  Some (record { label = its_label; item = its_item })
+use Rattle.stab_json.specs.Values.{◌>>=◌, label, frame, list_or_absent}
 
 -- a start: an object with the two labels, and with the frames and acknowledgements, the front first, where it names any
 abbrev pub start : Data → Option Start

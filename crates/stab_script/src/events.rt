@@ -2,11 +2,9 @@ ghost use Rattle.std.specs.Prelude.{◌≡◌};
 ghost use Rattle.serde_json.specs.View.{view};
 ghost use Rattle.stab_script.specs.Events.{plain_event, loss, numbered_event, event};
 
-use crate::list::Entry;
-use crate::value::{item, label, pair};
 use serde_json::Value;
 use stab_core::Event;
-use std::alloc::{AllocError, Global};
+use stab_json::{item, label, pair};
 
 /// The event that a word names by itself.
 pub fn plain_event(word: &str) -> Option<Event>
@@ -57,13 +55,5 @@ pub fn event(value: &Value) -> Option<Event>
             numbered_event(word.as_str()?, number)
         }
         _ => None,
-    }
-}
-
-impl Entry for Event {
-    ghost meaning = { event };
-
-    fn read(_alloc: Global, value: &Value) -> Result<Option<Event>, AllocError> {
-        Ok(event(value))
     }
 }

@@ -14,22 +14,18 @@ mod fault;
 mod half;
 pub mod laws;
 mod link_job;
-mod list;
 mod script;
 mod script_entry;
 mod start;
-mod value;
 
 pub use act::{InAct, OutAct};
 pub use events::{event, loss, numbered_event, plain_event};
 pub use fault::{PartFault, ScriptFault};
 pub use half::HalfScript;
 pub use link_job::{LinkJob, LinkJobFault, read_link_job};
-pub use list::{Entry, read_entries, read_list, take_entries};
 pub use script::{MAX_ACTS, Script};
-pub use script_entry::read_script;
-pub use start::read_start;
-pub use value::{capped_member, item, label, pair, read_value, whole_capped, whole_up_to};
+pub use script_entry::{ScriptEntry, read_script};
+pub use start::{StartEntry, read_start};
 
 #[cfg(test)]
 mod tests;

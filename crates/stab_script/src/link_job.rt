@@ -1,15 +1,17 @@
 ghost use Rattle.std.specs.Prelude.{◌≡◌, ◌≢◌, ◌<◌, codes, length, MatchResult, IfOk, Some, None, Ok, Err, option_and_then, option_map};
 ghost use Rattle.serde_json.specs.Find.{get, as_array};
 ghost use Rattle.serde_json.specs.View.{view, items_view};
-ghost use Rattle.stab_script.specs.Values.{value_of};
+ghost use Rattle.stab_json.specs.Values.{value_of, entries};
+ghost use Rattle.stab_script.specs.Events.{event};
 ghost use Rattle.stab_script.specs.Starts.{start};
 ghost use Rattle.stab_script.specs.LinkJobs.{Members, link_job, job_of, members};
 
-use crate::list::{Entry, take_entries};
-use crate::value::{capped_member, read_value};
+use crate::events::event;
+use crate::start::StartEntry;
 use serde_json::Value;
 use stab_core::{Event, Start};
 use stab_frames::{Params, ParamsFault, Sequence};
+use stab_json::{Entry, read_value, u16_member};
 use std::alloc::{AllocError, Global};
 use thiserror::Error;
 
@@ -69,7 +71,7 @@ pub struct LinkJob {
     pub events: Sequence<Event>,
 }
 
-#[tactic(auto, using(crate::proofs::Bytes::some_bytes, crate::proofs::Faults::never_json))]
+#[tactic(auto, using(stab_json::proofs::ForCallers::some_bytes, crate::proofs::Faults::never_json))]
 /// The link job that these bytes mean, or the first check that they fail; memory may be refused before a later check.
 pub fn read_link_job(alloc: Global, bytes: &[u8]) -> Result<LinkJob, LinkJobFault>
     ensures job { MatchResult result
@@ -91,8 +93,8 @@ fn job_of_value(alloc: Global, value: Value) -> Result<LinkJob, LinkJobFault>
         (λ fault. fault ≢ LinkJobFault.Memory → job_of (members (view value)) ≡ Err fault) }
 {
     let (Some(capacity), Some(labels)) = (
-        capped_member(&value, "capacity", 65535),
-        capped_member(&value, "labels", 65535),
+        u16_member(&value, "capacity"),
+        u16_member(&value, "labels"),
     ) else {
         return Err(LinkJobFault::Shape);
     };
@@ -100,12 +102,12 @@ fn job_of_value(alloc: Global, value: Value) -> Result<LinkJob, LinkJobFault>
         return Err(LinkJobFault::Shape);
     };
     match list_member(value, "events") {
-        Some(events) => job_of_members(alloc, capacity as u16, labels as u16, start, events),
+        Some(events) => job_of_members(alloc, capacity, labels, start, events),
         None => Err(LinkJobFault::Shape),
     }
 }
 
-#[tactic(auto, using(crate::proofs::Entries::count_of_values))]
+#[tactic(auto, using(stab_json::proofs::ForCallers::count_of_values))]
 // The link job of these members, or the first check that they fail.
 fn job_of_members(
     alloc: Global,
@@ -123,7 +125,7 @@ fn job_of_members(
     if events.len() > MAX_EVENTS {
         return Err(LinkJobFault::TooManyEvents);
     }
-    match take_entries(alloc, events)? {
+    match read_events(alloc, events)? {
         Some(events) => Ok(LinkJob {
             params,
             start,
@@ -138,7 +140,7 @@ fn start_member(alloc: Global, value: &Value) -> Result<Option<Start>, AllocErro
     ensures { IfOk result (λ it. it ≡ option_and_then start (get (codes "start") (view value.now))) }
 {
     match value.get("start") {
-        Some(start) => Start::read(alloc, start),
+        Some(start) => StartEntry::read(alloc, start),
         None => Ok(None),
     }
 }
@@ -152,4 +154,19 @@ fn list_member(mut value: Value, name: &str) -> Option<Vec<Value>>
         Value::Array(list) => Some(list),
         _ => None,
     }
+}
+
+/// The events of these values, or `None` where one of them is no event. Each value is dropped when it has been read,
+/// while it is still at hand, and not in a second pass over all of them.
+fn read_events(alloc: Global, values: Vec<Value>) -> Result<Option<Sequence<Event>>, AllocError>
+    ensures { IfOk result (λ events. events ≡ entries event (items_view values.items)) }
+{
+    let mut events = Sequence::with_capacity(alloc, values.len())?;
+    for value in values {
+        let Some(event) = event(&value) else {
+            return Ok(None);
+        };
+        events.push(event)?;
+    }
+    Ok(Some(events))
 }

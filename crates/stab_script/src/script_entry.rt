@@ -6,10 +6,9 @@ ghost use Rattle.stab_script.specs.ScriptEntries.{out_letter, in_letter, letters
 
 use crate::act::{InAct, OutAct};
 use crate::fault::{PartFault, ScriptFault};
-use crate::list::Entry;
 use crate::script::Script;
-use crate::value::{capped_member, pair};
 use serde_json::Value;
+use stab_json::{Entry, pair, u16_member, u32_member};
 use std::alloc::{AllocError, Global};
 
 // An act that a letter names.
@@ -114,27 +113,29 @@ fn seeded_script(
     let (Some(state), Some(stream)) = (state.as_u64(), stream.as_u64()) else {
         return Ok(None);
     };
-    let Some(len) = capped_member(value, "length", 4_294_967_295) else {
+    let Some(len) = u32_member(value, "length") else {
         return Ok(None);
     };
-    let (Some(loss), Some(repeat)) = (
-        capped_member(value, "loss", 65535),
-        capped_member(value, "repeat", 65535),
-    ) else {
+    let (Some(loss), Some(repeat)) = (u16_member(value, "loss"), u16_member(value, "repeat")) else {
         return Ok(None);
     };
-    match Script::from_seed(alloc, state, stream, len as u32, loss as u16, repeat as u16) {
+    match Script::from_seed(alloc, state, stream, len, loss, repeat) {
         Err(ScriptFault::Memory) => Err(AllocError),
         made => Ok(Some(made)),
     }
 }
 
-impl Entry for Result<Script, ScriptFault> {
+/// The kind of entry that is a script of a link.
+pub struct ScriptEntry;
+
+impl<'v> Entry<'v> for ScriptEntry {
+    type Read = Result<Script, ScriptFault>;
+
     ghost meaning = { scripted };
 
     fn read(
         alloc: Global,
-        value: &Value,
+        value: &'v Value,
     ) -> Result<Option<Result<Script, ScriptFault>>, AllocError> {
         match value {
             Value::Null => Ok(Some(Ok(Script::none(alloc)))),
@@ -153,7 +154,7 @@ pub fn read_script(alloc: Global, value: &Value) -> Result<Script, PartFault>
         (λ made. script (view value.now) ≡ Ok made)
         (λ fault. fault ≢ PartFault.Memory → script (view value.now) ≡ Err fault) }
 {
-    match <Result<Script, ScriptFault>>::read(alloc, value) {
+    match ScriptEntry::read(alloc, value) {
         Ok(Some(Ok(script))) => Ok(script),
         Ok(Some(Err(fault))) => Err(PartFault::Script(fault)),
         Ok(None) => Err(PartFault::Shape),

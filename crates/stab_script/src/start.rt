@@ -1,40 +1,25 @@
 ghost use Rattle.std.specs.Prelude.{◌≡◌, ◌≢◌, codes, MatchResult, IfOk, Some, None, option_map, option_and_then};
 ghost use Rattle.serde_json.specs.Find.{get};
 ghost use Rattle.serde_json.specs.View.{view};
-ghost use Rattle.stab_script.specs.Values.{label, list_or_absent};
-ghost use Rattle.stab_script.specs.Starts.{frame, start};
+ghost use Rattle.stab_json.specs.Values.{label, list_or_absent};
+ghost use Rattle.stab_script.specs.Starts.{start};
 
 use crate::fault::PartFault;
-use crate::list::{Entry, read_list};
-use crate::value::{item, label, pair};
 use serde_json::Value;
 use stab_core::Start;
 use stab_frames::{Frame, Label};
+use stab_json::{Entry, label, read_list};
 use std::alloc::{AllocError, Global};
 
-impl Entry for Frame {
-    ghost meaning = { frame };
+/// The kind of entry that is the start of a link.
+pub struct StartEntry;
 
-    fn read(_alloc: Global, value: &Value) -> Result<Option<Frame>, AllocError> {
-        Ok(frame(value))
-    }
-}
+impl<'v> Entry<'v> for StartEntry {
+    type Read = Start;
 
-// The frame that a value means: a list of a label and an item.
-fn frame(value: &Value) -> Option<Frame>
-    ensures { result ≡ frame (view value.now) }
-{
-    let (its_label, its_item) = pair(value)?;
-    Some(Frame {
-        label: label(its_label)?,
-        item: item(its_item)?,
-    })
-}
-
-impl Entry for Start {
     ghost meaning = { start };
 
-    fn read(alloc: Global, value: &Value) -> Result<Option<Start>, AllocError> {
+    fn read(alloc: Global, value: &'v Value) -> Result<Option<Start>, AllocError> {
         start_of(alloc, value)
     }
 }
@@ -45,21 +30,21 @@ pub fn read_start(alloc: Global, value: &Value) -> Result<Start, PartFault>
         (λ it. start (view value.now) ≡ Some it)
         (λ fault. fault ≢ PartFault.Memory → (fault ≡ PartFault.Shape) × (start (view value.now) ≡ None)) }
 {
-    match Start::read(alloc, value) {
+    match StartEntry::read(alloc, value) {
         Ok(Some(start)) => Ok(start),
         Ok(None) => Err(PartFault::Shape),
         Err(_) => Err(PartFault::Memory),
     }
 }
 
-// The start, or `None` where the value means none; only memory can be refused.
+/// The start, or `None` where the value means none; only memory can be refused.
 fn start_of(alloc: Global, value: &Value) -> Result<Option<Start>, AllocError>
     ensures { IfOk result (λ it. it ≡ start (view value.now)) }
 {
-    let Some(frames) = read_list(alloc, value.get("frames"))? else {
+    let Some(frames) = read_list::<Frame>(alloc, value.get("frames"))? else {
         return Ok(None);
     };
-    let Some(acks) = read_list(alloc, value.get("acks"))? else {
+    let Some(acks) = read_list::<Label>(alloc, value.get("acks"))? else {
         return Ok(None);
     };
     let (Some(send_label), Some(recv_label)) = (label_of(value, "send"), label_of(value, "recv"))
@@ -74,7 +59,7 @@ fn start_of(alloc: Global, value: &Value) -> Result<Option<Start>, AllocError>
     }))
 }
 
-// The label that a member of an object is, where it is one.
+/// The label that a member of an object is, where it is one.
 fn label_of(value: &Value, name: &str) -> Option<Label>
     ensures { result ≡ option_and_then label (get name.now (view value.now)) }
 {

@@ -1,7 +1,7 @@
 use Rattle.std.proofs.Common.{◌≡◌, drop, IsSome}
 use Rattle.serde_json.specs.View.{items_view}
 use Rattle.stab_script.specs.ScriptEntries.{scripted}
-use Rattle.stab_script.specs.Values.{entries}
+use Rattle.stab_json.specs.Values.{entries}
 use Rattle.stab_run.specs.JobLinks.{all_made}
 use Rattle.stab_run.specs.MembersInside.{scripts_in}
 use Rattle.stab_run.proofs.Linked.{made_after}

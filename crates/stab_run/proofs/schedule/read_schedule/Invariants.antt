@@ -1,6 +1,6 @@
 use Rattle.std.proofs.Common.{◌≡◌, drop}
 use Rattle.serde_json.specs.View.{items_view}
-use Rattle.stab_script.specs.Values.{entries}
+use Rattle.stab_json.specs.Values.{entries}
 use Rattle.stab_run.specs.ScheduleEntries.{named_act, schedule}
 use Rattle.stab_run.proofs.Schedules.{schedule_after}
 use Rattle.stab_run.proofs.schedule.read_schedule.Given as goal

@@ -1,6 +1,6 @@
 use Rattle.std.proofs.Common.{◌≡◌, drop}
 use Rattle.stab_script.specs.ScriptEntries.{letters}
-use Rattle.stab_script.proofs.Entries.{read_before}
+use Rattle.stab_json.proofs.ForCallers.{read_before}
 use Rattle.stab_script.proofs.script_entry.read_letters.Given as goal
 
 -- the acts that were read, and then those that are left, are the whole list

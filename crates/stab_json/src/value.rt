@@ -1,14 +1,20 @@
 ghost use Rattle.std.specs.Prelude.{◌≡◌, ◌<◌, length, option_map, option_and_then, IfOk, OnErr};
 ghost use Rattle.serde_json.specs.Find.{get};
 ghost use Rattle.serde_json.specs.View.{view, items_view};
-ghost use Rattle.stab_script.specs.Values.{value_of, whole_to, capped, label, item_number, pair, pair_of_items};
+ghost use Rattle.stab_json.specs.Values.{value_of, most_u16, most_u32, whole_to, capped, label, item_number, frame, pair, pair_of_items};
 
 use serde_json::Value;
-use stab_frames::{Item, Label};
+use stab_frames::{Frame, Item, Label};
 use std::alloc::{AllocError, Global};
 
-#[tactic(auto, using(crate::proofs::Bytes::value_of_read, crate::proofs::Bytes::value_of_unread))]
+/// The largest whole number of 16 bits.
+const MAX_U16: u64 = 65535;
+
+/// The largest whole number of 32 bits.
+const MAX_U32: u64 = 4_294_967_295;
+
 /// The value that these bytes stand for: they are UTF-8, and `serde_json` reads a value from them.
+#[tactic(auto, using(crate::proofs::Bytes::value_of_read, crate::proofs::Bytes::value_of_unread))]
 pub fn read_value(alloc: Global, bytes: &[u8]) -> Result<Option<Value>, AllocError>
     ensures value { IfOk result (λ v. option_map view v ≡ value_of bytes.now) }
     ensures memory { OnErr result (0 < length bytes.now) }
@@ -42,18 +48,43 @@ pub fn capped_member(value: &Value, name: &str, limit: u64) -> Option<u64>
     whole_capped(value.get(name)?, limit)
 }
 
+/// The whole number that a member of an object is, the largest of 16 bits in place of a larger one.
+pub fn u16_member(value: &Value, name: &str) -> Option<u16>
+    ensures { result ≡ option_and_then (capped most_u16) (get name.now (view value.now)) }
+{
+    Some(capped_member(value, name, MAX_U16)? as u16)
+}
+
+/// The whole number that a member of an object is, the largest of 32 bits in place of a larger one.
+pub fn u32_member(value: &Value, name: &str) -> Option<u32>
+    ensures { result ≡ option_and_then (capped most_u32) (get name.now (view value.now)) }
+{
+    Some(capped_member(value, name, MAX_U32)? as u32)
+}
+
 /// A label, and as well a place in a queue: a whole number of 16 bits.
 pub fn label(value: &Value) -> Option<Label>
     ensures { result ≡ label (view value.now) }
 {
-    Some(whole_up_to(value, 65535)? as u16)
+    Some(whole_up_to(value, MAX_U16)? as u16)
 }
 
 /// An item: a whole number of 32 bits.
 pub fn item(value: &Value) -> Option<Item>
     ensures { result ≡ item_number (view value.now) }
 {
-    Some(whole_up_to(value, 4_294_967_295)? as u32)
+    Some(whole_up_to(value, MAX_U32)? as u32)
+}
+
+/// A frame: a list of a label and an item.
+pub fn frame(value: &Value) -> Option<Frame>
+    ensures { result ≡ frame (view value.now) }
+{
+    let (its_label, its_item) = pair(value)?;
+    Some(Frame {
+        label: label(its_label)?,
+        item: item(its_item)?,
+    })
 }
 
 /// The two values of a list of two.
@@ -63,8 +94,8 @@ pub fn pair(value: &Value) -> Option<(&Value, &Value)>
     pair_of(value.as_array()?.as_slice())
 }
 
+/// The two values, where there are two.
 #[tactic(auto, using(crate::proofs::Pairs::fewer_are_no_pair, crate::proofs::Pairs::more_are_no_pair))]
-// The two values, where there are two.
 fn pair_of(values: &[Value]) -> Option<(&Value, &Value)>
     ensures { option_map (λ p. (view p.0.now, view p.1.now)) result
         ≡ pair_of_items (items_view values.now) }

@@ -5,7 +5,7 @@ use Rattle.std.proofs.lemmas.Str.{is_utf8-from_IsUtf8, IsUtf8-from_is_utf8}
 use Rattle.serde_json.proofs.OnLiterals.{serde_json_on_literals}
 use Rattle.serde_json.specs.Data.{Data}
 use Rattle.serde_json.specs.Read.{read}
-use Rattle.stab_script.specs.Values.{value_of}
+use Rattle.stab_json.specs.Values.{value_of}
 
 -- text that reads to a value stands for it
 pub value_of_read : (bytes : List ℕ) (d : Data) → IsUtf8 bytes → read bytes ≡ Some d → Some d ≡ value_of bytes
@@ -18,13 +18,3 @@ value_of_unread_at false bytes is_text unread = refl
 
 pub value_of_unread : (bytes : List ℕ) → (IsUtf8 bytes → read bytes ≡ None) → None ≡ value_of bytes
 value_of_unread bytes unread = value_of_unread_at (is_utf8 bytes) bytes refl unread
-
--- no bytes stand for no value
-value_of_no_bytes : value_of [] ≡ None
-unfolding serde_json_on_literals
-value_of_no_bytes = rw (is_utf8-from_IsUtf8 [] ([], (refl, refl))) refl
-
--- where bytes stand for a value, there are some
-pub some_bytes : (bytes : List ℕ) (d : Data) → Some d ≡ value_of bytes → 0 < length bytes
-some_bytes [] d is = let nothing_is : Some d ≡ None = is ∙ value_of_no_bytes in cc
-some_bytes (b ∷ bytes) d is = omega arith

@@ -2,6 +2,7 @@
 -- Source: this project's profile, over the values of `serde_json`.
 use Rattle.std.specs.Prelude.{ℕ, suc, List, [], ◌∷◌, nat_le, min, if◌then◌else◌, Option, Some, None, option_and_then, option_map}
 use Rattle.std.specs.Str.{is_utf8}
+use Rattle.stab_frames.specs.declared.frame.Frame.{Frame}
 use Rattle.serde_json.specs.Data.{Data, Items, no_items, item}
 use Rattle.serde_json.specs.Find.{as_number, as_u64, as_array}
 use Rattle.serde_json.specs.Read.{read}
@@ -19,21 +20,24 @@ value_of bytes = if is_utf8 bytes then read bytes else None
 abbrev pub whole : Data → Option ℕ
 whole d = as_number d >>= as_u64
 
--- a whole number, if it is no larger than this limit
-abbrev pub within : ℕ → ℕ → Option ℕ
-within limit n = if nat_le n limit then Some n else None
+-- the largest whole number of 16 bits, and of 32 bits
+abbrev pub most_u16 : ℕ
+most_u16 = 65535
+
+abbrev pub most_u32 : ℕ
+most_u32 = 4294967295
 
 -- a whole number up to this limit
 abbrev pub whole_to : ℕ → Data → Option ℕ
-whole_to limit d = whole d >>= within limit
+whole_to limit d = whole d >>= (λ n. if nat_le n limit then Some n else None)
 
 -- a label, and as well a place in a queue: a whole number of 16 bits
 abbrev pub label : Data → Option ℕ
-label = whole_to 65535
+label = whole_to most_u16
 
 -- an item: a whole number of 32 bits
 abbrev pub item_number : Data → Option ℕ
-item_number = whole_to 4294967295
+item_number = whole_to most_u32
 
 -- a whole number, where one over this limit is taken as the limit
 abbrev pub capped : ℕ → Data → Option ℕ
@@ -46,6 +50,14 @@ pair_of_items _ = None
 
 abbrev pub pair : Data → Option (Data × Data)
 pair d = as_array d >>= pair_of_items
+
+-- a frame: a list of a label and an item
+abbrev pub frame : Data → Option Frame
+frame d = do
+  parts ← pair d
+  its_label ← label parts.0
+  its_item ← item_number parts.1
+  Some (record { label = its_label; item = its_item })
 
 -- how many entries there are
 abbrev pub count : Items → ℕ

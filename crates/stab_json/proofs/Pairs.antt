@@ -2,7 +2,7 @@
 use Rattle.std.proofs.Common.{◌≡◌, ◌<◌, ◌≤◌, List, [], ◌∷◌, length, None, refl, arith}
 use Rattle.serde_json.specs.View.{items_view}
 use Rattle.serde_json.specs.declared.value.Value.{Value}
-use Rattle.stab_script.specs.Values.{pair_of_items}
+use Rattle.stab_json.specs.Values.{pair_of_items}
 
 -- fewer than two values are no pair
 pub fewer_are_no_pair : (vs : List Value) → length vs < 2 → pair_of_items (items_view vs) ≡ None

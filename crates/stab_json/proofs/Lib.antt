@@ -1,0 +1,3 @@
+pub mod Bytes
+pub mod Pairs
+pub mod ForCallers
