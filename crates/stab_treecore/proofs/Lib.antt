@@ -1,12 +1,8 @@
-pub mod Rising
-pub mod Chosen
-pub mod Parts
 pub mod Members
 pub mod Root
 pub mod Upwards
 pub mod Linked
 pub mod Opened
-pub mod Prefixes
 pub mod Stepped
 pub mod AtNodes
 pub mod Replayed

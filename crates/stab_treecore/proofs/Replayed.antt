@@ -20,14 +20,14 @@ use Rattle.stab_tree.specs.Nodes.{Nodes, parent_at, root_of}
 use Rattle.stab_treecore.specs.declared.event.TreeEvent.{TreeEvent}
 use Rattle.stab_treecore.specs.ByChild.{by_child}
 use Rattle.stab_treecore.specs.NodeLaws.{start_into, garbage_into, LinkLawBetween, TreeLawAtNodes}
-use Rattle.stab_treecore.specs.Prefix.{IsPrefix}
+use mathlib.Core.List.{IsPrefix}
 use Rattle.stab_treecore.specs.TreeReplay.{opened, tree_opening, tree_replay}
 use Rattle.stab_treecore.specs.TreeStep.{next_item, event_on, link_after, tree_step}
 use Rattle.stab_treecore.specs.WholeTree.{WholeTree, link_into, received, source}
 use Rattle.stab_treecore.proofs.AtNodes.{nodes_obey, one_capacity}
 use Rattle.stab_treecore.proofs.Linked.{kind-set, same_kind}
 use Rattle.stab_treecore.proofs.Opened.{linked_nodes}
-use Rattle.stab_treecore.proofs.Prefixes.{prefix_of_itself, prefix_of_prefix}
+use Rattle.stab_core.proofs.ForCallers.{prefix_of_itself, prefix_of_prefix}
 use Rattle.stab_treecore.proofs.Stepped.{after_delivers, act_offers}
 
 -- the link is a replay from this start
@@ -201,7 +201,7 @@ opening_is_run p parents starts published w one_per_link =
           λ node parent link child is.
           let (start, begins, at_start) = before_map (opened p) (start_into parents starts node) link
           (sym (mapped_at (opened p) (by_child parents starts) node) ∙ is) in
-          (received t parent, ap (λ l. l.state.offered ++ received t parent) (sym at_start));
+          (received t parent, ap (λ l. l.state.offered ++ received t parent) at_start);
     }
 
 -- what holds of each start holds of the start of each link

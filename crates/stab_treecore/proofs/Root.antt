@@ -3,10 +3,7 @@ use Rattle.std.proofs.Common.{◌≡◌, ℕ, zero, suc, ◌+◌, ◌<◌, List,
 use Rattle.std.specs.Prelude.{Contains}
 use Rattle.std.proofs.lemmas.List.{get_or-map, length-map}
 use Rattle.stab_core.specs.Picks.{RisesFrom, AllBelow, Picks}
-use Rattle.stab_treecore.proofs.Rising.{rises_from_lower, below_higher}
-use Rattle.stab_treecore.proofs.Chosen.{at_places}
-use Rattle.stab_treecore.proofs.Parts.{raised, raised_rise, raised_below, items_behind}
-use Rattle.stab_treecore.proofs.Members.{member_stands, stands_is_member}
+use Rattle.stab_core.proofs.ForCallers.{rises_from_lower, below_higher, at_places, raised, raised_rise, raised_below, items_after, member_stands, stands_is_member}
 
 -- every place of a list
 abbrev pub all_places : List ℕ → List ℕ
@@ -41,7 +38,7 @@ all_at (x ∷ xs) (suc i) here =
 -- the items at every place are the list
 pub all_items : (xs : List ℕ) → at_places xs (all_places xs) ≡ xs
 all_items [] = refl
-all_items (x ∷ xs) = ap (λ rest. x ∷ rest) (sym (items_behind (x ∷ []) xs (all_places xs)) ∙ all_items xs)
+all_items (x ∷ xs) = ap (λ rest. x ∷ rest) (sym (items_after (x ∷ []) xs (all_places xs)) ∙ all_items xs)
 
 -- a whole list is picked from itself
 pub all_picked : (items : List ℕ) → Picks items (all_places items) items

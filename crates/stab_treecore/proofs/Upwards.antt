@@ -5,12 +5,10 @@ use Rattle.std.proofs.lemmas.List.{length-append}
 use Rattle.std.proofs.lemmas.List.Elements.{Contains-get_or}
 use Rattle.stab_core.specs.Picks.{RisesFrom, AllBelow, Picks}
 use Rattle.stab_core.specs.LinkLaw.{HalfLawAt, NoneMissing, LinkLaw}
-use Rattle.stab_treecore.specs.Prefix.{IsPrefix}
+use mathlib.Core.List.{IsPrefix}
 use Rattle.stab_treecore.specs.TreeLaw.{HalfTreeLawAt, NoneMissingBefore, TreeLaw}
-use Rattle.stab_treecore.proofs.Rising.{below_bound, few_rising}
-use Rattle.stab_treecore.proofs.Chosen.{at_places, picks_chosen, picks_of_prefix, length_picked}
-use Rattle.stab_treecore.proofs.Parts.{raised, picks_joined, Parted, parted, front_rises, items_parted}
-use Rattle.stab_treecore.proofs.Members.{member_stands, stands_is_member, lower_is_earlier, member_is_raised, member_is_chosen, chosen_is_member, enough_before, raised_is_member, member_is_below}
+use Rattle.stab_core.proofs.ForCallers.{below_bound, few_picked, at_places, picks_chosen, picks_of_prefix, length_picked, raised, picks_joined, Parted, parted, items_parted, member_stands, stands_is_member, lower_is_earlier, member_is_raised, member_is_chosen, chosen_is_member, raised_is_member, member_is_below}
+use Rattle.stab_treecore.proofs.Members.{enough_before}
 use Rattle.stab_treecore.proofs.Root.{all_places, all_picked, all_lower}
 
 module _ (capacity most_strays acked : ℕ) (start_items garbage published received offered delivered above places : List ℕ)
@@ -20,11 +18,11 @@ module _ (capacity most_strays acked : ℕ) (start_items garbage published recei
   -- what the link took from its offered list is picked from the parent's strays and its published items, at the same places
   pub taken_from_parent : Picks (up.strays ++ up.taken) places link.taken
   taken_from_parent =
-      subst (λ list. Picks list places link.taken) (sym begins.1 ∙ up.parts)
+      subst (λ list. Picks list places link.taken) (begins.1 ∙ up.parts)
       (picks_of_prefix offered begins.0 places link.taken link.taken_picked)
 
   -- the places in the parent's list, parted where its strays end
-  pub parted_places : Parted (length up.strays) (length up.taken) places
+  pub parted_places : Parted (length up.strays) (length up.taken) 0 places
   parted_places =
       parted (length up.strays) (length up.taken) 0 places taken_from_parent.rising
       (subst (λ n. AllBelow n places) (length-append up.strays up.taken) taken_from_parent.in_list)
@@ -34,13 +32,11 @@ module _ (capacity most_strays acked : ℕ) (start_items garbage published recei
   child_half =
       let low = parted_places.low in
       let high = parted_places.high in
-      let low_rises : RisesFrom 0 low =
-      front_rises 0 low (raised (length up.strays) high) (subst (RisesFrom 0) parted_places.both taken_from_parent.rising) in
       let low_picked : Picks up.strays low (at_places up.strays low) =
-      record { rising = low_rises; in_list = parted_places.low_below; the_items = refl } in
+      record { rising = parted_places.low_rise; in_list = parted_places.low_below; the_items = refl } in
       let high_picked : Picks up.taken high (at_places up.taken high) =
       record { rising = parted_places.high_rise; in_list = parted_places.high_below; the_items = refl } in
-      let few_low : 0 + length low ≤ length up.strays = few_rising 0 (length up.strays) low low_rises parted_places.low_below (omega arith) in
+      let few_low : length (at_places up.strays low) ≤ length up.strays = few_picked up.strays low (at_places up.strays low) low_picked in
       let in_parts : link.taken ≡ at_places up.strays low ++ at_places up.taken high =
       taken_from_parent.the_items
       ∙ (ap (λ ps. at_places (up.strays ++ up.taken) ps) parted_places.both
@@ -53,7 +49,7 @@ module _ (capacity most_strays acked : ℕ) (start_items garbage published recei
             link.parts ∙ (ap (λ xs. link.strays ++ xs) in_parts
             ∙ sym (append_assoc link.strays (at_places up.strays low) (at_places up.taken high)));
         few_strays =
-            omega (arith, length-append link.strays (at_places up.strays low), length_picked up.strays low (at_places up.strays low) low_picked, link.few_strays, up.few_strays);
+            omega (arith, length-append link.strays (at_places up.strays low), link.few_strays, up.few_strays);
         strays_picked =
             picks_joined start_items garbage link.stray_places (at_places up.stray_places low) link.strays (at_places up.strays low)
             link.strays_picked (picks_chosen garbage up.stray_places up.strays low (at_places up.strays low) up.strays_picked low_picked);

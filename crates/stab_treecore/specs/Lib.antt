@@ -1,7 +1,6 @@
 pub mod ByChild
 pub mod NodeLaws
 pub mod Paths
-pub mod Prefix
 pub mod Refusals
 pub mod Texts
 pub mod TreeInside

@@ -8,7 +8,7 @@ use Rattle.stab_core.specs.Replay.{start_items}
 use Rattle.stab_tree.specs.Steps.{depth_of}
 use Rattle.stab_treecore.specs.ByChild.{by_child}
 use Rattle.stab_treecore.specs.Paths.{path_sum, path_lists}
-use Rattle.stab_treecore.specs.Prefix.{IsPrefix}
+use mathlib.Core.List.{IsPrefix}
 use Rattle.stab_treecore.specs.TreeLaw.{HalfTreeLaw, TreeLaw}
 
 -- the start of the link into a node; the root has none

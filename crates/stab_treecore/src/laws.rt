@@ -2,6 +2,7 @@
 //! above may use them for whatever runs the same steps. Each is a function with an empty body; its
 //! contract is the law.
 
+ghost use mathlib.Core.List.{IsPrefix};
 ghost use Rattle.std.specs.Prelude.{◌≡◌, ℕ, ◌+◌, ◌*◌, ◌<◌, ◌≤◌, List, [], ◌++◌, length, Option, Some, All};
 ghost use Rattle.stab_core.specs.declared.start.Start.{Start};
 ghost use Rattle.stab_core.specs.LinkLaw.{HalfLaw, LinkLaw};
@@ -24,7 +25,6 @@ ghost use Rattle.stab_treecore.specs.NodeLaws.{
   TreeLawOfNodes,
   TreeLawAtNodes,
 };
-ghost use Rattle.stab_treecore.specs.Prefix.{IsPrefix};
 ghost use Rattle.stab_treecore.specs.Refusals.{OnePerLink};
 ghost use Rattle.stab_treecore.specs.TreeLaw.{HalfTreeLaw, TreeLaw};
 ghost use Rattle.stab_treecore.specs.TreeReplay.{tree_opening, tree_replay};

@@ -1,4 +1,4 @@
-use Rattle.stab_treecore.proofs.Chosen.{at_places}
+use Rattle.stab_core.proofs.ForCallers.{at_places}
 use Rattle.stab_treecore.proofs.Upwards.{parted_places, child_half}
 use Rattle.stab_treecore.proofs.laws.half_tree_law_of_the_child.Goals as goal
 
