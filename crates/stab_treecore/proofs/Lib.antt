@@ -5,6 +5,8 @@ pub mod Linked
 pub mod Opened
 pub mod Stepped
 pub mod AtNodes
+pub mod ForCallers
 pub mod Replayed
+pub mod Edges
 pub mod Refused
 pub mod Lines

@@ -25,6 +25,7 @@ use Rattle.stab_treecore.specs.TreeReplay.{opened, tree_opening, tree_replay}
 use Rattle.stab_treecore.specs.TreeStep.{next_item, event_on, link_after, tree_step}
 use Rattle.stab_treecore.specs.WholeTree.{WholeTree, link_into, received, source}
 use Rattle.stab_treecore.proofs.AtNodes.{nodes_obey, one_capacity}
+use Rattle.stab_treecore.proofs.ForCallers.{holds_by_child}
 use Rattle.stab_treecore.proofs.Linked.{kind-set, same_kind}
 use Rattle.stab_treecore.proofs.Opened.{linked_nodes}
 use Rattle.stab_core.proofs.ForCallers.{prefix_of_itself, prefix_of_prefix}
@@ -204,17 +205,6 @@ opening_is_run p parents starts published w one_per_link =
           (received t parent, ap (λ l. l.state.offered ++ received t parent) at_start);
     }
 
--- what holds of each start holds of the start of each link
-pub start_of_all : (P : Start → Type 0) (parents : List (Option ℕ)) (starts : List Start) (node : ℕ) (start : Start) → All P starts
-    → start_into parents starts node ≡ Some start → P start
-start_of_all P [] starts node start all is = absurd (none-some start is)
-start_of_all P (None ∷ parents) starts zero start all is = absurd (none-some start is)
-start_of_all P (None ∷ parents) starts (suc node) start all is = start_of_all P parents starts node start all is
-start_of_all P (Some q ∷ parents) [] zero start all is = absurd (none-some start is)
-start_of_all P (Some q ∷ parents) [] (suc node) start all is = start_of_all P parents [] node start all is
-start_of_all P (Some q ∷ parents) (s ∷ ss) zero start all is = subst P (same_Some s start is) (All-head P s ss all)
-start_of_all P (Some q ∷ parents) (s ∷ ss) (suc node) start all is = start_of_all P parents ss node start (All-tail P s ss all) is
-
 -- the law of one link that the tree law needs: every replay from a lawful start obeys the link law
 abbrev pub ReplaysObey : Type 0
 ReplaysObey =
@@ -239,7 +229,7 @@ run_links obey p parents starts published t run lawful_params lawful child paren
           let garbage : garbage_into parents starts child ≡ start_items start = ap (λ o. option_map_or start_items o []) begins in
           let law : LinkLaw p.capacity (start_items start) link.state.offered link.state.acked link.state.delivered =
           subst (λ s. LinkLaw p.capacity (start_items start) s.offered s.acked s.delivered) (sym reached)
-          (obey p start events lawful_params (start_of_all (IsLawful p) parents starts child start lawful begins)) in (
+          (obey p start events lawful_params (holds_by_child (IsLawful p) parents starts child start lawful begins)) in (
             link.state.offered,
             link.state.acked,
             run.prefixes child parent link child_of some.1,

@@ -1,4 +1,5 @@
 pub mod ByChild
+pub mod EdgeLaw
 pub mod NodeLaws
 pub mod Paths
 pub mod Refusals

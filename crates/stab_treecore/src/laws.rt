@@ -6,12 +6,13 @@ ghost use mathlib.Core.List.{IsPrefix};
 ghost use Rattle.std.specs.Prelude.{◌≡◌, ℕ, ◌+◌, ◌*◌, ◌<◌, ◌≤◌, List, [], ◌++◌, length, Option, Some, All};
 ghost use Rattle.stab_core.specs.declared.start.Start.{Start};
 ghost use Rattle.stab_core.specs.LinkLaw.{HalfLaw, LinkLaw};
-ghost use Rattle.stab_core.specs.Replay.{IsLawful};
+ghost use Rattle.stab_core.specs.Replay.{IsLawful, start_items};
 ghost use Rattle.stab_frames.specs.Parameters.{AreLawful, Parameters};
 ghost use Rattle.stab_tree.specs.IsTree.{IsTree};
 ghost use Rattle.stab_tree.specs.Nodes.{Nodes, parent_at, root_of};
 ghost use Rattle.stab_tree.specs.Steps.{depth_of};
 ghost use Rattle.stab_treecore.specs.declared.event.TreeEvent.{TreeEvent};
+ghost use Rattle.stab_treecore.specs.EdgeLaw.{EdgeLaw, EdgeInto};
 ghost use Rattle.stab_treecore.specs.NodeLaws.{
   garbage_into,
   path_garbage,
@@ -112,6 +113,32 @@ pub fn tree_law_at_every_opened_node()
         (missing_bound nodes.parents capacity_into)
         (opened_path_garbage nodes.parents starts opening_of) nodes.parents published received }
 {}
+
+/// From the edge law that a run tells of a link to the link law between the lists at its two ends.
+pub fn link_law_of_an_edge()
+    ensures { (p : Parameters) (start : Start) (above : List ℕ) (acked : ℕ) (delivered : List ℕ)
+        → AreLawful p → IsLawful p start
+        → EdgeLaw p start above acked delivered
+        → LinkLawBetween p.capacity (start_items start) above delivered }
+{
+    stab_core::laws::every_replay_obeys_the_link_law();
+}
+
+/// The tree law at every node, where a run keeps no schedule but tells the edge law of each link.
+/// Each link has parameters of its own.
+pub fn tree_law_of_edges()
+    ensures { (nodes : Nodes) (params_into : ℕ → Parameters) (starts : List Start)
+        (published : List ℕ) (received : ℕ → List ℕ)
+        → IsTree nodes
+        → received (root_of nodes.parents) ≡ published
+        → ((child parent : ℕ) → parent_at nodes.parents child ≡ Some parent
+        → EdgeInto (params_into child) nodes.parents starts child (received parent) (received child))
+        → TreeLawOfNodes (strays_bound nodes.parents (λ child. (params_into child).capacity))
+        (missing_bound nodes.parents (λ child. (params_into child).capacity))
+        (path_garbage nodes.parents starts) nodes.parents published received }
+{
+    stab_core::laws::every_replay_obeys_the_link_law();
+}
 
 /// Where all links have one capacity, the bounds of a node at depth d are d times those of one link.
 pub fn bounds_of_one_capacity()
