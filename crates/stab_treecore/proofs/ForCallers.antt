@@ -1,7 +1,8 @@
 -- For the crates above: facts on what there is one of per link, dealt out by child, and dealt out to the children of each node.
-use Rattle.std.proofs.Common.{◌≡◌, ◌==◌, ℕ, zero, suc, Bool, true, false, if◌then◌else◌, List, [], ◌∷◌, length, map, get_or, Option, Some, None, option_map, All, refl, ap, sym, ◌∙◌, subst, eq-eqb}
+use Rattle.std.proofs.Common.{◌≡◌, ◌==◌, ◌<◌, ℕ, zero, suc, Bool, true, false, if◌then◌else◌, List, [], ◌∷◌, length, map, get_or, Option, Some, None, option_map, All, refl, ap, sym, ◌∙◌, subst, eq-eqb, arith}
 use Rattle.std.proofs.lemmas.List.Elements.{All-head, All-tail}
 use Rattle.std.proofs.lemmas.Option.{none-some, same_Some}
+use Rattle.stab_tree.specs.Links.{links_from}
 use Rattle.stab_tree.specs.Nodes.{parent_at}
 use Rattle.stab_treecore.specs.ByChild.{by_child, to_children}
 
@@ -73,3 +74,33 @@ holds_at_child P (Some q ∷ parents) (y ∷ ys) zero parent x all is_child is =
     subst P (same_Some y x is) (first_of_chosen P (q == parent) y (to_children parent parents ys) begins all)
 holds_at_child P (Some q ∷ parents) (y ∷ ys) (suc child) parent x all is_child is =
     holds_at_child P parents ys child parent x (rest_of_chosen P (q == parent) y (to_children parent parents ys) all) is_child is
+
+-- two choices that are alike: what they may begin with, and what comes after it
+same_first : {A : Type 0} (b : Bool) (x y : A) (xs ys : List A) → b ≡ true → (if b then x ∷ xs else xs) ≡ (if b then y ∷ ys else ys) → x ≡ y
+same_first true x y xs ys begins same = cc
+same_first false x y xs ys begins same = cc
+
+same_rest : {A : Type 0} (b : Bool) (x y : A) (xs ys : List A) → (if b then x ∷ xs else xs) ≡ (if b then y ∷ ys else ys) → xs ≡ ys
+same_rest true x y xs ys same = cc
+same_rest false x y xs ys same = same
+
+-- lists with one entry for each link that are dealt out alike to the children of each node are one list
+pub dealt_alike : {A : Type 0} (nodes w : ℕ) (parents : List (Option ℕ)) (xs ys : List A)
+    → ((child parent : ℕ) → parent_at parents child ≡ Some parent → parent < nodes)
+    → length xs ≡ length (links_from w parents) → length ys ≡ length (links_from w parents)
+    → ((node : ℕ) → node < nodes → to_children node parents xs ≡ to_children node parents ys)
+    → xs ≡ ys
+dealt_alike nodes w [] [] [] known first second alike = refl
+dealt_alike nodes w [] [] (y ∷ ys) known first second alike = absurd (omega arith)
+dealt_alike nodes w [] (x ∷ xs) ys known first second alike = absurd (omega arith)
+dealt_alike nodes w (None ∷ parents) xs ys known first second alike =
+    dealt_alike nodes (suc w) parents xs ys (λ child parent is_child. known (suc child) parent is_child) first second alike
+dealt_alike nodes w (Some q ∷ parents) [] ys known first second alike = absurd (omega arith)
+dealt_alike nodes w (Some q ∷ parents) (x ∷ xs) [] known first second alike = absurd (omega arith)
+dealt_alike nodes w (Some q ∷ parents) (x ∷ xs) (y ∷ ys) known first second alike =
+    let begins : x ≡ y =
+    same_first (q == q) x y (to_children q parents xs) (to_children q parents ys) (eq-eqb q q refl) (alike q (known 0 q refl)) in
+    let goes_on : xs ≡ ys =
+    dealt_alike nodes (suc w) parents xs ys (λ child parent is_child. known (suc child) parent is_child) (omega arith) (omega arith)
+    (λ node within. same_rest (q == node) x y (to_children node parents xs) (to_children node parents ys) (alike node within)) in
+    cc
