@@ -14,12 +14,12 @@ use Rattle.stab_treecore.proofs.Upwards.{tree_law_below, tree_law_below_opening,
 
 module _ (t : Nodes) (tree : IsTree t) (published : List ℕ) (received : ℕ → List ℕ)
     (at_root : received (root_of t.parents) ≡ published) where
-  -- Where each child adds so much to the bounds and to the garbage of its parent, those of a node are what stands along its path.
+  -- Where each child adds so much to the bounds and to the garbage of its parent, those of a node are what there is along its path.
   module _ (more_strays more_missing : ℕ → ℕ) (more_garbage : ℕ → List ℕ)
       (adds : (child parent most_strays most_missing : ℕ) (garbage : List ℕ) → parent_at t.parents child ≡ Some parent
       → TreeLaw most_strays most_missing garbage published (received parent)
       → TreeLaw (more_strays child + most_strays) (more_missing child + most_missing) (more_garbage child ++ garbage) published (received child)) where
-    -- the tree law of a node with what stands beside this many nodes, from it upwards
+    -- the tree law of a node with what there is beside this many nodes, from it upwards
     abbrev ObeysAt : ℕ → ℕ → Type 0
     ObeysAt depth node =
         TreeLaw (sum_above t.parents more_strays depth node) (sum_above t.parents more_missing depth node)
@@ -80,12 +80,12 @@ path_sum-same t tree number =
 pub one_capacity : (t : Nodes) → IsTree t → (capacity : ℕ) (starts : List Start) (published : List ℕ) (received : ℕ → List ℕ)
     → TreeLawOfNodes (strays_bound t.parents (λ _. capacity)) (missing_bound t.parents (λ _. capacity)) (path_garbage t.parents starts) t.parents published received
     → TreeLawAtNodes capacity t.parents starts published received
-one_capacity t tree capacity starts published received law node within =
-    rw (← path_sum-same t tree capacity node within, ← path_sum-same t tree (2 * capacity + 1) node within) (law node within)
+one_capacity t tree capacity starts published received law node is_node =
+    rw (← path_sum-same t tree capacity node is_node, ← path_sum-same t tree (2 * capacity + 1) node is_node) (law node is_node)
 
 -- the tree law holds the half tree law
 pub half_of_nodes : (most_strays most_missing : ℕ → ℕ) (garbage : ℕ → List ℕ) (parents : List (Option ℕ)) (published : List ℕ) (received : ℕ → List ℕ)
     → TreeLawOfNodes most_strays most_missing garbage parents published received → HalfTreeLawOfNodes most_strays garbage parents published received
-half_of_nodes most_strays most_missing garbage parents published received law node within =
-    let (places, half, none_missing) = law node within in
+half_of_nodes most_strays most_missing garbage parents published received law node is_node =
+    let (places, half, none_missing) = law node is_node in
     (places, half)

@@ -102,5 +102,5 @@ dealt_alike nodes w (Some q ∷ parents) (x ∷ xs) (y ∷ ys) known first secon
     same_first (q == q) x y (to_children q parents xs) (to_children q parents ys) (eq-eqb q q refl) (alike q (known 0 q refl)) in
     let goes_on : xs ≡ ys =
     dealt_alike nodes (suc w) parents xs ys (λ child parent is_child. known (suc child) parent is_child) (omega arith) (omega arith)
-    (λ node within. same_rest (q == node) x y (to_children node parents xs) (to_children node parents ys) (alike node within)) in
+    (λ node is_node. same_rest (q == node) x y (to_children node parents xs) (to_children node parents ys) (alike node is_node)) in
     cc

@@ -24,11 +24,15 @@ pub record OpenedSoFar (p : Parameters) (parents : List (Option ℕ)) (starts : 
   pub as_many : begun + length (links_of (drop i parents)) ≡ length starts
 
 module _ (p : Parameters) (parents : List (Option ℕ)) (starts : List Start) (links : List (Option LinkValue)) (begun i : ℕ)
-    (so_far : OpenedSoFar p parents starts links begun i) (within : i < length parents) where
+    (so_far : OpenedSoFar p parents starts links begun i) (in_list : i < length parents) where
+  -- the parent of the next node
+  next_parent : (parent : Option ℕ) → get_or parents i None ≡ parent → drop i parents ≡ parent ∷ drop (i + 1) parents
+  next_parent parent is = drop_more parents i None in_list ∙ ap (λ x. x ∷ drop (i + 1) parents) is
+
   -- where the next node is the root, it has no link
   pub opened_root : get_or parents i None ≡ None → OpenedSoFar p parents starts (links ++ None ∷ []) begun (i + 1)
   opened_root root =
-      let next : drop i parents ≡ None ∷ drop (i + 1) parents = drop_more parents i None within ∙ ap (λ x. x ∷ drop (i + 1) parents) root in
+      let next = next_parent None root in
       record {
         to_begin =
             append_assoc links (None ∷ []) (opened_links p (drop (i + 1) parents) (drop begun starts))
@@ -40,14 +44,14 @@ module _ (p : Parameters) (parents : List (Option ℕ)) (starts : List Start) (l
   -- where the next node has a parent, there is a start for its link
   pub start_left : (parent : ℕ) → get_or parents i None ≡ Some parent → begun < length starts
   start_left parent child =
-      let next : drop i parents ≡ Some parent ∷ drop (i + 1) parents = drop_more parents i None within ∙ ap (λ x. x ∷ drop (i + 1) parents) child in
+      let next = next_parent (Some parent) child in
       omega (arith, so_far.as_many, ap (λ rest. length (links_of rest)) next)
 
   -- and its link begins from that start
   pub opened_child : (parent : ℕ) (start : Start) → get_or parents i None ≡ Some parent → start ≡ get_or starts begun start
       → OpenedSoFar p parents starts (links ++ Some (opened p start) ∷ []) (begun + 1) (i + 1)
   opened_child parent start child read =
-      let next : drop i parents ≡ Some parent ∷ drop (i + 1) parents = drop_more parents i None within ∙ ap (λ x. x ∷ drop (i + 1) parents) child in
+      let next = next_parent (Some parent) child in
       let here : begun < length starts = start_left parent child in
       let next_start : drop begun starts ≡ start ∷ drop (begun + 1) starts = drop_more starts begun start here ∙ ap (λ x. x ∷ drop (begun + 1) starts) (sym read) in
       record {
@@ -76,9 +80,9 @@ opened_all p parents starts links begun i so_far past =
 -- after lawful starts, the first that is refused is refused for its own fault
 pub first_fault : (p : Parameters) (starts : List Start) (i : ℕ) (start : Start) (fault : StartFault) → i < length starts
     → start ≡ get_or starts i start → All (IsLawful p) (take i starts) → IsReason p start fault → IsFirstFault p starts fault
-first_fault p [] i start fault within read lawful reason = absurd (omega arith)
-first_fault p (s ∷ ss) zero start fault within read lawful reason = inl (subst (λ x. IsReason p x fault) read reason)
-first_fault p (s ∷ ss) (suc i) start fault within read lawful reason =
+first_fault p [] i start fault in_list read lawful reason = absurd (omega arith)
+first_fault p (s ∷ ss) zero start fault in_list read lawful reason = inl (subst (λ x. IsReason p x fault) read reason)
+first_fault p (s ∷ ss) (suc i) start fault in_list read lawful reason =
     inr (
       All-head (IsLawful p) s (take i ss) lawful,
       first_fault p ss i start fault (omega arith) read (All-tail (IsLawful p) s (take i ss) lawful) reason,

@@ -29,10 +29,10 @@ module _ (t : WholeTree) (e : TreeEvent) (es : List TreeEvent) where
   refused_later names NoSuchLink refused = inr (names, refused)
   refused_later names Memory refused = inr (names, refused)
 
-module _ (t now : WholeTree) (events : List TreeEvent) (i : ℕ) (e : TreeEvent) (within : i < length events)
+module _ (t now : WholeTree) (events : List TreeEvent) (i : ℕ) (e : TreeEvent) (in_list : i < length events)
     (read : e ≡ get_or events i e) (carries : CarriesOver now (drop i events) t events) where
   next : drop i events ≡ e ∷ drop (i + 1) events
-  next = drop_more events i e within ∙ ap (λ x. x ∷ drop (i + 1) events) (sym read)
+  next = drop_more events i e in_list ∙ ap (λ x. x ∷ drop (i + 1) events) (sym read)
 
   -- the event that comes next is refused
   pub refused_here : (fault : TreeStepFault) → IsRefused now e fault → IsStepReason t events fault

@@ -27,7 +27,7 @@ pub length_all : (xs : List ℕ) → length (all_places xs) ≡ length xs
 length_all [] = refl
 length_all (x ∷ xs) = ap suc (length-map (all_places xs) (λ place. 1 + place) ∙ length_all xs)
 
--- each stands at its own place
+-- each is at its own place
 pub all_at : (xs : List ℕ) (i : ℕ) → i < length xs → get_or (all_places xs) i 0 ≡ i
 all_at [] i here = absurd (omega arith)
 all_at (x ∷ xs) zero here = refl
@@ -48,6 +48,6 @@ all_picked items = record { rising = all_rise items; in_list = all_below items; 
 pub all_lower : (items : List ℕ) (i q : ℕ) → i < q → Contains (all_places items) q → Contains (all_places items) i
 all_lower items i q before last =
     let (k, here) = member_stands (all_places items) q last in
-    let within : k < length items = omega (arith, here.within, length_all items) in
-    let high : k ≡ q = omega (arith, here.is_there, all_at items k within) in
+    let in_list : k < length items = omega (arith, here.within, length_all items) in
+    let high : k ≡ q = omega (arith, here.is_there, all_at items k in_list) in
     stands_is_member (all_places items) i i (record { within = omega (arith, length_all items); is_there = all_at items i (omega arith) })

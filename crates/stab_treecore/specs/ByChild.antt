@@ -1,4 +1,5 @@
--- What there is one of per link, by node: links are in the file order of their children, and the root has none.
+-- What there is one of per link, by node: links are in the file order of their children, and the
+-- root has none.
 -- Source: this project's profile.
 use Rattle.std.specs.Prelude.{ℕ, ◌==◌, List, [], ◌∷◌, Option, Some, None, if◌then◌else◌}
 

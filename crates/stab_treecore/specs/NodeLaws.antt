@@ -1,6 +1,7 @@
 -- The laws of all nodes: the bounds of a node are sums over the links on its path.
 -- Source: this project's own.
-use Rattle.std.specs.Prelude.{◌≡◌, ℕ, ◌+◌, ◌*◌, ◌<◌, List, [], ◌++◌, length, Option, None, slice_index_or}
+use Rattle.std.specs.Prelude.{◌≡◌, ℕ, ◌+◌, ◌*◌, ◌<◌, List, [], ◌++◌, length, Option, None}
+use Rattle.std.specs.Prelude.{slice_index_or}
 use Rattle.std.specs.Option.{option_map_or}
 use Rattle.stab_core.specs.declared.start.Start.{Start}
 use Rattle.stab_core.specs.LinkLaw.{LinkLaw}
@@ -19,7 +20,8 @@ start_into parents starts node = slice_index_or (by_child parents starts) node N
 abbrev pub garbage_into : List (Option ℕ) → List Start → ℕ → List ℕ
 garbage_into parents starts node = option_map_or start_items (start_into parents starts node) []
 
--- the garbage on the path: of the link into a node, of the link into its parent, and so on up to the root
+-- the garbage on the path: of the link into a node, of the link into its parent, and so on up to
+-- the root
 abbrev pub path_garbage : List (Option ℕ) → List Start → ℕ → List ℕ
 path_garbage parents starts node = path_lists parents (garbage_into parents starts) node
 
@@ -27,16 +29,19 @@ path_garbage parents starts node = path_lists parents (garbage_into parents star
 abbrev pub strays_bound : List (Option ℕ) → (ℕ → ℕ) → ℕ → ℕ
 strays_bound parents capacity_into node = path_sum parents capacity_into node
 
--- how many of the first published items may be missing at a node: 2c + 1 for each link on its path, added
+-- how many of the first published items may be missing at a node: 2c + 1 for each link on its path,
+-- added
 abbrev pub missing_bound : List (Option ℕ) → (ℕ → ℕ) → ℕ → ℕ
-missing_bound parents capacity_into node = path_sum parents (λ child. 2 * capacity_into child + 1) node
+missing_bound parents capacity_into node =
+    path_sum parents (λ child. 2 * capacity_into child + 1) node
 
 -- the same garbage, and before that of each link the opening of the node below it
 abbrev pub opened_path_garbage : List (Option ℕ) → List Start → (ℕ → List ℕ) → ℕ → List ℕ
 opened_path_garbage parents starts opening_of node =
     path_lists parents (λ child. opening_of child ++ garbage_into parents starts child) node
 
--- the most strays at a node: beside the capacities of the links on its path, the lengths of the openings of its nodes
+-- the most strays at a node: beside the capacities of the links on its path, the lengths of the
+-- openings of its nodes
 abbrev pub opened_strays_bound : List (Option ℕ) → (ℕ → ℕ) → (ℕ → List ℕ) → ℕ → ℕ
 opened_strays_bound parents capacity_into opening_of node =
     path_sum parents (λ child. length (opening_of child) + capacity_into child) node
@@ -44,20 +49,26 @@ opened_strays_bound parents capacity_into opening_of node =
 -- a link that obeys the link law offered a prefix of the first list and delivered the second
 abbrev pub LinkLawBetween : ℕ → List ℕ → List ℕ → List ℕ → Type 0
 LinkLawBetween capacity start_items above below =
-    (offered : List ℕ) × (acked : ℕ) × IsPrefix offered above × LinkLaw capacity start_items offered acked below
+    (offered : List ℕ) × (acked : ℕ) × IsPrefix offered above
+    × LinkLaw capacity start_items offered acked below
 
--- the same, where the second list is an opening, strays that nobody published, and then what the link delivered
+-- the same, where the second list is an opening, strays that nobody published, and then what the
+-- link delivered
 abbrev pub LinkLawPastOpening : List ℕ → ℕ → List ℕ → List ℕ → List ℕ → Type 0
 LinkLawPastOpening opening capacity start_items above below =
-    (delivered : List ℕ) × (below ≡ opening ++ delivered) × LinkLawBetween capacity start_items above delivered
+    (delivered : List ℕ) × (below ≡ opening ++ delivered)
+    × LinkLawBetween capacity start_items above delivered
 
 -- the half tree law at each node, with a bound and a garbage for each
-abbrev pub HalfTreeLawOfNodes : (ℕ → ℕ) → (ℕ → List ℕ) → List (Option ℕ) → List ℕ → (ℕ → List ℕ) → Type 0
+abbrev pub HalfTreeLawOfNodes : (ℕ → ℕ) → (ℕ → List ℕ) → List (Option ℕ) → List ℕ
+    → (ℕ → List ℕ) → Type 0
 HalfTreeLawOfNodes most_strays garbage parents published received =
-    (node : ℕ) → node < length parents → HalfTreeLaw (most_strays node) (garbage node) published (received node)
+    (node : ℕ) → node < length parents
+    → HalfTreeLaw (most_strays node) (garbage node) published (received node)
 
 -- the tree law at each node, with bounds and a garbage for each
-abbrev pub TreeLawOfNodes : (ℕ → ℕ) → (ℕ → ℕ) → (ℕ → List ℕ) → List (Option ℕ) → List ℕ → (ℕ → List ℕ) → Type 0
+abbrev pub TreeLawOfNodes : (ℕ → ℕ) → (ℕ → ℕ) → (ℕ → List ℕ) → List (Option ℕ) → List ℕ
+    → (ℕ → List ℕ) → Type 0
 TreeLawOfNodes most_strays most_missing garbage parents published received =
     (node : ℕ) → node < length parents
     → TreeLaw (most_strays node) (most_missing node) (garbage node) published (received node)
@@ -65,10 +76,12 @@ TreeLawOfNodes most_strays most_missing garbage parents published received =
 -- the half tree law at each node, where all links have one capacity
 abbrev pub HalfTreeLawAtNodes : ℕ → List (Option ℕ) → List Start → List ℕ → (ℕ → List ℕ) → Type 0
 HalfTreeLawAtNodes capacity parents starts published received =
-    HalfTreeLawOfNodes (λ node. depth_of parents node * capacity) (path_garbage parents starts) parents published received
+    HalfTreeLawOfNodes (λ node. depth_of parents node * capacity)
+    (path_garbage parents starts) parents published received
 
 -- the tree law at each node, where all links have one capacity
 abbrev pub TreeLawAtNodes : ℕ → List (Option ℕ) → List Start → List ℕ → (ℕ → List ℕ) → Type 0
 TreeLawAtNodes capacity parents starts published received =
-    TreeLawOfNodes (λ node. depth_of parents node * capacity) (λ node. depth_of parents node * (2 * capacity + 1))
+    TreeLawOfNodes (λ node. depth_of parents node * capacity)
+    (λ node. depth_of parents node * (2 * capacity + 1))
     (path_garbage parents starts) parents published received

@@ -1,4 +1,5 @@
--- What stands along a node's path: beside the node itself, beside its parent, and so on; nothing beside the root.
+-- What there is along a node's path: beside the node itself, beside its parent, and so on; the root
+-- has nothing beside it.
 -- Source: this project's own.
 use Rattle.std.specs.Prelude.{ℕ, zero, suc, ◌+◌, List, [], ◌++◌, Option}
 use Rattle.std.specs.Option.{option_map_or}

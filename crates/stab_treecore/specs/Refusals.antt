@@ -4,16 +4,20 @@ use Rattle.std.specs.Prelude.{◌≡◌, ◌⊎◌, ℕ, List, [], ◌∷◌, le
 use Rattle.stab_frames.specs.Parameters.{Parameters}
 use Rattle.stab_core.specs.declared.start.Start.{Start}
 use Rattle.stab_core.specs.declared.start.StartFault.{StartFault}
-use Rattle.stab_core.specs.declared.start.StartFault.TheVariants.{TooManyFrames, TooManyAcks, Memory}
+use Rattle.stab_core.specs.declared.start.StartFault.TheVariants.{TooManyFrames, TooManyAcks}
+use Rattle.stab_core.specs.declared.start.StartFault.TheVariants.{Memory}
 use Rattle.stab_core.specs.Link.{Grows, IsReason}
 use Rattle.stab_core.specs.Replay.{IsLawful}
 use Rattle.stab_tree.specs.Links.{links_of}
 use Rattle.stab_tree.specs.Nodes.{parent_at}
 use Rattle.stab_treecore.specs.declared.event.TreeEvent.{TreeEvent}
 use Rattle.stab_treecore.specs.declared.fault.TreeStartFault.{TreeStartFault}
-use Rattle.stab_treecore.specs.declared.fault.TreeStartFault.TheVariants.{StartCount, Start as StartRefused, Step}
+use Rattle.stab_treecore.specs.declared.fault.TreeStartFault.TheVariants.{StartCount}
+use Rattle.stab_treecore.specs.declared.fault.TreeStartFault.TheVariants.{Start as StartRefused}
+use Rattle.stab_treecore.specs.declared.fault.TreeStartFault.TheVariants.{Step}
 use Rattle.stab_treecore.specs.declared.fault.TreeStepFault.{TreeStepFault}
-use Rattle.stab_treecore.specs.declared.fault.TreeStepFault.TheVariants.{NoSuchLink, Memory as StepMemory}
+use Rattle.stab_treecore.specs.declared.fault.TreeStepFault.TheVariants.{NoSuchLink}
+use Rattle.stab_treecore.specs.declared.fault.TreeStepFault.TheVariants.{Memory as StepMemory}
 use Rattle.stab_treecore.specs.TreeReplay.{tree_opening}
 use Rattle.stab_treecore.specs.TreeStep.{tree_step, tree_effect}
 use Rattle.stab_treecore.specs.WholeTree.{WholeTree}
@@ -25,9 +29,11 @@ OnePerLink parents starts = length starts ≡ length (links_of parents)
 -- the first start that is refused is refused for this fault
 abbrev pub IsFirstFault : Parameters → List Start → StartFault → Type 0
 IsFirstFault p [] fault = ⊥
-IsFirstFault p (start ∷ starts) fault = IsReason p start fault ⊎ (IsLawful p start × IsFirstFault p starts fault)
+IsFirstFault p (start ∷ starts) fault =
+    IsReason p start fault ⊎ (IsLawful p start × IsFirstFault p starts fault)
 
--- why the links cannot begin: the first fault among their starts, or memory where all starts are lawful
+-- why the links cannot begin: the first fault among their starts, or memory where all starts are
+-- lawful
 abbrev pub IsOpeningReason : Parameters → List Start → StartFault → Type 0
 IsOpeningReason p starts TooManyFrames = IsFirstFault p starts TooManyFrames
 IsOpeningReason p starts TooManyAcks = IsFirstFault p starts TooManyAcks
@@ -36,7 +42,8 @@ IsOpeningReason p starts Memory = All (IsLawful p) starts
 -- why a whole tree cannot begin
 abbrev pub IsStartReason : Parameters → List (Option ℕ) → List Start → TreeStartFault → Type 0
 IsStartReason p parents starts StartCount = ¬ OnePerLink parents starts
-IsStartReason p parents starts (StartRefused fault) = OnePerLink parents starts × IsOpeningReason p starts fault
+IsStartReason p parents starts (StartRefused fault) =
+    OnePerLink parents starts × IsOpeningReason p starts fault
 IsStartReason p parents starts (Step fault) = ⊥
 
 -- an event names a link by its child; the root and what is no node name none
@@ -51,15 +58,18 @@ abbrev pub IsMet : (WholeTree → TreeEvent → Type 0) → WholeTree → List T
 IsMet P t [] = ⊥
 IsMet P t (e ∷ es) = P t e ⊎ (NamesLink t.parents e × IsMet P (tree_step t e) es)
 
--- why an event of a schedule is refused: it is the first that names no link, or memory where a list grows
+-- why an event of a schedule is refused: it is the first that names no link, or memory where a list
+-- grows
 abbrev pub IsStepReason : WholeTree → List TreeEvent → TreeStepFault → Type 0
 IsStepReason t events NoSuchLink = IsMet (λ now e. NamesNoLink now.parents e) t events
 IsStepReason t events StepMemory = IsMet (λ now e. Grows (tree_effect now e)) t events
 
 -- why a schedule is refused: as a whole tree that cannot begin, or at a step
-abbrev pub IsScheduleReason : Parameters → List (Option ℕ) → List ℕ → List Start → List TreeEvent → TreeStartFault → Type 0
+abbrev pub IsScheduleReason : Parameters → List (Option ℕ) → List ℕ → List Start → List TreeEvent
+    → TreeStartFault → Type 0
 IsScheduleReason p parents published starts events StartCount = ¬ OnePerLink parents starts
-IsScheduleReason p parents published starts events (StartRefused fault) = OnePerLink parents starts × IsOpeningReason p starts fault
+IsScheduleReason p parents published starts events (StartRefused fault) =
+    OnePerLink parents starts × IsOpeningReason p starts fault
 IsScheduleReason p parents published starts events (Step fault) =
     OnePerLink parents starts
     × All (IsLawful p) starts

@@ -1,6 +1,8 @@
--- The step of the whole tree: one act on the link into one node. An offer is of the item of the parent's list that comes next.
+-- The step of the whole tree: one act on the link into one node. An offer is of the item of the
+-- parent's list that comes next.
 -- Source: this project's profile.
-use Rattle.std.specs.Prelude.{ℕ, length, slice_get, slice_set, Option, Some, None, option_map, option_and_then}
+use Rattle.std.specs.Prelude.{ℕ, length, slice_get, slice_set, Option, Some, None, option_map}
+use Rattle.std.specs.Prelude.{option_and_then}
 use Rattle.std.specs.Option.{option_map_or}
 use Rattle.stab_core.specs.declared.event.Event.{Event}
 use Rattle.stab_core.specs.declared.event.Effect.{Effect}
@@ -11,9 +13,12 @@ use Rattle.stab_core.specs.Step.{step, effect}
 use Rattle.stab_treecore.specs.declared.event.TreeEvent.{TreeEvent}
 use Rattle.stab_treecore.specs.WholeTree.{WholeTree, link_into, source}
 
--- the item that the link into a node is to be offered next: that of the parent's list after those that it was offered
+-- the item that the link into a node is to be offered next: that of the parent's list after those
+-- that it was offered
 abbrev pub next_item : WholeTree → ℕ → Option ℕ
-next_item t child = option_and_then (λ link. slice_get (source t child) (length link.state.offered)) (link_into t child)
+next_item t child =
+    option_and_then (λ link. slice_get (source t child) (length link.state.offered))
+    (link_into t child)
 
 -- the event on the link into its child
 abbrev pub event_on : WholeTree → TreeEvent → Option Event
@@ -27,7 +32,10 @@ link_after (Some e) link = link_at link.params (step link.params link.state e)
 -- the step of the whole tree: where the event names no link, nothing changes
 abbrev pub tree_step : WholeTree → TreeEvent → WholeTree
 tree_step t e =
-    record t { links = slice_set t.links e.child (option_map (link_after (event_on t e)) (link_into t e.child)) }
+    record t {
+      links =
+          slice_set t.links e.child (option_map (link_after (event_on t e)) (link_into t e.child));
+    }
 
 -- the effect of an event on a link, where there is an event
 abbrev pub effect_on : Option Event → LinkValue → Effect

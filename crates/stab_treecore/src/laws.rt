@@ -1,9 +1,10 @@
-//! Laws over the definitions alone: they name no tree, link or list of the code, so that every layer
-//! above may use them for whatever runs the same steps. Each is a function with an empty body; its
-//! contract is the law.
+//! Laws over the definitions alone: they name no tree, link or list of the code, so that every
+//! layer above may use them for whatever runs the same steps. Each is a function with an empty
+//! body; its contract is the law.
 
 ghost use mathlib.Core.List.{IsPrefix};
-ghost use Rattle.std.specs.Prelude.{◌≡◌, ℕ, ◌+◌, ◌*◌, ◌<◌, ◌≤◌, List, [], ◌++◌, length, Option, Some, All};
+ghost use Rattle.std.specs.Prelude.{◌≡◌, ℕ, ◌+◌, ◌*◌, ◌<◌, ◌≤◌, List, [], ◌++◌, length, Option};
+ghost use Rattle.std.specs.Prelude.{Some, All};
 ghost use Rattle.stab_core.specs.declared.start.Start.{Start};
 ghost use Rattle.stab_core.specs.LinkLaw.{HalfLaw, LinkLaw};
 ghost use Rattle.stab_core.specs.Replay.{IsLawful, start_items};
@@ -13,19 +14,10 @@ ghost use Rattle.stab_tree.specs.Nodes.{Nodes, parent_at, root_of};
 ghost use Rattle.stab_tree.specs.Steps.{depth_of};
 ghost use Rattle.stab_treecore.specs.declared.event.TreeEvent.{TreeEvent};
 ghost use Rattle.stab_treecore.specs.EdgeLaw.{EdgeLaw, EdgeInto};
-ghost use Rattle.stab_treecore.specs.NodeLaws.{
-  garbage_into,
-  path_garbage,
-  opened_path_garbage,
-  strays_bound,
-  opened_strays_bound,
-  missing_bound,
-  LinkLawBetween,
-  LinkLawPastOpening,
-  HalfTreeLawOfNodes,
-  TreeLawOfNodes,
-  TreeLawAtNodes,
-};
+ghost use Rattle.stab_treecore.specs.NodeLaws.{garbage_into, path_garbage, opened_path_garbage};
+ghost use Rattle.stab_treecore.specs.NodeLaws.{strays_bound, opened_strays_bound, missing_bound};
+ghost use Rattle.stab_treecore.specs.NodeLaws.{LinkLawBetween, LinkLawPastOpening};
+ghost use Rattle.stab_treecore.specs.NodeLaws.{HalfTreeLawOfNodes, TreeLawOfNodes, TreeLawAtNodes};
 ghost use Rattle.stab_treecore.specs.Refusals.{OnePerLink};
 ghost use Rattle.stab_treecore.specs.TreeLaw.{HalfTreeLaw, TreeLaw};
 ghost use Rattle.stab_treecore.specs.TreeReplay.{tree_opening, tree_replay};
@@ -132,7 +124,8 @@ pub fn tree_law_of_edges()
         → IsTree nodes
         → received (root_of nodes.parents) ≡ published
         → ((child parent : ℕ) → parent_at nodes.parents child ≡ Some parent
-        → EdgeInto (params_into child) nodes.parents starts child (received parent) (received child))
+        → EdgeInto (params_into child) nodes.parents starts child
+        (received parent) (received child))
         → TreeLawOfNodes (strays_bound nodes.parents (λ child. (params_into child).capacity))
         (missing_bound nodes.parents (λ child. (params_into child).capacity))
         (path_garbage nodes.parents starts) nodes.parents published received }
@@ -140,7 +133,8 @@ pub fn tree_law_of_edges()
     stab_core::laws::every_replay_obeys_the_link_law();
 }
 
-/// Where all links have one capacity, the bounds of a node at depth d are d times those of one link.
+/// Where all links have one capacity, the bounds of a node at depth d are d times those of one
+/// link.
 pub fn bounds_of_one_capacity()
     ensures strays { (nodes : Nodes) (capacity node : ℕ) → IsTree nodes
         → node < length nodes.parents
