@@ -11,13 +11,12 @@ use std::process::Abort;
 use std::test::Fail;
 
 /// The chain r, a, b.
-const CHAIN: &str =
-    "[{\"name\":\"r\"},{\"name\":\"a\",\"parent\":\"r\"},{\"name\":\"b\",\"parent\":\"a\"}]";
+const CHAIN: &str = r#"[{"name":"r"},{"name":"a","parent":"r"},{"name":"b","parent":"a"}]"#;
 
 /// The published items of the chain's tests.
 const ITEMS: [Item; 7] = [10, 11, 12, 13, 14, 15, 16];
 
-/// The acts of the worst start, and the two that leave the sender idle.
+/// The acts of the worst start, and the two after which the sender is idle.
 const WORST: [LinkAct; 14] = [
     LinkAct::Offer,
     LinkAct::RecvAck { keep: false },
@@ -35,8 +34,19 @@ const WORST: [LinkAct; 14] = [
     LinkAct::RecvAck { keep: false },
 ];
 
-/// What the worst start has in its queues, at each of the chain's two links.
+/// The worst start of each of the chain's two links: the items of its frames, and the number of its
+/// acknowledgements.
 const WORST_STARTS: [(&[Item], usize); 2] = [(&[99], 1), (&[98], 1)];
+
+/// What the whole tree is after that schedule.
+const TWO_LINKS: &str = "\
+r depth 0 received 7 acked -
+items: 10 11 12 13 14 15 16
+a depth 1 received 5 acked 7
+items: 99 13 14 15 16
+b depth 2 received 3 acked 5
+items: 98 15 16
+";
 
 /// One item goes from the parent to the child, undisturbed.
 const ROUND: [LinkAct; 5] = [
@@ -64,7 +74,7 @@ fn frames(alloc: Global, items: &[Item]) -> Result<Sequence<Frame>, AllocError> 
     Ok(frames)
 }
 
-/// A start with frames of these items, and so many acknowledgements, each 0.
+/// A start with frames of these items, and this number of acknowledgements, each 0.
 fn start(alloc: Global, items: &[Item], acks: usize) -> Result<Start, AllocError> {
     Ok(Start {
         frames: frames(alloc, items)?,
@@ -74,7 +84,7 @@ fn start(alloc: Global, items: &[Item], acks: usize) -> Result<Start, AllocError
     })
 }
 
-/// A start for each link: the items of its frames, and how many acknowledgements it holds.
+/// A start for each link, from the items of its frames and the number of its acknowledgements.
 fn starts(alloc: Global, links: &[(&[Item], usize)]) -> Result<Vec<Start>, AllocError> {
     let mut starts = Vec::new(alloc);
     for (items, acks) in links {
@@ -95,7 +105,7 @@ fn push_acts(
     Ok(())
 }
 
-/// The schedule of two links: each finds the worst start, and then items go on undisturbed.
+/// The schedule of two links: each link meets the worst start, and then items go on undisturbed.
 fn two_links(alloc: Global, a: NodeId, b: NodeId) -> Result<Vec<TreeEvent>, AllocError> {
     let mut schedule = Vec::new(alloc);
     for (child, acts) in [
@@ -124,7 +134,7 @@ fn refusal(
 }
 
 #[test]
-fn two_links_under_one_schedule(rt: HostRuntime) -> Result<(), Fail> {
+fn two_links_under_one_schedule_deliver_one_stray_each(rt: HostRuntime) -> Result<(), Fail> {
     let tree = tree(&rt, rt.alloc(), CHAIN)?;
     let a = tree.find("a").expect(&rt, "a node");
     let b = tree.find("b").expect(&rt, "a node");
@@ -132,19 +142,13 @@ fn two_links_under_one_schedule(rt: HostRuntime) -> Result<(), Fail> {
     let schedule = two_links(rt.alloc(), a, b)?;
     let params = Params::new(1, 4)?;
     let state = run_schedule(rt.alloc(), params, &tree, &ITEMS, &starts, &schedule)?;
-    assert!(rt; state.received(a) == [99, 13, 14, 15, 16].as_slice());
-    assert!(rt; state.received(b) == [98, 15, 16].as_slice());
-    assert_eq!(rt; state.link(b).map(|link| link.acked()), Some(5));
     let text = schedule_text(rt.alloc(), &tree, &state)?;
-    assert_eq!(rt;
-        text.as_str(),
-        "r depth 0 received 7 acked -\nitems: 10 11 12 13 14 15 16\na depth 1 received 5 acked 7\nitems: 99 13 14 15 16\nb depth 2 received 3 acked 5\nitems: 98 15 16\n"
-    );
+    assert_eq!(rt; text.as_str(), TWO_LINKS);
     Ok(())
 }
 
 #[test]
-fn refused_starts(rt: HostRuntime) -> Result<(), Fail> {
+fn refuses_the_first_unlawful_start_in_file_order(rt: HostRuntime) -> Result<(), Fail> {
     let tree = tree(&rt, rt.alloc(), CHAIN)?;
     let frames = Some(TreeStartFault::Start(StartFault::TooManyFrames));
     let acks = Some(TreeStartFault::Start(StartFault::TooManyAcks));
@@ -164,13 +168,14 @@ fn refused_starts(rt: HostRuntime) -> Result<(), Fail> {
 }
 
 #[test]
-fn schedule_on_the_root(rt: HostRuntime) -> Result<(), Fail> {
+fn refuses_the_first_event_that_names_no_link(rt: HostRuntime) -> Result<(), Fail> {
     let tree = tree(&rt, rt.alloc(), CHAIN)?;
-    let on_root = [TreeEvent {
-        child: tree.root(),
-        act: LinkAct::Offer,
-    }];
-    let fault = refusal(rt.alloc(), &tree, &WORST_STARTS, &on_root)?;
+    let a = tree.find("a").expect(&rt, "a node");
+    let mut events = Vec::new(rt.alloc());
+    for child in [a, tree.root(), a] {
+        push_acts(&mut events, child, &[LinkAct::Offer])?;
+    }
+    let fault = refusal(rt.alloc(), &tree, &WORST_STARTS, &events)?;
     assert_eq!(rt;
         fault,
         Some(TreeStartFault::Step(TreeStepFault::NoSuchLink))
@@ -179,7 +184,7 @@ fn schedule_on_the_root(rt: HostRuntime) -> Result<(), Fail> {
 }
 
 #[test]
-fn offer_of_nothing(rt: HostRuntime) -> Result<(), Fail> {
+fn an_offer_of_nothing_does_nothing(rt: HostRuntime) -> Result<(), Fail> {
     let tree = tree(&rt, rt.alloc(), CHAIN)?;
     let a = tree.find("a").expect(&rt, "a node");
     let b = tree.find("b").expect(&rt, "a node");
@@ -212,8 +217,8 @@ fn offer_of_nothing(rt: HostRuntime) -> Result<(), Fail> {
 }
 
 #[test]
-fn a_lone_root(rt: HostRuntime) -> Result<(), Fail> {
-    let tree = tree(&rt, rt.alloc(), "[{\"name\":\"r\"}]")?;
+fn a_lone_root_has_what_it_publishes(rt: HostRuntime) -> Result<(), Fail> {
+    let tree = tree(&rt, rt.alloc(), r#"[{"name":"r"}]"#)?;
     let state = run_schedule(rt.alloc(), Params::new(1, 4)?, &tree, &[7, 8], &[], &[])?;
     let text = schedule_text(rt.alloc(), &tree, &state)?;
     assert_eq!(rt; text.as_str(), "r depth 0 received 2 acked -\nitems: 7 8\n");
@@ -221,7 +226,7 @@ fn a_lone_root(rt: HostRuntime) -> Result<(), Fail> {
 }
 
 #[test]
-fn the_first_line_of_a_node(rt: HostRuntime) -> Result<(), Fail> {
+fn the_counts_of_a_node_are_a_line_without_its_end(rt: HostRuntime) -> Result<(), Fail> {
     let mut text = String::new(rt.alloc());
     push_node_counts(&mut text, "a", 1, 5, Some(7))?;
     assert_eq!(rt; text.as_str(), "a depth 1 received 5 acked 7");
@@ -229,7 +234,7 @@ fn the_first_line_of_a_node(rt: HostRuntime) -> Result<(), Fail> {
 }
 
 #[test]
-fn texts_of_faults(rt: HostRuntime) -> Result<(), Fail> {
+fn each_fault_prints_its_text(rt: HostRuntime) -> Result<(), Fail> {
     let texts = [
         (TreeStartFault::StartCount, "start: wrong number of starts"),
         (
