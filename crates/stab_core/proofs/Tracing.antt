@@ -1,10 +1,17 @@
 -- Facts on the origins that the code keeps beside a link's frames.
-use Rattle.std.proofs.Common.{◌≡◌, ℕ, zero, suc, ◌+◌, ◌<◌, ◌≤◌, ◌↔◌, Bool, true, false, IsTrue, if◌then◌else◌, length-take, List, [], ◌∷◌, ◌++◌, length, take, refl, ap, sym, ◌∙◌, arith, add-one, add-zero}
+use Rattle.std.proofs.Common.{◌≡◌, ◌==◌, ℕ, zero, suc, ◌+◌, ◌<◌, ◌≤◌, ◌↔◌, Bool, true, false, IsTrue, if◌then◌else◌, slice_get, length-take, List, [], ◌∷◌, ◌++◌, length, take, refl, ap, sym, ◌∙◌, arith, add-one, add-zero}
+use Rattle.std.proofs.lemmas.Bool.{cond_both, cond-false}
 use Rattle.stab_frames.specs.declared.frame.Frame.{Frame}
+use Rattle.stab_frames.specs.Parameters.{Parameters}
 use Rattle.stab_frames.specs.Queue.{Queue, queue, without}
 use Rattle.stab_core.specs.declared.origin.Origin.{Origin}
 use Rattle.stab_core.specs.declared.origin.Origin.TheVariants.{Stray}
+use Rattle.stab_core.specs.declared.event.Event.TheVariants.{RecvFrame}
+use Rattle.stab_core.specs.Link.{LinkValue, link_at}
+use Rattle.stab_core.specs.LinkState.{LinkState}
+use Rattle.stab_core.specs.Step.{step, open_step, receives_frame, takes, after_front}
 use Rattle.stab_core.specs.Trace.{strays_from}
+use Rattle.stab_core.proofs.InOrder.{after_front-nil}
 
 -- two lists of one length keep pace when each loses its entry at one place
 pub length_without : {A B : Type 0} (xs : List A) (ys : List B) (i : ℕ) → length xs ≡ length ys
@@ -47,3 +54,34 @@ put_stray frames i capacity before after true here fits so_far same room put =
 put_stray frames i capacity before after false here fits so_far same room put =
     let as_many : length before.entries ≡ i = ap length so_far ∙ (length_strays (take i frames) 0 ∙ (length-take i frames ∙ omega arith)) in
     let had : false ≡ true = room.1 (omega arith) in absurd (cc)
+
+-- what is received leaves the queue without its front, or as it was where the front is kept
+received_frames : (p : Parameters) (keep : Bool) (s : LinkState) → s.closed ≡ false
+    → (step p s (RecvFrame keep)).frames ≡ after_front keep s.frames
+received_frames p keep s is_open =
+    ap (λ (t : LinkState). t.frames) (cond-false s.closed s (open_step p s (RecvFrame keep)) is_open) ∙ by_front s.frames
+  where
+    by_front : (frames : List Frame)
+        → (receives_frame keep (record s { frames = frames }) (slice_get frames 0)).frames ≡ after_front keep frames
+    by_front [] = sym (after_front-nil keep)
+    by_front (f ∷ fs) =
+        let t : LinkState = record s { frames = after_front keep (f ∷ fs) } in
+        cond_both (f.label == s.recv_label) t (takes t f) (λ (u : LinkState). u.frames ≡ after_front keep (f ∷ fs))
+        (λ _. refl) (λ _. refl)
+
+-- two lists of one length keep pace when the front of each is received
+length_after_front : {A B : Type 0} (keep : Bool) (xs : List A) (ys : List B) → length xs ≡ length ys
+    → length (after_front keep xs) ≡ length (after_front keep ys)
+length_after_front true xs ys same = same
+length_after_front false [] [] same = refl
+length_after_front false [] (y ∷ ys) same = absurd (omega arith)
+length_after_front false (x ∷ xs) [] same = absurd (omega arith)
+length_after_front false (x ∷ xs) (y ∷ ys) same = omega arith
+
+-- the origins keep pace with the frames when the front is received
+pub received_in_pace : {A : Type 0} (p : Parameters) (keep : Bool) (s : LinkState) (after : LinkValue) (queued : List A)
+    → s.closed ≡ false → after ≡ link_at p (step p s (RecvFrame keep)) → length queued ≡ length s.frames
+    → length (after_front keep queued) ≡ length after.state.frames
+received_in_pace p keep s after queued is_open steps pace =
+    length_after_front keep queued s.frames pace
+    ∙ sym (ap (λ (link : LinkValue). length link.state.frames) steps ∙ ap length (received_frames p keep s is_open))

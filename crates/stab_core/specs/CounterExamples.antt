@@ -1,11 +1,14 @@
--- Why the link is as it is: event lists that break its laws where one rule of it is left out, and one that reaches its
--- bounds where none is. The capacity is 1, for which four labels are the fewest lawful ones.
+-- Why the link is as it is: event lists that break its laws where one rule of it is left out, and
+-- one that reaches its bounds where none is. The capacity is 1, for which four labels are the
+-- fewest lawful ones.
 -- Source: this project's own.
-use Rattle.std.specs.Prelude.{ℕ, Bool, true, false, List, [], ◌∷◌, slice_get, if◌then◌else◌, Option, Some, None}
+use Rattle.std.specs.Prelude.{ℕ, Bool, true, false, List, [], ◌∷◌, slice_get, if◌then◌else◌}
+use Rattle.std.specs.Prelude.{Option, Some, None}
 use Rattle.stab_frames.specs.declared.frame.Frame.{Frame}
 use Rattle.stab_frames.specs.Parameters.{Parameters}
 use Rattle.stab_core.specs.declared.event.Event.{Event}
-use Rattle.stab_core.specs.declared.event.Event.TheVariants.{Offer, SendFrame, RecvFrame, SendAck, RecvAck, LoseFrame}
+use Rattle.stab_core.specs.declared.event.Event.TheVariants.{Offer, SendFrame, RecvFrame, SendAck}
+use Rattle.stab_core.specs.declared.event.Event.TheVariants.{RecvAck, LoseFrame}
 use Rattle.stab_core.specs.declared.start.Start.{Start}
 use Rattle.stab_core.specs.LinkState.{LinkState, is_holding}
 use Rattle.stab_core.specs.Step.{step, after_front, takes, goes_on}
@@ -33,9 +36,15 @@ two_labels = record { capacity = 1; labels = 2 }
 
 abbrev pub two_labels_start : Start
 two_labels_start =
-    record { frames = record { label = 0; item = 99 } ∷ []; acks = 0 ∷ []; send_label = 0; recv_label = 1 }
+    record {
+      frames = record { label = 0; item = 99 } ∷ [];
+      acks = 0 ∷ [];
+      send_label = 0;
+      recv_label = 1;
+    }
 
--- Each item is acknowledged by the answer to the frame before it, so 14 is acknowledged though its only frame is lost.
+-- Each item is acknowledged by the answer to the frame before it, so 14 is acknowledged though its
+-- only frame is lost.
 abbrev pub two_labels_events : List Event
 two_labels_events =
     Offer 10 ∷ take_ack ∷ SendAck ∷ take_frame
@@ -50,14 +59,17 @@ goes_on_at_any p s = if is_holding s then goes_on p s else s
 
 abbrev pub receives_any_ack : Parameters → Bool → LinkState → Option ℕ → LinkState
 receives_any_ack p keep s None = s
-receives_any_ack p keep s (Some label) = goes_on_at_any p (record s { acks = after_front keep s.acks })
+receives_any_ack p keep s (Some label) =
+    goes_on_at_any p (record s { acks = after_front keep s.acks })
 
 -- the step of a link with this sender, and for the rest the step of the link
 abbrev pub any_ack_step : Parameters → LinkState → Event → LinkState
-any_ack_step p s (RecvAck keep) = if s.closed then s else receives_any_ack p keep s (slice_get s.acks 0)
+any_ack_step p s (RecvAck keep) =
+    if s.closed then s else receives_any_ack p keep s (slice_get s.acks 0)
 any_ack_step p s e = step p s e
 
--- One acknowledgement of the start, kept each time, acknowledges four items, none of which was sent.
+-- One acknowledgement of the start, kept each time, acknowledges four items, none of which was
+-- sent.
 abbrev pub any_ack_start : Start
 any_ack_start = record { frames = []; acks = 0 ∷ []; send_label = 0; recv_label = 1 }
 
@@ -72,7 +84,8 @@ receives_any_frame keep s (Some f) = takes (record s { frames = after_front keep
 
 -- the step of a link with this receiver, and for the rest the step of the link
 abbrev pub any_frame_step : Parameters → LinkState → Event → LinkState
-any_frame_step p s (RecvFrame keep) = if s.closed then s else receives_any_frame keep s (slice_get s.frames 0)
+any_frame_step p s (RecvFrame keep) =
+    if s.closed then s else receives_any_frame keep s (slice_get s.frames 0)
 any_frame_step p s e = step p s e
 
 -- The frame of one item is received twice.
@@ -82,11 +95,17 @@ any_frame_start = record { frames = []; acks = []; send_label = 0; recv_label = 
 abbrev pub any_frame_events : List Event
 any_frame_events = Offer 10 ∷ SendFrame ∷ keep_frame ∷ take_frame ∷ []
 
--- No rule is left out: a stray is delivered, three items are acknowledged by what stood in the link or by answers to the
--- stray and to the start, and then a fourth item is delivered.
+-- No rule is left out: the stray is delivered, three items are acknowledged by the start's
+-- acknowledgement and by labels that the receiver remembered before it took an item, and then a
+-- fourth item is delivered.
 abbrev pub worst_start : Start
 worst_start =
-    record { frames = record { label = 2; item = 99 } ∷ []; acks = 0 ∷ []; send_label = 0; recv_label = 1 }
+    record {
+      frames = record { label = 2; item = 99 } ∷ [];
+      acks = 0 ∷ [];
+      send_label = 0;
+      recv_label = 1;
+    }
 
 abbrev pub worst_events : List Event
 worst_events =

@@ -1,4 +1,5 @@
--- The two halves of a link's step: what a sender remembers. (A receiver remembers one label and nothing else.)
+-- The two halves of a link's step: what a sender remembers. (A receiver remembers one label and
+-- nothing else.)
 -- Source: the stop-and-wait data link of Dolev, Self-Stabilization, MIT Press 2000.
 use Rattle.std.specs.Prelude.{ℕ, ◌==◌, ◌&&◌, Bool, Option, is_some}
 

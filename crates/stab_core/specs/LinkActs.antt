@@ -2,7 +2,8 @@
 -- Source: this project's own.
 use Rattle.std.specs.Prelude.{ℕ, Option, Some, option_map}
 use Rattle.stab_core.specs.declared.act.LinkAct.{LinkAct}
-use Rattle.stab_core.specs.declared.act.LinkAct.TheVariants.{Offer, SendFrame, RecvFrame, SendAck, RecvAck, LoseFrame, LoseAck, Close}
+use Rattle.stab_core.specs.declared.act.LinkAct.TheVariants.{Offer, SendFrame, RecvFrame, SendAck}
+use Rattle.stab_core.specs.declared.act.LinkAct.TheVariants.{RecvAck, LoseFrame, LoseAck, Close}
 use Rattle.stab_core.specs.declared.event.Event.{Event}
 use Rattle.stab_core.specs.declared.event.Event.TheVariants as event
 

@@ -18,11 +18,14 @@ link_view l =
       closed = l.closed;
     })
 
--- both queues have the link's capacity, and the sender holds the offered item that was not acknowledged, where there is one
+-- both queues have the link's capacity, and the sender holds the offered item that is not
+-- acknowledged, where there is one
 pub record IsSound (l : Inside) : Type 0 where
   pub frames_capacity : l.frames.capacity ≡ l.params.capacity
   pub acks_capacity : l.acks.capacity ≡ l.params.capacity
   pub acked_were_offered : l.acked ≤ length l.offered.items
   pub one_waits_at_most : length l.offered.items ≤ l.acked + 1
-  pub held :
-      l.sender.item ≡ (if length l.offered.items == l.acked + 1 then Some (slice_index l.offered.items l.acked) else None)
+  pub holds_the_last :
+      l.sender.item ≡
+      (if length l.offered.items == l.acked + 1
+      then Some (slice_index l.offered.items l.acked) else None)

@@ -1,13 +1,14 @@
--- The laws of one link, over lists and places alone: what was delivered comes from the start's frames and then from the
--- offered list, and only few acknowledged items are missing.
+-- The laws of one link, over lists and places alone: what was delivered comes from the start's
+-- frames and then from the offered list, and only few acknowledged items are missing.
 -- Source: this project's own; no number here is ascribed to the book.
 use Rattle.std.specs.Prelude.{◌≡◌, ℕ, ◌+◌, ◌*◌, ◌<◌, ◌≤◌, List, ◌++◌, length, Contains}
 use Rattle.stab_core.specs.Picks.{Picks}
 
--- With these places in the offered list: all offered items but at most the last are acknowledged, and the delivered list is
--- strays picked from the start's items, then items picked from the offered list at those places.
-pub record HalfLawAt (most_strays : ℕ) (start_items offered : List ℕ) (acked : ℕ) (delivered places : List ℕ)
-    : Type 0 where
+-- With these places in the offered list: all offered items but at most the last are acknowledged,
+-- and the delivered list is strays picked from the start's items, then items picked from the
+-- offered list at those places.
+pub record HalfLawAt (most_strays : ℕ) (start_items offered : List ℕ) (acked : ℕ)
+    (delivered places : List ℕ) : Type 0 where
   pub acked_were_offered : acked ≤ length offered
   pub one_waits_at_most : length offered ≤ acked + 1
   pub strays : List ℕ
@@ -27,7 +28,8 @@ HalfLaw most_strays start_items offered acked delivered =
 abbrev pub NoneMissingFrom : ℕ → ℕ → List ℕ → Type 0
 NoneMissingFrom first acked places = (i : ℕ) → first ≤ i → i < acked → Contains places i
 
--- the link law with these bounds: the half law, and for the same places only some of the first acknowledged items are missing
+-- the link law with these bounds: the half law, and for the same places only some of the first
+-- acknowledged items are missing
 abbrev pub LinkLawWithin : ℕ → ℕ → List ℕ → List ℕ → ℕ → List ℕ → Type 0
 LinkLawWithin most_strays most_missing start_items offered acked delivered =
     (places : List ℕ)

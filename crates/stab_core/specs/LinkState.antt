@@ -1,5 +1,7 @@
--- The state of one link: what stands in its two queues, what its sender and its receiver remember, and whether it is closed.
--- Source: the stop-and-wait data link of Dolev, Self-Stabilization, MIT Press 2000, over queues of bounded capacity.
+-- The state of one link: the entries of its two queues, what its sender and its receiver remember,
+-- and whether it is closed.
+-- Source: the stop-and-wait data link of Dolev, Self-Stabilization, MIT Press 2000, over queues of
+-- bounded capacity.
 use Rattle.std.specs.Prelude.{ℕ, ◌+◌, ◌==◌, Bool, List, length, nat_lt, slice_index}
 use Rattle.stab_frames.specs.declared.frame.Frame.{Frame}
 use Rattle.stab_frames.specs.Parameters.{Parameters}

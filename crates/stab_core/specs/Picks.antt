@@ -1,4 +1,5 @@
--- Picks: a list is picked from another at strictly rising places. Places are meant, not values: equal items count apart.
+-- Picks: a list is picked from another at strictly rising places. Places are meant, not values:
+-- equal items count apart.
 -- Source: this project's own.
 use Rattle.std.specs.Prelude.{◌≡◌, ℕ, ◌+◌, ◌<◌, ◌≤◌, List, [], ◌∷◌, length, map, slice_index}
 

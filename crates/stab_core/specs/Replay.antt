@@ -1,4 +1,5 @@
--- The opening of a link, and the replay of an event list from a state: its steps, one after the other.
+-- The opening of a link, and the replay of an event list from a state: its steps, one after the
+-- other.
 -- Source: this project's profile. A start is arbitrary, but for the capacity of its two queues.
 use Rattle.std.specs.Prelude.{ℕ, ◌≤◌, List, [], ◌∷◌, length, map, false}
 use Rattle.stab_frames.specs.Parameters.{Parameters}
@@ -16,7 +17,8 @@ pub record IsLawful (p : Parameters) (start : Start) : Type 0 where
 abbrev pub unused_label : ℕ
 unused_label = 65535
 
--- the start of a link that nobody disturbed: empty queues, and a receiver that remembers no label of its sender
+-- the start of a link that nobody disturbed: empty queues, and a receiver that remembers no label
+-- of its sender
 abbrev pub clean_start : Start
 clean_start = record { frames = []; acks = []; send_label = 0; recv_label = unused_label }
 

@@ -1,13 +1,18 @@
--- The step: what one event makes of a link, and the effect that it reports. An event that does not apply changes nothing.
--- Source: this project's profile of the stop-and-wait link; losses and repetitions are events like any other.
-use Rattle.std.specs.Prelude.{ℕ, ◌+◌, ◌==◌, ◌&&◌, Bool, true, List, [], ◌∷◌, ◌++◌, length, drop, slice_get, nat_lt, if◌then◌else◌, Option, Some, None}
+-- The step: what one event makes of a link, and the effect that it reports. An event that does not
+-- apply changes nothing.
+-- Source: this project's profile of the stop-and-wait link; losses and repetitions are events like
+-- any other.
+use Rattle.std.specs.Prelude.{ℕ, ◌+◌, ◌==◌, ◌&&◌, Bool, true, List, [], ◌∷◌, ◌++◌, length, drop}
+use Rattle.std.specs.Prelude.{slice_get, nat_lt, if◌then◌else◌, Option, Some, None}
 use Rattle.stab_frames.specs.declared.frame.Frame.{Frame}
 use Rattle.stab_frames.specs.Parameters.{Parameters, next}
 use Rattle.stab_frames.specs.Queue.{without}
 use Rattle.stab_core.specs.declared.event.Event.{Event}
-use Rattle.stab_core.specs.declared.event.Event.TheVariants.{Offer, SendFrame, RecvFrame, SendAck, RecvAck, LoseFrame, LoseAck, Close}
+use Rattle.stab_core.specs.declared.event.Event.TheVariants.{Offer, SendFrame, RecvFrame, SendAck}
+use Rattle.stab_core.specs.declared.event.Event.TheVariants.{RecvAck, LoseFrame, LoseAck, Close}
 use Rattle.stab_core.specs.declared.event.Effect.{Effect}
-use Rattle.stab_core.specs.declared.event.Effect.TheVariants.{Nothing, Held, Sent, Fresh, Old, Acked, Ignored, Lost, Closed}
+use Rattle.stab_core.specs.declared.event.Effect.TheVariants.{Nothing, Held, Sent, Fresh, Old}
+use Rattle.stab_core.specs.declared.event.Effect.TheVariants.{Acked, Ignored, Lost, Closed}
 use Rattle.stab_core.specs.LinkState.{LinkState, is_idle, is_holding, current_frame, has_room}
 
 -- a queue after its front was received: a kept front stays
@@ -44,9 +49,12 @@ receives_ack p keep s (Some label) = sees_ack p (record s { acks = after_front k
 abbrev pub open_step : Parameters → LinkState → Event → LinkState
 open_step p s (Offer item) = if is_idle s then record s { offered = s.offered ++ item ∷ [] } else s
 open_step p s SendFrame =
-    if is_holding s && has_room p s.frames then record s { frames = s.frames ++ current_frame s ∷ [] } else s
+    if is_holding s && has_room p s.frames
+    then record s { frames = s.frames ++ current_frame s ∷ [] }
+    else s
 open_step p s (RecvFrame keep) = receives_frame keep s (slice_get s.frames 0)
-open_step p s SendAck = if has_room p s.acks then record s { acks = s.acks ++ s.recv_label ∷ [] } else s
+open_step p s SendAck =
+    if has_room p s.acks then record s { acks = s.acks ++ s.recv_label ∷ [] } else s
 open_step p s (RecvAck keep) = receives_ack p keep s (slice_get s.acks 0)
 open_step p s (LoseFrame place) = record s { frames = without place s.frames }
 open_step p s (LoseAck place) = record s { acks = without place s.acks }
@@ -69,7 +77,8 @@ ack_effect s (Some label) = if is_holding s && (label == s.send_label) then Acke
 -- the effect on an open link
 abbrev pub open_effect : Parameters → LinkState → Event → Effect
 open_effect p s (Offer item) = if is_idle s then Held else Nothing
-open_effect p s SendFrame = if is_holding s then (if has_room p s.frames then Sent else Lost) else Nothing
+open_effect p s SendFrame =
+    if is_holding s then (if has_room p s.frames then Sent else Lost) else Nothing
 open_effect p s (RecvFrame keep) = frame_effect s (slice_get s.frames 0)
 open_effect p s SendAck = if has_room p s.acks then Sent else Lost
 open_effect p s (RecvAck keep) = ack_effect s (slice_get s.acks 0)

@@ -1,5 +1,6 @@
--- The lines that are printed: each is its label, its entries with one space before each, and one newline at the end.
--- Source: this project's own; numbers stand in plain decimal, as std prints them.
+-- The lines that are printed: each is its label, its entries with one space before each, and one
+-- newline at the end.
+-- Source: this project's own; numbers are in plain decimal, as std prints them.
 use Rattle.std.specs.Prelude.{ℕ, Bool, List, ◌++◌, codes, decimal, if◌then◌else◌}
 use Rattle.std.specs.List.{flat_map}
 use Rattle.stab_frames.specs.declared.frame.Frame.{Frame}

@@ -1,11 +1,15 @@
--- Origins: the replay in which every queued frame carries where it comes from, and what is delivered carries it along.
--- Source: this project's own, to say of each delivered item whether it is a stray or which offered item it is.
-use Rattle.std.specs.Prelude.{◌≡◌, ℕ, ◌+◌, ◌-◌, ◌==◌, ◌&&◌, List, [], ◌∷◌, ◌++◌, length, map, slice_get, if◌then◌else◌, Option, Some, None}
+-- Origins: the replay in which every queued frame carries where it comes from, and what is
+-- delivered carries it along.
+-- Source: this project's own, to say of each delivered item whether it is a stray or which offered
+-- item it is.
+use Rattle.std.specs.Prelude.{◌≡◌, ℕ, ◌+◌, ◌-◌, ◌==◌, ◌&&◌, List, [], ◌∷◌, ◌++◌, length, map}
+use Rattle.std.specs.Prelude.{slice_get, if◌then◌else◌, Option, Some, None}
 use Rattle.stab_frames.specs.declared.frame.Frame.{Frame}
 use Rattle.stab_frames.specs.Parameters.{Parameters}
 use Rattle.stab_frames.specs.Queue.{without}
 use Rattle.stab_core.specs.declared.event.Event.{Event}
-use Rattle.stab_core.specs.declared.event.Event.TheVariants.{Offer, SendFrame, RecvFrame, SendAck, RecvAck, LoseFrame, LoseAck, Close}
+use Rattle.stab_core.specs.declared.event.Event.TheVariants.{Offer, SendFrame, RecvFrame, SendAck}
+use Rattle.stab_core.specs.declared.event.Event.TheVariants.{RecvAck, LoseFrame, LoseAck, Close}
 use Rattle.stab_core.specs.declared.origin.Origin.{Origin}
 use Rattle.stab_core.specs.declared.origin.Origin.TheVariants.{Stray, Sent}
 use Rattle.stab_core.specs.declared.start.Start.{Start}
@@ -20,14 +24,15 @@ pub record Traced : Type 0 where
   pub queued : List Origin
   pub origins : List Origin
 
--- the strays of these frames, the first of which stands at this place
+-- the strays of these frames, the first of which has this place
 abbrev pub strays_from : ℕ → List Frame → List Origin
 strays_from place [] = []
 strays_from place (f ∷ fs) = Stray place ∷ strays_from (place + 1) fs
 
 -- each frame of the start is a stray
 abbrev pub traced_opening : Start → Traced
-traced_opening start = record { state = opening start; queued = strays_from 0 start.frames; origins = [] }
+traced_opening start =
+    record { state = opening start; queued = strays_from 0 start.frames; origins = [] }
 
 -- the origins of the queued frames after an event on an open link
 abbrev pub queued_after : Parameters → Traced → Event → List Origin
@@ -53,7 +58,8 @@ taken_origin s (Some f) (Some o) = if f.label == s.recv_label then [] else o ∷
 abbrev pub origins_after : Traced → Event → List Origin
 origins_after t (Offer item) = t.origins
 origins_after t SendFrame = t.origins
-origins_after t (RecvFrame keep) = t.origins ++ taken_origin t.state (slice_get t.state.frames 0) (slice_get t.queued 0)
+origins_after t (RecvFrame keep) =
+    t.origins ++ taken_origin t.state (slice_get t.state.frames 0) (slice_get t.queued 0)
 origins_after t SendAck = t.origins
 origins_after t (RecvAck keep) = t.origins
 origins_after t (LoseFrame place) = t.origins
@@ -64,16 +70,21 @@ origins_after t Close = t.origins
 abbrev pub traced_step : Parameters → Traced → Event → Traced
 traced_step p t e =
     if t.state.closed then t
-    else record { state = step p t.state e; queued = queued_after p t e; origins = origins_after t e }
+    else record {
+      state = step p t.state e;
+      queued = queued_after p t e;
+      origins = origins_after t e;
+    }
 
 -- the state with its origins after these events
 abbrev pub traced_replay : Parameters → Traced → List Event → Traced
 traced_replay p t [] = t
 traced_replay p t (e ∷ es) = traced_replay p (traced_step p t e) es
 
--- These origins explain the delivered list: strays first, then items of the offered list, each part at strictly rising
--- places, and the item at each origin is the delivered one.
-pub record Explains (start_items offered : List ℕ) (origins : List Origin) (delivered : List ℕ) : Type 0 where
+-- These origins explain the delivered list: strays first, then items of the offered list, each part
+-- at strictly rising places, and the item at each origin is the delivered one.
+pub record Explains (start_items offered : List ℕ) (origins : List Origin) (delivered : List ℕ)
+    : Type 0 where
   pub stray_places : List ℕ
   pub places : List ℕ
   pub strays : List ℕ

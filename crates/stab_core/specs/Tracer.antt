@@ -1,8 +1,10 @@
--- What contracts see of the code that traces a link: the parameters beside the state with its origins.
+-- What contracts see of the code that traces a link: the parameters beside the state with its
+-- origins.
 -- Source: this project's own.
 use Rattle.stab_frames.specs.Parameters.{Parameters}
 use Rattle.stab_core.specs.declared.event.Event.{Event}
-use Rattle.stab_core.specs.declared.event.Event.TheVariants.{Offer, SendFrame, RecvFrame, SendAck, RecvAck, LoseFrame, LoseAck, Close}
+use Rattle.stab_core.specs.declared.event.Event.TheVariants.{Offer, SendFrame, RecvFrame, SendAck}
+use Rattle.stab_core.specs.declared.event.Event.TheVariants.{RecvAck, LoseFrame, LoseAck, Close}
 use Rattle.stab_core.specs.Trace.{Traced}
 
 pub record TracerValue : Type 0 where

@@ -28,7 +28,7 @@ pub enum Effect {
     Nothing,
     /// The sender holds the offered item.
     Held,
-    /// The frame or acknowledgement stands at the back of its queue.
+    /// The frame or acknowledgement is at the back of its queue.
     Sent,
     /// The receiver took this item and delivered it.
     Fresh(Item),

@@ -1,8 +1,9 @@
 //! One link as a pure machine: its state, the step of each event, and replays of whole event lists.
 //!
-//! Contracts see a [`Link`] as its parameters and its state; each call is a step of the definitions in `specs/`,
-//! which know no queue, clock, thread or socket. The layer above uses one fact: what [`run_link`] answers is the
-//! replay of the event list from the start, and every such replay obeys the link law.
+//! Contracts see a [`Link`] as its parameters and its state; each call is a step of the definitions
+//! in `specs/`, which know no queue, clock, thread or socket. The layer above uses one fact: what
+//! [`run_link`] answers is the replay of the event list from the start, and every such replay obeys
+//! the link law.
 #![tactic(auto)]
 
 mod act;
@@ -25,7 +26,9 @@ pub use receiver::Receiver;
 pub use replay::run_link;
 pub use sender::Sender;
 pub use start::{Start, StartFault};
-pub use text::{link_text, origins_text, push_items_line, push_number};
+pub use text::{
+    link_text, origins_text, push_items_line, push_link_text, push_number, push_origins_text,
+};
 pub use tracer::{run_traced, trace};
 
 #[cfg(test)]

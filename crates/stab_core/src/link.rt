@@ -1,4 +1,5 @@
-ghost use Rattle.std.specs.Prelude.{◌≡◌, ℕ, ◌+◌, ◌<◌, ◌≤◌, ◌&&◌, true, false, length, slice_get, IsTrue, IfOk, IfErr, OnErr, if◌then◌else◌};
+ghost use Rattle.std.specs.Prelude.{◌≡◌, ◌+◌, ◌≤◌, false, length, slice_get, if◌then◌else◌};
+ghost use Rattle.std.specs.Prelude.{IfOk, IfErr, OnErr};
 ghost use Rattle.stab_frames.specs.Queue.{queue};
 ghost use Rattle.stab_core.specs.LinkState.{LinkState, is_idle};
 ghost use Rattle.stab_core.specs.Step.{step, effect, open_step, open_effect};
@@ -13,9 +14,11 @@ use stab_frames::{Frame, FrameQueue, Item, Label, Params};
 use std::alloc::{AllocError, Global};
 use std::marker::Model;
 
-/// One link: a sender, a receiver and the two queues between them. Contracts see its parameters and its state.
+/// One link: a sender, a receiver and the two queues between them. Contracts see its parameters and
+/// its state.
 ///
-/// The two queues have their room from the beginning, so only an event that makes a list grow takes memory.
+/// The two queues have their room from the beginning, so only an event that makes a list grow takes
+/// memory.
 #[derive(Debug, Drop)]
 pub struct Link {
     params: Params,
@@ -44,7 +47,8 @@ impl Model for Link {
 impl Link {
     /// The link at its start: nothing offered, acknowledged or delivered.
     ///
-    /// A start with too many frames is refused, then one with too many acknowledgements. The labels may be any.
+    /// A start with too many frames is refused, then one with too many acknowledgements. The labels
+    /// may be any.
     pub fn new(alloc: Global, params: Params, start: &Start) -> Result<Link, StartFault>
         ensures opening { IfOk result (λ link. link ≡ link_at params (opening start.now)) }
         ensures lawful { IfOk result (λ link. IsLawful params start.now) }
@@ -70,7 +74,8 @@ impl Link {
         })
     }
 
-    /// One step. Where memory is refused, which only an event that makes a list grow can meet, the link is as it was.
+    /// One step. Where memory is refused, which only an event that makes a list grow can meet, the
+    /// link is as it was.
     pub fn apply(&mut self, event: Event) -> Result<Effect, AllocError>
         ensures steps { IfOk result (Steps self.old event self.new) }
         ensures unchanged { OnErr result (self.new ≡ self.old) }
@@ -91,11 +96,13 @@ impl Link {
         }
     }
 
+    /// The sender holds the item, where it is idle.
     fn offer(&mut self, item: Item) -> Result<Effect, AllocError>
         requires { self.old.state.closed ≡ false }
         ensures steps { IfOk result (Steps self.old (Event.Offer item) self.new) }
         ensures unchanged { OnErr result (self.new ≡ self.old) }
-        ensures memory { OnErr result (Grows (effect self.old.params self.old.state (Event.Offer item))) }
+        ensures memory { OnErr result
+            (Grows (effect self.old.params self.old.state (Event.Offer item))) }
     {
         if !self.sender.is_idle() {
             return Ok(Effect::Nothing);
@@ -105,6 +112,7 @@ impl Link {
         Ok(Effect::Held)
     }
 
+    /// The sender sends the frame of its item, where it holds one.
     fn send_frame(&mut self) -> Effect
         requires { self.old.state.closed ≡ false }
         ensures { Steps self.old Event.SendFrame self.new result }
@@ -115,30 +123,30 @@ impl Link {
         }
     }
 
+    /// The receiver receives the front frame, where there is one.
     fn recv_frame(&mut self, keep: bool) -> Result<Effect, AllocError>
         requires { self.old.state.closed ≡ false }
         ensures steps { IfOk result (Steps self.old (Event.RecvFrame keep) self.new) }
         ensures unchanged { OnErr result (self.new ≡ self.old) }
-        ensures memory { OnErr result (Grows (effect self.old.params self.old.state (Event.RecvFrame keep))) }
+        ensures memory { OnErr result
+            (Grows (effect self.old.params self.old.state (Event.RecvFrame keep))) }
     {
         let Some(frame) = self.frames.front() else {
             return Ok(Effect::Nothing);
         };
-        let fresh = frame.label != self.receiver.ack();
-        if fresh {
+        let effect = if self.receiver.is_fresh(frame) {
             self.delivered.push(frame.item)?;
-        }
-        self.receiver.on_frame(frame);
+            Effect::Fresh(self.receiver.take(frame))
+        } else {
+            Effect::Old
+        };
         if !keep {
             self.frames.take();
         }
-        Ok(if fresh {
-            Effect::Fresh(frame.item)
-        } else {
-            Effect::Old
-        })
+        Ok(effect)
     }
 
+    /// The receiver sends the label that it remembers.
     fn send_ack(&mut self) -> Effect
         requires { self.old.state.closed ≡ false }
         ensures { Steps self.old Event.SendAck self.new result }
@@ -146,6 +154,7 @@ impl Link {
         sent(self.acks.put(self.receiver.ack()))
     }
 
+    /// The sender receives the front acknowledgement, where there is one.
     fn recv_ack(&mut self, keep: bool) -> Effect
         requires { self.old.state.closed ≡ false }
         ensures { Steps self.old (Event.RecvAck keep) self.new result }
@@ -164,6 +173,7 @@ impl Link {
         }
     }
 
+    /// The frame at a place vanishes, where there is one.
     fn lose_frame(&mut self, place: u16) -> Effect
         requires { self.old.state.closed ≡ false }
         ensures { Steps self.old (Event.LoseFrame place) self.new result }
@@ -171,6 +181,7 @@ impl Link {
         lost(self.frames.lose(place))
     }
 
+    /// The acknowledgement at a place vanishes, where there is one.
     fn lose_ack(&mut self, place: u16) -> Effect
         requires { self.old.state.closed ≡ false }
         ensures { Steps self.old (Event.LoseAck place) self.new result }
@@ -178,6 +189,7 @@ impl Link {
         lost(self.acks.lose(place))
     }
 
+    /// The link is closed.
     fn close(&mut self) -> Effect
         requires { self.old.state.closed ≡ false }
         ensures { Steps self.old Event.Close self.new result }
@@ -240,7 +252,7 @@ impl Link {
     /// How many frames are queued: at most the capacity.
     pub fn frame_count(&self) -> u16
         ensures count { result ≡ length self.now.state.frames }
-        ensures within { length self.now.state.frames ≤ self.now.params.capacity }
+        ensures fit { length self.now.state.frames ≤ self.now.params.capacity }
     {
         self.frames.len()
     }
@@ -248,7 +260,7 @@ impl Link {
     /// How many acknowledgements are queued: at most the capacity.
     pub fn ack_count(&self) -> u16
         ensures count { result ≡ length self.now.state.acks }
-        ensures within { length self.now.state.acks ≤ self.now.params.capacity }
+        ensures fit { length self.now.state.acks ≤ self.now.params.capacity }
     {
         self.acks.len()
     }

@@ -1,9 +1,10 @@
-ghost use Rattle.std.specs.Prelude.{◌≡◌, ◌==◌, Some, None, if◌then◌else◌};
+ghost use Rattle.std.specs.Prelude.{◌≡◌, ◌==◌, not, Some, None, if◌then◌else◌};
 
 use stab_frames::{Frame, Item, Label};
 use std::marker::Model;
 
-/// The receiver's half of a link: the label that it took last. Contracts see it as that label.
+/// The receiver's half of a link: it remembers the label that it took last. Contracts see it as
+/// that label.
 ///
 /// No call takes memory.
 #[derive(Debug, Drop)]
@@ -27,16 +28,32 @@ impl Receiver {
         Receiver { label }
     }
 
-    /// Receives a frame, and delivers its item exactly if its label is not the one that the receiver remembers.
+    /// Whether the frame is fresh: its label is not the one that the receiver remembers.
+    pub fn is_fresh(&self, frame: Frame) -> bool
+        ensures { result ≡ not (frame.label == self.now) }
+    {
+        frame.label != self.label
+    }
+
+    /// Takes a frame that `is_fresh` found fresh: remembers its label, and delivers its item.
+    pub fn take(&mut self, frame: Frame) -> Item
+        ensures delivers { result ≡ frame.item }
+        ensures remembers { self.new ≡ frame.label }
+    {
+        self.label = frame.label;
+        frame.item
+    }
+
+    /// Receives a frame, and delivers its item exactly if the frame is fresh.
     pub fn on_frame(&mut self, frame: Frame) -> Option<Item>
         ensures delivers { result ≡ (if frame.label == self.old then None else Some frame.item) }
         ensures remembers { self.new ≡ frame.label }
     {
-        if frame.label == self.label {
-            return None;
+        if self.is_fresh(frame) {
+            Some(self.take(frame))
+        } else {
+            None
         }
-        self.label = frame.label;
-        Some(frame.item)
     }
 
     /// The label to acknowledge now: the one that it remembers.

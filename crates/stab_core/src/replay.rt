@@ -10,19 +10,22 @@ use crate::start::{Start, StartFault};
 use stab_frames::Params;
 use std::alloc::Global;
 
-/// The link after these events, in their order, from its start. Where it refuses, no link is handed out.
+/// The link after these events, in their order, from its start. Where it refuses, no link is handed
+/// out.
 ///
-/// Whatever stood in the link at its start and whatever was lost or repeated, it obeys the link law: at most `c` strays were
-/// delivered, then offered items in their order, each at most once; and of the acknowledged items only some among the first
-/// `2c + 1` are missing.
+/// Whatever the start holds and whatever was lost or repeated, the link obeys the link law: at most
+/// `c` strays were delivered, then offered items in their order, each at most once; and of the
+/// acknowledged items only some among the first `2c + 1` are missing.
 pub fn run_link(
     alloc: Global,
     params: Params,
     start: &Start,
     events: &[Event],
 ) -> Result<Link, StartFault>
-    ensures replay { IfOk result (λ link. link ≡ link_at params (replay params (opening start.now) events.now)) }
-    ensures law { IfOk result (λ link. LinkLaw params.capacity (start_items start.now) link.state.offered link.state.acked link.state.delivered) }
+    ensures replay { IfOk result (λ link.
+        link ≡ link_at params (replay params (opening start.now) events.now)) }
+    ensures law { IfOk result (λ link. let s = link.state in
+        LinkLaw params.capacity (start_items start.now) s.offered s.acked s.delivered) }
     ensures lawful { IfOk result (λ link. IsLawful params start.now) }
     ensures refused { IfErr result (IsReason params start.now) }
 {

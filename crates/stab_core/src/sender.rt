@@ -1,11 +1,12 @@
-ghost use Rattle.std.specs.Prelude.{◌≡◌, ◌↔◌, ◌==◌, ◌&&◌, IsTrue, is_some, is_none, option_map, Some, None, if◌then◌else◌};
+ghost use Rattle.std.specs.Prelude.{◌≡◌, is_none, option_map, Some, None, if◌then◌else◌};
 ghost use Rattle.stab_frames.specs.Parameters.{next};
 ghost use Rattle.stab_core.specs.Halves.{waits_for};
 
 use stab_frames::{Frame, Item, Label, Params};
 use std::marker::Model;
 
-/// The sender's half of a link: its label, and the item that it sends until an acknowledgement with this label comes.
+/// The sender's half of a link: its label, and the item that it sends until an acknowledgement with
+/// this label comes.
 ///
 /// No call takes memory.
 #[derive(Debug, Drop)]
@@ -30,10 +31,12 @@ impl Sender {
         Sender { label, item: None }
     }
 
-    /// Gives an idle sender its next item, and answers whether it was idle. One that holds an item stays as it was.
+    /// Gives an idle sender its next item, and answers whether it was idle. One that holds an item
+    /// stays as it was.
     pub fn hold(&mut self, item: Item) -> bool
         ensures idle { result ≡ is_none self.old.item }
-        ensures sender { self.new ≡ (if result then record self.old { item = Some item } else self.old) }
+        ensures sender { self.new ≡
+            (if result then record self.old { item = Some item } else self.old) }
     {
         if self.item.is_some() {
             return false;
@@ -44,17 +47,19 @@ impl Sender {
 
     /// The frame to send now: the item that it holds, under its label.
     pub fn frame(&self) -> Option<Frame>
-        ensures { result ≡ option_map (λ item. record { label = self.now.label; item = item }) self.now.item }
+        ensures { result ≡
+            option_map (λ item. record { label = self.now.label; item = item }) self.now.item }
     {
         let label = self.label;
         self.item.map(|item| Frame { label, item })
     }
 
-    /// Receives an acknowledgement, and answers whether it was the one that the sender waits for: then the sender is idle
-    /// with the next label. Any other acknowledgement changes nothing.
+    /// Receives an acknowledgement, and answers whether it was the one that the sender waits for:
+    /// then the sender is idle with the next label. Any other acknowledgement changes nothing.
     pub fn on_ack(&mut self, params: Params, label: Label) -> bool
         ensures waited { result ≡ waits_for self.old label }
-        ensures sender { self.new ≡ (if result then record { label = next params self.old.label; item = None } else self.old) }
+        ensures sender { self.new ≡ (if result
+            then record { label = next params self.old.label; item = None } else self.old) }
     {
         if self.item.is_some() && label == self.label {
             self.label = params.next(self.label);

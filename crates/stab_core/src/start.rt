@@ -2,6 +2,9 @@ use stab_frames::{Frame, Label, Sequence};
 use std::alloc::{AllocError, Global};
 use thiserror::Error;
 
+/// The label that a receiver remembers at a clean start: no sender that begins with 0 uses it.
+const UNUSED_LABEL: Label = Label::MAX;
+
 /// Why a link cannot begin, in the order of the checks.
 #[derive(Clone, Copy, Debug, PartialEq, Eq, Hash, Error)]
 pub enum StartFault {
@@ -16,7 +19,8 @@ pub enum StartFault {
     Memory,
 }
 
-/// What stands in a link before its first event: any frames, acknowledgements and labels, whatever put them there.
+/// What a link is before its first event: any frames, acknowledgements and labels, whatever put
+/// them there.
 #[derive(Debug, Drop)]
 pub struct Start {
     /// The frames on their way to the receiver, the front first.
@@ -44,7 +48,8 @@ impl Start {
     ghost use Rattle.std.specs.Prelude.{◌≡◌, IfOk};
     ghost use Rattle.stab_core.specs.Replay.{clean_start};
 
-    /// The clean start: empty queues, the send label 0, and a receive label that no sender of a link that begins so ever uses. It takes no memory.
+    /// The clean start: empty queues, the send label 0, and a receive label that this sender never
+    /// uses. It takes no memory.
     pub fn clean(alloc: Global) -> Start
         ensures { result ≡ clean_start }
     {
@@ -52,7 +57,7 @@ impl Start {
             frames: Sequence::new(alloc),
             acks: Sequence::new(alloc),
             send_label: 0,
-            recv_label: Label::MAX,
+            recv_label: UNUSED_LABEL,
         }
     }
 

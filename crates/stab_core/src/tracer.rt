@@ -1,6 +1,7 @@
-ghost use Rattle.std.specs.Prelude.{◌≡◌, ◌+◌, length, false, IfOk, IfErr, OnOk, OnErr};
+ghost use Rattle.std.specs.Prelude.{◌≡◌, false, IfOk, IfErr, OnOk};
 ghost use Rattle.stab_core.specs.Replay.{opening, replay, start_items, IsLawful};
-ghost use Rattle.stab_core.specs.Trace.{Traced, strays_from, traced_opening, traced_step, traced_replay, Explains};
+ghost use Rattle.stab_core.specs.Trace.{strays_from, traced_opening, traced_step, traced_replay};
+ghost use Rattle.stab_core.specs.Trace.{Explains};
 ghost use Rattle.stab_core.specs.Link.{link_at, IsReason};
 ghost use Rattle.stab_core.specs.Tracer.{tracer_at, LeavesFrames};
 
@@ -13,16 +14,19 @@ use stab_frames::{FrameQueue, Params};
 use std::alloc::{AllocError, Global};
 use std::marker::Model;
 
-/// For each item that the link delivers in this replay, in order, where it comes from: its place in the start's frames, or
-/// its place in the offered list. All strays stand before all offered items, and places rise in each part.
+/// For each item that the link delivers in this replay, in order, where it comes from: its place in
+/// the start's frames, or its place in the offered list. All strays come before all offered items,
+/// and places rise in each part.
 pub fn trace(
     alloc: Global,
     params: Params,
     start: &Start,
     events: &[Event],
 ) -> Result<Vec<Origin>, StartFault>
-    ensures replay { IfOk result (λ origins. origins.items ≡ (traced_replay params (traced_opening start.now) events.now).origins) }
-    ensures explained { IfOk result (λ origins. let s = replay params (opening start.now) events.now in
+    ensures replay { IfOk result (λ origins.
+        origins.items ≡ (traced_replay params (traced_opening start.now) events.now).origins) }
+    ensures explained { IfOk result (λ origins.
+        let s = replay params (opening start.now) events.now in
         Explains (start_items start.now) s.offered origins.items s.delivered) }
     ensures lawful { IfOk result (λ origins. IsLawful params start.now) }
     ensures refused { IfErr result (IsReason params start.now) }
@@ -33,16 +37,18 @@ pub fn trace(
     Ok(origins)
 }
 
-/// The link after these events, as `run_link` gives it, and the origins of what it delivered, as `trace` gives them, of one
-/// replay.
+/// The link after these events, as `run_link` gives it, and the origins of what it delivered, as
+/// `trace` gives them, of one replay.
 pub fn run_traced(
     alloc: Global,
     params: Params,
     start: &Start,
     events: &[Event],
 ) -> Result<(Link, Vec<Origin>), StartFault>
-    ensures link { IfOk result (λ both. both.0 ≡ link_at params (replay params (opening start.now) events.now)) }
-    ensures origins { IfOk result (λ both. both.1.items ≡ (traced_replay params (traced_opening start.now) events.now).origins) }
+    ensures link { IfOk result (λ both.
+        both.0 ≡ link_at params (replay params (opening start.now) events.now)) }
+    ensures origins { IfOk result (λ both.
+        both.1.items ≡ (traced_replay params (traced_opening start.now) events.now).origins) }
     ensures lawful { IfOk result (λ both. IsLawful params start.now) }
     ensures refused { IfErr result (IsReason params start.now) }
 {
@@ -75,6 +81,7 @@ impl Model for Tracer {
 }
 
 impl Tracer {
+    /// The tracer at a start: each queued frame is a stray.
     #[tactic(auto, using(crate::proofs::Tracing::length_strays))]
     fn new(alloc: Global, params: Params, start: &Start) -> Result<Tracer, StartFault>
         ensures opening { IfOk result (λ t. t ≡ tracer_at params (traced_opening start.now)) }
@@ -92,7 +99,8 @@ impl Tracer {
 
     /// One step, with the origins of the frame that it puts, takes or loses.
     fn apply(&mut self, event: Event) -> Result<(), AllocError>
-        ensures { OnOk result (self.new ≡ tracer_at self.old.params (traced_step self.old.params self.old.traced event)) }
+        ensures { OnOk result (self.new ≡ tracer_at self.old.params
+            (traced_step self.old.params self.old.traced event)) }
     {
         if self.link.is_closed() {
             return Ok(());
@@ -109,18 +117,22 @@ impl Tracer {
         }
     }
 
+    /// An event that puts, takes and loses no frame.
     fn leave_frames(&mut self, event: Event) -> Result<(), AllocError>
         requires is_open { self.old.traced.state.closed ≡ false }
         requires leaves { LeavesFrames event }
-        ensures { OnOk result (self.new ≡ tracer_at self.old.params (traced_step self.old.params self.old.traced event)) }
+        ensures { OnOk result (self.new ≡ tracer_at self.old.params
+            (traced_step self.old.params self.old.traced event)) }
     {
         self.link.apply(event)?;
         Ok(())
     }
 
+    /// The frame that is sent is of the item that was offered last.
     fn send_frame(&mut self) -> Result<(), AllocError>
         requires { self.old.traced.state.closed ≡ false }
-        ensures { OnOk result (self.new ≡ tracer_at self.old.params (traced_step self.old.params self.old.traced Event.SendFrame)) }
+        ensures { OnOk result (self.new ≡ tracer_at self.old.params
+            (traced_step self.old.params self.old.traced Event.SendFrame)) }
     {
         if self.link.apply(Event::SendFrame)? == Effect::Sent {
             let offered = self.link.offered().len() as u64;
@@ -129,32 +141,38 @@ impl Tracer {
         Ok(())
     }
 
+    /// The origin of the front frame goes along with its item, where that is delivered.
     fn recv_frame(&mut self, keep: bool) -> Result<(), AllocError>
         requires { self.old.traced.state.closed ≡ false }
-        ensures { OnOk result (self.new ≡ tracer_at self.old.params (traced_step self.old.params self.old.traced (Event.RecvFrame keep))) }
+        ensures { OnOk result (self.new ≡ tracer_at self.old.params
+            (traced_step self.old.params self.old.traced (Event.RecvFrame keep))) }
     {
-        self.origins.reserve(1)?;
-        if let Effect::Fresh(_) = self.link.apply(Event::RecvFrame { keep })? {
-            if let Some(origin) = self.queued.front() {
-                self.origins.push_reserved(origin);
-            }
-        }
+        let front = self.queued.front();
+        let effect = self.link.apply(Event::RecvFrame { keep })?;
         if !keep {
             self.queued.take();
+        }
+        if let Effect::Fresh(_) = effect {
+            if let Some(origin) = front {
+                self.origins.push(origin)?;
+            }
         }
         Ok(())
     }
 
+    /// The origin of a frame that vanishes does so too.
     #[tactic(auto, using(crate::proofs::Tracing::length_without))]
     fn lose_frame(&mut self, place: u16) -> Result<(), AllocError>
         requires { self.old.traced.state.closed ≡ false }
-        ensures { OnOk result (self.new ≡ tracer_at self.old.params (traced_step self.old.params self.old.traced (Event.LoseFrame place))) }
+        ensures { OnOk result (self.new ≡ tracer_at self.old.params
+            (traced_step self.old.params self.old.traced (Event.LoseFrame place))) }
     {
         self.link.apply(Event::LoseFrame(place))?;
         self.queued.lose(place);
         Ok(())
     }
 
+    /// The link, and the origins of what it delivered.
     fn into_parts(self) -> (Link, Vec<Origin>)
         ensures link { result.0 ≡ link_at self.params self.traced.state }
         ensures origins { result.1.items ≡ self.traced.origins }
@@ -172,7 +190,9 @@ impl Tracer {
 /// Each queued frame of a link at its start is a stray.
 fn strays(alloc: Global, params: Params, link: &Link) -> Result<FrameQueue<Origin>, AllocError>
     requires { link.now.params ≡ params }
-    ensures { IfOk result (λ q. (q.entries ≡ strays_from 0 link.now.state.frames) × (q.capacity ≡ params.capacity)) }
+    ensures { IfOk result (λ queue.
+        (queue.entries ≡ strays_from 0 link.now.state.frames)
+        × (queue.capacity ≡ params.capacity)) }
 {
     let mut queued = FrameQueue::new(alloc, params.capacity())?;
     for place in 0..link.frame_count() {

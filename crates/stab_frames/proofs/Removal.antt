@@ -9,7 +9,7 @@ remove_without [] i in_list = absurd (omega arith)
 remove_without (x ∷ xs) zero in_list = refl
 remove_without (x ∷ xs) (suc i) in_list = ap (λ rest. x ∷ rest) (remove_without xs i (omega arith))
 
--- behind the last entry there is none to take out
+-- past the last entry there is none to take out
 pub without_past : {A : Type 0} (xs : List A) (i : ℕ) → length xs ≤ i → without i xs ≡ xs
 without_past [] i past = refl
 without_past (x ∷ xs) zero past = absurd (omega arith)

@@ -1,8 +1,12 @@
--- The parameters of a link: how many entries each of its two queues may hold, and how many labels its sender counts through.
--- Source: this project's profile of the stop-and-wait data link of Dolev, Self-Stabilization, MIT Press 2000.
-use Rattle.std.specs.Prelude.{ℕ, ◌+◌, ◌*◌, ◌≤◌, nat_lt, nat_le, ◌||◌, if◌then◌else◌, Option, Some, None}
+-- The parameters of a link: how many entries each of its two queues may hold, and how many labels
+-- its sender counts through.
+-- Source: this project's profile of the stop-and-wait data link of Dolev, Self-Stabilization, MIT
+-- Press 2000.
+use Rattle.std.specs.Prelude.{ℕ, ◌+◌, ◌*◌, ◌≤◌, nat_lt, nat_le, ◌||◌, if◌then◌else◌}
+use Rattle.std.specs.Prelude.{Option, Some, None}
 use Rattle.stab_frames.specs.declared.params.ParamsFault.{ParamsFault}
-use Rattle.stab_frames.specs.declared.params.ParamsFault.TheVariants.{CapacityOutOfRange, LabelsTooFew, LabelsTooMany}
+use Rattle.stab_frames.specs.declared.params.ParamsFault.TheVariants.{CapacityOutOfRange}
+use Rattle.stab_frames.specs.declared.params.ParamsFault.TheVariants.{LabelsTooFew, LabelsTooMany}
 
 pub record Parameters : Type 0 where
   pub capacity : ℕ

@@ -14,7 +14,9 @@ module _ {X : Type 0} where
 
   -- how a proof tells two queues apart
   abbrev pub queue_code : Coded X → Coded (Queue X)
-  queue_code c = code_by (List X × ℕ) (coded× (coded_list c) coded_ℕ) (λ q. (q.entries, q.capacity)) (λ p. queue p.0 p.1) (λ _. refl)
+  queue_code c =
+      code_by (List X × ℕ) (coded× (coded_list c) coded_ℕ)
+      (λ q. (q.entries, q.capacity)) (λ p. queue p.0 p.1) (λ _. refl)
 
   -- the entries without the one at place i, where there is one; the order of the others stays
   abbrev pub without : ℕ → List X → List X

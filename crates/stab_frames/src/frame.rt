@@ -1,5 +1,5 @@
-/// The label of an item: labels count modulo the number of labels of a link, but one that stood in a link at
-/// its start may be any `u16`.
+/// The label of an item. A sender counts its labels modulo the number of labels of its link, but
+/// the labels of a start may be any `u16`.
 pub type Label = u16;
 
 /// What a publisher sends: the tree carries it, and gives it no meaning.

@@ -1,8 +1,10 @@
-//! The ground layer: link parameters, frames and labels, and the bounded queue of one direction of a link.
+//! The ground layer: link parameters, frames and labels, and the bounded queue of one direction of
+//! a link.
 //!
-//! Contracts see a [`FrameQueue`] as a list with a capacity, each call being the list operation of its name;
-//! they see [`Params`] as the record of its two numbers, which are always lawful; and a [`Sequence`] as its list.
-//! The layer above uses one fact: a queue is a list that never holds more entries than its capacity.
+//! Contracts see a [`FrameQueue`] as a list with a capacity, each call being the list operation of
+//! its name; they see [`Params`] as the record of its two numbers, which are always lawful; and a
+//! [`Sequence`] as its list. The layer above uses one fact: a queue is a list that never holds more
+//! entries than its capacity.
 #![tactic(auto)]
 
 mod frame;

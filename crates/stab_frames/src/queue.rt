@@ -1,4 +1,5 @@
-ghost use Rattle.std.specs.Prelude.{◌≡◌, ◌<◌, ◌≤◌, ◌↔◌, [], ◌∷◌, ◌++◌, length, drop, slice_get, IsTrue, IfOk, if◌then◌else◌};
+ghost use Rattle.std.specs.Prelude.{◌≡◌, ◌<◌, ◌≤◌, ◌↔◌, [], ◌∷◌, ◌++◌, length, drop, slice_get};
+ghost use Rattle.std.specs.Prelude.{IsTrue, IfOk, if◌then◌else◌};
 ghost use Rattle.stab_frames.specs.Queue.{queue, without};
 
 use std::alloc::{AllocError, Global};
@@ -23,7 +24,8 @@ impl<T: Copy + Eq> Model for FrameQueue<T> {
 
     ghost view = { λ q. queue q.entries.items q.capacity };
 
-    ghost invariant = { λ q. (vec_len q.entries ≤ q.capacity) × (q.capacity ≤ vec_capacity q.entries) };
+    ghost invariant = { λ q.
+        (vec_len q.entries ≤ q.capacity) × (q.capacity ≤ vec_capacity q.entries) };
 }
 
 impl<T: Copy + Eq> FrameQueue<T> {
@@ -41,7 +43,7 @@ impl<T: Copy + Eq> FrameQueue<T> {
     /// How many entries there are.
     pub fn len(&self) -> u16
         ensures len { result ≡ length self.now.entries }
-        ensures within { length self.now.entries ≤ self.now.capacity }
+        ensures fit { length self.now.entries ≤ self.now.capacity }
     {
         let _capacity = self.capacity;
         self.entries.len() as u16
@@ -57,15 +59,18 @@ impl<T: Copy + Eq> FrameQueue<T> {
     /// Whether there is no room for another entry.
     pub fn is_full(&self) -> bool
         ensures full { IsTrue result ↔ (length self.now.entries ≡ self.now.capacity) }
-        ensures within { length self.now.entries ≤ self.now.capacity }
+        ensures fit { length self.now.entries ≤ self.now.capacity }
     {
         self.entries.len() == usize::from(self.capacity)
     }
 
-    /// Adds an entry at the back, and answers whether there was room. A full queue stays as it was.
+    /// Adds an entry at the back, and answers whether there was room. A full queue is left as it
+    /// was.
     pub fn put(&mut self, entry: T) -> bool
         ensures room { IsTrue result ↔ (length self.old.entries < self.old.capacity) }
-        ensures queue { self.new ≡ queue (if result then self.old.entries ++ entry ∷ [] else self.old.entries) self.old.capacity }
+        ensures queue { self.new ≡ queue
+            (if result then self.old.entries ++ entry ∷ [] else self.old.entries)
+            self.old.capacity }
     {
         if self.entries.len() < usize::from(self.capacity) {
             self.entries.push_reserved(entry);
@@ -100,8 +105,12 @@ impl<T: Copy + Eq> FrameQueue<T> {
         Some(self.entries.remove(0))
     }
 
-    /// Removes the entry at a place, and answers whether there was one. The order of the others stays.
-    #[tactic(auto, using(crate::proofs::Removal::remove_without, crate::proofs::Removal::without_past))]
+    /// Removes the entry at a place, and answers whether there was one. The order of the others
+    /// stays.
+    #[tactic(auto, using(
+        crate::proofs::Removal::remove_without,
+        crate::proofs::Removal::without_past
+    ))]
     pub fn lose(&mut self, place: u16) -> bool
         ensures found { IsTrue result ↔ (place < length self.old.entries) }
         ensures queue { self.new ≡ queue (without place self.old.entries) self.old.capacity }

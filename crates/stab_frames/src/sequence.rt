@@ -1,4 +1,5 @@
-ghost use Rattle.std.specs.Prelude.{◌≡◌, ◌<◌, ◌≤◌, ◌^◌, [], ◌∷◌, ◌++◌, length, is_ok, if◌then◌else◌, IfOk, ◌↔◌, IsTrue};
+ghost use Rattle.std.specs.Prelude.{◌≡◌, ◌↔◌, [], ◌∷◌, ◌++◌, length, is_ok, IfOk, IsTrue};
+ghost use Rattle.std.specs.Prelude.{if◌then◌else◌};
 
 use std::alloc::{AllocError, Global};
 use std::marker::Model;
