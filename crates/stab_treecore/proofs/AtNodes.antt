@@ -10,11 +10,12 @@ use Rattle.stab_tree.proofs.ForCallers.{holds_at_every_depth}
 use Rattle.stab_treecore.specs.NodeLaws.{garbage_into, path_garbage, opened_path_garbage, strays_bound, opened_strays_bound, missing_bound, LinkLawBetween, LinkLawPastOpening, HalfTreeLawOfNodes, TreeLawOfNodes, TreeLawAtNodes}
 use Rattle.stab_treecore.specs.Paths.{sum_above, path_sum, lists_above, path_lists}
 use Rattle.stab_treecore.specs.TreeLaw.{TreeLaw}
-use Rattle.stab_treecore.proofs.Upwards.{tree_law_below, tree_law_below_opening, root_half}
+use Rattle.stab_treecore.proofs.Upwards.{law_below, law_past_opening, root_law}
 
 module _ (t : Nodes) (tree : IsTree t) (published : List ℕ) (received : ℕ → List ℕ)
     (at_root : received (root_of t.parents) ≡ published) where
-  -- Where each child adds so much to the bounds and to the garbage of its parent, those of a node are what there is along its path.
+  -- Where each child adds so much to the bounds and to the garbage of its parent, the bounds and the garbage of a node are what
+  -- there is along its path.
   module _ (more_strays more_missing : ℕ → ℕ) (more_garbage : ℕ → List ℕ)
       (adds : (child parent most_strays most_missing : ℕ) (garbage : List ℕ) → parent_at t.parents child ≡ Some parent
       → TreeLaw most_strays most_missing garbage published (received parent)
@@ -32,22 +33,32 @@ module _ (t : Nodes) (tree : IsTree t) (published : List ℕ) (received : ℕ �
         (lists_above t.parents more_garbage depth parent) is_child above)
 
     pub each_adds : TreeLawOfNodes (path_sum t.parents more_strays) (path_sum t.parents more_missing) (path_lists t.parents more_garbage) t.parents published received
-    each_adds = holds_at_every_depth t tree ObeysAt (rw at_root (root_half published)) child_obeys
+    each_adds = holds_at_every_depth t tree ObeysAt (rw at_root (root_law published)) child_obeys
 
   module _ (capacity_into : ℕ → ℕ) (starts : List Start) where
+    -- the step on one link, with what it adds before what there is at the parent
+    step_below : (child most_strays most_missing : ℕ) (garbage above below : List ℕ)
+        → LinkLawBetween (capacity_into child) (garbage_into t.parents starts child) above below
+        → TreeLaw most_strays most_missing garbage published above
+        → TreeLaw (most_strays + capacity_into child) (2 * capacity_into child + 1 + most_missing)
+        (garbage_into t.parents starts child ++ garbage) published below
+    step_below child most_strays most_missing garbage above below (offered, acked, begins, law) at_parent =
+        let missing : most_missing + (2 * capacity_into child + 1) ≡ 2 * capacity_into child + 1 + most_missing = omega arith in
+        rw (← missing)
+        (law_below (capacity_into child) most_strays acked (garbage_into t.parents starts child) garbage published above offered below
+        begins most_missing at_parent law)
+
     -- each node obeys the tree law, where each link obeys the link law
     pub nodes_obey : ((child parent : ℕ) → parent_at t.parents child ≡ Some parent
         → LinkLawBetween (capacity_into child) (garbage_into t.parents starts child) (received parent) (received child))
-        → TreeLawOfNodes (strays_bound t.parents capacity_into) (missing_bound t.parents capacity_into) (path_garbage t.parents starts) t.parents published received
+        → TreeLawOfNodes (strays_bound t.parents capacity_into) (missing_bound t.parents capacity_into)
+        (path_garbage t.parents starts) t.parents published received
     nodes_obey links =
         each_adds capacity_into (λ child. 2 * capacity_into child + 1) (garbage_into t.parents starts)
-        (λ child parent most_strays most_missing garbage is_child above.
-        let (offered, acked, begins, law) = links child parent is_child in
+        (λ child parent most_strays most_missing garbage is_child at_parent.
         let strays : most_strays + capacity_into child ≡ capacity_into child + most_strays = omega arith in
-        let missing : most_missing + (2 * capacity_into child + 1) ≡ 2 * capacity_into child + 1 + most_missing = omega arith in
-        rw (← strays, ← missing)
-        (tree_law_below (capacity_into child) most_strays most_missing acked (garbage_into t.parents starts child) garbage published
-        (received parent) offered (received child) begins above law))
+        rw (← strays)
+        (step_below child most_strays most_missing garbage (received parent) (received child) (links child parent is_child) at_parent))
 
     -- the same, where each node's list begins with an opening
     pub opened_nodes_obey : (opening_of : ℕ → List ℕ)
@@ -58,13 +69,15 @@ module _ (t : Nodes) (tree : IsTree t) (published : List ℕ) (received : ℕ �
     opened_nodes_obey opening_of links =
         each_adds (λ child. length (opening_of child) + capacity_into child) (λ child. 2 * capacity_into child + 1)
         (λ child. opening_of child ++ garbage_into t.parents starts child)
-        (λ child parent most_strays most_missing garbage is_child above.
-        let (delivered, parts, (offered, acked, begins, law)) = links child parent is_child in
-        let strays : most_strays + capacity_into child + length (opening_of child) ≡ length (opening_of child) + capacity_into child + most_strays = omega arith in
-        let missing : most_missing + (2 * capacity_into child + 1) ≡ 2 * capacity_into child + 1 + most_missing = omega arith in
-        rw (← strays, ← missing, parts, append_assoc)
-        (tree_law_below_opening (capacity_into child) most_strays most_missing acked (opening_of child) (garbage_into t.parents starts child) garbage published
-        (received parent) offered delivered begins above law))
+        (λ child parent most_strays most_missing garbage is_child at_parent.
+        let (delivered, parts, link) = links child parent is_child in
+        let opening = opening_of child in
+        let capacity = capacity_into child in
+        let start_items = garbage_into t.parents starts child in
+        let strays : most_strays + capacity + length opening ≡ length opening + capacity + most_strays = omega arith in
+        rw (← strays, parts, append_assoc)
+        (law_past_opening (most_strays + capacity) opening (start_items ++ garbage) published delivered (2 * capacity + 1 + most_missing)
+        (step_below child most_strays most_missing garbage (received parent) delivered link at_parent)))
 
 -- the same number beside each node of a path is added once for each link
 pub path_sum-same : (t : Nodes) → IsTree t → (number node : ℕ) → node < length t.parents
