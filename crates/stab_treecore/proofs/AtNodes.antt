@@ -1,67 +1,104 @@
--- The tree law, from the root down: by induction on the depth.
-use Rattle.std.proofs.Common.{◌≡◌, ℕ, zero, suc, ◌+◌, ◌*◌, ◌<◌, ◌⊎◌, List, length, Option, Some, None, refl, ap, sym, arith, inl, inr}
+-- The tree law at each node, from the root down.
+use Rattle.std.proofs.Common.{◌≡◌, ℕ, suc, ◌+◌, ◌*◌, ◌<◌, List, ◌++◌, length, Option, Some, sym, ◌∙◌, ap, arith, append_assoc}
 use Rattle.std.proofs.Math.Nat.{zero-mul, suc-mul}
+use Rattle.std.specs.Option.{option_map_or}
 use Rattle.stab_core.specs.declared.start.Start.{Start}
-use Rattle.stab_tree.specs.Depth.{HasDepths}
 use Rattle.stab_tree.specs.IsTree.{IsTree}
 use Rattle.stab_tree.specs.Nodes.{Nodes, parent_at, root_of}
 use Rattle.stab_tree.specs.Steps.{depth_of}
-use Rattle.stab_treecore.specs.NodeLaws.{garbage_into, garbage_above, LinkLawBetween, TreeLawAtNodes, HalfTreeLawAtNodes}
+use Rattle.stab_tree.proofs.ForCallers.{holds_at_every_depth}
+use Rattle.stab_treecore.specs.NodeLaws.{garbage_into, path_garbage, opened_path_garbage, strays_bound, opened_strays_bound, missing_bound, LinkLawBetween, LinkLawPastOpening, HalfTreeLawOfNodes, TreeLawOfNodes, TreeLawAtNodes}
+use Rattle.stab_treecore.specs.Paths.{sum_above, path_sum, lists_above, path_lists}
 use Rattle.stab_treecore.specs.TreeLaw.{TreeLaw}
-use Rattle.stab_treecore.proofs.Upwards.{tree_law_below, root_half}
+use Rattle.stab_treecore.proofs.Upwards.{law_below, law_past_opening, root_law}
 
--- nothing, or something
-pub none_or_some : {A : Type 0} (o : Option A) → (o ≡ None) ⊎ ((x : A) × (o ≡ Some x))
-none_or_some None = inl refl
-none_or_some (Some x) = inr (x, refl)
+module _ (t : Nodes) (tree : IsTree t) (published : List ℕ) (received : ℕ → List ℕ)
+    (at_root : received (root_of t.parents) ≡ published) where
+  -- Where each child adds so much to the bounds and to the garbage of its parent, the bounds and the garbage of a node are what
+  -- there is along its path.
+  module _ (more_strays more_missing : ℕ → ℕ) (more_garbage : ℕ → List ℕ)
+      (adds : (child parent most_strays most_missing : ℕ) (garbage : List ℕ) → parent_at t.parents child ≡ Some parent
+      → TreeLaw most_strays most_missing garbage published (received parent)
+      → TreeLaw (more_strays child + most_strays) (more_missing child + most_missing) (more_garbage child ++ garbage) published (received child)) where
+    -- the tree law of a node with what there is beside this many nodes, from it upwards
+    abbrev ObeysAt : ℕ → ℕ → Type 0
+    ObeysAt depth node =
+        TreeLaw (sum_above t.parents more_strays depth node) (sum_above t.parents more_missing depth node)
+        (lists_above t.parents more_garbage depth node) published (received node)
 
-module _ (t : Nodes) (tree : IsTree t) (depths : HasDepths t.parents) (capacity : ℕ) (starts : List Start) (published : List ℕ)
-    (received : ℕ → List ℕ) (at_root : received (root_of t.parents) ≡ published)
-    (links : (child parent : ℕ) → parent_at t.parents child ≡ Some parent
-    → LinkLawBetween capacity (garbage_into t.parents starts child) (received parent) (received child)) where
-  -- a node at this depth obeys the tree law with the bounds of this depth
-  abbrev pub ObeysAt : ℕ → ℕ → Type 0
-  ObeysAt depth node =
-      TreeLaw (depth * capacity) (depth * (2 * capacity + 1)) (garbage_above t.parents starts depth node) published (received node)
+    child_obeys : (depth child parent : ℕ) → parent_at t.parents child ≡ Some parent → ObeysAt depth parent → ObeysAt (suc depth) child
+    child_obeys depth child parent is_child above =
+        rw is_child
+        (adds child parent (sum_above t.parents more_strays depth parent) (sum_above t.parents more_missing depth parent)
+        (lists_above t.parents more_garbage depth parent) is_child above)
 
-  -- the root obeys it
-  root_obeys : (node : ℕ) → node ≡ root_of t.parents → ObeysAt 0 node
-  root_obeys node is_root =
-      rw (zero-mul capacity, zero-mul (2 * capacity + 1), is_root, at_root) (root_half published)
+    pub each_adds : TreeLawOfNodes (path_sum t.parents more_strays) (path_sum t.parents more_missing) (path_lists t.parents more_garbage) t.parents published received
+    each_adds = holds_at_every_depth t tree ObeysAt (rw at_root (root_law published)) child_obeys
 
-  -- a child obeys it where its parent does
-  child_obeys : (depth child parent : ℕ) → parent_at t.parents child ≡ Some parent → ObeysAt depth parent → ObeysAt (suc depth) child
-  child_obeys depth child parent is_child above =
-      let (offered, acked, begins, law) = links child parent is_child in
-      let strays : depth * capacity + capacity ≡ suc depth * capacity = sym (suc-mul depth capacity) in
-      let missing : depth * (2 * capacity + 1) + (2 * capacity + 1) ≡ suc depth * (2 * capacity + 1) = sym (suc-mul depth (2 * capacity + 1)) in
-      rw (← strays, ← missing, is_child)
-      (tree_law_below capacity (depth * capacity) (depth * (2 * capacity + 1)) acked (garbage_into t.parents starts child)
-      (garbage_above t.parents starts depth parent) published (received parent) offered (received child) begins above law)
+  module _ (capacity_into : ℕ → ℕ) (starts : List Start) where
+    -- the step on one link, with what it adds before what there is at the parent
+    step_below : (child most_strays most_missing : ℕ) (garbage above below : List ℕ)
+        → LinkLawBetween (capacity_into child) (garbage_into t.parents starts child) above below
+        → TreeLaw most_strays most_missing garbage published above
+        → TreeLaw (most_strays + capacity_into child) (2 * capacity_into child + 1 + most_missing)
+        (garbage_into t.parents starts child ++ garbage) published below
+    step_below child most_strays most_missing garbage above below (offered, acked, begins, law) at_parent =
+        let missing : most_missing + (2 * capacity_into child + 1) ≡ 2 * capacity_into child + 1 + most_missing = omega arith in
+        rw (← missing)
+        (law_below (capacity_into child) most_strays acked (garbage_into t.parents starts child) garbage published above offered below
+        begins most_missing at_parent law)
 
-  -- so each node of that depth obeys it
-  pub node_obeys : (depth node : ℕ) → node < length t.parents → depth_of t.parents node ≡ depth → ObeysAt depth node
-  node_obeys zero node within is_depth =
-      elim (none_or_some (parent_at t.parents node)) [
-        | inl none ↦ root_obeys node (tree.one_root node within none)
-        | inr some ↦ absurd (omega (arith, depths.child_depth node some.0 within some.1))
-      ]
-  node_obeys (suc depth) node within is_depth =
-      elim (none_or_some (parent_at t.parents node)) [
-        | inl none ↦
-            absurd (omega (arith, depths.root_depth, ap (λ w. depth_of t.parents w) (tree.one_root node within none)))
-        | inr some ↦
-            child_obeys depth node some.0 some.1
-            (node_obeys depth some.0 (tree.known_parents node some.0 some.1) (omega (arith, depths.child_depth node some.0 within some.1)))
-      ]
+    -- each node obeys the tree law, where each link obeys the link law
+    pub nodes_obey : ((child parent : ℕ) → parent_at t.parents child ≡ Some parent
+        → LinkLawBetween (capacity_into child) (garbage_into t.parents starts child) (received parent) (received child))
+        → TreeLawOfNodes (strays_bound t.parents capacity_into) (missing_bound t.parents capacity_into)
+        (path_garbage t.parents starts) t.parents published received
+    nodes_obey links =
+        each_adds capacity_into (λ child. 2 * capacity_into child + 1) (garbage_into t.parents starts)
+        (λ child parent most_strays most_missing garbage is_child at_parent.
+        let strays : most_strays + capacity_into child ≡ capacity_into child + most_strays = omega arith in
+        rw (← strays)
+        (step_below child most_strays most_missing garbage (received parent) (received child) (links child parent is_child) at_parent))
 
-  -- each node obeys the tree law
-  pub nodes_obey : TreeLawAtNodes capacity t.parents starts published received
-  nodes_obey node within = node_obeys (depth_of t.parents node) node within refl
+    -- the same, where each node's list begins with an opening
+    pub opened_nodes_obey : (opening_of : ℕ → List ℕ)
+        → ((child parent : ℕ) → parent_at t.parents child ≡ Some parent
+        → LinkLawPastOpening (opening_of child) (capacity_into child) (garbage_into t.parents starts child) (received parent) (received child))
+        → TreeLawOfNodes (opened_strays_bound t.parents capacity_into opening_of) (missing_bound t.parents capacity_into)
+        (opened_path_garbage t.parents starts opening_of) t.parents published received
+    opened_nodes_obey opening_of links =
+        each_adds (λ child. length (opening_of child) + capacity_into child) (λ child. 2 * capacity_into child + 1)
+        (λ child. opening_of child ++ garbage_into t.parents starts child)
+        (λ child parent most_strays most_missing garbage is_child at_parent.
+        let (delivered, parts, link) = links child parent is_child in
+        let opening = opening_of child in
+        let capacity = capacity_into child in
+        let start_items = garbage_into t.parents starts child in
+        let strays : most_strays + capacity + length opening ≡ length opening + capacity + most_strays = omega arith in
+        rw (← strays, parts, append_assoc)
+        (law_past_opening (most_strays + capacity) opening (start_items ++ garbage) published delivered (2 * capacity + 1 + most_missing)
+        (step_below child most_strays most_missing garbage (received parent) delivered link at_parent)))
+
+-- the same number beside each node of a path is added once for each link
+pub path_sum-same : (t : Nodes) → IsTree t → (number node : ℕ) → node < length t.parents
+    → path_sum t.parents (λ _. number) node ≡ depth_of t.parents node * number
+path_sum-same t tree number =
+    holds_at_every_depth t tree (λ depth node. sum_above t.parents (λ _. number) depth node ≡ depth * number)
+    (sym (zero-mul number))
+    (λ depth child parent is_child above.
+    ap (λ up. number + option_map_or (sum_above t.parents (λ _. number) depth) up 0) is_child
+    ∙ (ap (λ sum. number + sum) above ∙ omega (arith, suc-mul depth number)))
+
+-- so the bounds of links of one capacity are so many times those of one link
+pub one_capacity : (t : Nodes) → IsTree t → (capacity : ℕ) (starts : List Start) (published : List ℕ) (received : ℕ → List ℕ)
+    → TreeLawOfNodes (strays_bound t.parents (λ _. capacity)) (missing_bound t.parents (λ _. capacity)) (path_garbage t.parents starts) t.parents published received
+    → TreeLawAtNodes capacity t.parents starts published received
+one_capacity t tree capacity starts published received law node is_node =
+    rw (← path_sum-same t tree capacity node is_node, ← path_sum-same t tree (2 * capacity + 1) node is_node) (law node is_node)
 
 -- the tree law holds the half tree law
-pub half_at_nodes : (capacity : ℕ) (parents : List (Option ℕ)) (starts : List Start) (published : List ℕ) (received : ℕ → List ℕ)
-    → TreeLawAtNodes capacity parents starts published received → HalfTreeLawAtNodes capacity parents starts published received
-half_at_nodes capacity parents starts published received law node within =
-    let (places, half, none_lacking) = law node within in
+pub half_of_nodes : (most_strays most_missing : ℕ → ℕ) (garbage : ℕ → List ℕ) (parents : List (Option ℕ)) (published : List ℕ) (received : ℕ → List ℕ)
+    → TreeLawOfNodes most_strays most_missing garbage parents published received → HalfTreeLawOfNodes most_strays garbage parents published received
+half_of_nodes most_strays most_missing garbage parents published received law node is_node =
+    let (places, half, none_missing) = law node is_node in
     (places, half)

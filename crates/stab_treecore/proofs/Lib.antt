@@ -1,13 +1,12 @@
-pub mod Rising
-pub mod Chosen
-pub mod Parts
 pub mod Members
 pub mod Root
 pub mod Upwards
 pub mod Linked
 pub mod Opened
-pub mod Prefixes
 pub mod Stepped
 pub mod AtNodes
+pub mod ForCallers
 pub mod Replayed
+pub mod Edges
+pub mod Refused
 pub mod Lines

@@ -1,5 +1,5 @@
 -- What each schedule leaves of a whole tree: links that are replays from their starts, and offered a prefix of the parent's list.
-use Rattle.std.proofs.Common.{◌≡◌, ◌≢◌, ℕ, zero, suc, List, [], ◌∷◌, ◌++◌, length, map, get_or, set, slice_get, Option, Some, None, is_some, option_map, All, refl, ap, sym, ◌∙◌, subst, inl, inr, true, false}
+use Rattle.std.proofs.Common.{◌≡◌, ◌≢◌, ◌⊎◌, ℕ, zero, suc, List, [], ◌∷◌, ◌++◌, length, map, get_or, set, slice_get, option_and_then, Option, Some, None, is_some, option_map, All, refl, ap, sym, ◌∙◌, subst, inl, inr, true, false}
 use Rattle.std.specs.Option.{option_map_or}
 use Rattle.std.proofs.lemmas.Bool.{cases_eq}
 use Rattle.std.proofs.lemmas.List.{get_or-set_other, set-get_or}
@@ -14,21 +14,21 @@ use Rattle.stab_core.specs.LinkState.{LinkState}
 use Rattle.stab_core.specs.Reachable.{IsReachable}
 use Rattle.stab_core.specs.Replay.{IsLawful, opening, replay, start_items}
 use Rattle.stab_core.specs.Step.{step}
-use Rattle.stab_tree.specs.Depth.{HasDepths}
 use Rattle.stab_tree.specs.IsTree.{IsTree}
 use Rattle.stab_tree.specs.Links.{links_from, links_of}
 use Rattle.stab_tree.specs.Nodes.{Nodes, parent_at, root_of}
 use Rattle.stab_treecore.specs.declared.event.TreeEvent.{TreeEvent}
 use Rattle.stab_treecore.specs.ByChild.{by_child}
 use Rattle.stab_treecore.specs.NodeLaws.{start_into, garbage_into, LinkLawBetween, TreeLawAtNodes}
-use Rattle.stab_treecore.specs.Prefix.{IsPrefix}
+use mathlib.Core.List.{IsPrefix}
 use Rattle.stab_treecore.specs.TreeReplay.{opened, tree_opening, tree_replay}
-use Rattle.stab_treecore.specs.TreeStep.{event_on, link_after, tree_step}
+use Rattle.stab_treecore.specs.TreeStep.{next_item, event_on, link_after, tree_step}
 use Rattle.stab_treecore.specs.WholeTree.{WholeTree, link_into, received, source}
-use Rattle.stab_treecore.proofs.AtNodes.{none_or_some, nodes_obey}
+use Rattle.stab_treecore.proofs.AtNodes.{nodes_obey, one_capacity}
+use Rattle.stab_treecore.proofs.ForCallers.{holds_by_child}
 use Rattle.stab_treecore.proofs.Linked.{kind-set, same_kind}
 use Rattle.stab_treecore.proofs.Opened.{linked_nodes}
-use Rattle.stab_treecore.proofs.Prefixes.{prefix_of_itself, prefix_of_prefix}
+use Rattle.stab_core.proofs.ForCallers.{prefix_of_itself, prefix_of_prefix}
 use Rattle.stab_treecore.proofs.Stepped.{after_delivers, act_offers}
 
 -- the link is a replay from this start
@@ -46,6 +46,11 @@ pub record IsRun (p : Parameters) (parents : List (Option ℕ)) (starts : List S
       → (start : Start) × (start_into parents starts node ≡ Some start) × IsReplayOf p start link
   pub prefixes : (node parent : ℕ) (link : LinkValue) → parent_at t.parents node ≡ Some parent → link_into t node ≡ Some link
       → IsPrefix link.state.offered (received t parent)
+
+-- nothing, or something
+none_or_some : {A : Type 0} (o : Option A) → (o ≡ None) ⊎ ((x : A) × (o ≡ Some x))
+none_or_some None = inl refl
+none_or_some (Some x) = inr (x, refl)
 
 -- the law of one link that each step needs: the step of a reachable state is reachable
 abbrev pub StepsReach : Type 0
@@ -73,22 +78,24 @@ module _ (steps : StepsReach) (p : Parameters) (parents : List (Option ℕ)) (st
   module _ (link : LinkValue) (there : link_into t e.child ≡ Some link) where
     -- the whole tree after it
     abbrev after : WholeTree
-    after = record t { links = set t.links e.child (Some (link_after (event_on t e link) link)) }
+    after = record t { links = set t.links e.child (Some (link_after (event_on t e) link)) }
 
     -- the link that was stepped
-    stepped_link : link_into after e.child ≡ Some (link_after (event_on t e link) link)
-    stepped_link = written_same t.links e.child link (link_after (event_on t e link) link) there
+    stepped_link : link_into after e.child ≡ Some (link_after (event_on t e) link)
+    stepped_link = written_same t.links e.child link (link_after (event_on t e) link) there
 
     -- the other links
     other_link : (node : ℕ) → node ≢ e.child → link_into after node ≡ link_into t node
-    other_link node other = get_or-set_other t.links e.child node (Some (link_after (event_on t e link) link)) None other
+    other_link node other = get_or-set_other t.links e.child node (Some (link_after (event_on t e) link)) None other
 
     -- what a node received only grows
     received_grows : (node : ℕ) → IsPrefix (received t node) (received after node)
     received_grows node =
         elim (cases_eq node e.child) [
           | inl same ↦
-              rw (same, stepped_link, there) (after_delivers (event_on t e link) link)
+              rw (same, stepped_link)
+              (subst (λ o. IsPrefix (option_map_or (λ l. l.state.delivered) o t.published) (link_after (event_on t e) link).state.delivered)
+              (sym there) (after_delivers (event_on t e) link))
           | inr other ↦
               rw (other_link node other) (prefix_of_itself (received t node))
         ]
@@ -100,11 +107,11 @@ module _ (steps : StepsReach) (p : Parameters) (parents : List (Option ℕ)) (st
         elim (cases_eq node e.child) [
           | inl same ↦
               let (start, begins, was) = run.replays e.child link there in
-              let now : link_after (event_on t e link) link ≡ found =
-              same_Some (link_after (event_on t e link) link) found (sym stepped_link ∙ (ap (λ w. link_into after w) (sym same) ∙ is)) in (
+              let now : link_after (event_on t e) link ≡ found =
+              same_Some (link_after (event_on t e) link) found (sym stepped_link ∙ (ap (λ w. link_into after w) (sym same) ∙ is)) in (
                 start,
                 ap (λ w. start_into parents starts w) same ∙ begins,
-                subst (IsReplayOf p start) now (after_reaches steps p start (event_on t e link) link was),
+                subst (IsReplayOf p start) now (after_reaches steps p start (event_on t e) link was),
               )
           | inr other ↦ run.replays node found (sym (other_link node other) ∙ is)
         ]
@@ -115,17 +122,18 @@ module _ (steps : StepsReach) (p : Parameters) (parents : List (Option ℕ)) (st
     still_prefixes node parent found child is =
         elim (cases_eq node e.child) [
           | inl same ↦
-              let now : link_after (event_on t e link) link ≡ found =
-              same_Some (link_after (event_on t e link) link) found (sym stepped_link ∙ (ap (λ w. link_into after w) (sym same) ∙ is)) in
+              let now : link_after (event_on t e) link ≡ found =
+              same_Some (link_after (event_on t e) link) found (sym stepped_link ∙ (ap (λ w. link_into after w) (sym same) ∙ is)) in
               let child_of : parent_at t.parents e.child ≡ Some parent = ap (λ w. parent_at t.parents w) (sym same) ∙ child in
               let from_parent : source t e.child ≡ received t parent =
               ap (λ o. option_map_or (λ q. received t q) o []) child_of in
               let before : IsPrefix link.state.offered (received t parent) = run.prefixes e.child parent link child_of there in
-              let offers : IsPrefix (link_after (event_on t e link) link).state.offered (received t parent) =
-              act_offers (received t parent) link e.act (slice_get (source t e.child) (length link.state.offered))
-              (ap (λ list. slice_get list (length link.state.offered)) (sym from_parent)) before in
+              let offers : IsPrefix (link_after (event_on t e) link).state.offered (received t parent) =
+              act_offers (received t parent) link e.act (next_item t e.child)
+              (sym (ap (λ o. option_and_then (λ l. slice_get (source t e.child) (length l.state.offered)) o) there
+              ∙ ap (λ list. slice_get list (length link.state.offered)) from_parent)) before in
               subst (λ l. IsPrefix l.state.offered (received after parent)) now
-              (prefix_of_prefix (link_after (event_on t e link) link).state.offered (received t parent) (received after parent) offers (received_grows parent))
+              (prefix_of_prefix (link_after (event_on t e) link).state.offered (received t parent) (received after parent) offers (received_grows parent))
           | inr other ↦
               prefix_of_prefix found.state.offered (received t parent) (received after parent)
               (run.prefixes node parent found child (sym (other_link node other) ∙ is)) (received_grows parent)
@@ -134,11 +142,11 @@ module _ (steps : StepsReach) (p : Parameters) (parents : List (Option ℕ)) (st
     -- so it is a whole tree of the same kind
     still_run : IsRun p parents starts published after
     still_run =
-        let kind : is_some (Some (link_after (event_on t e link) link)) ≡ is_some (link_into t e.child) = ap is_some (sym there) in
+        let kind : is_some (Some (link_after (event_on t e) link)) ≡ is_some (link_into t e.child) = ap is_some (sym there) in
         record {
           published_stay = run.published_stay;
           parents_stay = run.parents_stay;
-          linked = kind-set t.links e.child (Some (link_after (event_on t e link) link)) kind ∙ run.linked;
+          linked = kind-set t.links e.child (Some (link_after (event_on t e) link)) kind ∙ run.linked;
           replays = still_replays;
           prefixes = still_prefixes;
         }
@@ -148,12 +156,12 @@ module _ (steps : StepsReach) (p : Parameters) (parents : List (Option ℕ)) (st
   step_keeps =
       elim (none_or_some (link_into t e.child)) [
         | inl none ↦
-            let same : set t.links e.child (option_map (λ link. link_after (event_on t e link) link) (link_into t e.child)) ≡ t.links =
-            ap (λ o. set t.links e.child (option_map (λ link. link_after (event_on t e link) link) o)) none
+            let same : set t.links e.child (option_map (link_after (event_on t e)) (link_into t e.child)) ≡ t.links =
+            ap (λ o. set t.links e.child (option_map (link_after (event_on t e)) o)) none
             ∙ (ap (λ o. set t.links e.child o) (sym none) ∙ set-get_or t.links e.child None) in
             subst (λ links. IsRun p parents starts published (record t { links = links })) (sym same) run
         | inr some ↦
-            subst (λ o. IsRun p parents starts published (record t { links = set t.links e.child (option_map (λ link. link_after (event_on t e link) link) o) }))
+            subst (λ o. IsRun p parents starts published (record t { links = set t.links e.child (option_map (link_after (event_on t e)) o) }))
             (sym some.1) (still_run some.0 some.1)
       ]
 
@@ -194,19 +202,8 @@ opening_is_run p parents starts published w one_per_link =
           λ node parent link child is.
           let (start, begins, at_start) = before_map (opened p) (start_into parents starts node) link
           (sym (mapped_at (opened p) (by_child parents starts) node) ∙ is) in
-          (received t parent, ap (λ l. l.state.offered ++ received t parent) (sym at_start));
+          (received t parent, ap (λ l. l.state.offered ++ received t parent) at_start);
     }
-
--- what holds of each start holds of the start of each link
-pub start_of_all : (P : Start → Type 0) (parents : List (Option ℕ)) (starts : List Start) (node : ℕ) (start : Start) → All P starts
-    → start_into parents starts node ≡ Some start → P start
-start_of_all P [] starts node start all is = absurd (none-some start is)
-start_of_all P (None ∷ parents) starts zero start all is = absurd (none-some start is)
-start_of_all P (None ∷ parents) starts (suc node) start all is = start_of_all P parents starts node start all is
-start_of_all P (Some q ∷ parents) [] zero start all is = absurd (none-some start is)
-start_of_all P (Some q ∷ parents) [] (suc node) start all is = start_of_all P parents [] node start all is
-start_of_all P (Some q ∷ parents) (s ∷ ss) zero start all is = subst P (same_Some s start is) (All-head P s ss all)
-start_of_all P (Some q ∷ parents) (s ∷ ss) (suc node) start all is = start_of_all P parents ss node start (All-tail P s ss all) is
 
 -- the law of one link that the tree law needs: every replay from a lawful start obeys the link law
 abbrev pub ReplaysObey : Type 0
@@ -232,7 +229,7 @@ run_links obey p parents starts published t run lawful_params lawful child paren
           let garbage : garbage_into parents starts child ≡ start_items start = ap (λ o. option_map_or start_items o []) begins in
           let law : LinkLaw p.capacity (start_items start) link.state.offered link.state.acked link.state.delivered =
           subst (λ s. LinkLaw p.capacity (start_items start) s.offered s.acked s.delivered) (sym reached)
-          (obey p start events lawful_params (start_of_all (IsLawful p) parents starts child start lawful begins)) in (
+          (obey p start events lawful_params (holds_by_child (IsLawful p) parents starts child start lawful begins)) in (
             link.state.offered,
             link.state.acked,
             run.prefixes child parent link child_of some.1,
@@ -254,13 +251,15 @@ run_root p parents starts published t run node root =
 
 -- each node obeys the tree law after each schedule
 pub schedule_obeys : StepsReach → ReplaysObey → (nodes : Nodes) (p : Parameters) (starts : List Start) (published : List ℕ) (events : List TreeEvent)
-    → IsTree nodes → HasDepths nodes.parents → AreLawful p → length starts ≡ length (links_of nodes.parents) → All (IsLawful p) starts
+    → IsTree nodes → AreLawful p → length starts ≡ length (links_of nodes.parents) → All (IsLawful p) starts
     → TreeLawAtNodes p.capacity nodes.parents starts published (received (tree_replay (tree_opening p nodes.parents published starts) events))
-schedule_obeys steps obey nodes p starts published events tree depths lawful_params one_per_link lawful =
+schedule_obeys steps obey nodes p starts published events tree lawful_params one_per_link lawful =
     let t = tree_replay (tree_opening p nodes.parents published starts) events in
     let run : IsRun p nodes.parents starts published t =
     replay_keeps steps p nodes.parents starts published (tree_opening p nodes.parents published starts) events
     (opening_is_run p nodes.parents starts published 0 one_per_link) in
-    nodes_obey nodes tree depths p.capacity starts published (received t)
+    one_capacity nodes tree p.capacity starts published (received t)
+    (nodes_obey nodes tree published (received t)
     (run_root p nodes.parents starts published t run (root_of nodes.parents) tree.root_has_none)
-    (run_links obey p nodes.parents starts published t run lawful_params lawful)
+    (λ _. p.capacity) starts
+    (run_links obey p nodes.parents starts published t run lawful_params lawful))

@@ -3,10 +3,7 @@ use Rattle.std.proofs.Common.{◌≡◌, ℕ, zero, suc, ◌+◌, ◌<◌, List,
 use Rattle.std.specs.Prelude.{Contains}
 use Rattle.std.proofs.lemmas.List.{get_or-map, length-map}
 use Rattle.stab_core.specs.Picks.{RisesFrom, AllBelow, Picks}
-use Rattle.stab_treecore.proofs.Rising.{rises_from_lower, below_higher}
-use Rattle.stab_treecore.proofs.Chosen.{at_places}
-use Rattle.stab_treecore.proofs.Parts.{raised, raised_rise, raised_below, items_behind}
-use Rattle.stab_treecore.proofs.Members.{member_stands, stands_is_member}
+use Rattle.stab_core.proofs.ForCallers.{rises_from_lower, below_higher, at_places, raised, raised_rise, raised_below, items_after, member_stands, stands_is_member}
 
 -- every place of a list
 abbrev pub all_places : List ℕ → List ℕ
@@ -30,7 +27,7 @@ pub length_all : (xs : List ℕ) → length (all_places xs) ≡ length xs
 length_all [] = refl
 length_all (x ∷ xs) = ap suc (length-map (all_places xs) (λ place. 1 + place) ∙ length_all xs)
 
--- each stands at its own place
+-- each is at its own place
 pub all_at : (xs : List ℕ) (i : ℕ) → i < length xs → get_or (all_places xs) i 0 ≡ i
 all_at [] i here = absurd (omega arith)
 all_at (x ∷ xs) zero here = refl
@@ -41,7 +38,7 @@ all_at (x ∷ xs) (suc i) here =
 -- the items at every place are the list
 pub all_items : (xs : List ℕ) → at_places xs (all_places xs) ≡ xs
 all_items [] = refl
-all_items (x ∷ xs) = ap (λ rest. x ∷ rest) (sym (items_behind (x ∷ []) xs (all_places xs)) ∙ all_items xs)
+all_items (x ∷ xs) = ap (λ rest. x ∷ rest) (sym (items_after (x ∷ []) xs (all_places xs)) ∙ all_items xs)
 
 -- a whole list is picked from itself
 pub all_picked : (items : List ℕ) → Picks items (all_places items) items
@@ -51,6 +48,6 @@ all_picked items = record { rising = all_rise items; in_list = all_below items; 
 pub all_lower : (items : List ℕ) (i q : ℕ) → i < q → Contains (all_places items) q → Contains (all_places items) i
 all_lower items i q before last =
     let (k, here) = member_stands (all_places items) q last in
-    let within : k < length items = omega (arith, here.within, length_all items) in
-    let high : k ≡ q = omega (arith, here.is_there, all_at items k within) in
+    let in_list : k < length items = omega (arith, here.within, length_all items) in
+    let high : k ≡ q = omega (arith, here.is_there, all_at items k in_list) in
     stands_is_member (all_places items) i i (record { within = omega (arith, length_all items); is_there = all_at items i (omega arith) })

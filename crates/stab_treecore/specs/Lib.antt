@@ -1,6 +1,7 @@
 pub mod ByChild
+pub mod EdgeLaw
 pub mod NodeLaws
-pub mod Prefix
+pub mod Paths
 pub mod Refusals
 pub mod Texts
 pub mod TreeInside

@@ -1,48 +1,87 @@
--- The garbage on a node's path, and the laws of all nodes: the bounds of a node at depth d are d times those of one link.
+-- The laws of all nodes: the bounds of a node are sums over the links on its path.
 -- Source: this project's own.
-use Rattle.std.specs.Prelude.{ℕ, zero, suc, ◌+◌, ◌*◌, ◌<◌, List, [], ◌++◌, length, Option, None, slice_index_or}
+use Rattle.std.specs.Prelude.{◌≡◌, ℕ, ◌+◌, ◌*◌, ◌<◌, List, [], ◌++◌, length, Option, None}
+use Rattle.std.specs.Prelude.{slice_index_or}
 use Rattle.std.specs.Option.{option_map_or}
 use Rattle.stab_core.specs.declared.start.Start.{Start}
 use Rattle.stab_core.specs.LinkLaw.{LinkLaw}
 use Rattle.stab_core.specs.Replay.{start_items}
-use Rattle.stab_tree.specs.Nodes.{parent_at}
 use Rattle.stab_tree.specs.Steps.{depth_of}
 use Rattle.stab_treecore.specs.ByChild.{by_child}
-use Rattle.stab_treecore.specs.Prefix.{IsPrefix}
+use Rattle.stab_treecore.specs.Paths.{path_sum, path_lists}
+use mathlib.Core.List.{IsPrefix}
 use Rattle.stab_treecore.specs.TreeLaw.{HalfTreeLaw, TreeLaw}
 
 -- the start of the link into a node; the root has none
 abbrev pub start_into : List (Option ℕ) → List Start → ℕ → Option Start
 start_into parents starts node = slice_index_or (by_child parents starts) node None
 
--- the items that stood in the frames of the link into a node at its start
+-- the items in the frames of the link into a node at its start
 abbrev pub garbage_into : List (Option ℕ) → List Start → ℕ → List ℕ
 garbage_into parents starts node = option_map_or start_items (start_into parents starts node) []
 
--- the garbage of so many links, from the one into a node upwards
-abbrev pub garbage_above : List (Option ℕ) → List Start → ℕ → ℕ → List ℕ
-garbage_above parents starts zero node = []
-garbage_above parents starts (suc links) node =
-    garbage_into parents starts node ++ option_map_or (garbage_above parents starts links) (parent_at parents node) []
-
--- the garbage on the path: of the link into a node, of the link into its parent, and so on up to the root
+-- the garbage on the path: of the link into a node, of the link into its parent, and so on up to
+-- the root
 abbrev pub path_garbage : List (Option ℕ) → List Start → ℕ → List ℕ
-path_garbage parents starts node = garbage_above parents starts (depth_of parents node) node
+path_garbage parents starts node = path_lists parents (garbage_into parents starts) node
+
+-- the most strays at a node: the capacities of the links on its path, added
+abbrev pub strays_bound : List (Option ℕ) → (ℕ → ℕ) → ℕ → ℕ
+strays_bound parents capacity_into node = path_sum parents capacity_into node
+
+-- how many of the first published items may be missing at a node: 2c + 1 for each link on its path,
+-- added
+abbrev pub missing_bound : List (Option ℕ) → (ℕ → ℕ) → ℕ → ℕ
+missing_bound parents capacity_into node =
+    path_sum parents (λ child. 2 * capacity_into child + 1) node
+
+-- the same garbage, and before that of each link the opening of the node below it
+abbrev pub opened_path_garbage : List (Option ℕ) → List Start → (ℕ → List ℕ) → ℕ → List ℕ
+opened_path_garbage parents starts opening_of node =
+    path_lists parents (λ child. opening_of child ++ garbage_into parents starts child) node
+
+-- the most strays at a node: beside the capacities of the links on its path, the lengths of the
+-- openings of its nodes
+abbrev pub opened_strays_bound : List (Option ℕ) → (ℕ → ℕ) → (ℕ → List ℕ) → ℕ → ℕ
+opened_strays_bound parents capacity_into opening_of node =
+    path_sum parents (λ child. length (opening_of child) + capacity_into child) node
 
 -- a link that obeys the link law offered a prefix of the first list and delivered the second
 abbrev pub LinkLawBetween : ℕ → List ℕ → List ℕ → List ℕ → Type 0
 LinkLawBetween capacity start_items above below =
-    (offered : List ℕ) × (acked : ℕ) × IsPrefix offered above × LinkLaw capacity start_items offered acked below
+    (offered : List ℕ) × (acked : ℕ) × IsPrefix offered above
+    × LinkLaw capacity start_items offered acked below
 
--- the half tree law at each node
+-- the same, where the second list is an opening, strays that nobody published, and then what the
+-- link delivered
+abbrev pub LinkLawPastOpening : List ℕ → ℕ → List ℕ → List ℕ → List ℕ → Type 0
+LinkLawPastOpening opening capacity start_items above below =
+    (delivered : List ℕ) × (below ≡ opening ++ delivered)
+    × LinkLawBetween capacity start_items above delivered
+
+-- the half tree law at each node, with a bound and a garbage for each
+abbrev pub HalfTreeLawOfNodes : (ℕ → ℕ) → (ℕ → List ℕ) → List (Option ℕ) → List ℕ
+    → (ℕ → List ℕ) → Type 0
+HalfTreeLawOfNodes most_strays garbage parents published received =
+    (node : ℕ) → node < length parents
+    → HalfTreeLaw (most_strays node) (garbage node) published (received node)
+
+-- the tree law at each node, with bounds and a garbage for each
+abbrev pub TreeLawOfNodes : (ℕ → ℕ) → (ℕ → ℕ) → (ℕ → List ℕ) → List (Option ℕ) → List ℕ
+    → (ℕ → List ℕ) → Type 0
+TreeLawOfNodes most_strays most_missing garbage parents published received =
+    (node : ℕ) → node < length parents
+    → TreeLaw (most_strays node) (most_missing node) (garbage node) published (received node)
+
+-- the half tree law at each node, where all links have one capacity
 abbrev pub HalfTreeLawAtNodes : ℕ → List (Option ℕ) → List Start → List ℕ → (ℕ → List ℕ) → Type 0
 HalfTreeLawAtNodes capacity parents starts published received =
-    (node : ℕ) → node < length parents
-    → HalfTreeLaw (depth_of parents node * capacity) (path_garbage parents starts node) published (received node)
+    HalfTreeLawOfNodes (λ node. depth_of parents node * capacity)
+    (path_garbage parents starts) parents published received
 
--- the tree law at each node
+-- the tree law at each node, where all links have one capacity
 abbrev pub TreeLawAtNodes : ℕ → List (Option ℕ) → List Start → List ℕ → (ℕ → List ℕ) → Type 0
 TreeLawAtNodes capacity parents starts published received =
-    (node : ℕ) → node < length parents
-    → TreeLaw (depth_of parents node * capacity) (depth_of parents node * (2 * capacity + 1))
-    (path_garbage parents starts node) published (received node)
+    TreeLawOfNodes (λ node. depth_of parents node * capacity)
+    (λ node. depth_of parents node * (2 * capacity + 1))
+    (path_garbage parents starts) parents published received

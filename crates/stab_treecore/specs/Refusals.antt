@@ -1,19 +1,26 @@
 -- Why a whole tree cannot begin or go on: the first check that fails, or memory.
 -- Source: this project's own.
-use Rattle.std.specs.Prelude.{◌≡◌, ◌⊎◌, ℕ, List, [], ◌∷◌, length, Option, IsSome, IsNone, All, Any}
+use Rattle.std.specs.Prelude.{◌≡◌, ◌⊎◌, ℕ, List, [], ◌∷◌, length, Option, IsSome, IsNone, All}
 use Rattle.stab_frames.specs.Parameters.{Parameters}
 use Rattle.stab_core.specs.declared.start.Start.{Start}
 use Rattle.stab_core.specs.declared.start.StartFault.{StartFault}
-use Rattle.stab_core.specs.declared.start.StartFault.TheVariants.{TooManyFrames, TooManyAcks, Memory}
-use Rattle.stab_core.specs.Link.{IsReason}
+use Rattle.stab_core.specs.declared.start.StartFault.TheVariants.{TooManyFrames, TooManyAcks}
+use Rattle.stab_core.specs.declared.start.StartFault.TheVariants.{Memory}
+use Rattle.stab_core.specs.Link.{Grows, IsReason}
 use Rattle.stab_core.specs.Replay.{IsLawful}
 use Rattle.stab_tree.specs.Links.{links_of}
 use Rattle.stab_tree.specs.Nodes.{parent_at}
 use Rattle.stab_treecore.specs.declared.event.TreeEvent.{TreeEvent}
 use Rattle.stab_treecore.specs.declared.fault.TreeStartFault.{TreeStartFault}
-use Rattle.stab_treecore.specs.declared.fault.TreeStartFault.TheVariants.{StartCount, Start as StartRefused, Step}
+use Rattle.stab_treecore.specs.declared.fault.TreeStartFault.TheVariants.{StartCount}
+use Rattle.stab_treecore.specs.declared.fault.TreeStartFault.TheVariants.{Start as StartRefused}
+use Rattle.stab_treecore.specs.declared.fault.TreeStartFault.TheVariants.{Step}
 use Rattle.stab_treecore.specs.declared.fault.TreeStepFault.{TreeStepFault}
-use Rattle.stab_treecore.specs.declared.fault.TreeStepFault.TheVariants.{NoSuchLink, Memory as StepMemory}
+use Rattle.stab_treecore.specs.declared.fault.TreeStepFault.TheVariants.{NoSuchLink}
+use Rattle.stab_treecore.specs.declared.fault.TreeStepFault.TheVariants.{Memory as StepMemory}
+use Rattle.stab_treecore.specs.TreeReplay.{tree_opening}
+use Rattle.stab_treecore.specs.TreeStep.{tree_step, tree_effect}
+use Rattle.stab_treecore.specs.WholeTree.{WholeTree}
 
 -- there is one start for each link
 abbrev pub OnePerLink : List (Option ℕ) → List Start → Type 0
@@ -22,18 +29,21 @@ OnePerLink parents starts = length starts ≡ length (links_of parents)
 -- the first start that is refused is refused for this fault
 abbrev pub IsFirstFault : Parameters → List Start → StartFault → Type 0
 IsFirstFault p [] fault = ⊥
-IsFirstFault p (start ∷ starts) fault = IsReason p start fault ⊎ (IsLawful p start × IsFirstFault p starts fault)
+IsFirstFault p (start ∷ starts) fault =
+    IsReason p start fault ⊎ (IsLawful p start × IsFirstFault p starts fault)
 
--- why the links cannot begin: the first fault among their starts, or memory
+-- why the links cannot begin: the first fault among their starts, or memory where all starts are
+-- lawful
 abbrev pub IsOpeningReason : Parameters → List Start → StartFault → Type 0
 IsOpeningReason p starts TooManyFrames = IsFirstFault p starts TooManyFrames
 IsOpeningReason p starts TooManyAcks = IsFirstFault p starts TooManyAcks
-IsOpeningReason p starts Memory = Unit {0}
+IsOpeningReason p starts Memory = All (IsLawful p) starts
 
 -- why a whole tree cannot begin
 abbrev pub IsStartReason : Parameters → List (Option ℕ) → List Start → TreeStartFault → Type 0
 IsStartReason p parents starts StartCount = ¬ OnePerLink parents starts
-IsStartReason p parents starts (StartRefused fault) = OnePerLink parents starts × IsOpeningReason p starts fault
+IsStartReason p parents starts (StartRefused fault) =
+    OnePerLink parents starts × IsOpeningReason p starts fault
 IsStartReason p parents starts (Step fault) = ⊥
 
 -- an event names a link by its child; the root and what is no node name none
@@ -43,14 +53,24 @@ NamesLink parents e = IsSome (parent_at parents e.child)
 abbrev pub NamesNoLink : List (Option ℕ) → TreeEvent → Type 0
 NamesNoLink parents e = IsNone (parent_at parents e.child)
 
--- why an event of a schedule is refused: it names no link, or memory
-abbrev pub IsStepReason : List (Option ℕ) → List TreeEvent → TreeStepFault → Type 0
-IsStepReason parents events NoSuchLink = Any (NamesNoLink parents) events
-IsStepReason parents events StepMemory = Unit {0}
+-- Of some event this holds, beside the state that it meets, after events that all name links.
+abbrev pub IsMet : (WholeTree → TreeEvent → Type 0) → WholeTree → List TreeEvent → Type 0
+IsMet P t [] = ⊥
+IsMet P t (e ∷ es) = P t e ⊎ (NamesLink t.parents e × IsMet P (tree_step t e) es)
+
+-- why an event of a schedule is refused: it is the first that names no link, or memory where a list
+-- grows
+abbrev pub IsStepReason : WholeTree → List TreeEvent → TreeStepFault → Type 0
+IsStepReason t events NoSuchLink = IsMet (λ now e. NamesNoLink now.parents e) t events
+IsStepReason t events StepMemory = IsMet (λ now e. Grows (tree_effect now e)) t events
 
 -- why a schedule is refused: as a whole tree that cannot begin, or at a step
-abbrev pub IsScheduleReason : Parameters → List (Option ℕ) → List Start → List TreeEvent → TreeStartFault → Type 0
-IsScheduleReason p parents starts events StartCount = ¬ OnePerLink parents starts
-IsScheduleReason p parents starts events (StartRefused fault) = OnePerLink parents starts × IsOpeningReason p starts fault
-IsScheduleReason p parents starts events (Step fault) =
-    OnePerLink parents starts × All (IsLawful p) starts × IsStepReason parents events fault
+abbrev pub IsScheduleReason : Parameters → List (Option ℕ) → List ℕ → List Start → List TreeEvent
+    → TreeStartFault → Type 0
+IsScheduleReason p parents published starts events StartCount = ¬ OnePerLink parents starts
+IsScheduleReason p parents published starts events (StartRefused fault) =
+    OnePerLink parents starts × IsOpeningReason p starts fault
+IsScheduleReason p parents published starts events (Step fault) =
+    OnePerLink parents starts
+    × All (IsLawful p) starts
+    × IsStepReason (tree_opening p parents published starts) events fault

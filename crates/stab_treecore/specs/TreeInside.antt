@@ -7,4 +7,5 @@ use Rattle.stab_treecore.specs.WholeTree.{WholeTree}
 -- each node but the root has a link, and each parent is a node
 pub record IsSound (t : WholeTree) : Type 0 where
   pub linked : map is_some t.links ≡ map is_some t.parents
-  pub known_parents : (node parent : ℕ) → parent_at t.parents node ≡ Some parent → parent < length t.parents
+  pub known_parents : (node parent : ℕ) → parent_at t.parents node ≡ Some parent
+      → parent < length t.parents

@@ -1,6 +1,8 @@
--- The step of the whole tree: one act on the link into one node. An offer is of the item of the parent's list that comes next.
+-- The step of the whole tree: one act on the link into one node. An offer is of the item of the
+-- parent's list that comes next.
 -- Source: this project's profile.
-use Rattle.std.specs.Prelude.{length, slice_get, slice_set, Option, Some, None, option_map}
+use Rattle.std.specs.Prelude.{ℕ, length, slice_get, slice_set, Option, Some, None, option_map}
+use Rattle.std.specs.Prelude.{option_and_then}
 use Rattle.std.specs.Option.{option_map_or}
 use Rattle.stab_core.specs.declared.event.Event.{Event}
 use Rattle.stab_core.specs.declared.event.Effect.{Effect}
@@ -11,9 +13,16 @@ use Rattle.stab_core.specs.Step.{step, effect}
 use Rattle.stab_treecore.specs.declared.event.TreeEvent.{TreeEvent}
 use Rattle.stab_treecore.specs.WholeTree.{WholeTree, link_into, source}
 
--- the event on the link into its child: an offer is of the item after those that the link was offered
-abbrev pub event_on : WholeTree → TreeEvent → LinkValue → Option Event
-event_on t e link = event_of e.act (slice_get (source t e.child) (length link.state.offered))
+-- the item that the link into a node is to be offered next: that of the parent's list after those
+-- that it was offered
+abbrev pub next_item : WholeTree → ℕ → Option ℕ
+next_item t child =
+    option_and_then (λ link. slice_get (source t child) (length link.state.offered))
+    (link_into t child)
+
+-- the event on the link into its child
+abbrev pub event_on : WholeTree → TreeEvent → Option Event
+event_on t e = event_of e.act (next_item t e.child)
 
 -- a link after an event, where there is one
 abbrev pub link_after : Option Event → LinkValue → LinkValue
@@ -23,7 +32,10 @@ link_after (Some e) link = link_at link.params (step link.params link.state e)
 -- the step of the whole tree: where the event names no link, nothing changes
 abbrev pub tree_step : WholeTree → TreeEvent → WholeTree
 tree_step t e =
-    record t { links = slice_set t.links e.child (option_map (λ link. link_after (event_on t e link) link) (link_into t e.child)) }
+    record t {
+      links =
+          slice_set t.links e.child (option_map (link_after (event_on t e)) (link_into t e.child));
+    }
 
 -- the effect of an event on a link, where there is an event
 abbrev pub effect_on : Option Event → LinkValue → Effect
@@ -32,4 +44,4 @@ effect_on (Some e) link = effect link.params link.state e
 
 -- the effect of a step of the whole tree
 abbrev pub tree_effect : WholeTree → TreeEvent → Effect
-tree_effect t e = option_map_or (λ link. effect_on (event_on t e link) link) (link_into t e.child) Nothing
+tree_effect t e = option_map_or (effect_on (event_on t e)) (link_into t e.child) Nothing

@@ -1,4 +1,5 @@
--- The state of a whole tree: the published items, the parent of each node, and the link into each node, all in file order.
+-- The state of a whole tree: the published items, the parent of each node, and the link into each
+-- node, all in file order.
 -- Source: this project's profile.
 use Rattle.std.specs.Prelude.{ℕ, List, [], Option, Some, None, slice_index_or}
 use Rattle.std.specs.Option.{option_map_or}

@@ -13,13 +13,15 @@ pub enum TreeStepFault {
     Memory,
 }
 
-/// Why a whole tree cannot begin, or cannot be run to the end of a schedule, in the order of the checks.
+/// Why a whole tree cannot begin, or cannot be run to the end of a schedule, in the order of the
+/// checks.
 #[derive(Clone, Copy, Debug, PartialEq, Eq, Error)]
 pub enum TreeStartFault {
     /// There is not one start for each link.
     #[error("start: wrong number of starts")]
     StartCount,
-    /// The first start that no link can begin from, in file order; or memory was refused.
+    /// No link can begin from this start, the first such one in file order; or memory was refused,
+    /// where a link can begin from each start.
     #[error("{0}")]
     Start(StartFault),
     /// An event of the schedule was refused.

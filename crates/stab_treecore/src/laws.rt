@@ -1,16 +1,23 @@
-//! Laws over the definitions alone: they name no tree, link or list of the code, so that every layer above may use them
-//! for whatever runs the same steps. Each is a function with an empty body; its contract is the law.
+//! Laws over the definitions alone: they name no tree, link or list of the code, so that every
+//! layer above may use them for whatever runs the same steps. Each is a function with an empty
+//! body; its contract is the law.
 
-ghost use Rattle.std.specs.Prelude.{◌≡◌, ℕ, ◌+◌, ◌*◌, List, [], ◌++◌, Option, Some, All};
+ghost use mathlib.Core.List.{IsPrefix};
+ghost use Rattle.std.specs.Prelude.{◌≡◌, ℕ, ◌+◌, ◌*◌, ◌<◌, ◌≤◌, List, [], ◌++◌, length, Option};
+ghost use Rattle.std.specs.Prelude.{Some, All};
 ghost use Rattle.stab_core.specs.declared.start.Start.{Start};
 ghost use Rattle.stab_core.specs.LinkLaw.{HalfLaw, LinkLaw};
-ghost use Rattle.stab_core.specs.Replay.{IsLawful};
+ghost use Rattle.stab_core.specs.Replay.{IsLawful, start_items};
 ghost use Rattle.stab_frames.specs.Parameters.{AreLawful, Parameters};
 ghost use Rattle.stab_tree.specs.IsTree.{IsTree};
 ghost use Rattle.stab_tree.specs.Nodes.{Nodes, parent_at, root_of};
+ghost use Rattle.stab_tree.specs.Steps.{depth_of};
 ghost use Rattle.stab_treecore.specs.declared.event.TreeEvent.{TreeEvent};
-ghost use Rattle.stab_treecore.specs.NodeLaws.{garbage_into, LinkLawBetween, HalfTreeLawAtNodes, TreeLawAtNodes};
-ghost use Rattle.stab_treecore.specs.Prefix.{IsPrefix};
+ghost use Rattle.stab_treecore.specs.EdgeLaw.{EdgeLaw, EdgeInto};
+ghost use Rattle.stab_treecore.specs.NodeLaws.{garbage_into, path_garbage, opened_path_garbage};
+ghost use Rattle.stab_treecore.specs.NodeLaws.{strays_bound, opened_strays_bound, missing_bound};
+ghost use Rattle.stab_treecore.specs.NodeLaws.{LinkLawBetween, LinkLawPastOpening};
+ghost use Rattle.stab_treecore.specs.NodeLaws.{HalfTreeLawOfNodes, TreeLawOfNodes, TreeLawAtNodes};
 ghost use Rattle.stab_treecore.specs.Refusals.{OnePerLink};
 ghost use Rattle.stab_treecore.specs.TreeLaw.{HalfTreeLaw, TreeLaw};
 ghost use Rattle.stab_treecore.specs.TreeReplay.{tree_opening, tree_replay};
@@ -21,54 +28,155 @@ pub fn root_obeys_the_tree_law()
     ensures { (published : List ℕ) → TreeLaw 0 0 [] published published }
 {}
 
-/// From the half law on a link and the half tree law at the parent to the half tree law at the child: the link's offered
-/// list is a prefix of what the parent received.
+/// From the half law on a link and the half tree law at the parent to the half tree law at the
+/// child: the link's offered list is a prefix of what the parent received.
 pub fn half_tree_law_of_the_child()
-    ensures { (capacity most_strays acked : ℕ) (start_items garbage published received offered delivered : List ℕ)
+    ensures { (capacity most_strays acked : ℕ)
+        (start_items garbage published received offered delivered : List ℕ)
         → IsPrefix offered received
         → HalfTreeLaw most_strays garbage published received
         → HalfLaw capacity start_items offered acked delivered
         → HalfTreeLaw (most_strays + capacity) (start_items ++ garbage) published delivered }
 {}
 
-/// From the link law on a link and the tree law at the parent to the tree law at the child: the link's offered list is a
-/// prefix of what the parent received.
+/// From the link law on a link and the tree law at the parent to the tree law at the child: the
+/// link's offered list is a prefix of what the parent received.
 pub fn tree_law_of_the_child()
-    ensures { (capacity most_strays most_missing acked : ℕ) (start_items garbage published received offered delivered : List ℕ)
+    ensures { (capacity most_strays most_missing acked : ℕ)
+        (start_items garbage published received offered delivered : List ℕ)
         → IsPrefix offered received
         → TreeLaw most_strays most_missing garbage published received
         → LinkLaw capacity start_items offered acked delivered
-        → TreeLaw (most_strays + capacity) (most_missing + (2 * capacity + 1)) (start_items ++ garbage) published delivered }
+        → TreeLaw (most_strays + capacity) (most_missing + (2 * capacity + 1))
+        (start_items ++ garbage) published delivered }
 {}
 
-/// The tree law at every node, whatever ran the links: the root has the published items, and from each parent to its child
-/// there is a link that obeys the link law.
+/// The same step, where the child's list begins with an opening: strays that nobody published.
+/// They are garbage of the child's, and as many more strays; no more items may be missing.
+pub fn tree_law_of_the_child_past_its_opening()
+    ensures { (capacity most_strays most_missing acked : ℕ)
+        (opening start_items garbage published received offered delivered : List ℕ)
+        → IsPrefix offered received
+        → TreeLaw most_strays most_missing garbage published received
+        → LinkLaw capacity start_items offered acked delivered
+        → TreeLaw (most_strays + capacity + length opening) (most_missing + (2 * capacity + 1))
+        (opening ++ (start_items ++ garbage)) published (opening ++ delivered) }
+{}
+
+/// An opening alone: the tree law of a list is that of the same list after an opening, with as many
+/// more strays.
+pub fn tree_law_past_an_opening()
+    ensures tree_law { (most_strays most_missing : ℕ) (opening garbage published received : List ℕ)
+        → TreeLaw most_strays most_missing garbage published received
+        → TreeLaw (most_strays + length opening) most_missing
+        (opening ++ garbage) published (opening ++ received) }
+    ensures half_tree_law { (most_strays : ℕ) (opening garbage published received : List ℕ)
+        → HalfTreeLaw most_strays garbage published received
+        → HalfTreeLaw (most_strays + length opening)
+        (opening ++ garbage) published (opening ++ received) }
+{}
+
+/// The tree law at every node, whatever ran the links, and whatever the capacity of each: the root
+/// has the published items, and from each parent to its child there is a link that obeys the link
+/// law. The bounds of a node are sums along its path.
 pub fn tree_law_at_every_node()
-    ensures { (nodes : Nodes) (capacity : ℕ) (starts : List Start) (published : List ℕ) (received : ℕ → List ℕ)
+    ensures { (nodes : Nodes) (capacity_into : ℕ → ℕ) (starts : List Start) (published : List ℕ)
+        (received : ℕ → List ℕ)
         → IsTree nodes
         → received (root_of nodes.parents) ≡ published
         → ((child parent : ℕ) → parent_at nodes.parents child ≡ Some parent
-        → LinkLawBetween capacity (garbage_into nodes.parents starts child) (received parent) (received child))
-        → TreeLawAtNodes capacity nodes.parents starts published received }
+        → LinkLawBetween (capacity_into child) (garbage_into nodes.parents starts child)
+        (received parent) (received child))
+        → TreeLawOfNodes (strays_bound nodes.parents capacity_into)
+        (missing_bound nodes.parents capacity_into) (path_garbage nodes.parents starts)
+        nodes.parents published received }
+{}
+
+/// The same, where each node's list but the root's begins with an opening of its own.
+pub fn tree_law_at_every_opened_node()
+    ensures { (nodes : Nodes) (capacity_into : ℕ → ℕ) (opening_of : ℕ → List ℕ)
+        (starts : List Start) (published : List ℕ) (received : ℕ → List ℕ)
+        → IsTree nodes
+        → received (root_of nodes.parents) ≡ published
+        → ((child parent : ℕ) → parent_at nodes.parents child ≡ Some parent
+        → LinkLawPastOpening (opening_of child) (capacity_into child)
+        (garbage_into nodes.parents starts child) (received parent) (received child))
+        → TreeLawOfNodes (opened_strays_bound nodes.parents capacity_into opening_of)
+        (missing_bound nodes.parents capacity_into)
+        (opened_path_garbage nodes.parents starts opening_of) nodes.parents published received }
+{}
+
+/// From the edge law that a run tells of a link to the link law between the lists at its two ends.
+pub fn link_law_of_an_edge()
+    ensures { (p : Parameters) (start : Start) (above : List ℕ) (acked : ℕ) (delivered : List ℕ)
+        → AreLawful p → IsLawful p start
+        → EdgeLaw p start above acked delivered
+        → LinkLawBetween p.capacity (start_items start) above delivered }
 {
-    stab_tree::laws::trees_have_depths();
+    stab_core::laws::every_replay_obeys_the_link_law();
 }
+
+/// The tree law at every node, where a run keeps no schedule but tells the edge law of each link.
+/// Each link has parameters of its own.
+pub fn tree_law_of_edges()
+    ensures { (nodes : Nodes) (params_into : ℕ → Parameters) (starts : List Start)
+        (published : List ℕ) (received : ℕ → List ℕ)
+        → IsTree nodes
+        → received (root_of nodes.parents) ≡ published
+        → ((child parent : ℕ) → parent_at nodes.parents child ≡ Some parent
+        → EdgeInto (params_into child) nodes.parents starts child
+        (received parent) (received child))
+        → TreeLawOfNodes (strays_bound nodes.parents (λ child. (params_into child).capacity))
+        (missing_bound nodes.parents (λ child. (params_into child).capacity))
+        (path_garbage nodes.parents starts) nodes.parents published received }
+{
+    stab_core::laws::every_replay_obeys_the_link_law();
+}
+
+/// Where all links have one capacity, the bounds of a node at depth d are d times those of one
+/// link.
+pub fn bounds_of_one_capacity()
+    ensures strays { (nodes : Nodes) (capacity node : ℕ) → IsTree nodes
+        → node < length nodes.parents
+        → strays_bound nodes.parents (λ _. capacity) node ≡ depth_of nodes.parents node * capacity }
+    ensures missing { (nodes : Nodes) (capacity node : ℕ) → IsTree nodes
+        → node < length nodes.parents
+        → missing_bound nodes.parents (λ _. capacity) node
+        ≡ depth_of nodes.parents node * (2 * capacity + 1) }
+    ensures law { (nodes : Nodes) (capacity : ℕ) (starts : List Start) (published : List ℕ)
+        (received : ℕ → List ℕ)
+        → IsTree nodes
+        → TreeLawOfNodes (strays_bound nodes.parents (λ _. capacity))
+        (missing_bound nodes.parents (λ _. capacity)) (path_garbage nodes.parents starts)
+        nodes.parents published received
+        → TreeLawAtNodes capacity nodes.parents starts published received }
+{}
+
+/// Larger bounds hold where smaller ones do.
+pub fn tree_law_of_larger_bounds()
+    ensures { (few most_strays first most_missing : ℕ) (garbage published received : List ℕ)
+        → few ≤ most_strays → first ≤ most_missing
+        → TreeLaw few first garbage published received
+        → TreeLaw most_strays most_missing garbage published received }
+{}
 
 /// Where the tree law holds at every node, so does the half tree law.
 pub fn half_tree_law_at_every_node()
-    ensures { (capacity : ℕ) (parents : List (Option ℕ)) (starts : List Start) (published : List ℕ) (received : ℕ → List ℕ)
-        → TreeLawAtNodes capacity parents starts published received
-        → HalfTreeLawAtNodes capacity parents starts published received }
+    ensures { (most_strays most_missing : ℕ → ℕ) (garbage : ℕ → List ℕ)
+        (parents : List (Option ℕ)) (published : List ℕ) (received : ℕ → List ℕ)
+        → TreeLawOfNodes most_strays most_missing garbage parents published received
+        → HalfTreeLawOfNodes most_strays garbage parents published received }
 {}
 
-/// Whatever stands in the links at their lawful starts, and whatever the schedule, each node obeys the tree law.
+/// Whatever the links hold at their lawful starts, and whatever the schedule, each node obeys the
+/// tree law.
 pub fn every_schedule_obeys_the_tree_law()
-    ensures { (nodes : Nodes) (p : Parameters) (starts : List Start) (published : List ℕ) (events : List TreeEvent)
+    ensures { (nodes : Nodes) (p : Parameters) (starts : List Start) (published : List ℕ)
+        (events : List TreeEvent)
         → IsTree nodes → AreLawful p → OnePerLink nodes.parents starts → All (IsLawful p) starts
         → TreeLawAtNodes p.capacity nodes.parents starts published
         (received (tree_replay (tree_opening p nodes.parents published starts) events)) }
 {
-    stab_tree::laws::trees_have_depths();
     stab_core::laws::reachable_steps();
     stab_core::laws::every_replay_obeys_the_link_law();
 }

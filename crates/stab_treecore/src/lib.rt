@@ -1,9 +1,10 @@
 //! All links of a tree under one schedule: the tree law at every node.
 //!
-//! Contracts see a [`TreeState`] as the published items, the parent of each node and the link into each node; each call is
-//! a step of the definitions in `specs/`, which know no vector, clock or thread. The layer above uses one fact: what
-//! [`run_schedule`] answers is the replay of the schedule from the starts, and the tree law holds of it at every node.
-//! The laws alone, for whatever runs the links, stand in [`laws`].
+//! Contracts see a [`TreeState`] as the published items, the parent of each node and the link into
+//! each node; each call is a step of the definitions in `specs/`, which know no vector, clock or
+//! thread. The layer above uses one fact: what [`run_schedule`] answers is the replay of the
+//! schedule from the starts, and the tree law holds of it at every node. The laws alone, for
+//! whatever runs the links, are in [`laws`].
 #![tactic(auto)]
 
 mod event;

@@ -14,11 +14,12 @@ use stab_frames::{Item, Params};
 use stab_tree::Tree;
 use std::alloc::Global;
 
-/// The whole tree after a schedule, from the starts of its links. Where it refuses, no state is handed out.
+/// The whole tree after a schedule, from the starts of its links. Where it refuses, no state is
+/// handed out.
 ///
-/// Whatever stands in the links at the start and whatever the schedule, a node at depth d received at most d times c strays
-/// from the links on its path, then published items in their order, each at most once, none lacking before its last one
-/// except among the first d(2c + 1).
+/// Whatever the links hold at the start and whatever the schedule, a node at depth d received at
+/// most d times c strays from the links on its path, then published items in their order, each at
+/// most once, none missing before its last one except among the first d(2c + 1).
 pub fn run_schedule(
     alloc: Global,
     params: Params,
@@ -28,18 +29,22 @@ pub fn run_schedule(
     events: &[TreeEvent],
 ) -> Result<TreeState, TreeStartFault>
     ensures replay { IfOk result (λ state.
-        state ≡ tree_replay (tree_opening params tree.now.parents published.now starts.now) events.now) }
+        state ≡ tree_replay
+        (tree_opening params tree.now.parents published.now starts.now) events.now) }
     ensures same_tree { IfOk result (λ state. state.parents ≡ tree.now.parents) }
     ensures one_per_link { OnOk result (OnePerLink tree.now.parents starts.now) }
     ensures lawful { OnOk result (All (IsLawful params) starts.now) }
     ensures named { OnOk result (All (NamesLink tree.now.parents) events.now) }
-    ensures refused { IfErr result (IsScheduleReason params tree.now.parents starts.now events.now) }
+    ensures refused { IfErr result
+        (IsScheduleReason params tree.now.parents published.now starts.now events.now) }
 
     // The laws of every node.
     ensures half_tree_law { IfOk result (λ state.
-        HalfTreeLawAtNodes params.capacity tree.now.parents starts.now published.now (received state)) }
+        HalfTreeLawAtNodes params.capacity tree.now.parents starts.now published.now
+        (received state)) }
     ensures tree_law { IfOk result (λ state.
-        TreeLawAtNodes params.capacity tree.now.parents starts.now published.now (received state)) }
+        TreeLawAtNodes params.capacity tree.now.parents starts.now published.now
+        (received state)) }
 {
     let state = replayed(alloc, params, tree, published, starts, events)?;
     let _lawful = params.capacity();
@@ -59,12 +64,14 @@ fn replayed(
     events: &[TreeEvent],
 ) -> Result<TreeState, TreeStartFault>
     ensures replay { IfOk result (λ state.
-        state ≡ tree_replay (tree_opening params tree.now.parents published.now starts.now) events.now) }
+        state ≡ tree_replay
+        (tree_opening params tree.now.parents published.now starts.now) events.now) }
     ensures same_tree { IfOk result (λ state. state.parents ≡ tree.now.parents) }
     ensures one_per_link { OnOk result (OnePerLink tree.now.parents starts.now) }
     ensures lawful { OnOk result (All (IsLawful params) starts.now) }
     ensures named { OnOk result (All (NamesLink tree.now.parents) events.now) }
-    ensures refused { IfErr result (IsScheduleReason params tree.now.parents starts.now events.now) }
+    ensures refused { IfErr result
+        (IsScheduleReason params tree.now.parents published.now starts.now events.now) }
 {
     let mut state = TreeState::new(alloc, params, tree, published, starts)?;
     for event in events {

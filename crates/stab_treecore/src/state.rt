@@ -1,13 +1,14 @@
-ghost use Rattle.std.specs.Prelude.{◌≡◌, ◌↔◌, ◌<◌, length, slice_get, is_some, option_copied, option_map, option_and_then, All, IsSome, IsNone, IfOk, IfErr, OnOk, OnErr, IsErrOf};
+ghost use Rattle.std.specs.Prelude.{◌≡◌, ◌↔◌, ◌<◌, length, is_some, option_copied, option_map, All};
+ghost use Rattle.std.specs.Prelude.{IsSome, IsNone, IfOk, IfErr, OnOk, OnErr, IsErrOf};
 ghost use Rattle.std.specs.Option.{option_map_or};
 ghost use Rattle.stab_core.specs.Link.{Grows};
-ghost use Rattle.stab_core.specs.LinkActs.{event_of};
 ghost use Rattle.stab_core.specs.Replay.{IsLawful};
 ghost use Rattle.stab_tree.specs.Nodes.{parent_at};
 ghost use Rattle.stab_treecore.specs.WholeTree.{WholeTree, link_into, received, source};
 ghost use Rattle.stab_treecore.specs.Refusals.{OnePerLink, IsStartReason, NamesLink, NamesNoLink};
 ghost use Rattle.stab_treecore.specs.TreeReplay.{tree_opening};
-ghost use Rattle.stab_treecore.specs.TreeStep.{link_after, effect_on, tree_step, tree_effect};
+ghost use Rattle.stab_treecore.specs.TreeStep.{next_item, link_after, effect_on, tree_step};
+ghost use Rattle.stab_treecore.specs.TreeStep.{tree_effect};
 
 use crate::event::TreeEvent;
 use crate::fault::{TreeStartFault, TreeStepFault};
@@ -18,8 +19,8 @@ use stab_tree::{NodeId, Tree};
 use std::alloc::Global;
 use std::marker::Model;
 
-/// All links of a tree, with the items that its root publishes. Contracts see the published items, the parent of each
-/// node and the link into each node.
+/// All links of a tree, with the items that its root publishes. Contracts see the published items,
+/// the parent of each node and the link into each node.
 #[derive(Debug, Drop)]
 pub struct TreeState {
     published: Vec<Item>,
@@ -34,15 +35,24 @@ impl Model for TreeState {
 
     ghost use Rattle.stab_treecore.specs.TreeInside.{IsSound};
 
-    ghost view = { λ t. record { published = t.published.items; parents = t.parents.items; links = t.links.items } };
+    ghost view = { λ t. record {
+      published = t.published.items;
+      parents = t.parents.items;
+      links = t.links.items;
+    } };
 
-    ghost invariant = { λ t. IsSound (record { published = t.published.items; parents = t.parents.items; links = t.links.items }) };
+    ghost invariant = { λ t. IsSound (record {
+      published = t.published.items;
+      parents = t.parents.items;
+      links = t.links.items;
+    }) };
 }
 
 impl TreeState {
-    /// The whole tree at its opening. Links stand in the file order of their children, and each has its start there.
+    /// The whole tree at its opening. The starts are in the file order of the links' children.
     ///
-    /// Refused are a list of starts that has not one for each link, and then the first start that no link can begin from.
+    /// A list that has not one start for each link is refused, and then the first start that no
+    /// link can begin from; memory can be refused only where a link can begin from each start.
     pub fn new(
         alloc: Global,
         params: Params,
@@ -50,7 +60,8 @@ impl TreeState {
         published: &[Item],
         starts: &[Start],
     ) -> Result<TreeState, TreeStartFault>
-        ensures opening { IfOk result (λ state. state ≡ tree_opening params tree.now.parents published.now starts.now) }
+        ensures opening { IfOk result (λ state.
+            state ≡ tree_opening params tree.now.parents published.now starts.now) }
         ensures one_per_link { OnOk result (OnePerLink tree.now.parents starts.now) }
         ensures lawful { OnOk result (All (IsLawful params) starts.now) }
         ensures refused { IfErr result (IsStartReason params tree.now.parents starts.now) }
@@ -58,22 +69,24 @@ impl TreeState {
         if starts.len() != usize::from(tree.link_count()) {
             return Err(TreeStartFault::StartCount);
         }
-        let published = Vec::from_slice(alloc, published)?;
-        let parents = open::parents(alloc, tree)?;
-        let links = open::links(alloc, params, parents.as_slice(), starts)?;
+        open::check(params, starts)?;
+        let links = open::links(alloc, params, tree.parents(), starts)?;
+        let _root = tree.root();
         Ok(TreeState {
-            published,
-            parents,
+            published: Vec::from_slice(alloc, published)?,
+            parents: Vec::from_slice(alloc, tree.parents())?,
             links,
         })
     }
 
-    /// One step: an act on the link into a node. Where it is refused, the whole tree is as it was; memory can be refused
-    /// only where a list of that link grows.
+    /// One step: an act on the link into a node. Where it is refused, the whole tree is as it was;
+    /// memory can be refused only where a list of that link grows.
     pub fn apply(&mut self, event: TreeEvent) -> Result<Effect, TreeStepFault>
-        ensures steps { IfOk result (λ effect. (self.new ≡ tree_step self.old event) × (effect ≡ tree_effect self.old event)) }
+        ensures steps { IfOk result (λ effect.
+            (self.new ≡ tree_step self.old event) × (effect ≡ tree_effect self.old event)) }
         ensures named { OnOk result (NamesLink self.old.parents event) }
-        ensures no_such_link { IsErrOf result TreeStepFault.NoSuchLink ↔ NamesNoLink self.old.parents event }
+        ensures no_such_link { IsErrOf result TreeStepFault.NoSuchLink
+            ↔ NamesNoLink self.old.parents event }
         ensures memory { IsErrOf result TreeStepFault.Memory → Grows (tree_effect self.old event) }
         ensures unchanged { OnErr result (self.new ≡ self.old) }
     {
@@ -81,7 +94,7 @@ impl TreeState {
         if place >= self.links.len() {
             return Err(TreeStepFault::NoSuchLink);
         }
-        let event = self.event_on(event);
+        let event = event.act.event(self.next_item(event.child));
         step(&mut self.links[place], event)
     }
 
@@ -114,21 +127,12 @@ impl TreeState {
         }
     }
 
-    /// The item that the link into a node offers next.
+    /// The item that the link into a node is to be offered next.
     fn next_item(&self, child: NodeId) -> Option<Item>
-        ensures { result ≡ option_and_then (λ link. slice_get (source self.now child) (length link.state.offered)) (link_into self.now child) }
+        ensures { result ≡ next_item self.now child }
     {
         let link = self.link(child)?;
         self.source(child).get(link.offered().len()).copied()
-    }
-
-    /// The event of an act on the link into its child; an offer is of the item that comes next, and nothing where there is
-    /// none.
-    fn event_on(&self, event: TreeEvent) -> Option<Event>
-        ensures { result ≡ event_of event.act
-            (option_and_then (λ link. slice_get (source self.now event.child) (length link.state.offered)) (link_into self.now event.child)) }
-    {
-        event.act.event(self.next_item(event.child))
     }
 }
 
@@ -136,10 +140,12 @@ impl TreeState {
 fn step(link: &mut Option<Link>, event: Option<Event>) -> Result<Effect, TreeStepFault>
     ensures link { IfOk result (λ _. link.new ≡ option_map (link_after event) link.old) }
     ensures kind { is_some link.new ≡ is_some link.old }
-    ensures effect { IfOk result (λ effect. effect ≡ option_map_or (effect_on event) link.old Effect.Nothing) }
+    ensures effect { IfOk result (λ effect.
+        effect ≡ option_map_or (effect_on event) link.old Effect.Nothing) }
     ensures named { OnOk result (IsSome link.old) }
     ensures no_such_link { IsErrOf result TreeStepFault.NoSuchLink ↔ IsNone link.old }
-    ensures memory { IsErrOf result TreeStepFault.Memory → Grows (option_map_or (effect_on event) link.old Effect.Nothing) }
+    ensures memory { IsErrOf result TreeStepFault.Memory
+        → Grows (option_map_or (effect_on event) link.old Effect.Nothing) }
     ensures unchanged { OnErr result (link.new ≡ link.old) }
 {
     let Some(link) = link else {

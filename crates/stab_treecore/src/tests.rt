@@ -11,13 +11,21 @@ use std::process::Abort;
 use std::test::Fail;
 
 /// The chain r, a, b.
-const CHAIN: &str =
-    "[{\"name\":\"r\"},{\"name\":\"a\",\"parent\":\"r\"},{\"name\":\"b\",\"parent\":\"a\"}]";
+const CHAIN: &str = r#"[{"name":"r"},{"name":"a","parent":"r"},{"name":"b","parent":"a"}]"#;
+
+/// The places of the chain's nodes, and one place past them.
+const ROOT: u16 = 0;
+
+const A: u16 = 1;
+
+const B: u16 = 2;
+
+const STRANGER: u16 = 3;
 
 /// The published items of the chain's tests.
 const ITEMS: [Item; 7] = [10, 11, 12, 13, 14, 15, 16];
 
-/// The acts of the worst start, and the two that leave the sender idle.
+/// The acts of the worst start, and the two after which the sender is idle.
 const WORST: [LinkAct; 14] = [
     LinkAct::Offer,
     LinkAct::RecvAck { keep: false },
@@ -35,8 +43,23 @@ const WORST: [LinkAct; 14] = [
     LinkAct::RecvAck { keep: false },
 ];
 
-/// What the worst start has in its queues, at each of the chain's two links.
-const WORST_STARTS: [(&[Item], usize); 2] = [(&[99], 1), (&[98], 1)];
+/// The worst start of each of the chain's two links: its frames, and the number of its
+/// acknowledgements.
+const WORST_STARTS: [(&[Frame], usize); 2] = [(&[STRAY_99], 1), (&[STRAY_98], 1)];
+
+const STRAY_99: Frame = Frame { label: 2, item: 99 };
+
+const STRAY_98: Frame = Frame { label: 2, item: 98 };
+
+/// What the whole tree is after that schedule.
+const TWO_LINKS: &str = "\
+r depth 0 received 7 acked -
+items: 10 11 12 13 14 15 16
+a depth 1 received 5 acked 7
+items: 99 13 14 15 16
+b depth 2 received 3 acked 5
+items: 98 15 16
+";
 
 /// One item goes from the parent to the child, undisturbed.
 const ROUND: [LinkAct; 5] = [
@@ -52,33 +75,21 @@ fn tree(rt: &impl Abort, alloc: Global, text: &str) -> Result<Tree, TreeFault> {
     read_tree(alloc, &value)
 }
 
-/// Frames of these items, each with label 2.
-fn frames(alloc: Global, items: &[Item]) -> Result<Sequence<Frame>, AllocError> {
-    let mut frames = Sequence::new(alloc);
-    for item in items {
-        frames.push(Frame {
-            label: 2,
-            item: *item,
-        })?;
-    }
-    Ok(frames)
-}
-
-/// A start with frames of these items, and so many acknowledgements, each 0.
-fn start(alloc: Global, items: &[Item], acks: usize) -> Result<Start, AllocError> {
+/// A start with these frames, and this number of acknowledgements, each 0.
+fn start(alloc: Global, frames: &[Frame], acks: usize) -> Result<Start, AllocError> {
     Ok(Start {
-        frames: frames(alloc, items)?,
+        frames: Sequence::from_vec(Vec::from_slice(alloc, frames)?),
         acks: Sequence::from_vec(vec![in alloc; 0; acks]?),
         send_label: 0,
         recv_label: 1,
     })
 }
 
-/// A start for each link: the items of its frames, and how many acknowledgements it holds.
-fn starts(alloc: Global, links: &[(&[Item], usize)]) -> Result<Vec<Start>, AllocError> {
+/// A start for each link, from its frames and the number of its acknowledgements.
+fn starts(alloc: Global, links: &[(&[Frame], usize)]) -> Result<Vec<Start>, AllocError> {
     let mut starts = Vec::new(alloc);
-    for (items, acks) in links {
-        starts.push(start(alloc, *items, *acks)?)?;
+    for (frames, acks) in links {
+        starts.push(start(alloc, *frames, *acks)?)?;
     }
     Ok(starts)
 }
@@ -95,62 +106,54 @@ fn push_acts(
     Ok(())
 }
 
-/// The schedule of two links: each finds the worst start, and then items go on undisturbed.
-fn two_links(alloc: Global, a: NodeId, b: NodeId) -> Result<Vec<TreeEvent>, AllocError> {
+/// The schedule of two links: each link meets the worst start, and then items go on undisturbed.
+fn two_links(alloc: Global) -> Result<Vec<TreeEvent>, AllocError> {
     let mut schedule = Vec::new(alloc);
     for (child, acts) in [
-        (a, WORST.as_slice()),
-        (a, ROUND.as_slice()),
-        (a, ROUND.as_slice()),
-        (a, ROUND.as_slice()),
-        (b, WORST.as_slice()),
-        (b, ROUND.as_slice()),
+        (A, WORST.as_slice()),
+        (A, ROUND.as_slice()),
+        (A, ROUND.as_slice()),
+        (A, ROUND.as_slice()),
+        (B, WORST.as_slice()),
+        (B, ROUND.as_slice()),
     ] {
-        push_acts(&mut schedule, child, acts)?;
+        push_acts(&mut schedule, NodeId::new(child), acts)?;
     }
     Ok(schedule)
 }
 
-/// How a schedule of the chain from these starts is refused, or `None` where it is not.
-fn refusal(
+/// The text of the chain after a schedule from these starts, or why the schedule is refused.
+fn outcome(
     alloc: Global,
     tree: &Tree,
-    links: &[(&[Item], usize)],
+    links: &[(&[Frame], usize)],
     events: &[TreeEvent],
-) -> Result<Option<TreeStartFault>, Fail> {
+) -> Result<Result<String, TreeStartFault>, Fail> {
     let params = Params::new(1, 4)?;
     let starts = starts(alloc, links)?;
-    Ok(run_schedule(alloc, params, tree, &ITEMS, &starts, events).err())
+    match run_schedule(alloc, params, tree, &ITEMS, &starts, events) {
+        Ok(state) => Ok(Ok(schedule_text(alloc, tree, &state)?)),
+        Err(fault) => Ok(Err(fault)),
+    }
 }
 
 #[test]
-fn two_links_under_one_schedule(rt: HostRuntime) -> Result<(), Fail> {
+fn two_links_under_one_schedule_deliver_one_stray_each(rt: HostRuntime) -> Result<(), Fail> {
     let tree = tree(&rt, rt.alloc(), CHAIN)?;
-    let a = tree.find("a").expect(&rt, "a node");
-    let b = tree.find("b").expect(&rt, "a node");
-    let starts = starts(rt.alloc(), &WORST_STARTS)?;
-    let schedule = two_links(rt.alloc(), a, b)?;
-    let params = Params::new(1, 4)?;
-    let state = run_schedule(rt.alloc(), params, &tree, &ITEMS, &starts, &schedule)?;
-    assert!(rt; state.received(a) == [99, 13, 14, 15, 16].as_slice());
-    assert!(rt; state.received(b) == [98, 15, 16].as_slice());
-    assert_eq!(rt; state.link(b).map(|link| link.acked()), Some(5));
-    let text = schedule_text(rt.alloc(), &tree, &state)?;
-    assert_eq!(rt;
-        text.as_str(),
-        "r depth 0 received 7 acked -\nitems: 10 11 12 13 14 15 16\na depth 1 received 5 acked 7\nitems: 99 13 14 15 16\nb depth 2 received 3 acked 5\nitems: 98 15 16\n"
-    );
+    let schedule = two_links(rt.alloc())?;
+    let text = outcome(rt.alloc(), &tree, &WORST_STARTS, &schedule)??;
+    assert_eq!(rt; text.as_str(), TWO_LINKS);
     Ok(())
 }
 
 #[test]
-fn refused_starts(rt: HostRuntime) -> Result<(), Fail> {
+fn refuses_the_first_unlawful_start_in_file_order(rt: HostRuntime) -> Result<(), Fail> {
     let tree = tree(&rt, rt.alloc(), CHAIN)?;
     let frames = Some(TreeStartFault::Start(StartFault::TooManyFrames));
     let acks = Some(TreeStartFault::Start(StartFault::TooManyAcks));
-    let one: [(&[Item], usize); 1] = [(&[99], 1)];
-    let second: [(&[Item], usize); 2] = [(&[99], 1), (&[98, 97], 1)];
-    let both: [(&[Item], usize); 2] = [(&[99], 2), (&[98, 97], 1)];
+    let one: [(&[Frame], usize); 1] = [(&[STRAY_99], 1)];
+    let second: [(&[Frame], usize); 2] = [(&[STRAY_99], 1), (&[STRAY_98, STRAY_99], 1)];
+    let both: [(&[Frame], usize); 2] = [(&[STRAY_99], 2), (&[STRAY_98, STRAY_99], 1)];
     let rows = [
         (one.as_slice(), Some(TreeStartFault::StartCount)),
         (second.as_slice(), frames),
@@ -158,19 +161,19 @@ fn refused_starts(rt: HostRuntime) -> Result<(), Fail> {
         (WORST_STARTS.as_slice(), None),
     ];
     for (links, want) in rows {
-        assert_eq!(rt; refusal(rt.alloc(), &tree, links, &[])?, want);
+        assert_eq!(rt; outcome(rt.alloc(), &tree, links, &[])?.err(), want);
     }
     Ok(())
 }
 
 #[test]
-fn schedule_on_the_root(rt: HostRuntime) -> Result<(), Fail> {
+fn refuses_the_first_event_that_names_no_link(rt: HostRuntime) -> Result<(), Fail> {
     let tree = tree(&rt, rt.alloc(), CHAIN)?;
-    let on_root = [TreeEvent {
-        child: tree.root(),
-        act: LinkAct::Offer,
-    }];
-    let fault = refusal(rt.alloc(), &tree, &WORST_STARTS, &on_root)?;
+    let mut events = Vec::new(rt.alloc());
+    for child in [A, ROOT, A] {
+        push_acts(&mut events, NodeId::new(child), &[LinkAct::Offer])?;
+    }
+    let fault = outcome(rt.alloc(), &tree, &WORST_STARTS, &events)?.err();
     assert_eq!(rt;
         fault,
         Some(TreeStartFault::Step(TreeStepFault::NoSuchLink))
@@ -179,41 +182,36 @@ fn schedule_on_the_root(rt: HostRuntime) -> Result<(), Fail> {
 }
 
 #[test]
-fn offer_of_nothing(rt: HostRuntime) -> Result<(), Fail> {
+fn an_offer_of_nothing_does_nothing(rt: HostRuntime) -> Result<(), Fail> {
     let tree = tree(&rt, rt.alloc(), CHAIN)?;
-    let a = tree.find("a").expect(&rt, "a node");
-    let b = tree.find("b").expect(&rt, "a node");
     let starts = starts(rt.alloc(), &WORST_STARTS)?;
     let mut state = TreeState::new(rt.alloc(), Params::new(1, 4)?, &tree, &ITEMS, &starts)?;
     let steps = [
-        (b, LinkAct::Offer, Ok(Effect::Nothing)),
-        (a, LinkAct::RecvFrame { keep: true }, Ok(Effect::Fresh(99))),
-        (b, LinkAct::Offer, Ok(Effect::Held)),
-        (b, LinkAct::LoseFrame(0), Ok(Effect::Lost)),
-        (b, LinkAct::LoseAck(1), Ok(Effect::Nothing)),
-        (b, LinkAct::Close, Ok(Effect::Closed)),
-        (tree.root(), LinkAct::Offer, Err(TreeStepFault::NoSuchLink)),
-        (
-            NodeId::new(3),
-            LinkAct::Close,
-            Err(TreeStepFault::NoSuchLink),
-        ),
+        (B, LinkAct::Offer, Ok(Effect::Nothing)),
+        (A, LinkAct::RecvFrame { keep: true }, Ok(Effect::Fresh(99))),
+        (B, LinkAct::Offer, Ok(Effect::Held)),
+        (B, LinkAct::LoseFrame(0), Ok(Effect::Lost)),
+        (B, LinkAct::LoseAck(1), Ok(Effect::Nothing)),
+        (B, LinkAct::Close, Ok(Effect::Closed)),
+        (ROOT, LinkAct::Offer, Err(TreeStepFault::NoSuchLink)),
+        (STRANGER, LinkAct::Close, Err(TreeStepFault::NoSuchLink)),
     ];
-    for (child, act, want) in steps {
+    for (place, act, want) in steps {
+        let child = NodeId::new(place);
         assert_eq!(rt;
             state.apply(TreeEvent { child, act }),
             want,
-            "{child:?} {act:?}"
+            "{place} {act:?}"
         );
     }
-    assert!(rt; state.link(tree.root()).is_none());
-    assert!(rt; state.link(NodeId::new(3)).is_none());
+    assert!(rt; state.link(NodeId::new(ROOT)).is_none());
+    assert!(rt; state.link(NodeId::new(STRANGER)).is_none());
     Ok(())
 }
 
 #[test]
-fn a_lone_root(rt: HostRuntime) -> Result<(), Fail> {
-    let tree = tree(&rt, rt.alloc(), "[{\"name\":\"r\"}]")?;
+fn a_lone_root_has_what_it_publishes(rt: HostRuntime) -> Result<(), Fail> {
+    let tree = tree(&rt, rt.alloc(), r#"[{"name":"r"}]"#)?;
     let state = run_schedule(rt.alloc(), Params::new(1, 4)?, &tree, &[7, 8], &[], &[])?;
     let text = schedule_text(rt.alloc(), &tree, &state)?;
     assert_eq!(rt; text.as_str(), "r depth 0 received 2 acked -\nitems: 7 8\n");
@@ -221,7 +219,7 @@ fn a_lone_root(rt: HostRuntime) -> Result<(), Fail> {
 }
 
 #[test]
-fn the_first_line_of_a_node(rt: HostRuntime) -> Result<(), Fail> {
+fn the_counts_of_a_node_are_a_line_without_its_end(rt: HostRuntime) -> Result<(), Fail> {
     let mut text = String::new(rt.alloc());
     push_node_counts(&mut text, "a", 1, 5, Some(7))?;
     assert_eq!(rt; text.as_str(), "a depth 1 received 5 acked 7");
@@ -229,7 +227,7 @@ fn the_first_line_of_a_node(rt: HostRuntime) -> Result<(), Fail> {
 }
 
 #[test]
-fn texts_of_faults(rt: HostRuntime) -> Result<(), Fail> {
+fn each_fault_prints_its_text(rt: HostRuntime) -> Result<(), Fail> {
     let texts = [
         (TreeStartFault::StartCount, "start: wrong number of starts"),
         (

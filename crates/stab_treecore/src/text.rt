@@ -1,7 +1,8 @@
 //! The printed lines of a whole tree, and the piece that the report of a run shares.
 
 ghost use Rattle.std.specs.Prelude.{◌≡◌, ◌++◌, ◌<◌, length, string_bytes, OnOk, IfOk};
-ghost use Rattle.stab_treecore.specs.Texts.{acked_entry, node_counts, node_text, lines_of, schedule_text};
+ghost use Rattle.stab_treecore.specs.Texts.{acked_entry, node_counts, node_text, lines_of};
+ghost use Rattle.stab_treecore.specs.Texts.{schedule_text};
 
 use crate::state::TreeState;
 use stab_core::{Link, push_items_line, push_number};
@@ -9,8 +10,8 @@ use stab_frames::Item;
 use stab_tree::{NodeId, Tree};
 use std::alloc::{AllocError, Global};
 
-/// The lines of each node in file order: its name, its depth, how many items it received and how many are acknowledged on
-/// the link into it; and the items that it received.
+/// The lines of each node in file order: its name, its depth, how many items it received and how
+/// many are acknowledged on the link into it; and the items that it received.
 #[tactic(auto, unfolding(crate::specs::Texts::schedule_text))]
 pub fn schedule_text(alloc: Global, tree: &Tree, state: &TreeState) -> Result<String, AllocError>
     requires { state.now.parents ≡ tree.now.parents }
@@ -23,6 +24,7 @@ pub fn schedule_text(alloc: Global, tree: &Tree, state: &TreeState) -> Result<St
     Ok(text)
 }
 
+/// Adds the lines of a node of the tree.
 fn push_node(
     text: &mut String,
     tree: &Tree,
@@ -30,8 +32,9 @@ fn push_node(
     node: NodeId,
 ) -> Result<(), AllocError>
     requires same_tree { state.now.parents ≡ tree.now.parents }
-    requires within { node < length tree.now.parents }
-    ensures { OnOk result (string_bytes text.new ≡ string_bytes text.old ++ lines_of tree.now state.now node) }
+    requires known { node < length tree.now.parents }
+    ensures { OnOk result
+        (string_bytes text.new ≡ string_bytes text.old ++ lines_of tree.now state.now node) }
 {
     let acked = state.link(node).map(Link::acked);
     push_lines(
@@ -43,7 +46,7 @@ fn push_node(
     )
 }
 
-/// Adds the two lines of a node.
+/// Adds the two lines of a node from its parts.
 #[tactic(auto, unfolding(crate::specs::Texts::node_text))]
 fn push_lines(
     text: &mut String,
@@ -52,15 +55,17 @@ fn push_lines(
     received: &[Item],
     acked: Option<u64>,
 ) -> Result<(), AllocError>
-    ensures { OnOk result (string_bytes text.new ≡ string_bytes text.old ++ node_text name.now depth received.now acked) }
+    ensures { OnOk result (string_bytes text.new
+        ≡ string_bytes text.old ++ node_text name.now depth received.now acked) }
 {
     push_node_counts(text, name, depth, received.len() as u64, acked)?;
     text.push_str("\n")?;
     push_items_line(text, "items:", received)
 }
 
-/// Adds the first line of a node without its end: its name, its depth, how many items it received, and how many are
-/// acknowledged on the link into it. Where memory is refused, part of the line may stand.
+/// Adds the first line of a node without its end: its name, its depth, how many items it received,
+/// and how many are acknowledged on the link into it. Where memory is refused, part of the line may
+/// have been added.
 #[tactic(auto, unfolding(crate::specs::Texts::node_counts))]
 pub fn push_node_counts(
     text: &mut String,
@@ -69,7 +74,8 @@ pub fn push_node_counts(
     received: u64,
     acked: Option<u64>,
 ) -> Result<(), AllocError>
-    ensures { OnOk result (string_bytes text.new ≡ string_bytes text.old ++ node_counts name.now depth received acked) }
+    ensures { OnOk result (string_bytes text.new
+        ≡ string_bytes text.old ++ node_counts name.now depth received acked) }
 {
     text.push_str(name)?;
     text.push_str(" depth")?;
@@ -80,8 +86,10 @@ pub fn push_node_counts(
     push_acked(text, acked)
 }
 
+/// Adds how many items are acknowledged, or `-` where there is no link.
 fn push_acked(text: &mut String, acked: Option<u64>) -> Result<(), AllocError>
-    ensures { OnOk result (string_bytes text.new ≡ string_bytes text.old ++ acked_entry acked) }
+    ensures { OnOk result
+        (string_bytes text.new ≡ string_bytes text.old ++ acked_entry acked) }
 {
     match acked {
         None => text.push_str(" -"),

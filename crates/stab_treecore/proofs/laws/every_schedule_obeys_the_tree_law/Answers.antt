@@ -4,4 +4,3 @@ use Rattle.stab_treecore.proofs.laws.every_schedule_obeys_the_tree_law.Goals as 
 pub returns : goal.returns
 returns c nodes p starts published events tree =
     schedule_obeys c.reachable_steps.ensures c.every_replay_obeys_the_link_law.ensures nodes p starts published events tree
-    (c.trees_have_depths.ensures nodes tree)

@@ -1,5 +1,6 @@
-use Rattle.stab_treecore.proofs.Upwards.{tree_law_below}
+use Rattle.stab_treecore.proofs.Upwards.{law_below}
 use Rattle.stab_treecore.proofs.laws.tree_law_of_the_child.Goals as goal
 
 pub returns : goal.returns
-returns c = tree_law_below
+returns c capacity most_strays most_missing acked start_items garbage published received offered delivered begins =
+    law_below capacity most_strays acked start_items garbage published received offered delivered begins most_missing

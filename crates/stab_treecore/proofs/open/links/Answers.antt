@@ -1,7 +1,8 @@
-use Rattle.std.proofs.Common.{◌≡◌, ◌+◌, None, Some, get_or, ap, sym, ◌∙◌, arith}
+use Rattle.std.proofs.Common.{◌≡◌, ◌+◌, None, Some, get_or, ap, sym, ◌∙◌, subst, arith}
 use Rattle.std.proofs.lemmas.List.{get_or_read}
 use Rattle.std.proofs.lemmas.Result.{err_from_is_err_and}
-use Rattle.stab_treecore.proofs.Opened.{opened_root, opened_child, start_left, opened_all, opening_reason}
+use Rattle.stab_core.specs.Replay.{IsLawful}
+use Rattle.stab_treecore.proofs.Opened.{opened_root, opened_child, start_left, lawful_refused}
 use Rattle.stab_treecore.proofs.open.links.Goals as goal
 use Rattle.stab_treecore.proofs.open.links.Goals.{in-None, in-Some+in_ok-new-in-Some}
 
@@ -9,12 +10,13 @@ pub returns-in_err-new-in-Some-clause-refused : goal.returns-in_err-new-in-Some-
 returns-in_err-new-in-Some-clause-refused c =
     let child : get_or c.args.parents.now c.loop-parent.parent-index None ≡ Some c.in-Some.field-0 =
     sym (get_or_read c.args.parents.now c.loop-parent.parent-index c.parent-item.result c.loop-parent-test.true c.parent-item.is None) ∙ c.in-Some.is in
-    let left = start_left c.args.params c.args.parents.now c.args.starts.now c.loop-parent.links.items c.loop-parent.begun c.loop-parent.parent-index
+    let here = start_left c.args.params c.args.parents.now c.args.starts.now c.loop-parent.links.items c.loop-parent.begun c.loop-parent.parent-index
     c.loop-parent.invariant.2 c.loop-parent-test.true c.in-Some.field-0 child in
     let p = err_from_is_err_and c.from_residual-in_err-new-in-Some.result c.from_residual-in_err-new-in-Some.ensures.1 in
     rw (p.1, p.2)
-    (opening_reason c.args.params c.args.starts.now c.loop-parent.begun c.index-starts-begun.result c.in_err-new-in-Some.field-0.0
-    left c.index-starts-begun.is c.loop-parent.invariant.2.lawful c.in_err-new-in-Some.ensures.refused)
+    (lawful_refused c.args.params c.args.starts.now c.index-starts-begun.result c.in_err-new-in-Some.field-0.0 c.requires.lawful
+    (subst (IsLawful c.args.params) (sym c.index-starts-begun.is) (c.requires.lawful c.loop-parent.begun c.index-starts-begun.result here))
+    c.in_err-new-in-Some.ensures.refused)
 
 pub loop-parent-preserved : goal.loop-parent-preserved
 loop-parent-preserved c =
@@ -33,11 +35,6 @@ loop-parent-preserved c =
         rw (w.links-is, w.begun-is, w.push_reserved-in-Some.ensures.items, w.in_ok-new-in-Some.ensures.opening)
             (opened_child c.args.params c.args.parents.now c.args.starts.now c.loop-parent.links.items c.loop-parent.begun c.loop-parent.parent-index
             c.loop-parent.invariant.2 c.loop-parent-test.true w.in-Some.field-0 w.index-starts-begun.result (sym read ∙ w.in-Some.is)
-            w.index-starts-begun.is w.in_ok-new-in-Some.ensures.lawful),
+            w.index-starts-begun.is),
       )
     ]
-
-pub returns-clause-lawful : goal.returns-clause-lawful
-returns-clause-lawful c =
-    (opened_all c.args.params c.args.parents.now c.args.starts.now c.loop-parent.links.items c.loop-parent.begun c.loop-parent.parent-index
-    c.loop-parent.invariant.2 (omega arith)).1

@@ -2,12 +2,15 @@ use Rattle.std.proofs.Common.{◌≡◌, ◌+◌, ◌∙◌, ◌∷◌, All, ap,
 use Rattle.std.proofs.lemmas.List.{at_drop_more, take_all}
 use Rattle.std.proofs.lemmas.List.Elements.{All-more}
 use Rattle.stab_treecore.specs.Refusals.{NamesLink}
-use Rattle.stab_treecore.specs.TreeReplay.{tree_replay}
+use Rattle.stab_treecore.specs.TreeReplay.{tree_opening, tree_replay}
 use Rattle.stab_treecore.specs.TreeStep.{tree_step}
+use Rattle.stab_treecore.specs.WholeTree.{WholeTree}
+use Rattle.stab_treecore.proofs.Refused.{CarriesOver, carries_on}
 use Rattle.stab_treecore.proofs.schedule.replayed.Goals as goal
 
 pub loop-event-preserved : goal.loop-event-preserved
 loop-event-preserved c =
+    let t : WholeTree = tree_opening c.args.params c.args.tree.now.parents c.args.published.now c.args.starts.now in
     let stepped : c.apply.new.self ≡ tree_step c.loop-event.state c.event-item.result = c.in_ok-apply.ensures.steps.0 in
     let names : NamesLink c.args.tree.now.parents (get_or c.args.events.now c.loop-event.event-index c.event-item.result) =
     rw (← c.event-item.is, ← c.loop-event.invariant.0) c.in_ok-apply.ensures.named in (
@@ -17,6 +20,9 @@ loop-event-preserved c =
           ∙ (ap (λ e. tree_replay c.loop-event.state (e ∷ drop (c.loop-event.event-index + 1) c.args.events.now)) c.event-item.is
           ∙ (sym (at_drop_more (tree_replay c.loop-event.state) c.args.events.now c.loop-event.event-index c.event-item.result c.loop-event-test.true)
           ∙ c.loop-event.invariant.2)),
+      subst (λ now. CarriesOver now (drop (c.loop-event.event-index + 1) c.args.events.now) t c.args.events.now) (sym stepped)
+          (carries_on t c.loop-event.state c.args.events.now c.loop-event.event-index c.event-item.result c.loop-event-test.true c.event-item.is
+          c.loop-event.invariant.3 c.in_ok-apply.ensures.named),
     )
 
 pub returns-clause-named : goal.returns-clause-named

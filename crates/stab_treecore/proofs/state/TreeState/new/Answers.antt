@@ -4,7 +4,7 @@ use Rattle.stab_treecore.proofs.state.TreeState.new.Goals as goal
 
 pub invariant_of-result : goal.invariant_of-result
 invariant_of-result c =
-    rw (c.in_ok-links.ensures.links, c.as_slice.ensures.value, c.in_ok-parents.ensures.parents) (record {
+    rw (c.in_ok-links.ensures.links, c.in_ok-from_slice-2.ensures.items, c.parents-2.ensures.value, c.parents.ensures.value) (record {
       linked = linked_nodes c.args.params c.args.tree.now.parents c.args.starts.now 0 (omega arith);
-      known_parents = c.in_ok-parents.ensures.tree.known_parents;
+      known_parents = c.root-root.ensures.tree.known_parents;
     })

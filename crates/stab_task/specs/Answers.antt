@@ -1,0 +1,85 @@
+-- What the program writes for what it reads, and why it may not.
+-- Source: this project's own.
+use Rattle.std.specs.Prelude.{◌≡◌, ◌≢◌, ℕ, ◌<◌, Bool, List, [], ◌++◌, length, All, if◌then◌else◌, Ok, Err}
+use Rattle.stab_core.specs.declared.event.Event.{Event}
+use Rattle.stab_core.specs.Replay.{opening, replay, IsLawful}
+use Rattle.stab_core.specs.Trace.{traced_opening, traced_replay}
+use Rattle.stab_core.specs.Link.{IsReason}
+use Rattle.stab_core.specs.Texts.{link_text, origins_text}
+use Rattle.stab_script.specs.declared.link_job.LinkJob.{LinkJob as OneLink}
+use Rattle.stab_script.specs.declared.link_job.LinkJobFault.TheVariants.{Memory as out_of_memory}
+use Rattle.stab_run.specs.declared.fault.JobFault.TheVariants.{Memory as no_memory}
+use Rattle.stab_run.specs.JobValues.{JobValue}
+use Rattle.stab_run.specs.Jobs.{job as whole_job}
+use Rattle.stab_treecore.specs.Refusals.{NamesLink, IsScheduleReason}
+use Rattle.stab_treecore.specs.Texts.{schedule_text}
+use Rattle.stab_treecore.specs.TreeReplay.{tree_opening, tree_replay}
+use Rattle.stab_script.specs.LinkJobs.{link_job}
+use Rattle.stab_task.specs.declared.command.Task.{Task}
+use Rattle.stab_task.specs.declared.command.Task.TheVariants.{Link, Tree as WholeTreeTask}
+use Rattle.stab_task.specs.declared.fault.CliFault.{CliFault}
+use Rattle.stab_task.specs.declared.fault.CliFault.TheVariants.{CommandLine, Open, Read, TooLong, LinkJob, Job, Start, Tree, Write, Memory}
+use Rattle.stab_task.specs.Loading.{most_bytes}
+
+-- the text of a link job: the link after its replay, and with a trace the origins of what it delivered
+abbrev pub link_answer : Bool → OneLink → List ℕ
+link_answer trace job =
+    link_text (replay job.params (opening job.start) job.events)
+    ++ (if trace then origins_text (traced_replay job.params (traced_opening job.start) job.events).origins else [])
+
+-- these bytes are a link job with a lawful start, and this is its text
+pub record IsLinkAnswer (trace : Bool) (input text : List ℕ) : Type 0 where
+  pub job : OneLink
+  pub read : link_job input ≡ Ok job
+  pub lawful : IsLawful job.params job.start
+  pub the_text : text ≡ link_answer trace job
+
+-- the text of a whole tree: its nodes after the replay of its schedule
+abbrev pub tree_answer : JobValue → List ℕ
+tree_answer job =
+    schedule_text job.tree (tree_replay (tree_opening job.params job.tree.parents job.items job.starts) job.schedule)
+
+-- these bytes are a job with lawful starts whose schedule names links alone, and this is the text of its tree
+pub record IsTreeAnswer (input text : List ℕ) : Type 0 where
+  pub job : JobValue
+  pub read : whole_job input ≡ Ok job
+  pub lawful : All (IsLawful job.params) job.starts
+  pub named : All (NamesLink job.tree.parents) job.schedule
+  pub the_text : text ≡ tree_answer job
+
+-- the text of a task for these bytes
+abbrev pub IsAnswer : Task → List ℕ → List ℕ → Type 0
+IsAnswer (Link trace) input text = IsLinkAnswer trace input text
+IsAnswer WholeTreeTask input text = IsTreeAnswer input text
+
+-- why a link job has no answer
+abbrev pub IsLinkFault : List ℕ → CliFault → Type 0
+IsLinkFault input CommandLine = ⊥
+IsLinkFault input Open = ⊥
+IsLinkFault input Read = Unit {0}
+IsLinkFault input TooLong = most_bytes < length input
+IsLinkFault input (LinkJob refusal) = refusal ≢ out_of_memory → link_job input ≡ Err refusal
+IsLinkFault input (Job refusal) = ⊥
+IsLinkFault input (Start refusal) = (job : OneLink) × (link_job input ≡ Ok job) × IsReason job.params job.start refusal
+IsLinkFault input (Tree refusal) = ⊥
+IsLinkFault input Write = Unit {0}
+IsLinkFault input Memory = Unit {0}
+
+-- why a job has no answer
+abbrev pub IsTreeFault : List ℕ → CliFault → Type 0
+IsTreeFault input CommandLine = ⊥
+IsTreeFault input Open = ⊥
+IsTreeFault input Read = Unit {0}
+IsTreeFault input TooLong = most_bytes < length input
+IsTreeFault input (LinkJob refusal) = ⊥
+IsTreeFault input (Job refusal) = refusal ≢ no_memory → whole_job input ≡ Err refusal
+IsTreeFault input (Start refusal) = ⊥
+IsTreeFault input (Tree refusal) =
+    (job : JobValue) × (whole_job input ≡ Ok job) × IsScheduleReason job.params job.tree.parents job.items job.starts job.schedule refusal
+IsTreeFault input Write = Unit {0}
+IsTreeFault input Memory = Unit {0}
+
+-- why a task has no answer for these bytes
+abbrev pub IsFault : Task → List ℕ → CliFault → Type 0
+IsFault (Link trace) input fault = IsLinkFault input fault
+IsFault WholeTreeTask input fault = IsTreeFault input fault

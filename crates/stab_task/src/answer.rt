@@ -1,0 +1,109 @@
+ghost use Rattle.std.specs.Prelude.{◌≡◌, ◌≢◌, ◌++◌, List, ℕ, string_bytes, IfSome, IfOk, IfErr, OnOk};
+ghost use Rattle.std.specs.Io.KnownBytes.{Appends, Keeps};
+ghost use Rattle.stab_task.specs.Answers.{IsLinkAnswer, IsTreeAnswer, IsAnswer, IsLinkFault, IsTreeFault, IsFault};
+
+use crate::command::Task;
+use crate::fault::CliFault;
+use crate::file::load;
+use stab_core::{link_text, origins_text, run_link, run_traced};
+use stab_run::read_job;
+use stab_script::read_link_job;
+use stab_treecore::{run_schedule, schedule_text};
+use std::alloc::Global;
+use std::io::{Read, Write};
+use std::sync::Wait;
+
+/// Reads a job, does the task, and writes the whole text; or writes nothing where the fault is another than `Write`.
+///
+/// No task so far waits for anybody.
+pub fn act<T: Wait, R: Read, W: Write>(
+    rt: &T,
+    alloc: Global,
+    task: Task,
+    reader: &mut R,
+    writer: &mut W,
+) -> Result<(), CliFault>
+    ensures answer { OnOk result (IfSome (R.remaining reader.old) (λ input.
+        (text : List ℕ) × IsAnswer task input text × Appends (W.contents writer.old) (W.contents writer.new) text)) }
+    ensures fault { IfErr result (λ fault. IfSome (R.remaining reader.old) (λ input. IsFault task input fault)) }
+    ensures nothing { IfErr result (λ fault. fault ≢ CliFault.Write → Keeps (W.contents writer.old) (W.contents writer.new)) }
+{
+    let _ = rt;
+    answer(alloc, task, reader, writer)
+}
+
+/// The same, and it returns.
+fn answer<R: Read, W: Write>(
+    alloc: Global,
+    task: Task,
+    reader: &mut R,
+    writer: &mut W,
+) -> Result<(), CliFault>
+    ensures answer { OnOk result (IfSome (R.remaining reader.old) (λ input.
+        (text : List ℕ) × IsAnswer task input text × Appends (W.contents writer.old) (W.contents writer.new) text)) }
+    ensures fault { IfErr result (λ fault. IfSome (R.remaining reader.old) (λ input. IsFault task input fault)) }
+    ensures nothing { IfErr result (λ fault. fault ≢ CliFault.Write → Keeps (W.contents writer.old) (W.contents writer.new)) }
+{
+    let text = text_of(alloc, task, reader)?;
+    write_text(writer, &text)
+}
+
+/// The text of a task for what the reader gives.
+fn text_of<R: Read>(alloc: Global, task: Task, reader: &mut R) -> Result<String, CliFault>
+    ensures answer { IfOk result (λ text. IfSome (R.remaining reader.old) (λ input. IsAnswer task input (string_bytes text))) }
+    ensures fault { IfErr result (λ fault. IfSome (R.remaining reader.old) (λ input. IsFault task input fault)) }
+    ensures no_write { IfErr result (λ fault. fault ≢ CliFault.Write) }
+{
+    let bytes = load(alloc, reader)?;
+    match task {
+        Task::Link { trace } => answer_link(alloc, trace, &bytes),
+        Task::Tree => answer_tree(alloc, &bytes),
+    }
+}
+
+/// The text of a link job, with the origins of what it delivers where they are asked for.
+fn answer_link(alloc: Global, with_trace: bool, bytes: &[u8]) -> Result<String, CliFault>
+    ensures answer { IfOk result (λ text. IsLinkAnswer with_trace bytes.now (string_bytes text)) }
+    ensures fault { IfErr result (IsLinkFault bytes.now) }
+    ensures no_write { IfErr result (λ fault. fault ≢ CliFault.Write) }
+{
+    let job = read_link_job(alloc, bytes)?;
+    if !with_trace {
+        let link = run_link(alloc, job.params, &job.start, job.events.as_slice())?;
+        return Ok(link_text(alloc, &link)?);
+    }
+    let (link, origins) = run_traced(alloc, job.params, &job.start, job.events.as_slice())?;
+    let mut text = link_text(alloc, &link)?;
+    text.push_str(&origins_text(alloc, &origins)?)?;
+    Ok(text)
+}
+
+/// The text of a whole tree after its schedule.
+fn answer_tree(alloc: Global, bytes: &[u8]) -> Result<String, CliFault>
+    ensures answer { IfOk result (λ text. IsTreeAnswer bytes.now (string_bytes text)) }
+    ensures fault { IfErr result (IsTreeFault bytes.now) }
+    ensures no_write { IfErr result (λ fault. fault ≢ CliFault.Write) }
+{
+    let job = read_job(alloc, bytes)?;
+    let state = run_schedule(
+        alloc,
+        job.params(),
+        job.tree(),
+        job.items(),
+        job.starts(),
+        job.schedule(),
+    )?;
+    Ok(schedule_text(alloc, job.tree(), &state)?)
+}
+
+/// Writes a whole text, and hands on what the writer still holds back.
+fn write_text<W: Write>(writer: &mut W, text: &str) -> Result<(), CliFault>
+    ensures written { OnOk result (Appends (W.contents writer.old) (W.contents writer.new) text.now) }
+    ensures fault { IfErr result (λ fault. fault ≡ CliFault.Write) }
+{
+    writer
+        .write_all(text.as_bytes())
+        .map_err(|_| CliFault::Write)?;
+    writer.flush().map_err(|_| CliFault::Write)?;
+    Ok(())
+}

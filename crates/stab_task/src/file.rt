@@ -1,0 +1,88 @@
+ghost use Rattle.std.specs.Prelude.{◌≡◌, ◌+◌, ◌<◌, ◌≤◌, length, take, ◌++◌, Some, MatchOption, IfOk, IfErr, OnOk};
+ghost use Rattle.std.specs.Io.KnownBytes.{Consumes, IsAtEnd, Keeps};
+ghost use Rattle.stab_task.specs.Loading.{IsWhole, IsLoadFault};
+
+use crate::fault::CliFault;
+use std::alloc::{AllocError, Global};
+use std::io::{ErrorKind, Read};
+
+/// The most bytes of a file.
+const MAX_BYTES: usize = 16_777_216;
+
+/// How often a read may be interrupted while one file is loaded.
+const MAX_INTERRUPTIONS: usize = 1_000;
+
+/// How many bytes one read asks for.
+const CHUNK: usize = 65_536;
+
+/// Each turn gives a byte or more, or is an interruption, but for the last.
+const MAX_TURNS: usize = MAX_BYTES + MAX_INTERRUPTIONS + 2;
+
+/// All bytes of a reader, at most 16,777,216 of them.
+///
+/// An interrupted read is tried again, at most 1,000 times; any other fault of the reader is a fault at once. What was
+/// read before a fault is gone.
+pub fn load<R: Read>(alloc: Global, reader: &mut R) -> Result<Vec<u8>, CliFault>
+    ensures whole { IfOk result (λ bytes. IsWhole (R.remaining reader.old) bytes.items) }
+    ensures faults { IfErr result (IsLoadFault (R.remaining reader.old)) }
+{
+    let mut chunk = zeros(alloc, CHUNK)?;
+    let mut bytes = Vec::new(alloc);
+    let mut interruptions = 0;
+    for _turn in 0..MAX_TURNS {
+        match read_chunk(reader, &mut chunk)? {
+            Some(0) => return Ok(bytes),
+            Some(count) => append(&mut bytes, &chunk[..count])?,
+            None => {
+                if interruptions == MAX_INTERRUPTIONS {
+                    return Err(CliFault::Read);
+                }
+                interruptions += 1;
+            }
+        }
+    }
+    unreachable!()
+}
+
+/// So many bytes to read into.
+fn zeros(alloc: Global, len: usize) -> Result<Vec<u8>, AllocError>
+    ensures { IfOk result (λ bytes. length bytes.items ≡ len) }
+{
+    vec![in alloc; 0; len]
+}
+
+/// Adds bytes that were read, where the file is not too long by them.
+fn append(bytes: &mut Vec<u8>, more: &[u8]) -> Result<(), CliFault>
+    requires { length bytes.old.items ≤ MAX_BYTES }
+    ensures appended { OnOk result (bytes.new.items ≡ bytes.old.items ++ more.now) }
+    ensures not_too_long { OnOk result (length bytes.new.items ≤ MAX_BYTES) }
+    ensures faults { IfErr result (IsLoadFault (Some (bytes.old.items ++ more.now))) }
+{
+    if more.len() > MAX_BYTES - bytes.len() {
+        return Err(CliFault::TooLong);
+    }
+    bytes.extend_from_slice(more)?;
+    Ok(())
+}
+
+/// One read: how many bytes it gave, none only at the end; or nothing where it was interrupted.
+fn read_chunk<R: Read>(reader: &mut R, chunk: &mut [u8]) -> Result<Option<usize>, CliFault>
+    requires { 0 < length chunk.old }
+    ensures room { IfOk result (λ given. MatchOption given (Unit {0}) (λ count. count ≤ length chunk.new)) }
+    ensures bytes { IfOk result (λ given. MatchOption given
+        (Keeps (R.remaining reader.old) (R.remaining reader.new))
+        (λ count. Consumes (R.remaining reader.old) (R.remaining reader.new) (take count chunk.new))) }
+    ensures end { IfOk result (λ given. MatchOption given (Unit {0}) (λ count. count ≡ 0 → IsAtEnd (R.remaining reader.new))) }
+    ensures fault { IfErr result (λ fault. fault ≡ CliFault.Read) }
+{
+    match reader.read(chunk) {
+        Ok(count) => Ok(Some(count)),
+        Err(error) => {
+            if error.kind() == ErrorKind::Interrupted {
+                Ok(None)
+            } else {
+                Err(CliFault::Read)
+            }
+        }
+    }
+}

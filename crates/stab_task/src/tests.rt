@@ -1,0 +1,86 @@
+//! The tasks at the values of the worked examples: command lines, files, and what each task prints or refuses.
+
+mod files;
+mod links;
+mod trees;
+mod words;
+
+use super::*;
+use stab_core::StartFault;
+use stab_run::JobFault;
+use stab_script::LinkJobFault;
+use stab_treecore::{TreeStartFault, TreeStepFault};
+use std::alloc::{AllocError, Global};
+use std::process::Abort;
+use std::sync::Wait;
+use std::test::Fail;
+
+const PLAIN: Task = Task::Link { trace: false };
+
+const TRACED: Task = Task::Link { trace: true };
+
+const WORST_START: &str =
+    r#"{"capacity":1,"labels":4,"start":{"frames":[[2,99]],"acks":[0],"send":0,"recv":1},"events":[["offer",10],"recv_ack","send_ack",["offer",11],"recv_ack","recv_frame","send_ack",["offer",12],"recv_ack",["offer",13],"send_frame","recv_frame"]}"#;
+
+const WORST_TEXT: &str =
+    "delivered: 99 13\noffered: 10 11 12 13\nacked: 3\nsend label: 3\nrecv label: 3\nframes:\nacks:\nclosed: no\n";
+
+/// What a task writes for a job, and how it ends.
+fn outcome<T: Wait>(
+    rt: &T,
+    alloc: Global,
+    task: Task,
+    job: &[u8],
+) -> (Result<(), CliFault>, Vec<u8>) {
+    let mut reader = job;
+    let mut written = Vec::new(alloc);
+    let ended = act(rt, alloc, task, &mut reader, &mut written);
+    (ended, written)
+}
+
+/// Fails the test where the task does not print this text for the job.
+fn assert_answer<T: Wait + Abort + Alloc<A = Global>>(rt: &T, task: Task, job: &str, text: &str) {
+    let (ended, written) = outcome(rt, rt.alloc(), task, job.as_bytes());
+    assert_eq!(rt; ended, Ok(()), "{job}");
+    assert!(rt; written.as_slice() == text.as_bytes(), "{job}");
+}
+
+/// Fails the test where the task does not refuse the bytes with this fault, or prints anything.
+fn assert_refused<T: Wait + Abort + Alloc<A = Global>>(
+    rt: &T,
+    task: Task,
+    job: &[u8],
+    fault: CliFault,
+) {
+    let (ended, written) = outcome(rt, rt.alloc(), task, job);
+    assert_eq!(rt; ended, Err(fault));
+    assert!(rt; written.is_empty());
+}
+
+/// Fails the test where the fault has another status or another text.
+fn assert_fault<T: Abort + Alloc<A = Global>>(
+    rt: &T,
+    fault: CliFault,
+    status: u8,
+    text: &str,
+) -> Result<(), AllocError> {
+    assert_eq!(rt; fault.status(), status, "{text}");
+    assert_eq!(rt; fault.to_string(rt.alloc())?.as_str(), text);
+    Ok(())
+}
+
+#[test]
+fn want_of_memory_has_no_prefix(rt: HostRuntime) -> Result<(), Fail> {
+    let faults = [
+        CliFault::Memory,
+        CliFault::LinkJob(LinkJobFault::Memory),
+        CliFault::Job(JobFault::Memory),
+        CliFault::Start(StartFault::Memory),
+        CliFault::Tree(TreeStartFault::Start(StartFault::Memory)),
+        CliFault::Tree(TreeStartFault::Step(TreeStepFault::Memory)),
+    ];
+    for fault in faults {
+        assert_fault(&rt, fault, 3, "out of memory")?;
+    }
+    Ok(())
+}

@@ -1,0 +1,39 @@
+-- From the edge law of each link, which a run tells, to the tree law at each node.
+use Rattle.std.proofs.Common.{◌≡◌, ◌+◌, ◌*◌, ℕ, List, [], Some, ap, sym, subst}
+use Rattle.std.specs.Option.{option_map_or}
+use Rattle.stab_frames.specs.Parameters.{Parameters, AreLawful}
+use Rattle.stab_core.specs.declared.start.Start.{Start}
+use Rattle.stab_core.specs.LinkLaw.{LinkLaw}
+use Rattle.stab_core.specs.Replay.{IsLawful, opening, replay, start_items}
+use Rattle.stab_tree.specs.IsTree.{IsTree}
+use Rattle.stab_tree.specs.Nodes.{Nodes, parent_at, root_of}
+use Rattle.stab_treecore.specs.EdgeLaw.{EdgeLaw, EdgeInto}
+use Rattle.stab_treecore.specs.NodeLaws.{garbage_into, path_garbage, strays_bound, missing_bound, LinkLawBetween, TreeLawOfNodes}
+use Rattle.stab_treecore.proofs.AtNodes.{nodes_obey}
+use Rattle.stab_treecore.proofs.Replayed.{ReplaysObey}
+
+-- the link law between the lists at the two ends of a link
+pub edge_obeys : ReplaysObey → (p : Parameters) (start : Start) (above : List ℕ) (acked : ℕ) (delivered : List ℕ) → AreLawful p → IsLawful p start
+    → EdgeLaw p start above acked delivered → LinkLawBetween p.capacity (start_items start) above delivered
+edge_obeys obey p start above acked delivered lawful_params lawful edge =
+    let s = replay p (opening start) edge.events in (
+      s.offered,
+      s.acked,
+      edge.offers,
+      subst (λ list. LinkLaw p.capacity (start_items start) s.offered s.acked list) edge.delivers (obey p start edge.events lawful_params lawful),
+    )
+
+-- the tree law at each node
+pub edges_obey : ReplaysObey → (nodes : Nodes) (params_into : ℕ → Parameters) (starts : List Start) (published : List ℕ) (received : ℕ → List ℕ)
+    → IsTree nodes → received (root_of nodes.parents) ≡ published
+    → ((child parent : ℕ) → parent_at nodes.parents child ≡ Some parent
+    → EdgeInto (params_into child) nodes.parents starts child (received parent) (received child))
+    → TreeLawOfNodes (strays_bound nodes.parents (λ child. (params_into child).capacity))
+    (missing_bound nodes.parents (λ child. (params_into child).capacity)) (path_garbage nodes.parents starts) nodes.parents published received
+edges_obey obey nodes params_into starts published received tree at_root edges =
+    nodes_obey nodes tree published received at_root (λ child. (params_into child).capacity) starts
+    (λ child parent is_child.
+    let link = edges child parent is_child in
+    let garbage : garbage_into nodes.parents starts child ≡ start_items link.start = ap (λ o. option_map_or start_items o []) link.begins in
+    subst (λ items. LinkLawBetween (params_into child).capacity items (received parent) (received child)) (sym garbage)
+    (edge_obeys obey (params_into child) link.start (received parent) link.acked (received child) link.lawful_params link.lawful_start link.edge))

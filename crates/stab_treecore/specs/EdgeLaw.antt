@@ -1,0 +1,30 @@
+-- The edge law, which a run tells of each link whatever ran it: some events explain what the link
+-- has done.
+-- Source: this project's own.
+use Rattle.std.specs.Prelude.{◌≡◌, ℕ, List, Option, Some, IsTrue}
+use mathlib.Core.List.{IsPrefix}
+use Rattle.stab_frames.specs.Parameters.{Parameters, AreLawful}
+use Rattle.stab_core.specs.declared.event.Event.{Event}
+use Rattle.stab_core.specs.declared.start.Start.{Start}
+use Rattle.stab_core.specs.Replay.{IsLawful, opening, replay}
+use Rattle.stab_treecore.specs.NodeLaws.{start_into}
+
+-- The replay of some events from the start is closed, has delivered this list, has so many items
+-- acknowledged, and was offered a prefix of the parent's list.
+pub record EdgeLaw (p : Parameters) (start : Start) (above : List ℕ) (acked : ℕ)
+    (delivered : List ℕ) : Type 0 where
+  pub events : List Event
+  pub closed : IsTrue (replay p (opening start) events).closed
+  pub delivers : (replay p (opening start) events).delivered ≡ delivered
+  pub counts : (replay p (opening start) events).acked ≡ acked
+  pub offers : IsPrefix (replay p (opening start) events).offered above
+
+-- the link into a node has lawful parameters and a lawful start, and the edge law holds of it
+pub record EdgeInto (p : Parameters) (parents : List (Option ℕ)) (starts : List Start) (child : ℕ)
+    (above delivered : List ℕ) : Type 0 where
+  pub start : Start
+  pub begins : start_into parents starts child ≡ Some start
+  pub lawful_params : AreLawful p
+  pub lawful_start : IsLawful p start
+  pub acked : ℕ
+  pub edge : EdgeLaw p start above acked delivered
