@@ -15,11 +15,11 @@ use Rattle.stab_treecore.specs.Refusals.{NamesLink, IsScheduleReason}
 use Rattle.stab_treecore.specs.Texts.{schedule_text}
 use Rattle.stab_treecore.specs.TreeReplay.{tree_opening, tree_replay}
 use Rattle.stab_script.specs.LinkJobs.{link_job}
-use Rattle.stab_cli.specs.declared.command.Task.{Task}
-use Rattle.stab_cli.specs.declared.command.Task.TheVariants.{Link, Tree as WholeTreeTask}
-use Rattle.stab_cli.specs.declared.fault.CliFault.{CliFault}
-use Rattle.stab_cli.specs.declared.fault.CliFault.TheVariants.{CommandLine, Open, Read, TooLong, LinkJob, Job, Start, Tree, Write, Memory}
-use Rattle.stab_cli.specs.Loading.{most_bytes}
+use Rattle.stab_task.specs.declared.command.Task.{Task}
+use Rattle.stab_task.specs.declared.command.Task.TheVariants.{Link, Tree as WholeTreeTask}
+use Rattle.stab_task.specs.declared.fault.CliFault.{CliFault}
+use Rattle.stab_task.specs.declared.fault.CliFault.TheVariants.{CommandLine, Open, Read, TooLong, LinkJob, Job, Start, Tree, Write, Memory}
+use Rattle.stab_task.specs.Loading.{most_bytes}
 
 -- the text of a link job: the link after its replay, and with a trace the origins of what it delivered
 abbrev pub link_answer : Bool → OneLink → List ℕ

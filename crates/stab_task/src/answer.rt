@@ -1,10 +1,10 @@
 ghost use Rattle.std.specs.Prelude.{◌≡◌, ◌≢◌, ◌++◌, List, ℕ, string_bytes, IfSome, IfOk, IfErr, OnOk};
 ghost use Rattle.std.specs.Io.KnownBytes.{Appends, Keeps};
-ghost use Rattle.stab_cli.specs.Answers.{IsLinkAnswer, IsTreeAnswer, IsAnswer, IsLinkFault, IsTreeFault, IsFault};
+ghost use Rattle.stab_task.specs.Answers.{IsLinkAnswer, IsTreeAnswer, IsAnswer, IsLinkFault, IsTreeFault, IsFault};
 
 use crate::command::Task;
 use crate::fault::CliFault;
-use crate::load::load;
+use crate::file::load;
 use stab_core::{link_text, origins_text, run_link, run_traced};
 use stab_run::read_job;
 use stab_script::read_link_job;

@@ -1,8 +1,8 @@
 -- What loading a file promises of a reader that tells its bytes.
 -- Source: this project's own.
 use Rattle.std.specs.Prelude.{◌≡◌, ℕ, ◌<◌, ◌≤◌, List, length, Option, IfSome}
-use Rattle.stab_cli.specs.declared.fault.CliFault.{CliFault}
-use Rattle.stab_cli.specs.declared.fault.CliFault.TheVariants.{CommandLine, Open, Read, TooLong, LinkJob, Job, Start, Tree, Write, Memory}
+use Rattle.stab_task.specs.declared.fault.CliFault.{CliFault}
+use Rattle.stab_task.specs.declared.fault.CliFault.TheVariants.{CommandLine, Open, Read, TooLong, LinkJob, Job, Start, Tree, Write, Memory}
 
 -- the most bytes of a file
 abbrev pub most_bytes : ℕ

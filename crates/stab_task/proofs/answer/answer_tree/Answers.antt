@@ -1,5 +1,5 @@
 use Rattle.std.proofs.Common.{refl}
-use Rattle.stab_cli.proofs.act.answer_tree.Goals as goal
+use Rattle.stab_task.proofs.answer.answer_tree.Goals as goal
 
 pub returns-clause-answer : goal.returns-clause-answer
 returns-clause-answer c = record {

@@ -1,6 +1,6 @@
 ghost use Rattle.std.specs.Prelude.{◌≡◌, ◌+◌, ◌<◌, ◌≤◌, length, take, ◌++◌, Some, MatchOption, IfOk, IfErr, OnOk};
 ghost use Rattle.std.specs.Io.KnownBytes.{Consumes, IsAtEnd, Keeps};
-ghost use Rattle.stab_cli.specs.Loading.{IsWhole, IsLoadFault};
+ghost use Rattle.stab_task.specs.Loading.{IsWhole, IsLoadFault};
 
 use crate::fault::CliFault;
 use std::alloc::{AllocError, Global};

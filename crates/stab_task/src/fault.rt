@@ -43,7 +43,7 @@ pub enum CliFault {
 
 impl CliFault {
     ghost use Rattle.std.specs.Prelude.{◌≡◌};
-    ghost use Rattle.stab_cli.specs.Statuses.{status_of};
+    ghost use Rattle.stab_task.specs.Statuses.{status_of};
 
     /// The status that the program ends with: 1 for a file or job that is refused, 2 for a command line that is refused,
     /// 3 for a start, a step or a write that fails, and for want of memory anywhere.
@@ -73,7 +73,7 @@ impl CliFault {
 
 impl From<AllocError> for CliFault {
     ghost use Rattle.std.specs.Prelude.{◌≡◌};
-    ghost use Rattle.stab_cli.specs.declared.fault.CliFault.TheVariants.{Memory};
+    ghost use Rattle.stab_task.specs.declared.fault.CliFault.TheVariants.{Memory};
 
     ghost from_gives = { λ _ fault. fault ≡ Memory };
 
@@ -84,7 +84,7 @@ impl From<AllocError> for CliFault {
 
 impl<T: Drop> From<AllocFailed<T>> for CliFault {
     ghost use Rattle.std.specs.Prelude.{◌≡◌};
-    ghost use Rattle.stab_cli.specs.declared.fault.CliFault.TheVariants.{Memory};
+    ghost use Rattle.stab_task.specs.declared.fault.CliFault.TheVariants.{Memory};
 
     ghost from_gives = { λ _ fault. fault ≡ Memory };
 
@@ -95,7 +95,7 @@ impl<T: Drop> From<AllocFailed<T>> for CliFault {
 
 impl From<LinkJobFault> for CliFault {
     ghost use Rattle.std.specs.Prelude.{◌≡◌};
-    ghost use Rattle.stab_cli.specs.declared.fault.CliFault.TheVariants.{LinkJob};
+    ghost use Rattle.stab_task.specs.declared.fault.CliFault.TheVariants.{LinkJob};
 
     ghost from_gives = { λ refusal fault. fault ≡ LinkJob refusal };
 
@@ -106,7 +106,7 @@ impl From<LinkJobFault> for CliFault {
 
 impl From<StartFault> for CliFault {
     ghost use Rattle.std.specs.Prelude.{◌≡◌};
-    ghost use Rattle.stab_cli.specs.declared.fault.CliFault.TheVariants.{Start};
+    ghost use Rattle.stab_task.specs.declared.fault.CliFault.TheVariants.{Start};
 
     ghost from_gives = { λ refusal fault. fault ≡ Start refusal };
 
@@ -117,7 +117,7 @@ impl From<StartFault> for CliFault {
 
 impl From<JobFault> for CliFault {
     ghost use Rattle.std.specs.Prelude.{◌≡◌};
-    ghost use Rattle.stab_cli.specs.declared.fault.CliFault.TheVariants.{Job};
+    ghost use Rattle.stab_task.specs.declared.fault.CliFault.TheVariants.{Job};
 
     ghost from_gives = { λ refusal fault. fault ≡ Job refusal };
 
@@ -128,7 +128,7 @@ impl From<JobFault> for CliFault {
 
 impl From<TreeStartFault> for CliFault {
     ghost use Rattle.std.specs.Prelude.{◌≡◌};
-    ghost use Rattle.stab_cli.specs.declared.fault.CliFault.TheVariants.{Tree};
+    ghost use Rattle.stab_task.specs.declared.fault.CliFault.TheVariants.{Tree};
 
     ghost from_gives = { λ refusal fault. fault ≡ Tree refusal };
 

@@ -1,6 +1,5 @@
 use super::*;
-use crate::load::load;
-use std::io::{Read, Write};
+use std::io::{self, ErrorKind, Read, Write};
 
 /// So many spaces.
 fn blanks(alloc: Global, len: usize) -> Result<Vec<u8>, AllocError> {

@@ -1,6 +1,6 @@
 use Rattle.std.proofs.Common.{◌≡◌, ◌+◌, ◌≤◌, ◌<◌, length}
 use Rattle.std.specs.Io.KnownBytes.{Consumes}
-use Rattle.stab_cli.proofs.load.load.Given as goal
+use Rattle.stab_task.proofs.file.load.Given as goal
 
 -- what the reader gave stands in the bytes, and each turn gave a byte or was an interruption
 abbrev pub invariant-loop-turn : goal.invariant-loop-turn

@@ -1,4 +1,4 @@
-//! The program at the values of the worked examples: command lines, files, and what each task prints or refuses.
+//! The tasks at the values of the worked examples: command lines, files, and what each task prints or refuses.
 
 mod files;
 mod links;
@@ -10,8 +10,9 @@ use stab_core::StartFault;
 use stab_run::JobFault;
 use stab_script::LinkJobFault;
 use stab_treecore::{TreeStartFault, TreeStepFault};
-use std::alloc::AllocError;
+use std::alloc::{AllocError, Global};
 use std::process::Abort;
+use std::sync::Wait;
 use std::test::Fail;
 
 const PLAIN: Task = Task::Link { trace: false };
