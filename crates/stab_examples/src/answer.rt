@@ -2,10 +2,9 @@
 
 use crate::listing::file_or_none;
 use stab_task::{CliFault, act, parse};
-use std::fs;
-use std::io;
 use std::rt::Files;
 use std::sync::Wait;
+use std::{fs, io};
 
 /// What is given for an example: a text, and the ending of the file that expects such a text.
 #[derive(Drop)]
@@ -21,11 +20,17 @@ pub fn answer<R: Files + Wait + AllocGlobal>(rt: &R, name: &str) -> io::Result<G
     let mut written = Vec::new(rt.alloc());
     let ended = perform(rt, words.as_slice(), job.as_slice(), &mut written);
     Ok(match ended {
-        Ok(()) => Given { kind: "out", text: text_of(rt, written)? },
+        Ok(()) => Given {
+            kind: "out",
+            text: text_of(rt, written)?,
+        },
         Err(fault) => {
             let kind = if written.is_empty() { "err" } else { "part" };
             let status = fault.status();
-            Given { kind, text: format!(in rt.alloc(); "stab: {fault}\nstatus {status}\n")? }
+            Given {
+                kind,
+                text: format!(in rt.alloc(); "stab: {fault}\nstatus {status}\n")?,
+            }
         }
     })
 }

@@ -69,7 +69,10 @@ fn compare<R: Files + Print + Wait + AllocGlobal>(rt: &R, file: &str) -> io::Res
         println!(rt; "same   {file}")?;
         return Ok(true);
     }
-    println!(rt; "OTHER  {file}\nexpected:\n{expected}\ngiven, as .{}:\n{}", given.kind, given.text)?;
+    println!(rt;
+        "OTHER  {file}\nexpected:\n{expected}\ngiven, as .{}:\n{}",
+        given.kind, given.text
+    )?;
     Ok(false)
 }
 
@@ -79,6 +82,9 @@ fn run_of<R: Files + AllocGlobal>(rt: &R, name: &str) -> io::Result<Given> {
     let job = file_or_none(rt, &job)?.unwrap_or(String::new(rt.alloc()));
     Ok(match run_table(rt.alloc(), job.as_bytes()) {
         Ok(text) => Given { kind: "run", text },
-        Err(fault) => Given { kind: "err", text: fault.to_string(rt.alloc())? },
+        Err(fault) => Given {
+            kind: "err",
+            text: fault.to_string(rt.alloc())?,
+        },
     })
 }

@@ -1,5 +1,9 @@
 //! A run as a table: the link at its start and after each event.
 
+ghost use Rattle.std.specs.Prelude.{◌≡◌, ◌++◌, codes, string_bytes, if◌then◌else◌, OnOk, IfErr};
+ghost use Rattle.stab_task.specs.Answers.{IsLinkFault};
+ghost use Rattle.stab_examples.specs.Tables.{event_word, effect_word, delivered, number_word};
+
 use stab_core::{Effect, Event, Link};
 use stab_script::read_link_job;
 use stab_task::CliFault;
@@ -9,7 +13,9 @@ use std::alloc::{AllocError, Global};
 const HEAD: &str = "event effect label holds acked frames acks remembers delivers\n";
 
 /// The table of a link job: the names of the columns, the link at its start, and a line for each event.
-pub fn run_table(alloc: Global, bytes: &[u8]) -> Result<String, CliFault> {
+pub fn run_table(alloc: Global, bytes: &[u8]) -> Result<String, CliFault>
+    ensures fault { IfErr result (IsLinkFault bytes.now) }
+{
     let job = read_link_job(alloc, bytes)?;
     let mut link = Link::new(alloc, job.params, &job.start)?;
     let mut text = String::from_str(alloc, HEAD)?;
@@ -48,7 +54,10 @@ fn push_words(text: &mut String, line: &str) -> Result<(), AllocError> {
 }
 
 /// Adds an event as it is written in a job, without spaces.
-fn push_event(text: &mut String, event: Event) -> Result<(), AllocError> {
+#[tactic(auto, unfolding(crate::specs::Tables::event_word))]
+fn push_event(text: &mut String, event: Event) -> Result<(), AllocError>
+    ensures { OnOk result (string_bytes text.new ≡ string_bytes text.old ++ event_word event) }
+{
     match event {
         Event::Offer(item) => write!(text, r#"["offer",{item}]"#),
         Event::SendFrame => text.push_str(r#""send_frame""#),
@@ -64,7 +73,10 @@ fn push_event(text: &mut String, event: Event) -> Result<(), AllocError> {
 }
 
 /// Adds a space and the word for an effect.
-fn push_effect(text: &mut String, effect: Effect) -> Result<(), AllocError> {
+#[tactic(auto, unfolding(crate::specs::Tables::effect_word))]
+fn push_effect(text: &mut String, effect: Effect) -> Result<(), AllocError>
+    ensures { OnOk result (string_bytes text.new ≡ string_bytes text.old ++ effect_word effect) }
+{
     text.push_str(match effect {
         Effect::Nothing => " Nothing",
         Effect::Held => " Held",
@@ -79,7 +91,9 @@ fn push_effect(text: &mut String, effect: Effect) -> Result<(), AllocError> {
 }
 
 /// The item that the receiver delivered in a step with this effect.
-fn delivered(effect: Effect) -> Option<u32> {
+fn delivered(effect: Effect) -> Option<u32>
+    ensures { result ≡ delivered effect }
+{
     match effect {
         Effect::Fresh(item) => Some(item),
         _ => None,
@@ -109,7 +123,10 @@ fn held(link: &Link) -> Option<u32> {
 }
 
 /// Adds a space, and a number or `-`.
-fn push_number_or_none(text: &mut String, number: Option<u32>) -> Result<(), AllocError> {
+#[tactic(auto, unfolding(crate::specs::Tables::number_word))]
+fn push_number_or_none(text: &mut String, number: Option<u32>) -> Result<(), AllocError>
+    ensures { OnOk result (string_bytes text.new ≡ string_bytes text.old ++ number_word number) }
+{
     match number {
         Some(number) => write!(text, " {number}"),
         None => text.push_str(" -"),
