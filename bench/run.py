@@ -1,11 +1,13 @@
 #!/usr/bin/env python3
 """Measures `stab` on jobs of growing size: bench/run.py [--stab PROGRAM] [--quick]
 
-Makes the jobs in bench/build/ (the same bytes each time), runs each job five times, and prints the processor time,
-the events a second and the peak memory of the run with the median time. Run it by hand; the gate does not.
-Needs Python 3.9 or later and a built program (run ./stab once before).
+Makes the jobs in bench/build/ (the same bytes each time), runs each job five times, and prints the median of the
+processor time, the events per second and the peak memory. Nothing is subtracted: a time is that of the whole process.
+Run it by hand; the gate does not. Needs Python 3.9 or later. Without --stab it measures the program of ./stab, which
+builds it if that was not done yet for these sources.
 """
 import argparse
+import glob
 import json
 import os
 import random
@@ -16,7 +18,7 @@ import time
 
 HERE = os.path.dirname(os.path.abspath(__file__))
 BUILD = os.path.join(HERE, "build")
-PROGRAM = os.path.join(HERE, "..", "crates", "stab_cli", "out", "stab_cli")
+TOP = os.path.dirname(HERE)
 RUNS = 5
 MAX_TREE_STEPS = 900_000  # more do not fit a file of 16,777,216 bytes
 
@@ -118,7 +120,7 @@ def high_water(pid):
 
 def run(program, words, path):
     """Processor seconds and peak kilobytes of one run; None where the program refuses. The peak is asked of the kernel
-    while the program runs, since what `wait4` tells holds this interpreter's own; of a very short run it is missed."""
+    while the program runs, since the peak that `wait4` reports includes this interpreter's own; the peak of a very short run is missed."""
     child = subprocess.Popen([program, *words, path], stdout=subprocess.DEVNULL, stderr=subprocess.DEVNULL)
     peak = 0
     while True:
@@ -129,18 +131,27 @@ def run(program, words, path):
         time.sleep(0.0002)
 
 
+def built_program():
+    """The program that ./stab runs. ./stab builds it first if the sources have changed, and keeps no other beside it."""
+    first_job = os.path.join(TOP, "examples", "worst_start.json")
+    if subprocess.run([os.path.join(TOP, "stab"), "link", first_job], stdout=subprocess.DEVNULL).returncode:
+        sys.exit("./stab does not run: what it said is above")
+    return max(glob.glob(os.path.join(glob.escape(TOP), "out", "stab-*")), key=os.path.getmtime)
+
+
 def main():
     parser = argparse.ArgumentParser(description=__doc__.splitlines()[0])
-    parser.add_argument("--stab", default=PROGRAM)
+    parser.add_argument("--stab", metavar="PROGRAM", help="measure this program in place of that of ./stab")
     parser.add_argument("--quick", action="store_true", help="jobs of up to 100,000 events")
     options = parser.parse_args()
-    if not os.access(options.stab, os.X_OK):
-        sys.exit(f"there is no program at {options.stab}: run ./stab once, which builds it")
+    program = options.stab or built_program()
+    if not os.access(program, os.X_OK):
+        sys.exit(f"there is no program at {program}")
     print(f"{time.strftime('%Y-%m-%d')}, {os.cpu_count()} processors, load {os.getloadavg()[0]:.1f}")
     print(f"{'job':24} {'events':>9} {'MB':>6} {'ms':>8} {'events/s':>11} {'peak MB':>8}")
     for words, name, count, job in jobs(options.quick):
         path = path_of(words, name, count, job)
-        found = [one for one in (run(options.stab, words, path) for _ in range(RUNS)) if one]
+        found = [one for one in (run(program, words, path) for _ in range(RUNS)) if one]
         if not found:
             print(f"{name:24} {count:9} refused")
             continue
