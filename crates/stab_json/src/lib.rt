@@ -2,7 +2,7 @@
 //! read all or not at all.
 //!
 //! Each reader's contract goes from the JSON value that `serde_json` reads to its meaning, by a
-//! definition of `specs/Values.antt` that answers `None` where the value has no such meaning. What an
+//! definition of `specs/Values.antt` that is `None` where the value has no such meaning. What an
 //! entry of a list may be is an [`Entry`]. The readers above use one fact: [`read_entries`] answers
 //! exactly what the entries mean, and only memory can be refused. `specs/Checks.antt` has the words
 //! for a list of checks, each beside its fault.
@@ -12,10 +12,7 @@ mod list;
 mod value;
 
 pub use list::{Entry, read_entries, read_list};
-pub use value::{
-    capped_member, frame, item, label, pair, read_value, u16_member, u32_member, whole_capped,
-    whole_up_to,
-};
+pub use value::{item, label, pair, read_value, u16_member, u32_member};
 
 #[cfg(test)]
 mod tests;

@@ -1,6 +1,7 @@
 -- Draws: the acts that a random script makes of the words of a generator.
--- Source: this project's profile, over the streams of `rand_core`; `from_seed` takes them from PCG32.
-use Rattle.std.specs.Prelude.{ℕ, zero, suc, ◌%◌, List, [], ◌∷◌, map, nat_lt, ◌||◌, if◌then◌else◌, Option, Some, None, Result, Ok, Err}
+-- Source: this project's profile, over the streams of `rand_core`; `from_seed` takes one of PCG32.
+use Rattle.std.specs.Prelude.{ℕ, zero, suc, ◌%◌, nat_lt, ◌||◌, if◌then◌else◌}
+use Rattle.std.specs.Prelude.{List, [], ◌∷◌, map, Option, Some, None, Result, Ok}
 use Rattle.rand_core.specs.Stream.{Stream, next_u32}
 use Rattle.rand_core.specs.Steps.{stream_of, steps_u32}
 use Rattle.rand_pcg.specs.Lcg.{started, increment_of}

@@ -1,6 +1,7 @@
 -- Scripts: what a link is to lose and to repeat, as four lists of acts, and how its ends take them.
 -- Source: this project's profile.
-use Rattle.std.specs.Prelude.{ℕ, zero, suc, List, [], ◌∷◌, drop, length, nat_lt, ◌||◌, Bool, if◌then◌else◌, unwrap_or, slice_get, Result, Ok, Err}
+use Rattle.std.specs.Prelude.{ℕ, zero, suc, nat_lt, Bool, ◌||◌, if◌then◌else◌, Result, Ok, Err}
+use Rattle.std.specs.Prelude.{List, [], ◌∷◌, drop, length, slice_get, unwrap_or}
 use Rattle.stab_script.specs.declared.act.OutAct.{OutAct}
 use Rattle.stab_script.specs.declared.act.OutAct.TheVariants.{Pass}
 use Rattle.stab_script.specs.declared.act.InAct.{InAct}

@@ -6,8 +6,8 @@ use Rattle.serde_json.specs.Data.{Data}
 use Rattle.serde_json.specs.Find.{get}
 use Rattle.stab_json.specs.Values.{◌>>=◌, label, frame, list_or_absent}
 
--- a start: an object with the two labels, and with the frames and acknowledgements, the front first,
--- where it names any
+-- a start: an object with the two labels, and with the frames and acknowledgements, the front
+-- first, where it names any
 abbrev pub start : Data → Option Start
 start d = do
   its_frames ← list_or_absent frame (get (codes "frames") d)

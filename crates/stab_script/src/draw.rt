@@ -1,6 +1,8 @@
-ghost use Rattle.std.specs.Prelude.{◌≡◌, ◌≢◌, ℕ, ◌≤◌, MatchResult, OnOk, OnErr, Ok, Err, None, Some, map, vec_len, vec_capacity};
+ghost use Rattle.std.specs.Prelude.{◌≡◌, ◌≢◌, ℕ, ◌≤◌, MatchResult, OnOk, OnErr, Ok, Err, None, Some};
+ghost use Rattle.std.specs.Prelude.{map, vec_len, vec_capacity};
 ghost use Rattle.rand_core.specs.Stream.{Stream};
-ghost use Rattle.stab_script.specs.Draws.{words, after_words, after_lists, out_of_word, in_of_word, draw_fault, draw_script, pcg32_words};
+ghost use Rattle.stab_script.specs.Draws.{words, after_words, after_lists, out_of_word, in_of_word};
+ghost use Rattle.stab_script.specs.Draws.{draw_fault, draw_script, pcg32_words};
 
 use crate::act::{InAct, OutAct};
 use crate::fault::ScriptFault;

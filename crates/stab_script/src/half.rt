@@ -5,8 +5,8 @@ use crate::act::{InAct, OutAct};
 use stab_frames::Sequence;
 use std::marker::Model;
 
-/// The acts that one end of a link has still to take: for what it sends, and for what it receives. A
-/// contract sees exactly those, so a caller that is refused between
+/// The acts that one end of a link has still to take: for what it sends, and for what it receives.
+/// A contract sees exactly those, so a caller that is refused between
 /// [`peek_out`](HalfScript::peek_out) and [`next_out`](HalfScript::next_out) has the script as it
 /// was. No call takes memory.
 #[derive(Debug, Drop)]

@@ -10,8 +10,10 @@ ghost use Rattle.stab_script.specs.Scripts.{Taking, after_takings, outs_among, i
 /// or `Take`.
 #[tactic(auto, using(crate::proofs::Taking::nth_out_taken, crate::proofs::Taking::nth_in_taken))]
 pub fn nth_act_taken(_n: u64)
-    ensures outs { (half : ActsRemaining) → out_act (after_outs _n half).outs ≡ nth_out half.outs _n }
-    ensures ins { (half : ActsRemaining) → in_act (after_ins _n half).ins ≡ nth_in half.ins _n }
+    ensures outs { (half : ActsRemaining)
+        → out_act (after_outs _n half).outs ≡ nth_out half.outs _n }
+    ensures ins { (half : ActsRemaining)
+        → in_act (after_ins _n half).ins ≡ nth_in half.ins _n }
 {}
 
 /// The same where acts for what goes out and for what comes in are taken in any order: the next act

@@ -12,7 +12,8 @@ use std::marker::Model;
 pub const MAX_ACTS: u32 = 100_000;
 
 /// What a link is to lose and to repeat: a list of acts for each of frames going out, frames coming
-/// in, acknowledgements going out and acknowledgements coming in. Past its end a list passes or takes.
+/// in, acknowledgements going out and acknowledgements coming in. Past its end a list passes or
+/// takes.
 #[derive(Debug, Drop)]
 pub struct Script {
     frames_out: Sequence<OutAct>,
@@ -26,7 +27,7 @@ impl Model for Script {
 
     ghost Value = { Acts };
 
-    ghost view = { λ script. acts script.frames_out script.frames_in script.acks_out script.acks_in };
+    ghost view = { λ its. acts its.frames_out its.frames_in its.acks_out its.acks_in };
 }
 
 impl Script {
@@ -37,7 +38,8 @@ impl Script {
         acks_out: Vec<OutAct>,
         acks_in: Vec<InAct>,
     ) -> Result<Script, ScriptFault>
-        ensures { result ≡ script_of (acts frames_out.items frames_in.items acks_out.items acks_in.items) }
+        ensures { result
+            ≡ script_of (acts frames_out.items frames_in.items acks_out.items acks_in.items) }
     {
         if frames_out.len() > MAX_ACTS as usize
             || frames_in.len() > MAX_ACTS as usize

@@ -1,4 +1,5 @@
-ghost use Rattle.std.specs.Prelude.{◌≡◌, ◌≢◌, codes, MatchResult, IfOk, Some, None, option_map, option_and_then};
+ghost use Rattle.std.specs.Prelude.{◌≡◌, ◌≢◌, codes, MatchResult, IfOk, Some, None};
+ghost use Rattle.std.specs.Prelude.{option_map, option_and_then};
 ghost use Rattle.serde_json.specs.Find.{get};
 ghost use Rattle.serde_json.specs.View.{view};
 ghost use Rattle.stab_json.specs.Values.{label, list_or_absent};
@@ -28,7 +29,8 @@ impl<'v> Entry<'v> for StartEntry {
 pub fn read_start(alloc: Global, value: &Value) -> Result<Start, PartFault>
     ensures { MatchResult result
         (λ its_start. start (view value.now) ≡ Some its_start)
-        (λ fault. fault ≢ PartFault.Memory → (fault ≡ PartFault.Shape) × (start (view value.now) ≡ None)) }
+        (λ fault. fault ≢ PartFault.Memory
+        → (fault ≡ PartFault.Shape) × (start (view value.now) ≡ None)) }
 {
     match StartEntry::read(alloc, value) {
         Ok(Some(start)) => Ok(start),
