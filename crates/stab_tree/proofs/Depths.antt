@@ -6,7 +6,7 @@ use Rattle.std.proofs.lemmas.List.Recursion.{and_at, and_from_places}
 use Rattle.std.specs.List.{list_all, range_with_len}
 use Rattle.stab_tree.specs.Parents.{have_depths}
 use Rattle.stab_tree.specs.Nodes.{parent_at}
-use Rattle.stab_tree.specs.Steps.{steps_within, depth_at}
+use Rattle.stab_tree.specs.Steps.{steps_below, depth_at}
 use Rattle.stab_tree.proofs.Steps.{option_cases, steps-child}
 
 -- a step taken is one step less to find
@@ -14,10 +14,10 @@ steps_more : (s : ℕ) (o : Option ℕ) → option_map (λ k. s + k) (option_map
 steps_more s None = refl
 steps_more s (Some j) = ap Some (omega arith)
 
-pub step_on : (ps : List (Option ℕ)) (n s w p : ℕ) → s < n → parent_at ps w ≡ Some p → option_map (λ k. s + k) (steps_within ps (n - s) w) ≡ option_map (λ k. (s + 1) + k) (steps_within ps (n - (s + 1)) p)
+pub step_on : (ps : List (Option ℕ)) (n s w p : ℕ) → s < n → parent_at ps w ≡ Some p → option_map (λ k. s + k) (steps_below ps (n - s) w) ≡ option_map (λ k. (s + 1) + k) (steps_below ps (n - (s + 1)) p)
 step_on ps n s w p few e =
     let left : n - s ≡ suc (n - (s + 1)) = omega arith in
-    rw (left, steps-child ps (n - (s + 1)) w p e) (steps_more s (steps_within ps (n - (s + 1)) p))
+    rw (left, steps-child ps (n - (s + 1)) w p e) (steps_more s (steps_below ps (n - (s + 1)) p))
 
 -- one node without a depth is enough
 pub have_depths-lack : (ps : List (Option ℕ)) (w : ℕ) → w < length ps → depth_at ps w ≡ None → have_depths ps ≡ false

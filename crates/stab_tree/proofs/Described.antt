@@ -112,7 +112,7 @@ Describes-listed d l = record {
 
 -- ---- what is described is read
 
--- the node of a name that stands once
+-- the node of a name that no other node has
 place_is : (names : List (List ℕ)) (p : ℕ) (s : List ℕ) → AllPairs (λ s u. s ≢ u) names → slice_get names p ≡ Some s → place_of names s ≡ Some p
 place_is names p s apart at =
     let within = slice_get_within names p s at in
@@ -213,7 +213,7 @@ cycle_found d refused =
           nodes = record { names = names_of l.entries; parents = l.parents };
           described = Describes-listed d l;
           start = w.0;
-          within = w.1;
+          is_node = w.1;
           endless = λ k ends. let deep = (depth_means l.parents (known_parents l.passed) w.0 k w.1).1 ends in let no = sym w.2 ∙ deep in cc;
         })
       ]

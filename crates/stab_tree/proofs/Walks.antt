@@ -41,7 +41,7 @@ off_path ps (suc k) j p w r leads more ends few =
           rw e (ne_eqb w p (λ same. let h : ancestor ps j p ≡ Some r = rw same at more in let no = steps_once ps (suc k) j p r r leads ends h ends in omega arith), off_path ps k j q w r (sym on ∙ leads) more ends (omega arith)))
     ]
 
--- no node stands twice on a path to a node without a parent
+-- no node occurs twice on a path to a node without a parent
 path_apart : (ps : List (Option ℕ)) (k w r : ℕ) → ancestor ps k w ≡ Some r → parent_at ps r ≡ None → IsDistinct eqb (path ps k w)
 unfolding path IsDistinct
 path_apart ps zero w r leads ends = IsDistinct-cons eqb w [] tt tt
