@@ -6,7 +6,7 @@
 //! alone has no parent, and each node reaches it by parent steps, whose number is its depth.
 //! A link is named by its child, and links are in the file order of their children
 //! (`specs/Links.antt`). The layer above learns from `Tree::root` that its tree is one, and from
-//! `laws` what follows for depths and links.
+//! `laws` what follows for depths and links; `proofs/ForCallers.antt` has induction from the root.
 #![tactic(auto)]
 
 mod entry;

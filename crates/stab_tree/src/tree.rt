@@ -5,7 +5,7 @@ use crate::node::NodeId;
 use indexmap::IndexSet;
 use std::marker::Model;
 
-/// The nodes of a tree, in file order. No call of its takes memory.
+/// The nodes of a tree, in file order. None of its calls takes memory.
 #[derive(Debug, Drop)]
 pub struct Tree {
     names: IndexSet<String>,
