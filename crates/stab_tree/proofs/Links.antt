@@ -23,7 +23,7 @@ link_before w (None ∷ ps) k before within = absurd (omega arith)
 link_before w (Some p ∷ ps) zero before within = ap Some (omega arith)
 link_before w (Some p ∷ ps) (suc k) before within = link_before (suc w) ps k (omega arith) (omega arith) ∙ ap Some (omega arith)
 
--- those after it are one place earlier than their children
+-- the links after the root are one place earlier than their children
 link_after : (w : ℕ) (ps : List (Option ℕ)) (k : ℕ) → root_count ps ≡ 1 → root_of ps ≤ k → k + 1 < length ps → slice_get (links_from w ps) k ≡ Some (w + k + 1)
 link_after w [] k one after within = absurd (omega arith)
 link_after w (None ∷ ps) k one after within =
@@ -49,7 +49,7 @@ module _ (ps : List (Option ℕ)) (one : root_count ps ≡ 1) where
         | inr (p, some) ↦ rw some refl
       ]
 
-  -- which child names the link at place j
+  -- the child that names the link at place j
   link_child : (j : ℕ) → j < length (links_of ps)
       → ((j < root_of ps) × (get_or (links_of ps) j 0 ≡ j)) ⊎ ((root_of ps ≤ j) × (get_or (links_of ps) j 0 ≡ j + 1))
   link_child j within =
@@ -83,7 +83,7 @@ module _ (ps : List (Option ℕ)) (one : root_count ps ≡ 1) where
       let root = root_inside ps one in
       link_into k k (omega arith) (omega arith) (λ same. omega arith) (⊎_elim (λ h. h.1) (λ h. absurd (omega arith)) (link_child k (omega arith)))
 
-  -- after the root it is one place earlier
+  -- after the root a link is one place earlier
   pub link_after_root : (k : ℕ) → root_of ps ≤ k → k + 1 < length ps → LinkInto ps k (k + 1)
   link_after_root k after within =
       let number = length-links_from 0 ps in

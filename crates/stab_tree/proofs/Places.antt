@@ -31,8 +31,8 @@ position-none p xs d fails =
     let past : position_or_len p xs ≡ length xs = prefix_len_is (λ x. not (p x)) xs (length xs) d (omega arith) (λ j h. not_from_false _ (fails j h)) (λ h. absurd (omega arith)) in
     rw (past, le-ltb (length xs) (length xs) (omega arith)) refl
 
--- and so the other way round
-pub position-none_at : {X : Type 0} (p : X → Bool) (xs : List X) (k : ℕ) (d : X) → position p xs ≡ None → k < length xs → p (get_or xs k d) ≡ false
+-- where there is no such place, the test passes at none
+position-none_at : {X : Type 0} (p : X → Bool) (xs : List X) (k : ℕ) (d : X) → position p xs ≡ None → k < length xs → p (get_or xs k d) ≡ false
 position-none_at p xs k d none within =
     elim (cases_lt (position_or_len p xs) (length xs)) [
       | inl h ↦ (let no = lt-ltb _ _ h in cc)
@@ -46,7 +46,7 @@ place_found names name (Some i) found =
     let at = position-Some (λ s. bytes_eq s name) names i [] (sym found) in
     slice_get-get_or names i [] at.0 ∙ ap Some ((bytes_eq-Decides _ name).0 at.1)
 
--- a name that finds no node is no node's
+-- a name that finds no node is the name of none
 pub place_absent : (names : List (List ℕ)) (name : List ℕ) (o : Option ℕ) → o ≡ place_of names name → IfNone o (All (λ s. s ≢ name) names)
 place_absent names name None absent =
     λ k d within same. false≢true (sym (position-none_at (λ s. bytes_eq s name) names k d (sym absent) within) ∙ (bytes_eq-Decides _ name).1 same)

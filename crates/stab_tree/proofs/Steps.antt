@@ -28,7 +28,7 @@ pub ancestor-none : (ps : List (Option ℕ)) (k w : ℕ) → parent_at ps w ≡ 
 ancestor-none ps k w e = rw e refl
 
 -- a node without a parent takes no step
-pub steps-root : (ps : List (Option ℕ)) (m w : ℕ) → parent_at ps w ≡ None → steps_below ps (suc m) w ≡ Some 0
+steps-root : (ps : List (Option ℕ)) (m w : ℕ) → parent_at ps w ≡ None → steps_below ps (suc m) w ≡ Some 0
 steps-root ps m w e = rw e refl
 
 -- the steps of a node with a parent are one more than the parent takes
@@ -41,9 +41,9 @@ steps_end ps zero w k found = cc
 steps_end ps (suc m) w k found =
     elim (option_cases (parent_at ps w)) [
       | inl e ↦ (let none : k ≡ 0 = let s = steps-root ps m w e in cc in (w, rw none refl, e))
-      | inr (p, e) ↦ (let s' : option_map suc (steps_below ps m p) ≡ Some k = sym (steps-child ps m w p e) ∙ found in elim (option_cases (steps_below ps m p)) [
-        | inl none ↦ (let no : None ≡ Some k = rw none at s' in cc)
-        | inr (j, some) ↦ (let more : k ≡ suc j = (let fits : Some (suc j) ≡ Some k = rw some at s' in cc) in let h = steps_end ps m p j some in (h.0, rw (more, ancestor-suc ps j w p e) h.1, h.2))
+      | inr (p, e) ↦ (let one_more : option_map suc (steps_below ps m p) ≡ Some k = sym (steps-child ps m w p e) ∙ found in elim (option_cases (steps_below ps m p)) [
+        | inl none ↦ (let no : None ≡ Some k = rw none at one_more in cc)
+        | inr (j, some) ↦ (let more : k ≡ suc j = (let fits : Some (suc j) ≡ Some k = rw some at one_more in cc) in let h = steps_end ps m p j some in (h.0, rw (more, ancestor-suc ps j w p e) h.1, h.2))
       ])
     ]
 
@@ -59,7 +59,7 @@ steps_found ps (suc m) (suc k) w r leads ends few =
 
 -- only one number of steps leads to a node without a parent
 pub steps_once : (ps : List (Option ℕ)) (j k w r s : ℕ) → ancestor ps j w ≡ Some r → parent_at ps r ≡ None → ancestor ps k w ≡ Some s → parent_at ps s ≡ None → j ≡ k
-steps_once ps j k w r s leads ends leads' ends' =
+steps_once ps j k w r s leads ends other_leads other_ends =
     let one = steps_found ps (suc (j + k)) j w r leads ends (omega arith) in
-    let other = steps_found ps (suc (j + k)) k w s leads' ends' (omega arith) in
+    let other = steps_found ps (suc (j + k)) k w s other_leads other_ends (omega arith) in
     cc

@@ -59,8 +59,8 @@ path_inside ps zero w r q known within leads on = ⊎_elim (λ e. let same = eqb
 path_inside ps (suc k) w r q known within leads on =
     elim (option_cases (parent_at ps w)) [
       | inl e ↦ (let no = ancestor-none ps k w e in cc)
-      | inr (p, e) ↦ (let next = ancestor-suc ps k w p e in let on' : list_any (eqb q) (w ∷ path ps k p) ≡ true = rw e at on in
-          ⊎_elim (λ e. let same = eqb-true q w e in omega arith) (λ h. path_inside ps k p r q known (known w p e) (sym next ∙ leads) h) (or_cases (eqb q w) (list_any (eqb q) (path ps k p)) on'))
+      | inr (p, e) ↦ (let next = ancestor-suc ps k w p e in let on_rest : list_any (eqb q) (w ∷ path ps k p) ≡ true = rw e at on in
+          ⊎_elim (λ e. let same = eqb-true q w e in omega arith) (λ h. path_inside ps k p r q known (known w p e) (sym next ∙ leads) h) (or_cases (eqb q w) (list_any (eqb q) (path ps k p)) on_rest))
     ]
 
 -- a walk to a node without a parent has fewer steps than there are nodes
