@@ -26,7 +26,7 @@ pub record FirstParent (names : List (List ℕ)) (e : Entry) (es : List Entry) (
   pub others_are : parents_of names es ≡ Some others
   pub all_are : ps ≡ first ∷ others
 
--- so they can be
+-- parents of one entry and more that were found can be taken apart
 pub first_parent : (names : List (List ℕ)) (e : Entry) (es : List Entry) (ps : List (Option ℕ)) → parents_of names (e ∷ es) ≡ Some ps → FirstParent names e es ps
 first_parent names e es ps found =
     elim (option_cases (parent_of names e)) [
@@ -39,7 +39,7 @@ first_parent names e es ps found =
           ])
     ]
 
--- and one parent
+-- where parents are found, there are as many as entries
 pub length-parents_of : (names : List (List ℕ)) (es : List Entry) (ps : List (Option ℕ)) → parents_of names es ≡ Some ps → length ps ≡ length es
 length-parents_of names [] ps found = let none : ps ≡ [] = cc in rw none refl
 length-parents_of names (e ∷ es) ps found =
@@ -55,12 +55,12 @@ parent_known names e p found =
           elim (option_cases (place_of names s)) [
             | inl none ↦ (let no : None ≡ Some (Some p) = rw none at placed in cc)
             | inr (q, at) ↦ (let same : Some (Some q) ≡ Some (Some p) = rw at at placed in
-                let e' : q ≡ p = cc in rw e' at (position-Some (λ u. bytes_eq u s) names q [] at).0)
+                let is_parent : q ≡ p = cc in rw is_parent at (position-Some (λ u. bytes_eq u s) names q [] at).0)
           ])
     ]
 
 -- each parent that is found is a node
-pub parents_known : (names : List (List ℕ)) (es : List Entry) (ps : List (Option ℕ)) → parents_of names es ≡ Some ps → (w p : ℕ) → parent_at ps w ≡ Some p → p < length names
+parents_known : (names : List (List ℕ)) (es : List Entry) (ps : List (Option ℕ)) → parents_of names es ≡ Some ps → (w p : ℕ) → parent_at ps w ≡ Some p → p < length names
 parents_known names [] ps found w p e = let none : ps ≡ [] = cc in let no : None ≡ Some p = rw none at e in cc
 parents_known names (e ∷ es) ps found zero p h =
     let f = first_parent names e es ps found in
@@ -71,13 +71,13 @@ parents_known names (e ∷ es) ps found (suc w) p h =
     parents_known names es f.others f.others_are w p (rw f.all_are at h)
 
 -- each parent is one of the nodes
-pub parents_inside : (es : List Entry) (ps : List (Option ℕ)) → parents_of (names_of es) es ≡ Some ps → (w p : ℕ) → parent_at ps w ≡ Some p → p < length ps
+parents_inside : (es : List Entry) (ps : List (Option ℕ)) → parents_of (names_of es) es ≡ Some ps → (w p : ℕ) → parent_at ps w ≡ Some p → p < length ps
 parents_inside es ps found w p e = omega (arith, parents_known (names_of es) es ps found w p e, length-map es (λ (e : Entry). e.name), length-parents_of (names_of es) es ps found)
 
 -- ---- the root and the steps to it
 
 -- parent steps lead from nodes to nodes
-pub ancestor_inside : (ps : List (Option ℕ)) (k w r : ℕ) → ((v p : ℕ) → parent_at ps v ≡ Some p → p < length ps) → w < length ps → ancestor ps k w ≡ Some r → r < length ps
+ancestor_inside : (ps : List (Option ℕ)) (k w r : ℕ) → ((v p : ℕ) → parent_at ps v ≡ Some p → p < length ps) → w < length ps → ancestor ps k w ≡ Some r → r < length ps
 ancestor_inside ps zero w r known within leads = let same : w ≡ r = cc in rw same at within
 ancestor_inside ps (suc k) w r known within leads =
     elim (option_cases (parent_at ps w)) [
@@ -85,7 +85,7 @@ ancestor_inside ps (suc k) w r known within leads =
       | inr (p, e) ↦ ancestor_inside ps k p r known (known w p e) (sym (ancestor-suc ps k w p e) ∙ leads)
     ]
 
--- one root is a node
+-- where one node has no parent, the first without one is a node
 pub root_inside : (ps : List (Option ℕ)) → count_by is_none ps ≡ 1 → root_of ps < length ps
 root_inside ps one = elim (cases_lt (root_of ps) (length ps)) [ inl h ↦ h | inr h ↦ absurd (omega (arith, count-zero ps h)) ]
 
@@ -106,14 +106,14 @@ pub record Passed (es : List Entry) (ps : List (Option ℕ)) : Type 0 where
   pub found : parents_of (names_of es) es ≡ Some ps
   pub one : root_count ps ≡ 1
 
--- so there are no more parents than nodes, and each is one of the nodes
+-- where they have passed, there are no more parents than nodes may be, and each is one of the nodes
 pub few_parents : {es : List Entry} {ps : List (Option ℕ)} → Passed es ps → length ps ≤ most_nodes
 few_parents {es} {ps} passed = omega (arith, passed.few, length-parents_of (names_of es) es ps passed.found)
 
 pub known_parents : {es : List Entry} {ps : List (Option ℕ)} → Passed es ps → (w p : ℕ) → parent_at ps w ≡ Some p → p < length ps
 known_parents {es} {ps} passed = parents_inside es ps passed.found
 
--- where the last has passed too, the nodes are a tree
+-- where the last check has passed too, the nodes are a tree
 pub IsTree-from_checks : (es : List Entry) (ps : List (Option ℕ)) → Passed es ps → have_depths ps ≡ true → IsTree (record { names = names_of es; parents = ps })
 IsTree-from_checks es ps passed deep =
     let same_length = length-parents_of (names_of es) es ps passed.found in

@@ -33,7 +33,7 @@ record Listed (d : Data) : Type 0 where
   listed : entries_of d ≡ Some entries
   passed : Passed entries parents
 
--- what is read of such a value
+-- what is read of such a value: its nodes where each has a depth, and else a cycle
 tree_of-listed : (d : Data) (l : Listed d) (deep : Bool) → have_depths l.parents ≡ deep
     → tree_of d ≡ (Cycle when not deep >> Ok (record { names = names_of l.entries; parents = l.parents }))
 unfolding tree_of
@@ -90,7 +90,7 @@ IsParent-from_found names e p found =
           ])
     ]
 
--- and so for each entry
+-- the parents that are found for the entries are their parents
 parents_described : (names : List (List ℕ)) (es : List Entry) (ps : List (Option ℕ)) → parents_of names es ≡ Some ps → (w : ℕ) (e : Entry) → slice_get es w ≡ Some e → IsParent names e.parent (parent_at ps w)
 parents_described names [] ps found w e at = cc
 parents_described names (x ∷ es) ps found zero e at =
@@ -112,7 +112,7 @@ Describes-listed d l = record {
 
 -- ---- what is described is read
 
--- the node of a name that stands once
+-- the node of a name that no other node has
 place_is : (names : List (List ℕ)) (p : ℕ) (s : List ℕ) → AllPairs (λ s u. s ≢ u) names → slice_get names p ≡ Some s → place_of names s ≡ Some p
 place_is names p s apart at =
     let within = slice_get_within names p s at in
@@ -125,16 +125,16 @@ parent_is : (names : List (List ℕ)) (e : Entry) (p : Option ℕ) → AllPairs 
 parent_is names e p apart is =
     elim (option_cases e.parent) [
       | inl none ↦ (let root : IsParent names None p = rw none at is in elim (option_cases p) [
-        | inl e' ↦ rw (none, e') refl
-        | inr (q, e') ↦ (let no : IsParent names None (Some q) = rw e' at root in absurd no)
+        | inl no_parent ↦ rw (none, no_parent) refl
+        | inr (q, has) ↦ (let no : IsParent names None (Some q) = rw has at root in absurd no)
       ])
       | inr (s, named) ↦ (let child : IsParent names (Some s) p = rw named at is in elim (option_cases p) [
-        | inl e' ↦ (let no : IsParent names (Some s) None = rw e' at child in absurd no)
-        | inr (q, e') ↦ (let at : slice_get names q ≡ Some s = rw e' at child in rw (named, place_is names q s apart at, e') refl)
+        | inl no_parent ↦ (let no : IsParent names (Some s) None = rw no_parent at child in absurd no)
+        | inr (q, has) ↦ (let at : slice_get names q ≡ Some s = rw has at child in rw (named, place_is names q s apart at, has) refl)
       ])
     ]
 
--- and so of each
+-- the parents of the entries are found
 parents_are : (names : List (List ℕ)) (es : List Entry) (ps : List (Option ℕ)) → AllPairs (λ s u. s ≢ u) names → length ps ≡ length es → ((w : ℕ) (e : Entry) → slice_get es w ≡ Some e → IsParent names e.parent (parent_at ps w)) → parents_of names es ≡ Some ps
 parents_are names [] [] apart same each = refl
 parents_are names [] (p ∷ ps) apart same each = absurd (omega arith)
@@ -142,7 +142,7 @@ parents_are names (e ∷ es) [] apart same each = absurd (omega arith)
 parents_are names (e ∷ es) (p ∷ ps) apart same each =
     rw (parent_is names e p apart (each 0 e refl), parents_are names es ps apart (omega arith) (λ w x at. each (suc w) x at)) refl
 
--- each node of a tree has a depth
+-- each node of a tree has a depth, so the last check passes
 depths_pass : (t : Nodes) → IsTree t → have_depths t.parents ≡ true
 depths_pass t tree = have_depths-all t.parents (λ w within. let walk = tree.reaches_root w within in rw (depth_found t tree w walk.0 within walk.1).0 refl)
 
@@ -192,7 +192,7 @@ some_fails : (p : ℕ → Bool) (xs : List ℕ) → list_all p xs ≡ false → 
 some_fails p [] fails = cc
 some_fails p (x ∷ xs) fails = ⊎_elim (λ h. (0, omega arith, h)) (λ h. let more = some_fails p xs h in (suc more.0, omega arith, more.2)) (and_cases (p x) (list_all p xs) fails)
 
--- a node without a depth
+-- where not each node has a depth, some node has none
 some_depthless : (ps : List (Option ℕ)) → have_depths ps ≡ false → (w : ℕ) × (w < length ps) × (depth_at ps w ≡ None)
 some_depthless ps shallow =
     let at = some_fails (λ w. is_some (depth_at ps w)) (range_with_len 0 (length ps)) shallow in
@@ -213,7 +213,7 @@ cycle_found d refused =
           nodes = record { names = names_of l.entries; parents = l.parents };
           described = Describes-listed d l;
           start = w.0;
-          within = w.1;
+          is_node = w.1;
           endless = λ k ends. let deep = (depth_means l.parents (known_parents l.passed) w.0 k w.1).1 ends in let no = sym w.2 ∙ deep in cc;
         })
       ]

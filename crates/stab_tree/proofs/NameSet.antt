@@ -18,7 +18,7 @@ use Rattle.stab_tree.proofs.OwnNames.{own_names}
 use Rattle.stab_tree.proofs.Places.{position-map}
 
 -- two texts are the same whichever is asked for the other
-pub bytes_eq-sym : (s u : List ℕ) → bytes_eq s u ≡ bytes_eq u s
+bytes_eq-sym : (s u : List ℕ) → bytes_eq s u ≡ bytes_eq u s
 bytes_eq-sym s u =
     let other = bytes_eq-Decides u s in
     same_from_decides (bytes_eq s u) (bytes_eq u s) (bytes_eq-Decides s u) (λ e. sym (other.0 e), λ same. other.1 (sym same))
@@ -42,7 +42,7 @@ new_name names i none within =
     let earlier : k < i = omega (arith, length-take-le i names) in
     false_from_ne_true _ (λ same. own_names names none k i [] earlier within (sym (get_or-take i names k [] earlier) ∙ sym ((bytes_eq-Decides _ _).0 same)))))
 
--- so the set of the names before it gains it at the end
+-- so the set of the names before one gains that name at its end
 pub name_added : {Z : Type 0} (es : List Entry) (i : ℕ) (d : Entry) (keys : List (String Z)) (k : String Z) → has_same_name (names_of es) ≡ false → i < length es → string_bytes k ≡ (get_or es i d).name → map string_bytes keys ≡ names_of (take i es) → map string_bytes (insert_key string_eq keys k) ≡ names_of (take (i + 1) es)
 name_added es i d keys k none within copied before =
     let names = names_of es in

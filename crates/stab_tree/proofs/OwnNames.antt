@@ -12,17 +12,19 @@ differs_from_each : (name : List ℕ) (names : List (List ℕ)) → list_any (by
 differs_from_each name [] absent = tt
 differs_from_each name (other ∷ names) absent = let parts = or_parts _ _ absent in (parts.0, differs_from_each name names parts.1)
 
--- and the other way round
+-- a name that differs from each of others is not among them
 not_among : (name : List ℕ) (names : List (List ℕ)) → AllByRecursion (λ other. bytes_eq name other ≡ false) names → list_any (bytes_eq name) names ≡ false
 not_among name [] differs = refl
 not_among name (other ∷ names) differs = or_from _ _ differs.0 (not_among name names differs.1)
 
+-- names that pass the test are distinct by std's word
 are_distinct : (names : List (List ℕ)) → has_same_name names ≡ false → IsDistinct bytes_eq names
 unfolding IsDistinct
 are_distinct [] none = tt
 are_distinct (name ∷ names) none =
     let parts = or_parts _ _ none in (differs_from_each name names parts.0, are_distinct names parts.1)
 
+-- names that are distinct pass the test
 none_same : (names : List (List ℕ)) → IsDistinct bytes_eq names → has_same_name names ≡ false
 unfolding IsDistinct
 none_same [] distinct = refl

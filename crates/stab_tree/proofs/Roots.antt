@@ -16,8 +16,8 @@ count-zero [] h = refl
 count-zero (None ∷ ps) h = absurd (omega arith)
 count-zero (Some p ∷ ps) h = omega (arith, count-cons (Some p) ps, count-zero ps (omega arith))
 
--- where one node is, some count
-pub count-some : (ps : List (Option ℕ)) → root_of ps < length ps → 1 ≤ count_by is_none ps
+-- where one node is without a parent, one counts at least
+count-some : (ps : List (Option ℕ)) → root_of ps < length ps → 1 ≤ count_by is_none ps
 count-some [] h = absurd (omega arith)
 count-some (None ∷ ps) h = omega (arith, count-cons None ps)
 count-some (Some p ∷ ps) h = omega (arith, count-cons (Some p) ps, count-some ps (omega arith))
@@ -35,7 +35,7 @@ each_has (None ∷ ps) w zero_counted within e = omega (arith, count-cons None p
 each_has (Some p ∷ ps) zero zero_counted within e = cc
 each_has (Some p ∷ ps) (suc w) zero_counted within e = each_has ps w (omega (arith, count-cons (Some p) ps)) (omega arith) e
 
--- where one counts, it is the root
+-- where one counts, each node without a parent is the root
 pub root-alone : (ps : List (Option ℕ)) (w : ℕ) → count_by is_none ps ≡ 1 → w < length ps → parent_at ps w ≡ None → w ≡ root_of ps
 root-alone [] w one within e = absurd (omega arith)
 root-alone (None ∷ ps) zero one within e = refl

@@ -18,5 +18,6 @@ pub record IsTree (t : Nodes) : Type 0 where
   -- one node alone has no parent, and each node reaches it
   pub root_is_node : root_of t.parents < length t.parents
   pub root_has_none : parent_at t.parents (root_of t.parents) ≡ None
-  pub one_root : (w : ℕ) → w < length t.parents → parent_at t.parents w ≡ None → w ≡ root_of t.parents
+  pub one_root : (w : ℕ) → w < length t.parents → parent_at t.parents w ≡ None
+      → w ≡ root_of t.parents
   pub reaches_root : (w : ℕ) → w < length t.parents → Reaches t.parents w (root_of t.parents)

@@ -11,9 +11,13 @@ most_name = 32
 abbrev pub is_from_to : ℕ → ℕ → ℕ → Bool
 is_from_to first last b = nat_le first b && nat_le b last
 
+-- one of a to z, 0 to 9, _ and -
 abbrev pub is_name_byte : ℕ → Bool
-is_name_byte b = is_from_to (byte "a") (byte "z") b || is_from_to (byte "0") (byte "9") b || b == byte "_" || b == byte "-"
+is_name_byte b =
+    is_from_to (byte "a") (byte "z") b || is_from_to (byte "0") (byte "9") b
+    || b == byte "_" || b == byte "-"
 
+-- 1 to 32 such bytes
 abbrev pub is_name : List ℕ → Bool
 is_name s = nat_le 1 (length s) && nat_le (length s) most_name && list_all is_name_byte s
 

@@ -1,5 +1,5 @@
--- The parents that entries name, and what their checks ask: how many nodes have none, and whether each has a depth
--- (this project's profile).
+-- The parents that entries name, and what the checks of them ask: how many nodes have none, and
+-- whether each node has a depth (this project's profile).
 use Rattle.std.specs.Prelude.{ℕ, List, [], ◌∷◌, length, Bool, Option, Some, None, is_some, is_none, option_map}
 use Rattle.std.specs.List.{list_all, count_by, range_with_len}
 use Rattle.std.specs.Option.{option_map_or}
@@ -10,7 +10,9 @@ use Rattle.stab_tree.specs.Steps.{depth_at}
 
 -- no parent, or the place of the parent; nothing where no node has its name
 abbrev pub parent_of : List (List ℕ) → Entry → Option (Option ℕ)
-parent_of names e = option_map_or (λ name. option_map (λ place. Some place) (place_of names name)) e.parent (Some None)
+parent_of names e =
+    option_map_or (λ name. option_map (λ place. Some place) (place_of names name)) e.parent
+    (Some None)
 
 -- the parents of the entries, where each is the name of a node
 abbrev pub parents_of : List (List ℕ) → List Entry → Option (List (Option ℕ))
@@ -26,4 +28,5 @@ root_count parents = count_by is_none parents
 
 -- each node has a depth
 abbrev pub have_depths : List (Option ℕ) → Bool
-have_depths parents = list_all (λ w. is_some (depth_at parents w)) (range_with_len 0 (length parents))
+have_depths parents =
+    list_all (λ w. is_some (depth_at parents w)) (range_with_len 0 (length parents))

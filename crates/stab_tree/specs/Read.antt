@@ -1,5 +1,5 @@
--- The tree that a JSON value describes, or the fault of the first check that fails. Each check is made over the whole list before
--- the next (this project's profile).
+-- The tree that a JSON value describes, or the fault of the first check that fails. Each check is
+-- made over the whole list before the next (this project's profile).
 use Rattle.std.specs.Prelude.{length, not, ◌==◌, nat_lt, Result, Ok}
 use Rattle.std.specs.List.{list_all}
 use Rattle.serde_json.specs.Data.{Data}

@@ -7,7 +7,8 @@ use Rattle.stab_tree.specs.Steps.{depth_at}
 -- the depths of nodes with these parents
 pub record AreDepths (parents : List (Option ℕ)) (depths : List ℕ) : Type 0 where
   pub one_each : length depths ≡ length parents
-  pub depth_is : (w : ℕ) → w < length parents → depth_at parents w ≡ Some (slice_index depths w)
+  pub depth_is : (w : ℕ) → w < length parents
+      → depth_at parents w ≡ Some (slice_index depths w)
 
 pub record IsStored (t : Nodes) (depths : List ℕ) (root : ℕ) : Type 0 where
   pub tree : IsTree t

@@ -50,7 +50,7 @@ pub(crate) fn have_same_name(entries: &[EntryRef<'_>]) -> bool
     false
 }
 
-/// The names of the entries, copied in file order. A name that stands twice is kept once.
+/// The names of the entries, copied in file order. A name that occurs twice is kept once.
 pub(crate) fn copy_names(
     alloc: Global,
     entries: &[EntryRef<'_>],

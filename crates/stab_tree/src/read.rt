@@ -1,4 +1,5 @@
-ghost use Rattle.std.specs.Prelude.{◌≡◌, ◌≢◌, Ok, Err, IfOk, IfErr};
+ghost use Rattle.std.specs.Prelude.{◌≡◌, ◌≢◌, Ok, Err, IfOk, IfErr, IsSome};
+ghost use Rattle.serde_json.specs.Find.{as_array};
 ghost use Rattle.serde_json.specs.View.{view};
 ghost use Rattle.stab_tree.specs.Read.{tree_of};
 
@@ -8,7 +9,7 @@ use crate::names::{self, MAX_NODES};
 use crate::parents;
 use crate::tree::Tree;
 use serde_json::Value;
-use stab_json::read_list;
+use stab_json::read_entries;
 use std::alloc::Global;
 
 /// Reads a list of nodes, each an object with a `name` and, but for the root, a `parent`.
@@ -17,8 +18,12 @@ pub fn read_tree(alloc: Global, value: &Value) -> Result<Tree, TreeFault>
     ensures ok { IfOk result (λ tree. tree_of (view value.now) ≡ Ok tree) }
     ensures err { IfErr result (λ fault. fault ≢ TreeFault.Memory
         → tree_of (view value.now) ≡ Err fault) }
+    ensures memory { result ≡ Err TreeFault.Memory → IsSome (as_array (view value.now)) }
 {
-    let Some(entries) = read_list::<EntryRef<'_>>(alloc, Some(value))? else {
+    let Some(values) = value.as_array() else {
+        return Err(TreeFault::Shape);
+    };
+    let Some(entries) = read_entries::<EntryRef<'_>>(alloc, values.as_slice())? else {
         return Err(TreeFault::Shape);
     };
     let entries = entries.as_slice();

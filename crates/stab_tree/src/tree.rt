@@ -5,7 +5,7 @@ use crate::node::NodeId;
 use indexmap::IndexSet;
 use std::marker::Model;
 
-/// The nodes of a tree, in file order. No call of its takes memory.
+/// The nodes of a tree, in file order. None of its calls takes memory.
 #[derive(Debug, Drop)]
 pub struct Tree {
     names: IndexSet<String>,
@@ -48,7 +48,8 @@ impl Tree {
         requires { IsStored
             (record { names = map string_bytes names.keys; parents = parents.items })
             depths.items root }
-        ensures { result ≡ record { names = map string_bytes names.keys; parents = parents.items } }
+        ensures { result
+            ≡ record { names = map string_bytes names.keys; parents = parents.items } }
     {
         Tree {
             names,
@@ -143,11 +144,12 @@ impl Tree {
         }
     }
 
-    /// The place of the link into a node; the root and strangers have none.
+    /// The place of the link into a node. The root has none, and neither has a number of no node.
     pub fn link_place(&self, node: NodeId) -> Option<u16>
         ensures value { result ≡ link_place_of self.now.parents node }
         ensures child { IsSome result ↔ IsSome (parent_at self.now.parents node) }
-        ensures found { IfSome result (λ place. slice_get (links_of self.now.parents) place ≡ Some node) }
+        ensures found { IfSome result
+            (λ place. slice_get (links_of self.now.parents) place ≡ Some node) }
     {
         if node.index() >= self.parents.len() {
             return None;
