@@ -1,5 +1,5 @@
 -- From the edge law of each link, which a run tells, to the tree law at each node.
-use Rattle.std.proofs.Common.{◌≡◌, ◌+◌, ◌*◌, ℕ, List, [], Some, ap, sym, subst}
+use Rattle.std.proofs.Common.{◌≡◌, ℕ, List, [], Some, ap, sym, subst}
 use Rattle.std.specs.Option.{option_map_or}
 use Rattle.stab_frames.specs.Parameters.{Parameters, AreLawful}
 use Rattle.stab_core.specs.declared.start.Start.{Start}

@@ -1,5 +1,5 @@
 -- How many places lie before a high one, where none is missing before the last.
-use Rattle.std.proofs.Common.{◌≡◌, ℕ, zero, suc, ◌+◌, ◌-◌, ◌<◌, ◌≤◌, List, arith}
+use Rattle.std.proofs.Common.{ℕ, zero, suc, ◌+◌, ◌-◌, ◌<◌, ◌≤◌, List, arith}
 use Rattle.std.specs.Prelude.{Contains}
 use Rattle.stab_core.specs.Picks.{RisesFrom}
 use Rattle.stab_core.proofs.ForCallers.{StandsAt, member_stands, lower_is_earlier}

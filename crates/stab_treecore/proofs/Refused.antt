@@ -1,11 +1,11 @@
 -- Why a schedule is refused at one of its events.
-use Rattle.std.proofs.Common.{◌≡◌, ◌⊎◌, ℕ, ◌+◌, ◌<◌, List, ◌∷◌, length, get_or, drop, ap, sym, ◌∙◌, subst, inl, inr}
+use Rattle.std.proofs.Common.{◌≡◌, ℕ, ◌+◌, ◌<◌, List, ◌∷◌, length, get_or, drop, ap, sym, ◌∙◌, subst, inl, inr}
 use Rattle.std.proofs.lemmas.List.{drop_more}
 use Rattle.stab_core.specs.Link.{Grows}
 use Rattle.stab_treecore.specs.declared.event.TreeEvent.{TreeEvent}
 use Rattle.stab_treecore.specs.declared.fault.TreeStepFault.{TreeStepFault}
 use Rattle.stab_treecore.specs.declared.fault.TreeStepFault.TheVariants.{NoSuchLink, Memory}
-use Rattle.stab_treecore.specs.Refusals.{IsMet, IsStepReason, NamesLink, NamesNoLink}
+use Rattle.stab_treecore.specs.Refusals.{IsStepReason, NamesLink, NamesNoLink}
 use Rattle.stab_treecore.specs.TreeStep.{tree_step, tree_effect}
 use Rattle.stab_treecore.specs.WholeTree.{WholeTree}
 

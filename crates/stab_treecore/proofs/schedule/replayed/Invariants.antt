@@ -1,5 +1,5 @@
 use Rattle.std.proofs.Common.{◌≡◌, All, take, drop}
-use Rattle.stab_treecore.specs.Refusals.{IsStepReason, NamesLink}
+use Rattle.stab_treecore.specs.Refusals.{NamesLink}
 use Rattle.stab_treecore.specs.TreeReplay.{tree_opening, tree_replay}
 use Rattle.stab_treecore.specs.WholeTree.{WholeTree}
 use Rattle.stab_treecore.proofs.Refused.{CarriesOver}
