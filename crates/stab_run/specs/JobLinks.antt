@@ -1,4 +1,5 @@
--- What a job says of its links: a start and a script for each, or nothing, which means clean starts and empty scripts.
+-- What a job says of its links: a start and a script for each, or nothing, which means clean starts
+-- and empty scripts.
 -- Source: this project's profile.
 use Rattle.std.specs.Prelude.{ℕ, List, [], ◌∷◌, length, replicate, Bool, false, not, ◌==◌, Option, Some, None, Result, Ok}
 use Rattle.stab_core.specs.declared.start.Start.{Start}

@@ -1,4 +1,5 @@
--- The members of a job, each of its stated shape; the content of the tree and the entries of the schedule are not looked at.
+-- The members of a job, each of its stated shape; the content of the tree and the entries of the
+-- schedule are not looked at.
 -- Source: this project's profile.
 use Rattle.std.specs.Prelude.{ℕ, codes, List, Option, Some, None, option_map}
 use Rattle.serde_json.specs.Data.{Data, Items, no_items}

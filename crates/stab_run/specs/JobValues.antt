@@ -1,4 +1,5 @@
--- The value of a job: parameters and a tree, a start and a script for each link, published items, a number of turns and a schedule.
+-- The value of a job: parameters and a tree, a start and a script for each link, published items, a
+-- number of turns and a schedule.
 -- Source: this project's profile.
 use Rattle.std.specs.Prelude.{◌≡◌, ℕ, ◌≤◌, List, length}
 use Rattle.stab_frames.specs.Parameters.{Parameters}

@@ -1,5 +1,6 @@
 -- Jobs: what the bytes of a job mean, or the first check, in the stated order, that they fail.
--- Source: this project's profile.
+-- Source: this project's profile. Each line of the lists below is a check beside its fault: `job` has
+-- the first five, `job_on_tree` those that follow once there is a tree, `schedule` the last two.
 use Rattle.std.specs.Prelude.{ℕ, codes, ◌≡◌, List, length, ◌==◌, ◌||◌, Bool, true, false, not, nat_lt, Option, Some, None, option_map, Result, Ok}
 use Rattle.std.specs.Option.{option_map_or}
 use Rattle.serde_json.specs.Data.{Data, Items}
@@ -22,13 +23,14 @@ abbrev pub is_known_version : Option Data → Bool
 is_known_version None = true
 is_known_version (Some d) = option_map_or (λ n. n == 1) (whole d) false
 
--- the events of a schedule over the nodes of these names: checks 12 and 13
+-- the events of a schedule over the nodes of these names: every entry is an act, and only then does
+-- every act name a node
 abbrev pub schedule : List (List ℕ) → Items → Result (List TreeEvent) JobFault
 schedule names its_entries = do
   acts ← entries named_act its_entries or fault.Event
   events_of names acts or fault.UnknownNode
 
--- the job of these members on their tree: checks 6 to 11, and those of the schedule
+-- the job of these members on their tree
 abbrev pub job_on_tree : Nodes → Members → Result JobValue JobFault
 job_on_tree t m = do
   fault.TooManyItems when nat_lt most_items (length m.items)
@@ -48,7 +50,7 @@ job_on_tree t m = do
     schedule = events;
   })
 
--- the job of these bytes: each line is a check, beside its fault; checks 1 to 5, and those on the tree
+-- the job of these bytes
 abbrev pub job : List ℕ → Result JobValue JobFault
 job bytes = do
   value ← value_of bytes or fault.Json

@@ -4,7 +4,7 @@ use Rattle.std.specs.Prelude.{ℕ, List, [], ◌∷◌, Option, Some, None, opti
 use Rattle.serde_json.specs.Data.{Data, Items, no_items, item}
 use Rattle.serde_json.specs.Find.{as_str, as_array}
 use Rattle.stab_core.specs.declared.act.LinkAct.{LinkAct}
-use Rattle.stab_json.specs.Values.{◌>>=◌, entries}
+use Rattle.stab_json.specs.Values.{◌>>=◌}
 use Rattle.stab_script.specs.Events.{plain_act, loss_act}
 use Rattle.stab_tree.specs.Nodes.{place_of}
 use Rattle.stab_treecore.specs.declared.event.TreeEvent.{TreeEvent}
@@ -35,7 +35,8 @@ named_act d = as_array d >>= act_of_items
 
 -- the event on the link into the node of that name, if there is such a node
 abbrev pub event_of : List (List ℕ) → NamedAct → Option TreeEvent
-event_of names n = option_map (λ place. record { child = place; act = n.act }) (place_of names n.child)
+event_of names n =
+    option_map (λ place. record { child = place; act = n.act }) (place_of names n.child)
 
 -- the events of these acts, if each names a node
 abbrev pub events_of : List (List ℕ) → List NamedAct → Option (List TreeEvent)
