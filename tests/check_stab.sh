@@ -43,6 +43,7 @@ case $text in
     *slow*) trap 'kill $!; echo ended >"$WORK/ended"; exit 1' TERM; sleep 600 & echo started >"$WORK/started"; wait ;;
     *waits*) sleep 1 ;;
     *changes*) echo after >src/text.rt ;;
+    *rewrites*) echo "'" >../../stab ;;
 esac
 sleep 0.1
 if [ "$1" = run ]; then
@@ -179,6 +180,10 @@ holds 'a program that is not proved never runs' refused 'stab_cli failed'
 write_text stab_cli changes
 run "$house/stab"
 holds 'sources that change during the build are built again' both gave 'after; ; in' 8 'the sources have changed during the build'
+write_text stab_cli rewrites
+run "$house/stab"
+holds 'the script itself may change during a build' gave 'rewrites; ; in' 4
+cp -- "$top/stab" "$house/stab"
 write_text stab_cli waits
 (run "$house/stab"; cp "$work/calls" "$work/calls_of_first"; cp "$work/out" "$work/out_of_first") &
 sleep 0.5
