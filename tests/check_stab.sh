@@ -1,8 +1,8 @@
 #!/usr/bin/env bash
 # Tests the script ./stab in a copy of its own, with a small command in the place of rt.
 #
-# Nothing is proved, and nothing of this repository is touched. The test takes some seconds. Its last
-# line is 'N passed, M failed'.
+# Nothing is proved, and nothing of this repository is touched. The test takes some seconds. Its
+# last line is 'N passed, M failed'.
 set -u
 top=$(dirname -- "$(dirname -- "$(readlink -f -- "${BASH_SOURCE[0]}")")")
 work=$(mktemp -d) || exit 1
