@@ -1,10 +1,11 @@
 #!/usr/bin/env python3
 """Measures `stab` on jobs of growing size: bench/run.py [--stab PROGRAM] [--quick]
 
-Makes the jobs in bench/build/ (the same bytes each time), runs each job five times, and prints the median of the
-processor time, the events per second and the peak memory. Nothing is subtracted: a time is that of the whole process.
-Run it by hand; the gate does not. Needs Python 3.9 or later. Without --stab it measures the program of ./stab, which
-builds it if that was not done yet for these sources.
+Makes the jobs in bench/build/ (the same bytes each time), runs each job five times, and prints the
+median of the processor time, the events per second and the peak memory. Nothing is subtracted: a
+time is that of the whole process. Run it by hand; the gate does not. Needs Python 3.9 or later.
+Without --stab it measures the program of ./stab, which builds it if that was not done yet for these
+sources.
 """
 import argparse
 import glob
@@ -52,7 +53,8 @@ def link_job(capacity, count):
     while len(events) < count:
         events.append(["offer", item])
         item += 1
-        events.extend(name if place is None else [name, place] for name, place in acts(draw, capacity))
+        for name, place in acts(draw, capacity):
+            events.append(name if place is None else [name, place])
     return {"capacity": capacity, "labels": labels, "start": start, "events": events[:count]}
 
 
@@ -67,7 +69,8 @@ def tree_job(count, capacity=4):
     while len(steps) < count:
         child = names[1 + draw.randrange(63)]
         steps.extend([[child, "offer"]] * 4)
-        steps.extend([child, name] if place is None else [child, name, place] for name, place in acts(draw, 1))
+        for name, place in acts(draw, 1):
+            steps.append([child, name] if place is None else [child, name, place])
     return {
         "capacity": capacity,
         "labels": labels,
@@ -91,7 +94,8 @@ def jobs(quick):
     sizes = (1_000, 10_000, 100_000) if quick else (1_000, 10_000, 100_000, 1_000_000)
     for capacity in (1, 8, 64):
         for count in sizes:
-            yield ["link"], f"link of capacity {capacity}", count, lambda c=capacity, n=count: link_job(c, n)
+            name = f"link of capacity {capacity}"
+            yield ["link"], name, count, lambda c=capacity, n=count: link_job(c, n)
     for count in sizes:
         count = min(count, MAX_TREE_STEPS)
         yield ["tree"], "64 nodes", count, lambda n=count: tree_job(n)
@@ -119,9 +123,11 @@ def high_water(pid):
 
 
 def run(program, words, path):
-    """Processor seconds and peak kilobytes of one run; None where the program refuses. The peak is asked of the kernel
-    while the program runs, since the peak that `wait4` reports includes this interpreter's own; the peak of a very short run is missed."""
-    child = subprocess.Popen([program, *words, path], stdout=subprocess.DEVNULL, stderr=subprocess.DEVNULL)
+    """Processor seconds and peak kilobytes of one run, or None if the program refuses. The kernel
+    is asked for the peak while the program runs, since the peak that `wait4` reports includes this
+    interpreter's own; the peak of a very short run is missed."""
+    quiet = {"stdout": subprocess.DEVNULL, "stderr": subprocess.DEVNULL}
+    child = subprocess.Popen([program, *words, path], **quiet)
     peak = 0
     while True:
         pid, status, usage = os.wait4(child.pid, os.WNOHANG)
@@ -132,22 +138,24 @@ def run(program, words, path):
 
 
 def built_program():
-    """The program that ./stab runs. ./stab builds it first if the sources have changed, and keeps no other beside it."""
+    """The program that ./stab runs. ./stab builds it first if needed, and keeps no other."""
     first_job = os.path.join(TOP, "examples", "worst_start.json")
-    if subprocess.run([os.path.join(TOP, "stab"), "link", first_job], stdout=subprocess.DEVNULL).returncode:
+    words = [os.path.join(TOP, "stab"), "link", first_job]
+    if subprocess.run(words, stdout=subprocess.DEVNULL).returncode:
         sys.exit("./stab does not run: what it said is above")
     return max(glob.glob(os.path.join(glob.escape(TOP), "out", "stab-*")), key=os.path.getmtime)
 
 
 def main():
     parser = argparse.ArgumentParser(description=__doc__.splitlines()[0])
-    parser.add_argument("--stab", metavar="PROGRAM", help="measure this program in place of that of ./stab")
+    parser.add_argument("--stab", metavar="PROGRAM", help="measure it, not the program of ./stab")
     parser.add_argument("--quick", action="store_true", help="jobs of up to 100,000 events")
     options = parser.parse_args()
     program = options.stab or built_program()
     if not os.access(program, os.X_OK):
         sys.exit(f"there is no program at {program}")
-    print(f"{time.strftime('%Y-%m-%d')}, {os.cpu_count()} processors, load {os.getloadavg()[0]:.1f}")
+    load = os.getloadavg()[0]
+    print(f"{time.strftime('%Y-%m-%d')}, {os.cpu_count()} processors, load {load:.1f}")
     print(f"{'job':24} {'events':>9} {'MB':>6} {'ms':>8} {'events/s':>11} {'peak MB':>8}")
     for words, name, count, job in jobs(options.quick):
         path = path_of(words, name, count, job)
@@ -158,7 +166,8 @@ def main():
         seconds, peak = statistics.median(one[0] for one in found), max(one[1] for one in found)
         rate = f"{count / seconds:11.0f}" if seconds and count else f"{'-':>11}"
         megabytes = os.path.getsize(path) / 1e6
-        print(f"{name:24} {count:9} {megabytes:6.2f} {seconds * 1000:8.1f} {rate} {peak / 1024:8.1f}")
+        times = f"{seconds * 1000:8.1f} {rate} {peak / 1024:8.1f}"
+        print(f"{name:24} {count:9} {megabytes:6.2f} {times}")
 
 
 if __name__ == "__main__":

@@ -1,7 +1,8 @@
 #!/usr/bin/env bash
-# Tests the script ./stab in a copy of its own, with a small command in the place of rt: tests/check_stab.sh
+# Tests the script ./stab in a copy of its own, with a small command in the place of rt.
 #
-# Nothing is proved and nothing of this repository is touched. Takes some seconds. The last line is 'N passed, M failed'.
+# Nothing is proved, and nothing of this repository is touched. The test takes some seconds. Its
+# last line is 'N passed, M failed'.
 set -u
 top=$(dirname -- "$(dirname -- "$(readlink -f -- "${BASH_SOURCE[0]}")")")
 work=$(mktemp -d) || exit 1
@@ -26,7 +27,8 @@ holds() {
     fi
 }
 
-# A command like rt. Its program prints the text of stab_cli's source, its words and its input, and ends with status 7.
+# A command like rt. Its program prints the text of stab_cli's source, its words and its input, and
+# ends with status 7.
 write_rt() {
     mkdir -p "$work/bin"
     cat >"$work/bin/rt" <<'END'
@@ -40,9 +42,15 @@ printf 'begin %s\n' "$crate" >>"$WORK/calls"
 text=$(cat src/*)
 case $text in
     *broken*) echo "not proved"; exit 1 ;;
-    *slow*) trap 'kill $!; echo ended >"$WORK/ended"; exit 1' TERM; sleep 600 & echo started >"$WORK/started"; wait ;;
+    *slow*)
+        trap 'kill $!; echo ended >"$WORK/ended"; exit 1' TERM
+        sleep 600 &
+        echo started >"$WORK/started"
+        wait
+        ;;
     *waits*) sleep 1 ;;
     *changes*) echo after >src/text.rt ;;
+    *rewrites*) echo "'" >../../stab ;;
 esac
 sleep 0.1
 if [ "$1" = run ]; then
@@ -57,7 +65,8 @@ END
     echo kit-1 >"$work/kit"
 }
 
-# A house of five crates, of which the program needs four: two at the bottom, one over the first, and its own.
+# A house of five crates, of which the program needs four: two at the bottom, one over the first,
+# and its own.
 write_house() {
     local crate
     rm -rf -- "$house"
@@ -66,7 +75,8 @@ write_house() {
         echo "$crate" >"$house/crates/$crate/src/text.rt"
     done
     echo input >"$house/crates/stab_cli/stdin"
-    printf '%s\n' '# crates' 'low: itoa' 'other:' 'mid: low itoa' 'unused: low' '' 'stab_cli may_wait=4: low mid other clap' >"$house/crates.txt"
+    printf '%s\n' '# crates' 'low: itoa' 'other:' 'mid: low itoa' 'unused: low' '' \
+        'stab_cli may_wait=4: low mid other clap' >"$house/crates.txt"
     echo 'Handles allowed: none.' >"$house/HANDLES"
     cp -- "$top/stab" "$house/stab"
     : >"$work/calls"
@@ -114,7 +124,10 @@ side_by_side() {
 
 # Whether mid was begun after low had ended.
 in_order() {
-    [ "$(grep -nx 'end low' "$work/calls" | cut -d: -f1)" -lt "$(grep -nx 'begin mid' "$work/calls" | cut -d: -f1)" ]
+    local low mid
+    low=$(grep -nx 'end low' "$work/calls" | cut -d: -f1)
+    mid=$(grep -nx 'begin mid' "$work/calls" | cut -d: -f1)
+    [ "$low" -lt "$mid" ]
 }
 
 # Starts a build that does not end by itself, and sends it a signal.
@@ -143,7 +156,8 @@ given_up() {
 write_rt
 write_house
 run "$house/stab" one 'two words'
-holds 'the first use builds, and hands on words, input and status' gave 'stab_cli; one two words; in' 4
+holds 'the first use builds, and hands on words, input and status' \
+    gave 'stab_cli; one two words; in' 4
 holds 'it says how far it is' said 'stab_cli is proved: 4 of 4 crates'
 holds 'crates that do not depend on each other are built side by side' side_by_side
 holds 'a crate is built after those below it' in_order
@@ -167,7 +181,8 @@ run "$house/stab"
 holds 'another kit builds' gave 'second; ; in' 4
 write_text low broken
 run "$house/stab"
-holds 'a build that fails runs no program and names what rt said' refused "low failed, and what rt said is in $house/out/log/low"
+holds 'a build that fails runs no program and names what rt said' \
+    refused "low failed, and what rt said is in $house/out/log/low"
 run "$house/stab"
 holds 'nor does the use after it' refused 'the program was not built'
 write_text low low
@@ -178,7 +193,12 @@ run "$house/stab"
 holds 'a program that is not proved never runs' refused 'stab_cli failed'
 write_text stab_cli changes
 run "$house/stab"
-holds 'sources that change during the build are built again' both gave 'after; ; in' 8 'the sources have changed during the build'
+holds 'sources that change during the build are built again' \
+    both gave 'after; ; in' 8 'the sources have changed during the build'
+write_text stab_cli rewrites
+run "$house/stab"
+holds 'the script itself may change during a build' gave 'rewrites; ; in' 4
+cp -- "$top/stab" "$house/stab"
 write_text stab_cli waits
 (run "$house/stab"; cp "$work/calls" "$work/calls_of_first"; cp "$work/out" "$work/out_of_first") &
 sleep 0.5
@@ -190,7 +210,8 @@ holds 'and uses what the first has built' cmp -s "$work/out_of_first" "$work/out
 holds 'which is built once' calls 4
 for signal in TERM:143 INT:130 HUP:129; do
     interrupt "${signal%:*}"
-    holds "a build ends at the signal ${signal%:*}, with all that it started" given_up "${signal#*:}"
+    holds "a build ends at the signal ${signal%:*}, with all that it started" \
+        given_up "${signal#*:}"
 done
 write_text mid mid
 write_text stab_cli again
@@ -202,10 +223,13 @@ ln -s "$house/stab" "$work/bin/linked"
 run env -C / linked two
 holds 'a symbolic link on the path leads to the program' gave 'again; two; in' 0
 write_text stab_cli far
-run env CDPATH="$work:$house:/" TMPDIR=/no/such/folder bash -c 'cd / && "$0" three' "$work/bin/linked"
-holds 'a build from another folder, with CDPATH and with no temporary folder' gave 'far; three; in' 4
+run env CDPATH="$work:$house:/" TMPDIR=/no/such/folder \
+    bash -c 'cd / && "$0" three' "$work/bin/linked"
+holds 'a build from another folder, with CDPATH and with no temporary folder' \
+    gave 'far; three; in' 4
 mkdir "$work/without"
-for tool in bash cat chmod cp dirname find flock mkdir mv nproc readlink rm sha256sum sort xargs env sh sleep; do
+for tool in bash cat chmod cp dirname env find flock mkdir mv nproc readlink rm sh sha256sum sleep \
+    sort xargs; do
     ln -s "$(type -P "$tool")" "$work/without/$tool"
 done
 run env PATH="$work/without" "$house/stab"

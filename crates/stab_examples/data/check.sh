@@ -1,12 +1,16 @@
 #!/usr/bin/env bash
-# Runs ./stab on every example and compares what it writes with the file beside the job: examples/check.sh
+# Runs ./stab on every example and compares what it writes with the file beside the job.
 #
-#   NAME.args  the words of the command line, one a line; no file: no words. A FILE is looked for in this folder
+#   NAME.args  the words of the command line, one a line; no file: no words. A FILE is looked for
+#              in this folder
 #   NAME.json  the standard input; no file: nothing
-#   NAME.out   what must be written to the standard output, with status 0 and nothing on the standard error; or
-#   NAME.err   the line that must be written to the standard error, and the status, with nothing on the standard output
+#   NAME.out   what must be written to the standard output, with status 0 and an empty standard
+#              error
+#   NAME.err   the line that must be written to the standard error, and the status, with an empty
+#              standard output
 #
-# A file NAME.run is compared by the gate alone. STAB may name another program to compare in place of ./stab.
+# A file NAME.run is compared by the gate alone. STAB may name another program to compare in place
+# of ./stab.
 set -u
 unset CDPATH
 here=$(dirname -- "$(readlink -f -- "${BASH_SOURCE[0]}")")

@@ -1,10 +1,21 @@
 -- The words of a run's table.
 -- Source: this project's own.
-use Rattle.std.specs.Prelude.{ℕ, List, Option, Some, None, ◌++◌, codes, decimal, if◌then◌else◌}
+use Rattle.std.specs.Prelude.{ℕ, false, List, Option, Some, None}
+use Rattle.std.specs.Prelude.{◌++◌, codes, decimal, if◌then◌else◌}
 use Rattle.stab_core.specs.declared.event.Event.{Event}
-use Rattle.stab_core.specs.declared.event.Event.TheVariants.{Offer, SendFrame, RecvFrame, SendAck, RecvAck, LoseFrame, LoseAck, Close}
+use Rattle.stab_core.specs.declared.event.Event.TheVariants.{Offer, SendFrame, RecvFrame}
+use Rattle.stab_core.specs.declared.event.Event.TheVariants.{SendAck, RecvAck}
+use Rattle.stab_core.specs.declared.event.Event.TheVariants.{LoseFrame, LoseAck, Close}
 use Rattle.stab_core.specs.declared.event.Effect.{Effect}
-use Rattle.stab_core.specs.declared.event.Effect.TheVariants.{Nothing, Held, Sent, Fresh, Old, Acked, Ignored, Lost, Closed}
+use Rattle.stab_core.specs.declared.event.Effect.TheVariants.{Nothing, Held, Sent, Fresh}
+use Rattle.stab_core.specs.declared.event.Effect.TheVariants.{Old, Acked, Ignored, Lost, Closed}
+use Rattle.stab_task.specs.Answers.{IsFault}
+use Rattle.stab_task.specs.declared.command.Task.TheVariants.{Link}
+use Rattle.stab_task.specs.declared.fault.CliFault.{CliFault}
+
+-- why there is no run for these bytes: what keeps a link job from its answer
+abbrev pub IsRunFault : List ℕ → CliFault → Type 0
+IsRunFault input fault = IsFault (Link false) input fault
 
 -- an event as a job has it, without spaces
 unfoldable pub event_word : Event → List ℕ

@@ -13,7 +13,8 @@ pub struct Given {
     pub text: String,
 }
 
-/// What the program writes for an example: the text of its answer, or the line of its fault and its status.
+/// What the program writes for an example: the text of its answer, or the line of its fault and its
+/// status.
 pub fn answer<R: Files + Wait + AllocGlobal>(rt: &R, name: &str) -> io::Result<Given> {
     let words = words_of(rt, name)?;
     let job = fs_bytes(rt, name)?;

@@ -1,8 +1,9 @@
 //! Compares every example with what the library of the program `stab` gives for it.
 //!
-//! The program runs in the folder of the examples. Its standard input lists the files that say what is expected, one a
-//! line: `NAME.out` and `NAME.err` are what a job prints, `NAME.run` is a link step by step. For each file it prints a
-//! line, and after a difference both texts. A file that is not in the list is a difference as well. The last line counts.
+//! The program runs in the folder of the examples. Its standard input lists the files that say
+//! what is expected, one a line: `NAME.out` and `NAME.err` are what a job prints, `NAME.run` is a
+//! link step by step. For each file it prints a line, and after a difference both texts. A file
+//! that is not in the list is a difference as well. The last line counts.
 #![tactic(auto)]
 
 mod answer;
@@ -29,7 +30,8 @@ fn main(rt: HostRuntime) -> ExitCode {
     }
 }
 
-/// Compares the listed files and looks for files that are not listed; says whether all is as expected.
+/// Compares the listed files and looks for files that are not listed; says whether all is as
+/// expected.
 fn compare_all<R: Files + Input + Print + Wait + AllocGlobal + Clone + Drop>(
     rt: &R,
 ) -> io::Result<bool> {
@@ -53,7 +55,8 @@ fn compare_all<R: Files + Input + Print + Wait + AllocGlobal + Clone + Drop>(
     Ok(other == 0 && same > 0)
 }
 
-/// Compares one file with what is given for it, prints a line and any difference, and says whether both are the same.
+/// Compares one file with what is given for it, prints a line and any difference, and says whether
+/// both are the same.
 fn compare<R: Files + Print + Wait + AllocGlobal>(rt: &R, file: &str) -> io::Result<bool> {
     let Some(expected) = file_or_none(rt, file)? else {
         println!(rt; "OTHER  {file}\nThere is no such file.")?;

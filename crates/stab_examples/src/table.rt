@@ -1,8 +1,8 @@
 //! A run as a table: the link at its start and after each event.
 
-ghost use Rattle.std.specs.Prelude.{◌≡◌, ◌++◌, codes, string_bytes, if◌then◌else◌, OnOk, IfErr};
-ghost use Rattle.stab_task.specs.Answers.{IsLinkFault};
-ghost use Rattle.stab_examples.specs.Tables.{event_word, effect_word, delivered, number_word};
+ghost use Rattle.std.specs.Prelude.{◌≡◌, ◌++◌, false, string_bytes, OnOk, IfErr};
+ghost use Rattle.stab_examples.specs.Tables.{delivered, effect_word, event_word, number_word};
+ghost use Rattle.stab_examples.specs.Tables.{IsRunFault};
 
 use stab_core::{Effect, Event, Link};
 use stab_script::read_link_job;
@@ -12,9 +12,10 @@ use std::alloc::{AllocError, Global};
 /// The names of the columns, which are the first line of a table.
 const HEAD: &str = "event effect label holds acked frames acks remembers delivers\n";
 
-/// The table of a link job: the names of the columns, the link at its start, and a line for each event.
+/// The table of a link job: the names of the columns, the link at its start, and a line for each
+/// event.
 pub fn run_table(alloc: Global, bytes: &[u8]) -> Result<String, CliFault>
-    ensures fault { IfErr result (IsLinkFault bytes.now) }
+    ensures fault { IfErr result (IsRunFault bytes.now) }
 {
     let job = read_link_job(alloc, bytes)?;
     let mut link = Link::new(alloc, job.params, &job.start)?;
