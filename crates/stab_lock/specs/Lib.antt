@@ -1,0 +1,5 @@
+pub mod Accounts
+pub mod Book
+pub mod Calls
+pub mod Settling
+pub mod Ends

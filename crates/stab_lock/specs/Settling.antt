@@ -1,0 +1,31 @@
+-- When two accounts agree with the state of one link, and the first thing in which they differ from
+-- it.
+-- Source: this project's profile.
+use Rattle.std.specs.Prelude.{◌≡◌, ◌≢◌, true, false}
+use Rattle.stab_core.specs.LinkState.{LinkState}
+use Rattle.stab_lock.specs.Accounts.{Sender, Receiver}
+use Rattle.stab_lock.specs.declared.settle.SettleFault.{SettleFault}
+use Rattle.stab_lock.specs.declared.settle.SettleFault.TheVariants.{OfferedDiffer, AckedDiffer}
+use Rattle.stab_lock.specs.declared.settle.SettleFault.TheVariants.{DeliveredDiffer, ClosedDiffer}
+
+-- the sender's closed is the link's, and the receiver's is set only where the link is closed
+pub record ClosesAgree (s : LinkState) (sender : Sender) (receiver : Receiver) : Type 0 where
+  pub by_sender : sender.closed ≡ s.closed
+  pub by_receiver : receiver.closed ≡ true → s.closed ≡ true
+
+-- both accounts are what this state says
+pub record Agree (s : LinkState) (sender : Sender) (receiver : Receiver) : Type 0 where
+  pub offered : sender.offered ≡ s.offered
+  pub acked : sender.acked ≡ s.acked
+  pub delivered : receiver.delivered ≡ s.delivered
+  pub closed : ClosesAgree s sender receiver
+
+-- this is the first thing in which the accounts differ from the state
+abbrev pub FirstDiffer : LinkState → Sender → Receiver → SettleFault → Type 0
+FirstDiffer s sender receiver OfferedDiffer = sender.offered ≢ s.offered
+FirstDiffer s sender receiver AckedDiffer = (sender.offered ≡ s.offered) × (sender.acked ≢ s.acked)
+FirstDiffer s sender receiver DeliveredDiffer =
+    (sender.offered ≡ s.offered) × (sender.acked ≡ s.acked) × (receiver.delivered ≢ s.delivered)
+FirstDiffer s sender receiver ClosedDiffer =
+    (sender.offered ≡ s.offered) × (sender.acked ≡ s.acked) × (receiver.delivered ≡ s.delivered)
+    × ¬ ClosesAgree s sender receiver

@@ -1,0 +1,118 @@
+ghost use Rattle.std.specs.Prelude.{◌≡◌, [], List, IfOk, IfErr, OnOk};
+ghost use Rattle.stab_core.specs.Link.{IsReason};
+ghost use Rattle.stab_core.specs.LinkLaw.{LinkLaw};
+ghost use Rattle.stab_core.specs.Replay.{IsLawful, opening, replay, start_items};
+ghost use Rattle.stab_core.specs.declared.event.Event.{Event};
+ghost use Rattle.stab_script.specs.Scripts.{sender_half, receiver_half};
+ghost use Rattle.stab_lock.specs.Accounts.{new_sender, new_receiver};
+ghost use Rattle.stab_lock.specs.Book.{Given};
+ghost use Rattle.stab_lock.specs.Ends.{send_end, recv_end};
+ghost use Rattle.stab_lock.specs.Settling.{Agree};
+
+use crate::account::{RecvAccount, SendAccount};
+use crate::book::LinkBook;
+use crate::recv::LockRecv;
+use crate::send::LockSend;
+use crate::settle::{SettleFault, Settled};
+use stab_core::{Start, StartFault};
+use stab_frames::Params;
+use stab_script::Script;
+use std::alloc::Global;
+use std::marker::Model;
+use std::sync::Mutex;
+
+/// A link behind a lock, for two ends that work on opposite sides of it. Contracts see its
+/// parameters and its start.
+///
+/// It keeps a copy of both beside the lock, since of a value behind a lock only what its type says
+/// is known.
+#[derive(Drop)]
+pub struct LockLink {
+    params: Params,
+    start: Start,
+    alloc: Global,
+    book: Mutex<LinkBook>,
+}
+
+impl Model for LockLink {
+    ghost use Rattle.stab_core.specs.Replay.{IsLawful};
+    ghost use Rattle.stab_lock.specs.Book.{Given};
+
+    ghost Value = { Given };
+
+    ghost view = { λ l. record { params = l.params; start = l.start } };
+
+    ghost invariant = { λ l. IsLawful l.params l.start };
+}
+
+impl LockLink {
+    /// The link at its start, refused as a link is refused.
+    pub fn new(alloc: Global, params: Params, start: Start) -> Result<LockLink, StartFault>
+        ensures given { IfOk result (λ link. link ≡ record { params = params; start = start }) }
+        ensures lawful { IfOk result (λ link. IsLawful params start) }
+        ensures refused { IfErr result (IsReason params start) }
+    {
+        let book = LinkBook::new(alloc, params, start)?;
+        let _lawful = book.link();
+        let start = book.start().copy(alloc)?;
+        Ok(LockLink {
+            params,
+            start,
+            alloc,
+            book: Mutex::new(book),
+        })
+    }
+
+    /// The two ends of the link, with empty accounts; each takes its half of the script. It takes
+    /// no memory.
+    pub fn split<R>(&self, script: Script) -> (LockSend<'_, R>, LockRecv<'_, R>)
+        ensures send { send_end result.0
+            ≡ record { account = new_sender; acts = sender_half script } }
+        ensures recv { recv_end result.1
+            ≡ record { account = new_receiver; acts = receiver_half script } }
+    {
+        let (sender, receiver) = script.split();
+        (LockSend::new(self, sender), LockRecv::new(self, receiver))
+    }
+
+    /// The allocator of the accounts of the ends.
+    pub(crate) fn alloc(&self) -> Global {
+        self.alloc
+    }
+
+    /// The lock.
+    pub(crate) fn book(&self) -> &Mutex<LinkBook> {
+        &self.book
+    }
+
+    /// The book that the lock kept. It takes no memory.
+    pub fn into_book(self) -> LinkBook {
+        let LockLink { book, .. } = self;
+        book.into_inner()
+    }
+
+    /// Compares the accounts of both ends with the book, and hands both back where they agree. Then
+    /// one list of events explains both.
+    pub fn settle(self, send: SendAccount, recv: RecvAccount) -> Result<Settled, SettleFault>
+        ensures send { IfOk result (λ settled. settled.send ≡ send) }
+        ensures recv { IfOk result (λ settled. settled.recv ≡ recv) }
+        ensures replay { OnOk result ((events : List Event)
+            × Agree (replay self.params (opening self.start) events) send recv) }
+        ensures law { OnOk result (LinkLaw self.params.capacity (start_items self.start)
+            send.offered send.acked recv.delivered) }
+    {
+        let LockLink {
+            params,
+            start,
+            alloc: _,
+            book,
+        } = self;
+        let book = book.into_inner();
+        if !book.is_of(params, &start) {
+            return Err(SettleFault::OfferedDiffer);
+        }
+        let _law = book.link();
+        book.check(&send, &recv)?;
+        Ok(Settled { send, recv })
+    }
+}

@@ -1,0 +1,99 @@
+ghost use Rattle.std.specs.Prelude.{◌≡◌, true, IfOk};
+ghost use Rattle.stab_lock.specs.Ends.{recv_end};
+ghost use Rattle.stab_lock.specs.Accounts.{Receiver, new_receiver, after_poll_frame};
+
+use crate::account::RecvAccount;
+use crate::link::LockLink;
+use crate::seen::FrameSeen;
+use crate::side::RecvSide;
+use stab_core::Effect;
+use stab_script::HalfScript;
+use std::alloc::AllocError;
+use std::marker::PhantomData;
+use std::sync::Wait;
+
+/// The receiver's end of a locked link. Each call takes the lock once, and makes the book's call of
+/// its name.
+pub struct LockRecv<'a, R> {
+    link: &'a LockLink,
+    account: RecvAccount,
+    acts: HalfScript,
+    runtime: PhantomData<R>,
+}
+
+impl<'a, R> Drop for LockRecv<'a, R> {
+    fn drop(self) {
+        let LockRecv {
+            link: _,
+            account: _,
+            acts: _,
+            runtime: _,
+        } = self;
+    }
+}
+
+impl<'a, R> LockRecv<'a, R> {
+    /// The end of this link that has made no call, with its half of the script.
+    pub(crate) fn new(link: &'a LockLink, acts: HalfScript) -> LockRecv<'a, R>
+        ensures { recv_end result ≡ record { account = new_receiver; acts = acts } }
+    {
+        LockRecv {
+            link,
+            account: RecvAccount::new(link.alloc()),
+            acts,
+            runtime: PhantomData,
+        }
+    }
+}
+
+impl<'a, R: Wait> RecvSide for LockRecv<'a, R> {
+    type Pass = R;
+
+    type Done = RecvAccount;
+
+    ghost Link = { Unit {0} };
+
+    ghost link = { λ end. tt };
+
+    ghost received = { λ end. end.account };
+
+    ghost done_link = { λ done. tt };
+
+    ghost done_received = { λ done. done };
+
+    fn poll_frame(&mut self, pass: &R) -> Result<FrameSeen, AllocError> {
+        self.account.delivered.reserve(1)?;
+        let seen = self.link.book().lock(pass).poll_frame(&mut self.acts)?;
+        match seen {
+            FrameSeen::Fresh(_) if self.account.closed => return Ok(FrameSeen::Closed),
+            FrameSeen::Fresh(item) => self.account.delivered.push_reserved(item),
+            FrameSeen::Closed => self.account.closed = true,
+            FrameSeen::Nothing | FrameSeen::Old => {}
+        }
+        Ok(seen)
+    }
+
+    fn send_ack(&mut self, pass: &R) -> Result<Effect, AllocError> {
+        self.link.book().lock(pass).send_ack(&mut self.acts)
+    }
+
+    fn account(&self) -> &RecvAccount {
+        &self.account
+    }
+
+    fn finish(self) -> RecvAccount {
+        let LockRecv {
+            link: _,
+            account,
+            acts: _,
+            runtime: _,
+        } = self;
+        account
+    }
+
+    fn done_account(done: &RecvAccount) -> &RecvAccount
+        ensures { result.now ≡ done.now }
+    {
+        done
+    }
+}

@@ -1,0 +1,120 @@
+ghost use Rattle.std.specs.Prelude.{◌≡◌, true, IfOk};
+ghost use Rattle.stab_lock.specs.Ends.{send_end};
+ghost use Rattle.stab_lock.specs.Accounts.{Sender, MayOffer, Waits, new_sender, after_offer};
+ghost use Rattle.stab_lock.specs.Accounts.{after_poll_ack, after_close};
+
+use crate::account::SendAccount;
+use crate::link::LockLink;
+use crate::side::SendSide;
+use stab_core::Effect;
+use stab_frames::Item;
+use stab_script::HalfScript;
+use std::alloc::AllocError;
+use std::marker::PhantomData;
+use std::sync::Wait;
+
+/// The sender's end of a locked link. Each call takes the lock once, and makes the book's call of
+/// its name.
+pub struct LockSend<'a, R> {
+    link: &'a LockLink,
+    account: SendAccount,
+    acts: HalfScript,
+    runtime: PhantomData<R>,
+}
+
+impl<'a, R> Drop for LockSend<'a, R> {
+    fn drop(self) {
+        let LockSend {
+            link: _,
+            account: _,
+            acts: _,
+            runtime: _,
+        } = self;
+    }
+}
+
+impl<'a, R> LockSend<'a, R> {
+    /// The end of this link that has made no call, with its half of the script.
+    pub(crate) fn new(link: &'a LockLink, acts: HalfScript) -> LockSend<'a, R>
+        ensures { send_end result ≡ record { account = new_sender; acts = acts } }
+    {
+        LockSend {
+            link,
+            account: SendAccount::new(link.alloc()),
+            acts,
+            runtime: PhantomData,
+        }
+    }
+}
+
+impl<'a, R: Wait> SendSide for LockSend<'a, R> {
+    type Pass = R;
+
+    type Done = SendAccount;
+
+    ghost Link = { Unit {0} };
+
+    ghost link = { λ end. tt };
+
+    ghost sent = { λ end. end.account };
+
+    ghost done_link = { λ done. tt };
+
+    ghost done_sent = { λ done. done };
+
+    fn offer(&mut self, pass: &R, item: Item) -> Result<bool, AllocError> {
+        let may_take = !self.account.closed && self.account.is_idle();
+        if may_take {
+            self.account.offered.reserve(1)?;
+        }
+        let taken = self.link.book().lock(pass).offer(item)?;
+        if taken && may_take {
+            self.account.offered.push_reserved(item);
+            Ok(true)
+        } else {
+            Ok(false)
+        }
+    }
+
+    fn send(&mut self, pass: &R) -> Result<Effect, AllocError> {
+        self.link.book().lock(pass).send(&mut self.acts)
+    }
+
+    fn poll_ack(&mut self, pass: &R) -> Result<Effect, AllocError> {
+        let effect = self.link.book().lock(pass).poll_ack(&mut self.acts)?;
+        if effect != Effect::Acked {
+            return Ok(effect);
+        }
+        if self.account.closed || !self.account.is_waiting() {
+            return Ok(Effect::Ignored);
+        }
+        self.account.acked += 1;
+        Ok(Effect::Acked)
+    }
+
+    fn close(&mut self, pass: &R) -> Result<Effect, AllocError> {
+        let effect = self.link.book().lock(pass).close()?;
+        self.account.closed = true;
+        Ok(effect)
+    }
+
+    fn account(&self) -> &SendAccount {
+        &self.account
+    }
+
+    fn finish(self) -> SendAccount {
+        let LockSend {
+            link: _,
+            account,
+            acts: _,
+            runtime: _,
+        } = self;
+        account
+    }
+
+    fn done_account(done: &SendAccount) -> &SendAccount
+        ensures { result.now ≡ done.now }
+    {
+        done
+    }
+}
