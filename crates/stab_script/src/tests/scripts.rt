@@ -123,6 +123,11 @@ fn six_acts_drawn_take_24_words(rt: HostRuntime) -> Result<(), Fail> {
     let takes = [InAct::Take; 6];
     assert_lists(&rt, &script, &frames_out, &takes, &[lost; 6], &takes);
     assert!(rt; words.given == 24);
+    Ok(())
+}
+
+#[test]
+fn a_seed_draws_what_its_generator_does(rt: HostRuntime) -> Result<(), Fail> {
     let by_seed = seeded(rt.alloc(), 42, 54, 6, 100, 0)?;
     let by_generator = Script::draw(rt.alloc(), &mut Pcg32::new(42, 54), 6, 100, 0)?;
     assert_same(&rt, &by_seed, &by_generator);
@@ -154,23 +159,39 @@ fn pcg32_gives_its_published_words(rt: HostRuntime) {
     }
 }
 
+/// How a draw of these numbers is refused, by a seed and by words, and how many words it took.
+fn drawn(
+    alloc: Global,
+    len: u32,
+    loss: u16,
+    repeat: u16,
+) -> (Option<ScriptFault>, Option<ScriptFault>, u32) {
+    let by_seed = seeded(alloc, 42, 54, len, loss, repeat).err();
+    let mut words = FewWords { given: 0 };
+    let by_words = from_words(alloc, &mut words, len, loss, repeat).err();
+    (by_seed, by_words, words.given)
+}
+
 #[test]
-fn refuses_100001_acts_and_then_rates_over_1000(rt: HostRuntime) -> Result<(), Fail> {
+fn refuses_100001_acts_and_then_rates_over_1000(rt: HostRuntime) {
     let rows = [
-        (100001, 1001, 1001, Some(ScriptFault::TooLong)),
-        (1, 1001, 0, Some(ScriptFault::RateOutOfRange)),
-        (1, 0, 1001, Some(ScriptFault::RateOutOfRange)),
-        (100000, 1000, 1000, None),
+        (100001, 1001, 1001, Some(ScriptFault::TooLong), 0),
+        (1, 1001, 0, Some(ScriptFault::RateOutOfRange), 0),
+        (1, 0, 1001, Some(ScriptFault::RateOutOfRange), 0),
+        (100000, 1000, 1000, None, 400000),
     ];
-    for (len, loss, repeat, want) in rows {
-        let by_seed = seeded(rt.alloc(), 42, 54, len, loss, repeat).err();
-        assert!(rt; by_seed == want, "{len} acts at {loss} and {repeat}");
-        let mut words = FewWords { given: 0 };
-        let by_words = from_words(rt.alloc(), &mut words, len, loss, repeat).err();
-        assert!(rt; by_words == want, "{len} acts at {loss} and {repeat}");
-        let taken = if want.is_none() { 400000 } else { 0 };
-        assert!(rt; words.given == taken, "{len} acts at {loss} and {repeat}");
+    for (len, loss, repeat, want, taken) in rows {
+        let (by_seed, by_words, given) = drawn(rt.alloc(), len, loss, repeat);
+        assert!(rt;
+            by_seed == want && by_words == want,
+            "{len} acts at {loss} and {repeat}"
+        );
+        assert!(rt; given == taken, "{len} acts at {loss} and {repeat}");
     }
+}
+
+#[test]
+fn rates_of_1000_lose_and_keep_all(rt: HostRuntime) -> Result<(), Fail> {
     let none = seeded(rt.alloc(), 42, 54, 0, 0, 0)?;
     assert_lists(&rt, &none, &[], &[], &[], &[]);
     let all = seeded(rt.alloc(), 42, 54, 2, 1000, 1000)?;
@@ -179,27 +200,30 @@ fn refuses_100001_acts_and_then_rates_over_1000(rt: HostRuntime) -> Result<(), F
     Ok(())
 }
 
-/// The script with lists of these lengths, of any acts.
-fn of_lengths(alloc: Global, lengths: [usize; 4]) -> Result<Option<ScriptFault>, AllocError> {
-    let frames_out = vec![in alloc; OutAct::Evict; lengths[0]]?;
-    let frames_in = vec![in alloc; InAct::Keep; lengths[1]]?;
-    let acks_out = vec![in alloc; OutAct::Drop; lengths[2]]?;
-    let acks_in = vec![in alloc; InAct::Take; lengths[3]]?;
+/// How lists of these lengths, of any acts, are refused as a script.
+fn of_lengths(
+    alloc: Global,
+    frames_out: usize,
+    frames_in: usize,
+    acks_out: usize,
+    acks_in: usize,
+) -> Result<Option<ScriptFault>, AllocError> {
+    let frames_out = vec![in alloc; OutAct::Evict; frames_out]?;
+    let frames_in = vec![in alloc; InAct::Keep; frames_in]?;
+    let acks_out = vec![in alloc; OutAct::Drop; acks_out]?;
+    let acks_in = vec![in alloc; InAct::Take; acks_in]?;
     Ok(Script::new(frames_out, frames_in, acks_out, acks_in).err())
 }
 
 #[test]
 fn refuses_a_list_of_100001_acts(rt: HostRuntime) -> Result<(), Fail> {
-    let rows = [
-        ([100000, 100000, 100000, 100000], None),
-        ([100001, 0, 0, 0], Some(ScriptFault::TooLong)),
-        ([0, 100001, 0, 0], Some(ScriptFault::TooLong)),
-        ([0, 0, 100001, 0], Some(ScriptFault::TooLong)),
-        ([0, 0, 0, 100001], Some(ScriptFault::TooLong)),
-    ];
-    for (lengths, want) in rows {
-        assert!(rt; of_lengths(rt.alloc(), lengths)? == want, "{lengths:?}");
-    }
+    let too_long = Some(ScriptFault::TooLong);
+    let alloc = rt.alloc();
+    assert!(rt; of_lengths(alloc, 100000, 100000, 100000, 100000)?.is_none());
+    assert!(rt; of_lengths(alloc, 100001, 0, 0, 0)? == too_long);
+    assert!(rt; of_lengths(alloc, 0, 100001, 0, 0)? == too_long);
+    assert!(rt; of_lengths(alloc, 0, 0, 100001, 0)? == too_long);
+    assert!(rt; of_lengths(alloc, 0, 0, 0, 100001)? == too_long);
     Ok(())
 }
 
