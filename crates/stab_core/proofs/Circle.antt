@@ -17,7 +17,7 @@ Absent label entries = Each (λ x. x ≢ label) entries
 abbrev pub AllAre : ℕ → List ℕ → Type 0
 AllAre label entries = Each (λ x. x ≡ label) entries
 
--- Once this label stands there, all entries behind it are this label. Read from the other end, where the sender puts its
+-- Once this label is there, all entries after it are this label. Read from the other end, where the sender puts its
 -- frames, these are copies of the label and then labels that differ from it.
 abbrev pub TurnsTo : ℕ → List ℕ → Type 0
 TurnsTo label [] = Unit {0}

@@ -1,4 +1,4 @@
--- Some item number up to 2c + 1 has a label that stands nowhere in a lawful start.
+-- Some item number up to 2c + 1 has a label that is nowhere in a lawful start.
 use Rattle.std.proofs.Common.{◌≡◌, ◌≢◌, ℕ, zero, suc, ◌+◌, ◌*◌, ◌<◌, ◌≤◌, cond, eqb, ◌⊎◌, inl, inr, List, [], ◌∷◌, map, length, arith, eqb-true, length-append}
 use Rattle.std.proofs.lemmas.Bool.{cond_both, cases_Bool, eqb-false}
 use Rattle.std.proofs.lemmas.List.{length-map}
@@ -21,7 +21,7 @@ others_no_more x (y ∷ ys) =
     cond_both (eqb y x) (others x ys) (y ∷ others x ys) (λ kept. length kept ≤ length (y ∷ ys))
     (λ same. omega arith) (λ other. omega arith)
 
--- an entry that stands nowhere, or there are fewer others
+-- an entry that is nowhere, or there are fewer others
 absent_or_fewer : (x : ℕ) (ys : List ℕ) → Absent x ys ⊎ (length (others x ys) < length ys)
 absent_or_fewer x [] = inl tt
 absent_or_fewer x (y ∷ ys) =
@@ -34,7 +34,7 @@ absent_or_fewer x (y ∷ ys) =
       ]
     ]
 
--- what stands nowhere among the others of x, and is not x, stands nowhere
+-- what is nowhere among the others of x, and is not x, is nowhere
 absent_from_others : (x label : ℕ) (ys : List ℕ) → label ≢ x → Absent label (others x ys) → Absent label ys
 absent_from_others x label [] differs absent = tt
 absent_from_others x label (y ∷ ys) differs absent =
@@ -44,7 +44,7 @@ absent_from_others x label (y ∷ ys) differs absent =
       | inr other ↦ let apart = rw other at absent in (apart.0, absent_from_others x label ys differs apart.1)
     ]
 
--- of n + 1 numbers that differ pairwise one stands nowhere in a list of n entries
+-- of n + 1 numbers that differ pairwise one is nowhere in a list of n entries
 pub one_is_free : (number : ℕ → ℕ) (n : ℕ) (used : List ℕ)
     → ((i k : ℕ) → i < k → k ≤ n → number i ≢ number k) → length used ≤ n → (j : ℕ) × (j ≤ n) × Absent (number j) used
 one_is_free number zero [] differ few = (0, omega arith, tt)
@@ -60,7 +60,7 @@ one_is_free number (suc n) used differ few =
           (j, omega arith, absent_from_others last (number j) used differs absent)
     ]
 
--- Item number j is free: it is one of the first items, whose labels all differ, and its label stands nowhere in the start.
+-- Item number j is free: it is one of the first items, whose labels all differ, and its label is nowhere in the start.
 pub record IsFree (p : Parameters) (start : Start) (j : ℕ) : Type 0 where
   pub some_labels : 2 ≤ p.labels
   pub few : j < p.labels
@@ -71,7 +71,7 @@ few_in_start : (p : Parameters) (start : Start) → IsLawful p start
     → length (circle start.acks start.recv_label (map (λ f. f.label) start.frames)) ≤ 2 * p.capacity + 1
 few_in_start p start lawful = simp (length-append, length-map) (omega arith)
 
--- so one of the first 2c + 2 items has a label that stands nowhere in the start
+-- so one of the first 2c + 2 items has a label that is nowhere in the start
 pub free_label : (p : Parameters) (start : Start) → AreLawful p → IsLawful p start
     → (j : ℕ) × (j ≤ 2 * p.capacity + 1) × IsFree p start j
 free_label p start parameters lawful =

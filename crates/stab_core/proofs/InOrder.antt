@@ -1,4 +1,4 @@
--- What is left of a list when entries vanish and others are repeated where they stand. Whatever a queue loses or keeps at
+-- What a list becomes when entries vanish and others are repeated where they stand. Whatever a queue loses or keeps at
 -- its front, and whatever the receiver takes or answers, the labels on the circle change in no other way.
 use Rattle.std.proofs.Common.{◌≡◌, ℕ, zero, suc, Bool, true, false, List, [], ◌∷◌, ◌++◌, map, refl, ap}
 use Rattle.std.specs.List.{AllByRecursion as Each}
@@ -20,13 +20,13 @@ pub in_order_same : {A : Type 0} (xs : List A) → InOrder xs xs
 in_order_same [] = nothing
 in_order_same (x ∷ xs) = again (in_order_same xs)
 
--- so is what is left of it without one entry
+-- so is the list without one entry
 pub in_order_without : {A : Type 0} (i : ℕ) (xs : List A) → InOrder xs (without i xs)
 in_order_without i [] = nothing
 in_order_without zero (x ∷ xs) = skip (in_order_same xs)
 in_order_without (suc i) (x ∷ xs) = again (in_order_without i xs)
 
--- and what is left when its front was received
+-- and the list after its front was received
 pub in_order_after_front : {A : Type 0} (keep : Bool) (xs : List A) → InOrder xs (after_front keep xs)
 in_order_after_front true xs = in_order_same xs
 in_order_after_front false [] = nothing
@@ -38,12 +38,12 @@ in_order_map f nothing = nothing
 in_order_map f (skip in_order) = skip (in_order_map f in_order)
 in_order_map f (repeat in_order) = repeat (in_order_map f in_order)
 
--- the same list may stand in front of both
+-- the same list may come before both
 pub in_order_behind : {A : Type 0} (zs : List A) {xs ys : List A} → InOrder xs ys → InOrder (zs ++ xs) (zs ++ ys)
 in_order_behind [] in_order = in_order
 in_order_behind (z ∷ zs) in_order = again (in_order_behind zs in_order)
 
--- or behind both
+-- or after both
 pub in_order_before : {A : Type 0} {xs ys : List A} (zs : List A) → InOrder xs ys → InOrder (xs ++ zs) (ys ++ zs)
 in_order_before zs nothing = in_order_same zs
 in_order_before zs (skip in_order) = skip (in_order_before zs in_order)
@@ -71,7 +71,7 @@ without-map f i [] = refl
 without-map f zero (x ∷ xs) = refl
 without-map f (suc i) (x ∷ xs) = ap (λ rest. f x ∷ rest) (without-map f i xs)
 
--- where nothing was queued nothing is left
+-- an empty queue stays empty
 pub after_front-nil : {A : Type 0} (keep : Bool) → after_front {A = A} keep [] ≡ []
 after_front-nil true = refl
 after_front-nil false = refl

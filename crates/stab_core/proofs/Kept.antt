@@ -1,4 +1,4 @@
--- What every event keeps of a link, where the frames in transit and the delivered items are told by their places.
+-- What every event keeps of a link, where the frames in transit and the delivered items are given by their places.
 use Rattle.std.proofs.Common.{◌≡◌, ◌≢◌, ℕ, ◌+◌, Bool, true, List, [], ◌∷◌, ◌++◌, map, length, ◌∙◌, ap, subst, eqb-true}
 use mathlib.Core.List.{map-map}
 use Rattle.stab_frames.specs.declared.frame.Frame.{Frame}

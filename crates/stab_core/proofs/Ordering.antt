@@ -1,4 +1,4 @@
--- The order in which items go through a link, whatever stood in it: places in transit never fall, delivered places rise.
+-- The order in which items go through a link, whatever its start: places in transit never fall, delivered places rise.
 use Rattle.std.proofs.Common.{◌≡◌, ◌≢◌, ℕ, ◌+◌, ◌-◌, ◌<◌, ◌≤◌, Bool, List, [], ◌∷◌, ◌++◌, map, length, slice_index, refl, sym, ◌∙◌, ap, ap₂, arith}
 use Rattle.std.proofs.lemmas.List.{map_push, length_push}
 use Rattle.stab_frames.specs.declared.frame.Frame.{Frame}

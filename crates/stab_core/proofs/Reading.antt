@@ -1,4 +1,4 @@
--- What the circle of labels says of a free item number j, whose label stood nowhere in the start, and of all items behind
+-- What the circle of labels says of a free item number j, whose label is nowhere in the start, and of all items after
 -- it: from item j on, the circle read from the sender is copies of the sender's label and then labels that differ from it.
 use Rattle.std.proofs.Common.{◌≡◌, ◌≢◌, ℕ, ◌+◌, ◌<◌, ◌≤◌, inl, inr, Bool, List, [], ◌∷◌, ◌++◌, map, Contains, refl, sym, ◌∙◌, ap, subst, arith}
 use Rattle.std.specs.List.{AllByRecursion as Each}
@@ -26,7 +26,7 @@ IsOwn p start item place = label_at p start place ≡ item_label p start item �
 abbrev pub NoneMissingFrom : Start → ℕ → ℕ → List ℕ → Type 0
 NoneMissingFrom start j acked taken = (i : ℕ) → j ≤ i → i < acked → Contains taken (stray_count start + i)
 
--- Until item j is the sender's, its label stands nowhere. From then on the circle turns to the sender's label, the frames
+-- Until item j is the sender's, its label is nowhere. From then on the circle turns to the sender's label, the frames
 -- with this label are frames of the sender's item, and a receiver that remembers this label took the item. So of the
 -- acknowledged items from item j on none is missing.
 pub record Reading (p : Parameters) (start : Start) (j acked : ℕ) (acks : List ℕ) (recv_label : ℕ) (queued taken : List ℕ)
@@ -38,13 +38,13 @@ pub record Reading (p : Parameters) (start : Start) (j acked : ℕ) (acks : List
   pub none_missing : NoneMissingFrom start j acked taken
 
 module _ (p : Parameters) (start : Start) (j : ℕ) (free : IsFree p start j) where
-  -- where the item's label stands on no frame, all frames that have it are its own
+  -- where the item's label is on no frame, all frames that have it are its own
   own_from_absent : (item : ℕ) (queued : List ℕ) → Absent (item_label p start item) (map (label_at p start) queued)
       → Each (IsOwn p start item) queued
   own_from_absent item [] absent = tt
   own_from_absent item (v ∷ queued) absent = ((λ same. absurd (absent.0 same)), own_from_absent item queued absent.1)
 
-  -- before the turn of item j no more is claimed than that its label stands nowhere
+  -- before the turn of item j no more is claimed than that its label is nowhere
   before_turn : (acked : ℕ) {acks : List ℕ} {recv_label : ℕ} {queued taken : List ℕ} → acked < j
       → Absent (item_label p start j) (on_circle p start acks recv_label queued)
       → Reading p start j acked acks recv_label queued taken
@@ -57,7 +57,7 @@ module _ (p : Parameters) (start : Start) (j : ℕ) (free : IsFree p start j) wh
         none_missing = λ i begun passed. absurd (omega arith);
       }
 
-  -- an item from j on whose label stands nowhere begins its turn
+  -- an item from j on whose label is nowhere begins its turn
   at_turn : (acked : ℕ) (acks : List ℕ) (recv_label : ℕ) (queued : List ℕ) {taken : List ℕ} → j ≤ acked
       → Absent (item_label p start acked) (on_circle p start acks recv_label queued) → NoneMissingFrom start j acked taken
       → Reading p start j acked acks recv_label queued taken
@@ -175,7 +175,7 @@ module _ (p : Parameters) (start : Start) (j : ℕ) (free : IsFree p start j) wh
             subst (λ (k : ℕ). Contains taken (stray_count start + k)) is_last (reading.remembered own_turn same)
       ]
 
-  -- And the label of the next item stands nowhere: it differs from the one that all are, or it is that of item j itself.
+  -- And the label of the next item is nowhere: it differs from the one that all are, or it is that of item j itself.
   next_is_absent : {acked : ℕ} {acks : List ℕ} {recv_label : ℕ} {queued taken : List ℕ} → j ≤ acked + 1
       → Reading p start j acked (item_label p start acked ∷ acks) recv_label queued taken
       → Absent (item_label p start (acked + 1)) (on_circle p start (item_label p start acked ∷ acks) recv_label queued)

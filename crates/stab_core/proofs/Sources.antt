@@ -1,4 +1,4 @@
--- Where frames and delivered items come from: a place in the start's items with the offered ones behind them. So the places
+-- Where frames and delivered items come from: a place in the start's items followed by the offered ones. So the places
 -- of strays come first, and those of offered items follow.
 use Rattle.std.proofs.Common.{◌≡◌, ℕ, zero, suc, ◌+◌, ◌-◌, ◌<◌, ◌≤◌, ltb, false, lt-ltb, le-ltb, if◌then◌else◌, append_assoc, List, [], ◌∷◌, ◌++◌, map, length, get_or, slice_index, refl, sym, ◌∙◌, ap, ap₂, arith, get_or-append-add, length-append, zero-add}
 use Rattle.std.proofs.lemmas.Bool.{cond-true, cond-false}
@@ -41,12 +41,12 @@ frame_at p start offered place = frame (label_at p start place) (item_at start o
 pub origin_at : Start → ℕ → Origin
 origin_at start place = if ltb place (stray_count start) then Stray place else Sent (place - stray_count start)
 
--- item number i stands behind the strays
+-- item number i comes after the strays
 pub item_sent : (start : Start) (offered : List ℕ) (i : ℕ)
     → item_at start offered (stray_count start + i) ≡ slice_index offered i
 item_sent start offered i = get_or-append-add (start_items start) offered i 0
 
--- the strays stand first
+-- the strays come first
 pub item_stray : (start : Start) (offered : List ℕ) (place : ℕ) → place < stray_count start
     → item_at start offered place ≡ slice_index (start_items start) place
 item_stray start offered place stray = get_or_append_left (start_items start) offered 0 place stray

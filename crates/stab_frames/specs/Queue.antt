@@ -1,5 +1,5 @@
 -- A queue of bounded capacity: its entries, the front first, and how many it may hold.
--- Source: the bounded FIFO queue that stands for one direction of a link in this project's profile.
+-- Source: the bounded FIFO queue of one direction of a link in this project's profile.
 use Rattle.std.specs.Prelude.{ℕ, zero, suc, List, [], ◌∷◌, refl}
 use Rattle.std.specs.Coded.{Coded, code_by, coded×, coded_list, coded_ℕ}
 

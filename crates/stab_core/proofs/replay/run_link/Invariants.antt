@@ -2,7 +2,7 @@ use Rattle.std.proofs.Common.{◌≡◌, drop}
 use Rattle.stab_core.specs.Replay.{opening, replay}
 use Rattle.stab_core.proofs.replay.run_link.Given as goal
 
--- the replay of what is left, from the state so far, is that of all the events
+-- the replay of the remaining events, from the state so far, is that of all the events
 abbrev pub invariant-loop-event : goal.invariant-loop-event
 invariant-loop-event l =
     (l.link.params ≡ l.fn.params)

@@ -3,6 +3,6 @@ use Rattle.std.specs.List.{flat_map}
 use Rattle.stab_core.specs.Texts.{frame_entry}
 use Rattle.stab_core.proofs.text.push_frames_line.Given as goal
 
--- the entries so far stand behind what was there
+-- the entries so far come after what was there
 abbrev pub invariant-loop-place : goal.invariant-loop-place
 invariant-loop-place l = string_bytes l.text ≡ string_bytes l.initial.text ++ flat_map frame_entry (take l.place l.link.state.frames)
