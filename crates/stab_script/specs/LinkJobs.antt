@@ -9,7 +9,7 @@ use Rattle.stab_script.specs.declared.link_job.LinkJob.{LinkJob}
 use Rattle.stab_script.specs.declared.link_job.LinkJobFault.{LinkJobFault}
 use Rattle.stab_script.specs.declared.link_job.LinkJobFault.TheVariants as fault
 use Rattle.stab_script.specs.Events.{event}
-use Rattle.stab_script.specs.LinkMembers.{LinkMembers, members}
+use Rattle.stab_script.specs.LinkMembers.{members}
 
 -- the most events that a link job may have
 abbrev pub most_events : ℕ
