@@ -5,10 +5,10 @@ use Rattle.stab_tree.specs.Name.{has_same_name}
 use Rattle.stab_tree.specs.Parents.{have_depths}
 use Rattle.stab_tree.proofs.Checked.{Passed, few_parents, known_parents, IsTree-from_checks}
 use Rattle.stab_tree.proofs.read.read_tree.Goals as goal
-use Rattle.stab_tree.proofs.read.read_tree.Goals.{Else-roots-gt1}
+use Rattle.stab_tree.proofs.read.read_tree.Goals.{After-as_slice-3}
 
 -- what the checks up to the number of roots have shown
-passed : (c : Else-roots-gt1) → Passed c.as_slice-entries.result.now c.in-Some-3.parents.items
+passed : (c : After-as_slice-3) → Passed c.as_slice-entries.result.now c.in-Some-3.parents.items
 passed c =
     let entries = c.as_slice-entries.result.now in
     let own : has_same_name (names_of entries) ≡ false = grind (arith, common_steps) in
@@ -23,19 +23,19 @@ passed c =
 
 pub first_root-root-requires : goal.first_root-root-requires
 first_root-root-requires c =
-    rw c.as_slice-3.ensures.value (few_parents (passed (goal.at.first_root-root-requires c).Else-roots-gt1))
+    rw c.as_slice-3.ensures.value (few_parents (passed c))
 
 pub find_depths-requires-clause-few : goal.find_depths-requires-clause-few
 find_depths-requires-clause-few c =
-    rw c.as_slice-4.ensures.value (few_parents (passed (goal.at.find_depths-requires-clause-few c).Else-roots-gt1))
+    rw c.as_slice-4.ensures.value (few_parents (passed (goal.at.find_depths-requires-clause-few c).After-as_slice-3))
 
 pub find_depths-requires-clause-known : goal.find_depths-requires-clause-known
 find_depths-requires-clause-known c =
-    rw c.as_slice-4.ensures.value (known_parents (passed (goal.at.find_depths-requires-clause-known c).Else-roots-gt1))
+    rw c.as_slice-4.ensures.value (known_parents (passed (goal.at.find_depths-requires-clause-known c).After-as_slice-3))
 
 pub from_parts-requires : goal.from_parts-requires
 from_parts-requires c =
-    let so_far = passed (goal.at.from_parts-requires c).Else-roots-gt1 in
+    let so_far = passed (goal.at.from_parts-requires c).After-as_slice-3 in
     let deep : have_depths c.in-Some-3.parents.items ≡ true = grind (arith, common_steps) in
     record {
       tree = rw (c.in_ok-names.ensures so_far.own) (IsTree-from_checks _ _ so_far deep);
