@@ -23,9 +23,13 @@ acts frames_out frames_in acks_out acks_in =
 abbrev pub no_acts : Acts
 no_acts = acts [] [] [] []
 
--- a list of more than 100,000 acts
+-- the most acts that a list of a script may have
+abbrev pub most_acts : ℕ
+most_acts = 100000
+
+-- a list of more acts than that
 abbrev pub is_long : {A : Type 0} → List A → Bool
-is_long xs = nat_lt 100000 (length xs)
+is_long acts = nat_lt most_acts (length acts)
 
 -- the script of these acts, if no list is too long
 abbrev pub script_of : Acts → Result Acts ScriptFault

@@ -19,7 +19,7 @@ mod script_entry;
 mod start;
 
 pub use act::{InAct, OutAct};
-pub use events::{event, loss, numbered_event, plain_event};
+pub use events::{event, loss_act, plain_act};
 pub use fault::{PartFault, ScriptFault};
 pub use half::HalfScript;
 pub use link_job::{LinkJob, LinkJobFault, read_link_job};
