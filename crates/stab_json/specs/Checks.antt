@@ -1,5 +1,6 @@
 -- Checks: the words for a list of checks in their order, each beside the fault that it reports.
--- Source: this project's own. In a `do` block of these words a check is made where those before it pass.
+-- Source: this project's own. In a `do` block of these words a check is made only where those
+-- before it pass.
 use Rattle.std.specs.Prelude.{Bool, true, false, Option, Some, None, Result, Ok, Err}
 
 infixl 10 ◌>>=◌
@@ -7,7 +8,6 @@ infixl 10 ◌>>◌
 infixl 20 ◌or◌
 infixl 20 ◌when◌
 infixl 20 ◌refused_as◌
-
 -- the checks that follow, over what the one before found
 abbrev pub ◌>>=◌ : {A B F : Type 0} → Result A F → (A → Result B F) → Result B F
 ◌>>=◌ (Ok x) following = following x

@@ -1,6 +1,7 @@
 -- Events: what the words of a job mean as acts on a link, and what a JSON value means as an event.
 -- Source: this project's profile.
-use Rattle.std.specs.Prelude.{ℕ, codes, true, false, List, if◌then◌else◌, Option, Some, None, option_map}
+use Rattle.std.specs.Prelude.{ℕ, codes, true, false, List, if◌then◌else◌}
+use Rattle.std.specs.Prelude.{Option, Some, None, option_map}
 use Rattle.std.specs.Str.{bytes_eq}
 use Rattle.stab_core.specs.declared.act.LinkAct.{LinkAct}
 use Rattle.stab_core.specs.declared.act.LinkAct.TheVariants.{Offer, SendFrame, RecvFrame, SendAck, RecvAck, LoseFrame, LoseAck, Close}

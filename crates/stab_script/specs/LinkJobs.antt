@@ -1,4 +1,5 @@
--- Link jobs: what the bytes of a link job mean, or the first check, in the stated order, that they fail.
+-- Link jobs: what the bytes of a link job mean, or the first check, in the stated order, that they
+-- fail.
 -- Source: this project's profile.
 use Rattle.std.specs.Prelude.{ℕ, List, nat_lt, option_map, Result, Ok}
 use Rattle.stab_frames.specs.Parameters.{fault_of}

@@ -1,4 +1,5 @@
--- Link members: the members of a link job, each of its stated shape; the entries of `events` are not looked at.
+-- Link members: the members of a link job, each of its stated shape; the entries of `events` are
+-- not looked at.
 -- Source: this project's profile.
 use Rattle.std.specs.Prelude.{ℕ, codes, Option, Some}
 use Rattle.stab_core.specs.declared.start.Start.{Start}

@@ -1,5 +1,6 @@
 -- Script entries: what a JSON value says as a script of one link.
--- Source: this project's profile. An entry has texts of letters, an act each, or the numbers of a draw.
+-- Source: this project's profile. An entry has texts of letters, an act each, or the numbers of a
+-- draw.
 use Rattle.std.specs.Prelude.{ℕ, ◌==◌, codes, List, [], ◌∷◌, if◌then◌else◌, Option, Some, None}
 use Rattle.serde_json.specs.Data.{Data, null, boolean, number, string, array, object}
 use Rattle.serde_json.specs.Find.{get, as_str}

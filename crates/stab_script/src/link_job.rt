@@ -1,4 +1,5 @@
-ghost use Rattle.std.specs.Prelude.{◌≡◌, ◌≢◌, ◌<◌, codes, length, MatchResult, IfOk, Some, None, Ok, Err, option_and_then, option_map};
+ghost use Rattle.std.specs.Prelude.{◌≡◌, ◌≢◌, ◌<◌, codes, length, None, Ok, Err, MatchResult, IfOk};
+ghost use Rattle.std.specs.Prelude.{option_and_then, option_map};
 ghost use Rattle.serde_json.specs.Find.{get, as_array};
 ghost use Rattle.serde_json.specs.View.{view, items_view};
 ghost use Rattle.stab_json.specs.Values.{value_of, entries};
@@ -72,7 +73,8 @@ pub struct LinkJob {
     pub events: Sequence<Event>,
 }
 
-/// The link job that these bytes mean, or the first check that they fail; memory may be refused before a later check.
+/// The link job that these bytes mean, or the first check that they fail; memory may be refused
+/// before a later check.
 #[tactic(auto, using(stab_json::proofs::ForCallers::some_bytes, stab_json::proofs::ForCallers::count_of_values))]
 pub fn read_link_job(alloc: Global, bytes: &[u8]) -> Result<LinkJob, LinkJobFault>
     ensures job { MatchResult result
@@ -112,7 +114,7 @@ struct Members {
 
 /// The members of a link job, the events taken out of it, or `None` where one has another shape.
 fn read_members(alloc: Global, value: Value) -> Result<Option<Members>, AllocError>
-    ensures { IfOk result (λ its_members. option_map members_read its_members ≡ members (view value)) }
+    ensures { IfOk result (λ read. option_map members_read read ≡ members (view value)) }
 {
     let (Some(capacity), Some(labels)) = (
         u16_member(&value, "capacity"),
@@ -136,7 +138,8 @@ fn read_members(alloc: Global, value: Value) -> Result<Option<Members>, AllocErr
 
 /// The start that the member of that name is.
 fn start_member(alloc: Global, value: &Value) -> Result<Option<Start>, AllocError>
-    ensures { IfOk result (λ it. it ≡ option_and_then start (get (codes "start") (view value.now))) }
+    ensures { IfOk result (λ its_start. its_start
+        ≡ option_and_then start (get (codes "start") (view value.now))) }
 {
     match value.get("start") {
         Some(start) => StartEntry::read(alloc, start),
@@ -155,8 +158,8 @@ fn list_member(mut value: Value, name: &str) -> Option<Vec<Value>>
     }
 }
 
-/// The events of these values, or `None` where one of them is no event. Each value is dropped when it has been read,
-/// while it is still at hand, and not in a second pass over all of them.
+/// The events of these values, or `None` where one of them is no event. Each value is dropped when
+/// it has been read, while it is still at hand, and not in a second pass over all of them.
 fn read_events(alloc: Global, values: Vec<Value>) -> Result<Option<Sequence<Event>>, AllocError>
     ensures { IfOk result (λ events. events ≡ entries event (items_view values.items)) }
 {

@@ -1,8 +1,9 @@
-ghost use Rattle.std.specs.Prelude.{◌≡◌, ◌≢◌, ℕ, Option, List, codes, true, MatchResult, IfOk, Ok, Err, option_map};
+ghost use Rattle.std.specs.Prelude.{◌≡◌, ◌≢◌, ℕ, Option, codes, true, Ok, Err, MatchResult, IfOk};
 ghost use Rattle.serde_json.specs.Find.{get};
 ghost use Rattle.serde_json.specs.View.{view};
 ghost use Rattle.stab_script.specs.MadeScripts.{made, takes_memory, script};
-ghost use Rattle.stab_script.specs.ScriptEntries.{out_letter, in_letter, letters, letters_or_absent, lists, draw, script_entry};
+ghost use Rattle.stab_script.specs.ScriptEntries.{out_letter, in_letter, letters};
+ghost use Rattle.stab_script.specs.ScriptEntries.{letters_or_absent, lists, draw, script_entry};
 
 use crate::act::{InAct, OutAct};
 use crate::fault::{PartFault, ScriptFault};
