@@ -53,23 +53,25 @@ NamesLink parents e = IsSome (parent_at parents e.child)
 abbrev pub NamesNoLink : List (Option ℕ) → TreeEvent → Type 0
 NamesNoLink parents e = IsNone (parent_at parents e.child)
 
--- Of some event this holds, beside the state that it meets, after events that all name links.
-abbrev pub IsMet : (WholeTree → TreeEvent → Type 0) → WholeTree → List TreeEvent → Type 0
-IsMet P t [] = ⊥
-IsMet P t (e ∷ es) = P t e ⊎ (NamesLink t.parents e × IsMet P (tree_step t e) es)
+-- The schedule reaches an event of which this holds, beside the state that it finds: the events
+-- before it all name links.
+abbrev pub ReachesEvent : (WholeTree → TreeEvent → Type 0) → WholeTree → List TreeEvent → Type 0
+ReachesEvent P t [] = ⊥
+ReachesEvent P t (e ∷ es) = P t e ⊎ (NamesLink t.parents e × ReachesEvent P (tree_step t e) es)
 
--- why an event of a schedule is refused: it is the first that names no link, or memory where a list
--- grows
+-- why a schedule is refused at a step: at the first event that names no link, or for memory at an
+-- event that makes a list grow
 abbrev pub IsStepReason : WholeTree → List TreeEvent → TreeStepFault → Type 0
-IsStepReason t events NoSuchLink = IsMet (λ now e. NamesNoLink now.parents e) t events
-IsStepReason t events StepMemory = IsMet (λ now e. Grows (tree_effect now e)) t events
+IsStepReason t events NoSuchLink = ReachesEvent (λ now e. NamesNoLink now.parents e) t events
+IsStepReason t events StepMemory = ReachesEvent (λ now e. Grows (tree_effect now e)) t events
 
 -- why a schedule is refused: as a whole tree that cannot begin, or at a step
 abbrev pub IsScheduleReason : Parameters → List (Option ℕ) → List ℕ → List Start → List TreeEvent
     → TreeStartFault → Type 0
-IsScheduleReason p parents published starts events StartCount = ¬ OnePerLink parents starts
+IsScheduleReason p parents published starts events StartCount =
+    IsStartReason p parents starts StartCount
 IsScheduleReason p parents published starts events (StartRefused fault) =
-    OnePerLink parents starts × IsOpeningReason p starts fault
+    IsStartReason p parents starts (StartRefused fault)
 IsScheduleReason p parents published starts events (Step fault) =
     OnePerLink parents starts
     × All (IsLawful p) starts
