@@ -87,8 +87,7 @@ pub fn two_labels_break_the_link_law()
 pub fn any_acknowledgement_breaks_the_link_law()
     ensures parameters { AreLawful four_labels }
     ensures lawful { IsLawful four_labels any_ack_start }
-    ensures broken {
-        let s = fold (any_ack_step four_labels) (opening any_ack_start) any_ack_events in
+    ensures broken { let s = fold (any_ack_step four_labels) (opening any_ack_start) any_ack_events in
         ¬ LinkLaw four_labels.capacity (start_items any_ack_start) s.offered s.acked s.delivered }
 {}
 
@@ -96,8 +95,7 @@ pub fn any_acknowledgement_breaks_the_link_law()
 pub fn every_frame_breaks_the_half_law()
     ensures parameters { AreLawful four_labels }
     ensures lawful { IsLawful four_labels any_frame_start }
-    ensures broken {
-        let s = fold (any_frame_step four_labels) (opening any_frame_start) any_frame_events in
+    ensures broken { let s = fold (any_frame_step four_labels) (opening any_frame_start) any_frame_events in
         ¬ HalfLaw four_labels.capacity (start_items any_frame_start) s.offered s.acked s.delivered }
 {}
 

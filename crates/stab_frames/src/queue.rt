@@ -107,10 +107,7 @@ impl<T: Copy + Eq> FrameQueue<T> {
 
     /// Removes the entry at a place, and answers whether there was one. The order of the others
     /// stays.
-    #[tactic(auto, using(
-        crate::proofs::Removal::remove_without,
-        crate::proofs::Removal::without_past
-    ))]
+    #[tactic(auto, using(crate::proofs::Removal::remove_without, crate::proofs::Removal::without_past))]
     pub fn lose(&mut self, place: u16) -> bool
         ensures found { IsTrue result ↔ (place < length self.old.entries) }
         ensures queue { self.new ≡ queue (without place self.old.entries) self.old.capacity }

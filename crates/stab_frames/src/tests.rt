@@ -2,14 +2,16 @@ use super::*;
 use std::test::Fail;
 
 #[test]
-fn accepted_and_refused_parameters(rt: HostRuntime) {
+fn refuses_unlawful_parameters(rt: HostRuntime) {
     let rows = [
         (0, 4, Err(ParamsFault::CapacityOutOfRange)),
         (65, 200, Err(ParamsFault::CapacityOutOfRange)),
         (1, 3, Err(ParamsFault::LabelsTooFew)),
         (1, 1001, Err(ParamsFault::LabelsTooMany)),
+        (64, 129, Err(ParamsFault::LabelsTooFew)),
         (64, 130, Ok((64, 130))),
         (1, 4, Ok((1, 4))),
+        (1, 1000, Ok((1, 1000))),
     ];
     for (capacity, labels, want) in rows {
         let made = Params::new(capacity, labels).map(|p| (p.capacity(), p.labels()));
@@ -18,7 +20,7 @@ fn accepted_and_refused_parameters(rt: HostRuntime) {
 }
 
 #[test]
-fn the_next_label(rt: HostRuntime) -> Result<(), Fail> {
+fn label_0_follows_the_last_label(rt: HostRuntime) -> Result<(), Fail> {
     let params = Params::new(1, 4)?;
     for (label, want) in [(0, 1), (3, 0), (65535, 0)] {
         assert_eq!(rt; params.next(label), want, "after {label}");
@@ -27,7 +29,7 @@ fn the_next_label(rt: HostRuntime) -> Result<(), Fail> {
 }
 
 #[test]
-fn a_queue_of_two(rt: HostRuntime) -> Result<(), Fail> {
+fn a_full_queue_refuses_an_entry(rt: HostRuntime) -> Result<(), Fail> {
     let mut queue: FrameQueue<u32> = FrameQueue::new(rt.alloc(), 2)?;
     assert!(rt; queue.is_empty());
     assert!(rt; queue.put(5));

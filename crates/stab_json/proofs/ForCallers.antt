@@ -7,12 +7,12 @@ use Rattle.serde_json.specs.View.{items_view}
 use Rattle.serde_json.specs.declared.value.Value.{Value}
 use Rattle.stab_json.specs.Values.{value_of, count}
 
--- no bytes stand for no value
+-- no bytes mean no value
 value_of_no_bytes : value_of [] ≡ None
 unfolding serde_json_on_literals
 value_of_no_bytes = rw (is_utf8-from_IsUtf8 [] ([], (refl, refl))) refl
 
--- where bytes stand for a value, there are some
+-- where bytes mean a value, there are some
 pub some_bytes : (bytes : List ℕ) (d : Data) → Some d ≡ value_of bytes → 0 < length bytes
 some_bytes [] d is = let nothing_is : Some d ≡ None = is ∙ value_of_no_bytes in cc
 some_bytes (b ∷ bytes) d is = omega arith

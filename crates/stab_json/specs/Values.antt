@@ -1,6 +1,8 @@
--- Values: what one JSON value means as a whole number, a label, an item, a pair or a list; None where it means nothing such.
+-- Values: what one JSON value means as a whole number, a label, an item, a pair, a frame or a list;
+-- None where it means nothing such.
 -- Source: this project's profile, over the values of `serde_json`.
-use Rattle.std.specs.Prelude.{ℕ, suc, List, [], ◌∷◌, nat_le, min, if◌then◌else◌, Option, Some, None, option_and_then, option_map}
+use Rattle.std.specs.Prelude.{ℕ, suc, nat_le, min, List, [], ◌∷◌, if◌then◌else◌}
+use Rattle.std.specs.Prelude.{Option, Some, None, option_and_then, option_map}
 use Rattle.std.specs.Str.{is_utf8}
 use Rattle.stab_frames.specs.declared.frame.Frame.{Frame}
 use Rattle.serde_json.specs.Data.{Data, Items, no_items, item}
@@ -12,7 +14,7 @@ infixl 10 ◌>>=◌
 abbrev pub ◌>>=◌ : {A B : Type 0} → Option A → (A → Option B) → Option B
 o >>= f = option_and_then f o
 
--- the value that these bytes stand for: they are UTF-8, and `serde_json` reads a value from them
+-- the value that these bytes mean: they are UTF-8, and `serde_json` reads a value from them
 abbrev pub value_of : List ℕ → Option Data
 value_of bytes = if is_utf8 bytes then read bytes else None
 
@@ -73,7 +75,7 @@ entries meaning (item d ds) = meaning d >>= (λ x. entries meaning ds >>= (λ xs
 abbrev pub list_of : {X : Type 0} → (Data → Option X) → Data → Option (List X)
 list_of meaning d = as_array d >>= entries meaning
 
--- such a list, or nothing at all, which stands for the empty list
+-- such a list, or nothing at all, which means the empty list
 abbrev pub list_or_absent : {X : Type 0} → (Data → Option X) → Option Data → Option (List X)
 list_or_absent meaning None = Some []
 list_or_absent meaning (Some d) = list_of meaning d

@@ -68,14 +68,14 @@ pub fn read_entries<'v, E: Entry<'v>>(
     Ok(Some(read))
 }
 
-/// The entries of a list, which where it is absent is empty; `None` where the value is no list, or one of the
-/// entries means nothing.
+/// The entries of a list, which is empty where it is absent, or `None` where the value is no list
+/// or one of the entries means nothing.
 pub fn read_list<'v, E: Entry<'v>>(
     alloc: Global,
     value: Option<&'v Value>,
 ) -> Result<Option<Sequence<E::Read>>, AllocError>
-    ensures { IfOk result
-        (λ list. list ≡ list_or_absent E.meaning (option_map (λ v. view v.now) value.entry)) }
+    ensures { IfOk result (λ list. list
+        ≡ list_or_absent E.meaning (option_map (λ given. view given.now) value.entry)) }
 {
     let Some(value) = value else {
         return Ok(Some(Sequence::new(alloc)));

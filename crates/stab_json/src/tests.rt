@@ -1,12 +1,12 @@
 //! The small parts of a job at their limits.
 
-use crate::{item, label, read_list};
+use crate::{item, label, pair, read_list, read_value, u16_member, u32_member};
 use serde_json::Value;
-use stab_frames::Item;
+use stab_frames::{Frame, Item};
 use std::test::Fail;
 
 #[test]
-fn whole_numbers_at_their_limits(rt: HostRuntime) -> Result<(), Fail> {
+fn labels_have_16_bits_and_items_32(rt: HostRuntime) -> Result<(), Fail> {
     let rows = [
         ("0", Some(0), Some(0)),
         ("65535", Some(65535), Some(65535)),
@@ -18,14 +18,41 @@ fn whole_numbers_at_their_limits(rt: HostRuntime) -> Result<(), Fail> {
         ("1e2", None, None),
         ("-1", None, None),
         ("-0", None, None),
-        ("\"1\"", None, None),
+        (r#""1""#, None, None),
         ("[1]", None, None),
         ("true", None, None),
     ];
     for (row, as_label, as_item) in rows {
         let value = Value::from_str(rt.alloc(), row)?;
-        assert_eq!(rt; label(&value), as_label, "{row} as a label");
-        assert_eq!(rt; item(&value), as_item, "{row} as an item");
+        assert!(rt; label(&value) == as_label, "{row} as a label");
+        assert!(rt; item(&value) == as_item, "{row} as an item");
+    }
+    Ok(())
+}
+
+#[test]
+fn numbers_too_large_for_a_member_are_its_largest(rt: HostRuntime) -> Result<(), Fail> {
+    let rows = [
+        (r#"{"n":65536}"#, Some(65535), Some(65536)),
+        (r#"{"n":4294967296}"#, Some(65535), Some(4294967295)),
+        (r#"{"n":18446744073709551616}"#, None, None),
+        (r#"{"n":1.0}"#, None, None),
+        (r#"{"m":1}"#, None, None),
+    ];
+    for (row, of_16_bits, of_32_bits) in rows {
+        let value = Value::from_str(rt.alloc(), row)?;
+        assert!(rt; u16_member(&value, "n") == of_16_bits, "{row} in 16 bits");
+        assert!(rt; u32_member(&value, "n") == of_32_bits, "{row} in 32 bits");
+    }
+    Ok(())
+}
+
+#[test]
+fn only_lists_of_two_are_pairs(rt: HostRuntime) -> Result<(), Fail> {
+    let rows = [("[1,2]", true), ("[1]", false), ("[1,2,3]", false), ("{}", false)];
+    for (row, is_pair) in rows {
+        let value = Value::from_str(rt.alloc(), row)?;
+        assert!(rt; pair(&value).is_some() == is_pair, "{row}");
     }
     Ok(())
 }
@@ -34,10 +61,18 @@ fn whole_numbers_at_their_limits(rt: HostRuntime) -> Result<(), Fail> {
 fn a_list_that_is_absent_is_empty(rt: HostRuntime) -> Result<(), Fail> {
     let value = Value::from_str(rt.alloc(), "[7,8]")?;
     let items = read_list::<Item>(rt.alloc(), Some(&value))?.ok_or("a list of items")?;
-    assert_eq!(rt; items.as_slice(), [7, 8].as_slice());
+    assert!(rt; items.as_slice() == [7, 8].as_slice());
     let none = read_list::<Item>(rt.alloc(), None)?.ok_or("an empty list")?;
     assert!(rt; none.is_empty());
-    let other = read_list::<Item>(rt.alloc(), Some(&Value::Null))?;
-    assert!(rt; other.is_none());
+    assert!(rt; read_list::<Item>(rt.alloc(), Some(&Value::Null))?.is_none());
+    assert!(rt; read_list::<Frame>(rt.alloc(), Some(&value))?.is_none());
+    Ok(())
+}
+
+#[test]
+fn bytes_that_are_no_text_have_no_value(rt: HostRuntime) -> Result<(), Fail> {
+    assert!(rt; read_value(rt.alloc(), &[255])?.is_none());
+    assert!(rt; read_value(rt.alloc(), b"{")?.is_none());
+    assert!(rt; read_value(rt.alloc(), b"null")?.is_some());
     Ok(())
 }

@@ -1,7 +1,6 @@
-pub mod Bytes
 pub mod Counts
 pub mod Entries
 pub mod Linked
+pub mod OptionalMembers
 pub mod Refused
 pub mod Schedules
-pub mod Shapes

@@ -4,13 +4,18 @@ use Rattle.stab_tree.specs.Nodes.{place_of}
 use Rattle.stab_treecore.specs.declared.event.TreeEvent.{TreeEvent}
 use Rattle.stab_run.specs.declared.fault.JobFault.{JobFault}
 use Rattle.stab_run.specs.declared.fault.JobFault.TheVariants as fault
-use Rattle.stab_run.specs.ScheduleEntries.{NamedAct, events_of, events_found, schedule_of}
+use Rattle.stab_json.specs.Checks.{◌>>=◌, ◌or◌}
+use Rattle.stab_run.specs.ScheduleEntries.{NamedAct, events_of}
 
--- what was read, and then the acts that are left, where each so far named a node or not
+-- the events of these acts, if each entry was an act and each names a node
+abbrev pub schedule_of : List (List ℕ) → Option (List NamedAct) → Result (List TreeEvent) JobFault
+schedule_of names acts = acts or fault.Event >>= (λ its_acts. events_of names its_acts or fault.UnknownNode)
+
+-- what was read, and then the other acts, where each so far named a node or not
 abbrev pub schedule_after : List (List ℕ) → Bool → List TreeEvent → Option (List NamedAct) → Result (List TreeEvent) JobFault
 schedule_after names all_known read None = Err fault.Event
 schedule_after names false read (Some acts) = Err fault.UnknownNode
-schedule_after names true read (Some acts) = events_found (option_map (λ events. read ++ events) (events_of names acts))
+schedule_after names true read (Some acts) = option_map (λ events. read ++ events) (events_of names acts) or fault.UnknownNode
 
 -- nothing before the rest is the rest
 nothing_before : (o : Option (List TreeEvent)) → o ≡ option_map (λ events. [] ++ events) o
@@ -20,7 +25,7 @@ nothing_before (Some events) = refl
 -- before the first entry nothing was read
 pub schedule_at_first : (names : List (List ℕ)) (o : Option (List NamedAct)) → schedule_of names o ≡ schedule_after names true [] o
 schedule_at_first names None = refl
-schedule_at_first names (Some acts) = ap events_found (nothing_before (events_of names acts))
+schedule_at_first names (Some acts) = ap (λ events. events or fault.UnknownNode) (nothing_before (events_of names acts))
 
 -- an event more was read
 one_more : (read : List TreeEvent) (e : TreeEvent) (rest : Option (List TreeEvent))
@@ -37,7 +42,7 @@ module _ (names : List (List ℕ)) (n : NamedAct) where
   known_act place found all_known read None = refl
   known_act place found false read (Some acts) = refl
   known_act place found true read (Some acts) =
-      rw found (ap events_found (one_more read (record { child = place; act = n.act }) (events_of names acts)))
+      rw found (ap (λ events. events or fault.UnknownNode) (one_more read (record { child = place; act = n.act }) (events_of names acts)))
 
   -- an act that names no node leaves the schedule without a meaning
   pub unknown_act : place_of names n.child ≡ None

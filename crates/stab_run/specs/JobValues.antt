@@ -1,4 +1,5 @@
--- The value of a job: parameters and a tree, a start and a script for each link, published items, a number of turns and a schedule.
+-- The value of a job: parameters and a tree, a start and a script for each link, published items, a
+-- number of turns and a schedule.
 -- Source: this project's profile.
 use Rattle.std.specs.Prelude.{◌≡◌, ℕ, ◌≤◌, List, length}
 use Rattle.stab_frames.specs.Parameters.{Parameters}
@@ -17,6 +18,14 @@ pub record JobValue : Type 0 where
   pub turns : ℕ
   pub schedule : List TreeEvent
 
+-- the most items that a job may have
+abbrev pub most_items : ℕ
+most_items = 10000
+
+-- the most turns that a job may name
+abbrev pub most_turns : ℕ
+most_turns = 1000000
+
 -- how many links the nodes have
 abbrev pub links : Nodes → ℕ
 links t = length (links_of t.parents)
@@ -25,6 +34,6 @@ links t = length (links_of t.parents)
 pub record IsJob (j : JobValue) : Type 0 where
   pub one_start_each : length j.starts ≡ links j.tree
   pub one_script_each : length j.scripts ≡ links j.tree
-  pub few_items : length j.items ≤ 10000
+  pub few_items : length j.items ≤ most_items
   pub some_turns : 1 ≤ j.turns
-  pub few_turns : j.turns ≤ 1000000
+  pub few_turns : j.turns ≤ most_turns

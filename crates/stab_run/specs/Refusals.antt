@@ -1,4 +1,5 @@
--- What a job is refused with where a part of it is: with the part's own fault, and with want of memory alone where that was refused.
+-- What a job is refused with where a part of it is: with the part's own fault, and with refused
+-- memory alone where that is the cause.
 -- Source: this project's own.
 use Rattle.std.specs.Prelude.{Bool, true, false}
 use Rattle.stab_script.specs.declared.fault.ScriptFault.{ScriptFault}
@@ -16,7 +17,7 @@ abbrev pub script_refused : ScriptFault → JobFault
 script_refused script_fault.Memory = Memory
 script_refused refusal = Script refusal
 
--- a fault of a value: not that there is none, and not want of memory told as the fault of a part
+-- a fault of a value: not that there is none, and not refused memory as the fault of a part
 abbrev pub is_of_value : JobFault → Bool
 is_of_value Json = false
 is_of_value (Tree tree_fault.Memory) = false

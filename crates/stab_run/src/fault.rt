@@ -6,8 +6,8 @@ use stab_tree::TreeFault;
 use std::alloc::AllocError;
 use thiserror::Error;
 
-/// Why bytes are no job, in the order of the checks. [`Memory`](JobFault::Memory) alone tells of refused memory, and may
-/// come in place of a later check's fault.
+/// Why bytes are no job, in the order of the checks. [`Memory`](JobFault::Memory) alone reports
+/// refused memory, and may come in place of a later check's fault.
 #[derive(Clone, Copy, Debug, PartialEq, Eq, Error)]
 pub enum JobFault {
     /// The bytes are no JSON.
@@ -16,13 +16,14 @@ pub enum JobFault {
     /// The version is not the whole number 1.
     #[error("job: unknown version")]
     Version,
-    /// Something other than the content of the tree and the entries of the schedule has another shape.
+    /// Something has another shape; the content of the tree and the entries of the schedule are
+    /// not looked at.
     #[error("job: wrong shape")]
     Shape,
     /// The capacity and the number of labels are no parameters of a link.
     #[error("{0}")]
     Params(ParamsFault),
-    /// The tree is none.
+    /// The value of the member `tree` is no tree.
     #[error("{0}")]
     Tree(TreeFault),
     /// There are more than 10,000 items.
@@ -37,7 +38,7 @@ pub enum JobFault {
     /// There is not one script for each link.
     #[error("job: wrong number of scripts")]
     ScriptCount,
-    /// A script is none; of several the first in the list is named.
+    /// An entry of the scripts makes no script; of several such entries the first is named.
     #[error("{0}")]
     Script(ScriptFault),
     /// The number of turns is 0 or over 1,000,000.
@@ -46,7 +47,7 @@ pub enum JobFault {
     /// An entry of the schedule is no act on a link.
     #[error("job: bad event")]
     Event,
-    /// An entry of the schedule names a node that is not there.
+    /// An entry of the schedule names a node that the tree does not have.
     #[error("job: unknown node")]
     UnknownNode,
     /// Memory was refused.

@@ -7,8 +7,9 @@ use stab_tree::Tree;
 use stab_treecore::TreeEvent;
 use std::marker::Model;
 
-/// What a run goes by: the parameters of every link, the tree, the items that its root publishes, a start and a script
-/// for each link in the file order of their children, the number of turns, and a schedule. No reader takes memory.
+/// What a run goes by: the parameters of every link, the tree, the items that its root publishes,
+/// a start and a script for each link in the file order of their children, the number of turns, and
+/// a schedule. No method takes memory.
 #[derive(Debug, Drop)]
 pub struct Job {
     params: Params,
@@ -59,8 +60,24 @@ impl Job {
         turns: u32,
         schedule: Sequence<TreeEvent>,
     ) -> Job
-        requires { let its_parts : JobValue = record { params = params; tree = tree; items = items; starts = starts; scripts = scripts; turns = turns; schedule = schedule } in IsJob its_parts }
-        ensures { result ≡ record { params = params; tree = tree; items = items; starts = starts; scripts = scripts; turns = turns; schedule = schedule } }
+        requires { let its_parts : JobValue = record {
+          params = params;
+          tree = tree;
+          items = items;
+          starts = starts;
+          scripts = scripts;
+          turns = turns;
+          schedule = schedule;
+        } in IsJob its_parts }
+        ensures { result ≡ record {
+          params = params;
+          tree = tree;
+          items = items;
+          starts = starts;
+          scripts = scripts;
+          turns = turns;
+          schedule = schedule;
+        } }
     {
         Job {
             params,
@@ -97,7 +114,8 @@ impl Job {
         self.items.as_slice()
     }
 
-    /// What stands in each link at the start: one for each link, in the file order of their children.
+    /// What is in each link at the start: one start for each link, in the file order of their
+    /// children.
     pub fn starts(&self) -> &[Start]
         ensures starts { result.now ≡ self.now.starts }
         ensures job { IsJob self.now }
@@ -105,7 +123,8 @@ impl Job {
         self.starts.as_slice()
     }
 
-    /// What each link is to lose and to repeat: one for each link, in the file order of their children.
+    /// What each link is to lose and to repeat: one script for each link, in the file order of
+    /// their children.
     pub fn scripts(&self) -> &[Script]
         ensures scripts { result.now ≡ self.now.scripts }
         ensures job { IsJob self.now }

@@ -1,3 +1,3 @@
-pub mod Faults
 pub mod Taking
 pub mod Drawing
+pub mod LinkChecks

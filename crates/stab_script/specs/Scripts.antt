@@ -1,6 +1,7 @@
--- Scripts: what a link is to lose and to repeat, as four lists of acts, and how the two ends of a link take their acts.
+-- Scripts: what a link is to lose and to repeat, as four lists of acts, and how its ends take them.
 -- Source: this project's profile.
-use Rattle.std.specs.Prelude.{ℕ, zero, suc, List, [], ◌∷◌, drop, length, nat_lt, ◌||◌, Bool, if◌then◌else◌, Result, Ok, Err}
+use Rattle.std.specs.Prelude.{ℕ, zero, suc, nat_lt, Bool, ◌||◌, if◌then◌else◌, Result, Ok, Err}
+use Rattle.std.specs.Prelude.{List, [], ◌∷◌, drop, length, slice_get, unwrap_or}
 use Rattle.stab_script.specs.declared.act.OutAct.{OutAct}
 use Rattle.stab_script.specs.declared.act.OutAct.TheVariants.{Pass}
 use Rattle.stab_script.specs.declared.act.InAct.{InAct}
@@ -17,34 +18,45 @@ pub record Acts : Type 0 where
 
 abbrev pub acts : List OutAct → List InAct → List OutAct → List InAct → Acts
 acts frames_out frames_in acks_out acks_in =
-    record { frames_out = frames_out; frames_in = frames_in; acks_out = acks_out; acks_in = acks_in }
+    record {
+      frames_out = frames_out;
+      frames_in = frames_in;
+      acks_out = acks_out;
+      acks_in = acks_in;
+    }
 
 -- no acts at all
 abbrev pub no_acts : Acts
 no_acts = acts [] [] [] []
 
--- a list of more than 100,000 acts
+-- the most acts that a list of a script may have
+abbrev pub most_acts : ℕ
+most_acts = 100000
+
+-- a list of more acts than that
 abbrev pub is_long : {A : Type 0} → List A → Bool
-is_long xs = nat_lt 100000 (length xs)
+is_long acts = nat_lt most_acts (length acts)
 
 -- the script of these acts, if no list is too long
 abbrev pub script_of : Acts → Result Acts ScriptFault
-script_of a =
-    if is_long a.frames_out || (is_long a.frames_in || (is_long a.acks_out || is_long a.acks_in)) then Err TooLong
-    else Ok a
+script_of script =
+    if is_long script.frames_out || (is_long script.frames_in
+    || (is_long script.acks_out || is_long script.acks_in))
+    then Err TooLong
+    else Ok script
 
--- the acts that one end of a link has left: for what it sends, and for what it receives
-pub record ActsLeft : Type 0 where
+-- the acts that one end of a link has still to take: for what it sends, and for what it receives
+pub record ActsRemaining : Type 0 where
   pub outs : List OutAct
   pub ins : List InAct
 
 -- the sender sends frames and receives acknowledgements
-abbrev pub sender_half : Acts → ActsLeft
-sender_half a = record { outs = a.frames_out; ins = a.acks_in }
+abbrev pub sender_half : Acts → ActsRemaining
+sender_half script = record { outs = script.frames_out; ins = script.acks_in }
 
 -- the receiver sends acknowledgements and receives frames
-abbrev pub receiver_half : Acts → ActsLeft
-receiver_half a = record { outs = a.acks_out; ins = a.frames_in }
+abbrev pub receiver_half : Acts → ActsRemaining
+receiver_half script = record { outs = script.acks_out; ins = script.frames_in }
 
 -- the act for what goes out next: past the end it passes
 abbrev pub out_act : List OutAct → OutAct
@@ -56,18 +68,47 @@ abbrev pub in_act : List InAct → InAct
 in_act [] = Take
 in_act (act ∷ acts) = act
 
--- what is left once an act was taken
-abbrev pub after_out : ActsLeft → ActsLeft
-after_out h = record h { outs = drop 1 h.outs }
+-- the acts at a place of a list: past the end what goes out passes, and what comes in is taken
+abbrev pub nth_out : List OutAct → ℕ → OutAct
+nth_out acts n = unwrap_or (slice_get acts n) Pass
 
-abbrev pub after_in : ActsLeft → ActsLeft
-after_in h = record h { ins = drop 1 h.ins }
+abbrev pub nth_in : List InAct → ℕ → InAct
+nth_in acts n = unwrap_or (slice_get acts n) Take
 
--- what is left once this many acts were taken
-abbrev pub after_outs : ℕ → ActsLeft → ActsLeft
-after_outs zero h = h
-after_outs (suc n) h = after_outs n (after_out h)
+-- what remains once an act was taken
+abbrev pub after_out : ActsRemaining → ActsRemaining
+after_out half = record half { outs = drop 1 half.outs }
 
-abbrev pub after_ins : ℕ → ActsLeft → ActsLeft
-after_ins zero h = h
-after_ins (suc n) h = after_ins n (after_in h)
+abbrev pub after_in : ActsRemaining → ActsRemaining
+after_in half = record half { ins = drop 1 half.ins }
+
+-- what remains once this many acts were taken
+abbrev pub after_outs : ℕ → ActsRemaining → ActsRemaining
+after_outs zero half = half
+after_outs (suc n) half = after_outs n (after_out half)
+
+abbrev pub after_ins : ℕ → ActsRemaining → ActsRemaining
+after_ins zero half = half
+after_ins (suc n) half = after_ins n (after_in half)
+
+-- an act is taken for what goes out, or for what comes in
+pub data Taking : Type 0 where
+  an_out : Taking
+  an_in : Taking
+
+-- what remains once acts were taken in this order
+abbrev pub after_takings : List Taking → ActsRemaining → ActsRemaining
+after_takings [] half = half
+after_takings (an_out ∷ takings) half = after_takings takings (after_out half)
+after_takings (an_in ∷ takings) half = after_takings takings (after_in half)
+
+-- how many of them are for what goes out, and for what comes in
+abbrev pub outs_among : List Taking → ℕ
+outs_among [] = 0
+outs_among (an_out ∷ takings) = suc (outs_among takings)
+outs_among (an_in ∷ takings) = outs_among takings
+
+abbrev pub ins_among : List Taking → ℕ
+ins_among [] = 0
+ins_among (an_out ∷ takings) = ins_among takings
+ins_among (an_in ∷ takings) = suc (ins_among takings)

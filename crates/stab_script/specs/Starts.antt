@@ -6,11 +6,17 @@ use Rattle.serde_json.specs.Data.{Data}
 use Rattle.serde_json.specs.Find.{get}
 use Rattle.stab_json.specs.Values.{◌>>=◌, label, frame, list_or_absent}
 
--- a start: an object with the two labels, and with the frames and acknowledgements, the front first, where it names any
+-- a start: an object with the two labels, and with the frames and acknowledgements, the front
+-- first, where it names any
 abbrev pub start : Data → Option Start
 start d = do
   its_frames ← list_or_absent frame (get (codes "frames") d)
   its_acks ← list_or_absent label (get (codes "acks") d)
   its_send_label ← get (codes "send") d >>= label
   its_recv_label ← get (codes "recv") d >>= label
-  Some (record { frames = its_frames; acks = its_acks; send_label = its_send_label; recv_label = its_recv_label })
+  Some (record {
+    frames = its_frames;
+    acks = its_acks;
+    send_label = its_send_label;
+    recv_label = its_recv_label;
+  })

@@ -1,6 +1,8 @@
-ghost use Rattle.std.specs.Prelude.{◌≡◌, ◌≢◌, ℕ, ◌≤◌, MatchResult, OnOk, OnErr, Ok, Err, None, Some, map, vec_len, vec_capacity};
+ghost use Rattle.std.specs.Prelude.{◌≡◌, ◌≢◌, ℕ, ◌≤◌, MatchResult, OnOk, OnErr, Ok, Err, None, Some};
+ghost use Rattle.std.specs.Prelude.{map, vec_len, vec_capacity};
 ghost use Rattle.rand_core.specs.Stream.{Stream};
-ghost use Rattle.stab_script.specs.Draws.{words, after_words, after_lists, out_of_word, in_of_word, draw_fault, draw_script, pcg32_words};
+ghost use Rattle.stab_script.specs.Draws.{words, after_words, after_lists, out_of_word, in_of_word};
+ghost use Rattle.stab_script.specs.Draws.{draw_fault, draw_script, pcg32_words};
 
 use crate::act::{InAct, OutAct};
 use crate::fault::ScriptFault;
@@ -9,14 +11,15 @@ use rand_core::Rng;
 use rand_pcg::Pcg32;
 use std::alloc::Global;
 
-/// The most words of a thousand that a rate may name.
+/// The largest rate, which is a number of words in a thousand.
 const MAX_RATE: u16 = 1000;
 
-// An act that is made of a word.
+/// An act that is made of a word.
 trait Drawn: Sized + Drop {
     // The act of a word, at a rate.
     ghost of_word: { ℕ → ℕ → Self };
 
+    /// The act of a word, at a rate.
     fn of_word(rate: u16, word: u32) -> Self
         ensures { result ≡ of_word rate word };
 }
@@ -25,7 +28,7 @@ impl Drawn for OutAct {
     ghost of_word = { out_of_word };
 
     fn of_word(loss: u16, word: u32) -> OutAct {
-        if word % 1000 < u32::from(loss) {
+        if word % u32::from(MAX_RATE) < u32::from(loss) {
             OutAct::Drop
         } else {
             OutAct::Pass
@@ -37,7 +40,7 @@ impl Drawn for InAct {
     ghost of_word = { in_of_word };
 
     fn of_word(repeat: u16, word: u32) -> InAct {
-        if word % 1000 < u32::from(repeat) {
+        if word % u32::from(MAX_RATE) < u32::from(repeat) {
             InAct::Keep
         } else {
             InAct::Take
@@ -45,8 +48,8 @@ impl Drawn for InAct {
     }
 }
 
+/// A list of acts, a word each; there is room for them.
 #[tactic(auto, unfolding(crate::specs::Draws::words, crate::specs::Draws::after_words))]
-// A list of acts, a word each; there is room for them.
 fn draw_list<R: Rng, A: Drawn>(rng: &mut R, len: u32, rate: u16, mut room: Vec<A>) -> Vec<A>
     requires empty { vec_len room ≡ 0 }
     requires reserved { len ≤ vec_capacity room }
@@ -59,7 +62,7 @@ fn draw_list<R: Rng, A: Drawn>(rng: &mut R, len: u32, rate: u16, mut room: Vec<A
     room
 }
 
-// Whether the numbers of a draw are refused.
+/// The first check that the numbers of a draw fail.
 fn check(len: u32, loss: u16, repeat: u16) -> Result<(), ScriptFault>
     ensures { MatchResult result
         (λ _. draw_fault len loss repeat ≡ None)
@@ -75,10 +78,11 @@ fn check(len: u32, loss: u16, repeat: u16) -> Result<(), ScriptFault>
 }
 
 impl Script {
+    /// A script of `len` acts in each list, a word of the generator for each: of frames out, frames
+    /// in, acknowledgements out and acknowledgements in, one list after the other. What goes out is
+    /// dropped at `loss` words in a thousand, what comes in is kept at `repeat` in a thousand. A
+    /// refusal takes no word.
     #[tactic(auto, unfolding(crate::specs::Draws::drawn, crate::specs::Draws::after_lists))]
-    /// A script of `len` acts in each list, a word of the generator for each: of frames out, frames in, acknowledgements
-    /// out and acknowledgements in, one list after the other. What goes out is dropped at `loss` words of a thousand,
-    /// what comes in is kept at `repeat` of a thousand. A refusal takes no word.
     pub fn draw<R: Rng>(
         alloc: Global,
         rng: &mut R,

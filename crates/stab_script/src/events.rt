@@ -1,46 +1,47 @@
 ghost use Rattle.std.specs.Prelude.{◌≡◌};
 ghost use Rattle.serde_json.specs.View.{view};
-ghost use Rattle.stab_script.specs.Events.{plain_event, loss, numbered_event, event};
+ghost use Rattle.stab_script.specs.Events.{plain_act, loss_act, numbered_event, event};
 
 use serde_json::Value;
-use stab_core::Event;
+use stab_core::{Event, LinkAct};
 use stab_json::{item, label, pair};
 
-/// The event that a word names by itself.
-pub fn plain_event(word: &str) -> Option<Event>
-    ensures { result ≡ plain_event word.now }
+/// The act that a word names by itself.
+pub fn plain_act(word: &str) -> Option<LinkAct>
+    ensures { result ≡ plain_act word.now }
 {
     match word {
-        "send_frame" => Some(Event::SendFrame),
-        "recv_frame" => Some(Event::RecvFrame { keep: false }),
-        "recv_frame_keep" => Some(Event::RecvFrame { keep: true }),
-        "send_ack" => Some(Event::SendAck),
-        "recv_ack" => Some(Event::RecvAck { keep: false }),
-        "recv_ack_keep" => Some(Event::RecvAck { keep: true }),
-        "close" => Some(Event::Close),
+        "offer" => Some(LinkAct::Offer),
+        "send_frame" => Some(LinkAct::SendFrame),
+        "recv_frame" => Some(LinkAct::RecvFrame { keep: false }),
+        "recv_frame_keep" => Some(LinkAct::RecvFrame { keep: true }),
+        "send_ack" => Some(LinkAct::SendAck),
+        "recv_ack" => Some(LinkAct::RecvAck { keep: false }),
+        "recv_ack_keep" => Some(LinkAct::RecvAck { keep: true }),
+        "close" => Some(LinkAct::Close),
         _ => None,
     }
 }
 
-/// The loss that a word names, of what stands at a place.
-pub fn loss(word: &str, place: &Value) -> Option<Event>
-    ensures { result ≡ loss word.now (view place.now) }
+/// The loss that a word names, of what is at a place.
+pub fn loss_act(word: &str, place: &Value) -> Option<LinkAct>
+    ensures { result ≡ loss_act word.now (view place.now) }
 {
     match word {
-        "lose_frame" => Some(Event::LoseFrame(label(place)?)),
-        "lose_ack" => Some(Event::LoseAck(label(place)?)),
+        "lose_frame" => Some(LinkAct::LoseFrame(label(place)?)),
+        "lose_ack" => Some(LinkAct::LoseAck(label(place)?)),
         _ => None,
     }
 }
 
-/// The event that a word names with a number: the offer of an item, or a loss at a place.
-pub fn numbered_event(word: &str, number: &Value) -> Option<Event>
-    ensures { result ≡ numbered_event word.now (view number.now) }
+/// The event of a word and a number: the offer of an item, or a loss at a place.
+fn numbered_event(word: &str, item_or_place: &Value) -> Option<Event>
+    ensures { result ≡ numbered_event word.now (view item_or_place.now) }
 {
     if word == "offer" {
-        Some(Event::Offer(item(number)?))
+        LinkAct::Offer.event(item(item_or_place))
     } else {
-        loss(word, number)
+        loss_act(word, item_or_place)?.event(None)
     }
 }
 
@@ -49,7 +50,7 @@ pub fn event(value: &Value) -> Option<Event>
     ensures { result ≡ event (view value.now) }
 {
     match value {
-        Value::String(word) => plain_event(word.as_str()),
+        Value::String(word) => plain_act(word.as_str())?.event(None),
         Value::Array(_) => {
             let (word, number) = pair(value)?;
             numbered_event(word.as_str()?, number)

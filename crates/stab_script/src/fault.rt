@@ -40,3 +40,14 @@ pub enum PartFault {
     #[error("out of memory")]
     Memory,
 }
+
+impl From<AllocError> for PartFault {
+    ghost use Rattle.std.specs.Prelude.{◌≡◌};
+    ghost use Rattle.stab_script.specs.declared.fault.PartFault.TheVariants.{Memory};
+
+    ghost from_gives = { λ _ fault. fault ≡ Memory };
+
+    fn from(_refused: AllocError) -> PartFault {
+        PartFault::Memory
+    }
+}

@@ -5,9 +5,10 @@ use crate::act::{InAct, OutAct};
 use stab_frames::Sequence;
 use std::marker::Model;
 
-/// The acts that one end of a link has left: for what it sends, and for what it receives. A contract sees exactly
-/// those, so a caller that is refused between [`peek_out`](HalfScript::peek_out) and
-/// [`next_out`](HalfScript::next_out) has the script as it was. No call takes memory.
+/// The acts that one end of a link has still to take: for what it sends, and for what it receives.
+/// A contract sees exactly those, so a caller that is refused between
+/// [`peek_out`](HalfScript::peek_out) and [`next_out`](HalfScript::next_out) has the script as it
+/// was. No call takes memory.
 #[derive(Debug, Drop)]
 pub struct HalfScript {
     outs: Sequence<OutAct>,
@@ -18,15 +19,15 @@ pub struct HalfScript {
 
 impl Model for HalfScript {
     ghost use Rattle.std.specs.Prelude.{drop};
-    ghost use Rattle.stab_script.specs.Scripts.{ActsLeft};
+    ghost use Rattle.stab_script.specs.Scripts.{ActsRemaining};
 
-    ghost Value = { ActsLeft };
+    ghost Value = { ActsRemaining };
 
     ghost view = { λ h. record { outs = drop h.outs_taken h.outs; ins = drop h.ins_taken h.ins } };
 }
 
 impl HalfScript {
-    // The half of these acts, none of which is taken.
+    /// The half of these acts, none of which is taken.
     pub(crate) fn new(outs: Sequence<OutAct>, ins: Sequence<InAct>) -> HalfScript
         ensures { result ≡ record { outs = outs; ins = ins } }
     {
@@ -60,11 +61,11 @@ impl HalfScript {
             .unwrap_or(InAct::Take)
     }
 
-    #[tactic(auto, using(crate::proofs::Taking::drop_one_more))]
     /// Takes the act for what goes out next.
+    #[tactic(auto, using(crate::proofs::Taking::drop_one_more))]
     pub fn next_out(&mut self) -> OutAct
         ensures act { result ≡ out_act self.old.outs }
-        ensures left { self.new ≡ after_out self.old }
+        ensures remaining { self.new ≡ after_out self.old }
     {
         let act = self.peek_out();
         if self.outs_taken < self.outs.len() {
@@ -73,11 +74,11 @@ impl HalfScript {
         act
     }
 
-    #[tactic(auto, using(crate::proofs::Taking::drop_one_more))]
     /// Takes the act for what comes in next.
+    #[tactic(auto, using(crate::proofs::Taking::drop_one_more))]
     pub fn next_in(&mut self) -> InAct
         ensures act { result ≡ in_act self.old.ins }
-        ensures left { self.new ≡ after_in self.old }
+        ensures remaining { self.new ≡ after_in self.old }
     {
         let act = self.peek_in();
         if self.ins_taken < self.ins.len() {

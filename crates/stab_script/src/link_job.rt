@@ -1,10 +1,12 @@
-ghost use Rattle.std.specs.Prelude.{◌≡◌, ◌≢◌, ◌<◌, codes, length, MatchResult, IfOk, Some, None, Ok, Err, option_and_then, option_map};
+ghost use Rattle.std.specs.Prelude.{◌≡◌, ◌≢◌, ◌<◌, codes, length, None, Ok, Err, MatchResult, IfOk};
+ghost use Rattle.std.specs.Prelude.{option_and_then, option_map};
 ghost use Rattle.serde_json.specs.Find.{get, as_array};
 ghost use Rattle.serde_json.specs.View.{view, items_view};
 ghost use Rattle.stab_json.specs.Values.{value_of, entries};
 ghost use Rattle.stab_script.specs.Events.{event};
 ghost use Rattle.stab_script.specs.Starts.{start};
-ghost use Rattle.stab_script.specs.LinkJobs.{Members, link_job, job_of, members};
+ghost use Rattle.stab_script.specs.LinkJobs.{link_job};
+ghost use Rattle.stab_script.specs.LinkMembers.{members, members_read};
 
 use crate::events::event;
 use crate::start::StartEntry;
@@ -63,7 +65,7 @@ impl From<ParamsFault> for LinkJobFault {
     }
 }
 
-/// What a link is to go through: its parameters, what stands in it at the start, and its events.
+/// What a link is to go through: its parameters, what is in it at the start, and its events.
 #[derive(Debug, Drop)]
 pub struct LinkJob {
     pub params: Params,
@@ -71,8 +73,9 @@ pub struct LinkJob {
     pub events: Sequence<Event>,
 }
 
-#[tactic(auto, using(stab_json::proofs::ForCallers::some_bytes, crate::proofs::Faults::never_json))]
-/// The link job that these bytes mean, or the first check that they fail; memory may be refused before a later check.
+/// The link job that these bytes mean, or the first check that they fail; memory may be refused
+/// before a later check.
+#[tactic(auto, using(stab_json::proofs::ForCallers::some_bytes, stab_json::proofs::ForCallers::count_of_values))]
 pub fn read_link_job(alloc: Global, bytes: &[u8]) -> Result<LinkJob, LinkJobFault>
     ensures job { MatchResult result
         (λ job. link_job bytes.now ≡ Ok job)
@@ -80,64 +83,63 @@ pub fn read_link_job(alloc: Global, bytes: &[u8]) -> Result<LinkJob, LinkJobFaul
     ensures json { result ≡ Err LinkJobFault.Json → value_of bytes.now ≡ None }
     ensures memory { result ≡ Err LinkJobFault.Memory → 0 < length bytes.now }
 {
-    match read_value(alloc, bytes)? {
-        Some(value) => job_of_value(alloc, value),
-        None => Err(LinkJobFault::Json),
+    let Some(value) = read_value(alloc, bytes)? else {
+        return Err(LinkJobFault::Json);
+    };
+    let Some(members) = read_members(alloc, value)? else {
+        return Err(LinkJobFault::Shape);
+    };
+    let params = Params::new(members.capacity, members.labels)?;
+    if members.events.len() > MAX_EVENTS {
+        return Err(LinkJobFault::TooManyEvents);
     }
+    let Some(events) = read_events(alloc, members.events)? else {
+        return Err(LinkJobFault::Event);
+    };
+    Ok(LinkJob {
+        params,
+        start: members.start,
+        events,
+    })
 }
 
-// The link job that a value means, or the first check that it fails.
-fn job_of_value(alloc: Global, value: Value) -> Result<LinkJob, LinkJobFault>
-    ensures { MatchResult result
-        (λ job. job_of (members (view value)) ≡ Ok job)
-        (λ fault. fault ≢ LinkJobFault.Memory → job_of (members (view value)) ≡ Err fault) }
+/// The members of a link job, each of its stated shape; the entries of `events` are not looked at.
+#[derive(Drop)]
+struct Members {
+    capacity: u16,
+    labels: u16,
+    start: Start,
+    events: Vec<Value>,
+}
+
+/// The members of a link job, the events taken out of it, or `None` where one has another shape.
+fn read_members(alloc: Global, value: Value) -> Result<Option<Members>, AllocError>
+    ensures { IfOk result (λ read. option_map members_read read ≡ members (view value)) }
 {
     let (Some(capacity), Some(labels)) = (
         u16_member(&value, "capacity"),
         u16_member(&value, "labels"),
     ) else {
-        return Err(LinkJobFault::Shape);
+        return Ok(None);
     };
     let Some(start) = start_member(alloc, &value)? else {
-        return Err(LinkJobFault::Shape);
+        return Ok(None);
     };
     match list_member(value, "events") {
-        Some(events) => job_of_members(alloc, capacity, labels, start, events),
-        None => Err(LinkJobFault::Shape),
-    }
-}
-
-#[tactic(auto, using(stab_json::proofs::ForCallers::count_of_values))]
-// The link job of these members, or the first check that they fail.
-fn job_of_members(
-    alloc: Global,
-    capacity: u16,
-    labels: u16,
-    start: Start,
-    events: Vec<Value>,
-) -> Result<LinkJob, LinkJobFault>
-    ensures { let its_members : Members = record { capacity = capacity; labels = labels; start = start; events = items_view events.items } in
-        MatchResult result
-        (λ job. job_of (Some its_members) ≡ Ok job)
-        (λ fault. fault ≢ LinkJobFault.Memory → job_of (Some its_members) ≡ Err fault) }
-{
-    let params = Params::new(capacity, labels)?;
-    if events.len() > MAX_EVENTS {
-        return Err(LinkJobFault::TooManyEvents);
-    }
-    match read_events(alloc, events)? {
-        Some(events) => Ok(LinkJob {
-            params,
+        Some(events) => Ok(Some(Members {
+            capacity,
+            labels,
             start,
             events,
-        }),
-        None => Err(LinkJobFault::Event),
+        })),
+        None => Ok(None),
     }
 }
 
-// The start that the member of that name is.
+/// The start that the member of that name is.
 fn start_member(alloc: Global, value: &Value) -> Result<Option<Start>, AllocError>
-    ensures { IfOk result (λ it. it ≡ option_and_then start (get (codes "start") (view value.now))) }
+    ensures { IfOk result (λ its_start. its_start
+        ≡ option_and_then start (get (codes "start") (view value.now))) }
 {
     match value.get("start") {
         Some(start) => StartEntry::read(alloc, start),
@@ -145,7 +147,7 @@ fn start_member(alloc: Global, value: &Value) -> Result<Option<Start>, AllocErro
     }
 }
 
-// The values of the list that a member of an object is, taken out of it.
+/// The values of the list that a member of an object is, taken out of it.
 fn list_member(mut value: Value, name: &str) -> Option<Vec<Value>>
     ensures { option_map (λ list. items_view list.items) result
         ≡ option_and_then as_array (get name.now (view value)) }
@@ -156,8 +158,8 @@ fn list_member(mut value: Value, name: &str) -> Option<Vec<Value>>
     }
 }
 
-/// The events of these values, or `None` where one of them is no event. Each value is dropped when it has been read,
-/// while it is still at hand, and not in a second pass over all of them.
+/// The events of these values, or `None` where one of them is no event. Each value is dropped when
+/// it has been read, while it is still at hand, and not in a second pass over all of them.
 fn read_events(alloc: Global, values: Vec<Value>) -> Result<Option<Sequence<Event>>, AllocError>
     ensures { IfOk result (λ events. events ≡ entries event (items_view values.items)) }
 {

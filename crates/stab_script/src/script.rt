@@ -11,8 +11,9 @@ use std::marker::Model;
 /// The most acts that a list of a script may have.
 pub const MAX_ACTS: u32 = 100_000;
 
-/// What a link is to lose and to repeat: a list of acts for each of frames going out, frames coming in,
-/// acknowledgements going out and acknowledgements coming in. Past its end a list passes or takes.
+/// What a link is to lose and to repeat: a list of acts for each of frames going out, frames coming
+/// in, acknowledgements going out and acknowledgements coming in. Past its end a list passes or
+/// takes.
 #[derive(Debug, Drop)]
 pub struct Script {
     frames_out: Sequence<OutAct>,
@@ -26,7 +27,7 @@ impl Model for Script {
 
     ghost Value = { Acts };
 
-    ghost view = { λ s. acts s.frames_out s.frames_in s.acks_out s.acks_in };
+    ghost view = { λ its. acts its.frames_out its.frames_in its.acks_out its.acks_in };
 }
 
 impl Script {
@@ -37,7 +38,8 @@ impl Script {
         acks_out: Vec<OutAct>,
         acks_in: Vec<InAct>,
     ) -> Result<Script, ScriptFault>
-        ensures { result ≡ script_of (acts frames_out.items frames_in.items acks_out.items acks_in.items) }
+        ensures { result
+            ≡ script_of (acts frames_out.items frames_in.items acks_out.items acks_in.items) }
     {
         if frames_out.len() > MAX_ACTS as usize
             || frames_in.len() > MAX_ACTS as usize
@@ -49,7 +51,7 @@ impl Script {
         Ok(Script::from_lists(frames_out, frames_in, acks_out, acks_in))
     }
 
-    // The script of these lists, of any length.
+    /// The script of these lists, of any length.
     pub(crate) fn from_lists(
         frames_out: Vec<OutAct>,
         frames_in: Vec<InAct>,
@@ -83,10 +85,10 @@ impl Script {
         ensures { IfOk result (λ script. script ≡ self.now) }
     {
         Ok(Script {
-            frames_out: copy_of(alloc, self.frames_out())?,
-            frames_in: copy_of(alloc, self.frames_in())?,
-            acks_out: copy_of(alloc, self.acks_out())?,
-            acks_in: copy_of(alloc, self.acks_in())?,
+            frames_out: self.frames_out.copy(alloc)?,
+            frames_in: self.frames_in.copy(alloc)?,
+            acks_out: self.acks_out.copy(alloc)?,
+            acks_in: self.acks_in.copy(alloc)?,
         })
     }
 
@@ -128,11 +130,4 @@ impl Script {
             HalfScript::new(self.acks_out, self.frames_in),
         )
     }
-}
-
-// The same elements once more.
-fn copy_of<T: Copy>(alloc: Global, elements: &[T]) -> Result<Sequence<T>, AllocError>
-    ensures { IfOk result (λ copy. copy ≡ elements.now) }
-{
-    Ok(Sequence::from_vec(Vec::from_slice(alloc, elements)?))
 }

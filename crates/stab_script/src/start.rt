@@ -1,4 +1,5 @@
-ghost use Rattle.std.specs.Prelude.{◌≡◌, ◌≢◌, codes, MatchResult, IfOk, Some, None, option_map, option_and_then};
+ghost use Rattle.std.specs.Prelude.{◌≡◌, ◌≢◌, codes, MatchResult, IfOk, Some, None};
+ghost use Rattle.std.specs.Prelude.{option_map, option_and_then};
 ghost use Rattle.serde_json.specs.Find.{get};
 ghost use Rattle.serde_json.specs.View.{view};
 ghost use Rattle.stab_json.specs.Values.{label, list_or_absent};
@@ -27,8 +28,9 @@ impl<'v> Entry<'v> for StartEntry {
 /// The start of a link, where the value means one.
 pub fn read_start(alloc: Global, value: &Value) -> Result<Start, PartFault>
     ensures { MatchResult result
-        (λ it. start (view value.now) ≡ Some it)
-        (λ fault. fault ≢ PartFault.Memory → (fault ≡ PartFault.Shape) × (start (view value.now) ≡ None)) }
+        (λ its_start. start (view value.now) ≡ Some its_start)
+        (λ fault. fault ≢ PartFault.Memory
+        → (fault ≡ PartFault.Shape) × (start (view value.now) ≡ None)) }
 {
     match StartEntry::read(alloc, value) {
         Ok(Some(start)) => Ok(start),
@@ -39,7 +41,7 @@ pub fn read_start(alloc: Global, value: &Value) -> Result<Start, PartFault>
 
 /// The start, or `None` where the value means none; only memory can be refused.
 fn start_of(alloc: Global, value: &Value) -> Result<Option<Start>, AllocError>
-    ensures { IfOk result (λ it. it ≡ start (view value.now)) }
+    ensures { IfOk result (λ its_start. its_start ≡ start (view value.now)) }
 {
     let Some(frames) = read_list::<Frame>(alloc, value.get("frames"))? else {
         return Ok(None);

@@ -1,13 +1,17 @@
 -- What the program writes for what it reads, and why it may not.
 -- Source: this project's own.
-use Rattle.std.specs.Prelude.{◌≡◌, ◌≢◌, ℕ, ◌<◌, Bool, List, [], ◌++◌, length, All, if◌then◌else◌, Ok, Err}
-use Rattle.stab_core.specs.declared.event.Event.{Event}
+use Rattle.std.specs.Prelude.{◌≡◌, ◌≢◌, ℕ, ◌<◌, Bool, List, [], ◌++◌, length, All}
+use Rattle.std.specs.Prelude.{if◌then◌else◌, Ok, Err}
 use Rattle.stab_core.specs.Replay.{opening, replay, IsLawful}
 use Rattle.stab_core.specs.Trace.{traced_opening, traced_replay}
 use Rattle.stab_core.specs.Link.{IsReason}
 use Rattle.stab_core.specs.Texts.{link_text, origins_text}
 use Rattle.stab_script.specs.declared.link_job.LinkJob.{LinkJob as OneLink}
+use Rattle.stab_script.specs.declared.link_job.LinkJobFault.{LinkJobFault}
 use Rattle.stab_script.specs.declared.link_job.LinkJobFault.TheVariants.{Memory as out_of_memory}
+use Rattle.stab_core.specs.declared.start.StartFault.{StartFault}
+use Rattle.stab_treecore.specs.declared.fault.TreeStartFault.{TreeStartFault}
+use Rattle.stab_run.specs.declared.fault.JobFault.{JobFault}
 use Rattle.stab_run.specs.declared.fault.JobFault.TheVariants.{Memory as no_memory}
 use Rattle.stab_run.specs.JobValues.{JobValue}
 use Rattle.stab_run.specs.Jobs.{job as whole_job}
@@ -18,14 +22,18 @@ use Rattle.stab_script.specs.LinkJobs.{link_job}
 use Rattle.stab_task.specs.declared.command.Task.{Task}
 use Rattle.stab_task.specs.declared.command.Task.TheVariants.{Link, Tree as WholeTreeTask}
 use Rattle.stab_task.specs.declared.fault.CliFault.{CliFault}
-use Rattle.stab_task.specs.declared.fault.CliFault.TheVariants.{CommandLine, Open, Read, TooLong, LinkJob, Job, Start, Tree, Write, Memory}
+use Rattle.stab_task.specs.declared.fault.CliFault.TheVariants.{CommandLine, Open, Read}
+use Rattle.stab_task.specs.declared.fault.CliFault.TheVariants.{TooLong, LinkJob, Job, Start}
+use Rattle.stab_task.specs.declared.fault.CliFault.TheVariants.{Tree, Write, Memory}
 use Rattle.stab_task.specs.Loading.{most_bytes}
 
--- the text of a link job: the link after its replay, and with a trace the origins of what it delivered
+-- the text of a link job: the link after its replay, and with a trace the origins of what it
+-- delivered
 abbrev pub link_answer : Bool → OneLink → List ℕ
-link_answer trace job =
-    link_text (replay job.params (opening job.start) job.events)
-    ++ (if trace then origins_text (traced_replay job.params (traced_opening job.start) job.events).origins else [])
+link_answer trace job = link_text (replay job.params (opening job.start) job.events)
+    ++ (if trace
+    then origins_text (traced_replay job.params (traced_opening job.start) job.events).origins
+    else [])
 
 -- these bytes are a link job with a lawful start, and this is its text
 pub record IsLinkAnswer (trace : Bool) (input text : List ℕ) : Type 0 where
@@ -36,10 +44,10 @@ pub record IsLinkAnswer (trace : Bool) (input text : List ℕ) : Type 0 where
 
 -- the text of a whole tree: its nodes after the replay of its schedule
 abbrev pub tree_answer : JobValue → List ℕ
-tree_answer job =
-    schedule_text job.tree (tree_replay (tree_opening job.params job.tree.parents job.items job.starts) job.schedule)
+tree_answer job = schedule_text job.tree
+    (tree_replay (tree_opening job.params job.tree.parents job.items job.starts) job.schedule)
 
--- these bytes are a job with lawful starts whose schedule names links alone, and this is the text of its tree
+-- these bytes are a job with lawful starts whose schedule names links alone, and this is its text
 pub record IsTreeAnswer (input text : List ℕ) : Type 0 where
   pub job : JobValue
   pub read : whole_job input ≡ Ok job
@@ -52,34 +60,38 @@ abbrev pub IsAnswer : Task → List ℕ → List ℕ → Type 0
 IsAnswer (Link trace) input text = IsLinkAnswer trace input text
 IsAnswer WholeTreeTask input text = IsTreeAnswer input text
 
--- why a link job has no answer
-abbrev pub IsLinkFault : List ℕ → CliFault → Type 0
-IsLinkFault input CommandLine = ⊥
-IsLinkFault input Open = ⊥
-IsLinkFault input Read = Unit {0}
-IsLinkFault input TooLong = most_bytes < length input
-IsLinkFault input (LinkJob refusal) = refusal ≢ out_of_memory → link_job input ≡ Err refusal
-IsLinkFault input (Job refusal) = ⊥
-IsLinkFault input (Start refusal) = (job : OneLink) × (link_job input ≡ Ok job) × IsReason job.params job.start refusal
-IsLinkFault input (Tree refusal) = ⊥
-IsLinkFault input Write = Unit {0}
-IsLinkFault input Memory = Unit {0}
+-- a link task has no answer where the bytes are no link job; out of memory comes with any bytes
+abbrev pub IsLinkJobFault : Task → List ℕ → LinkJobFault → Type 0
+IsLinkJobFault (Link trace) input refusal = refusal ≢ out_of_memory → link_job input ≡ Err refusal
+IsLinkJobFault WholeTreeTask input refusal = ⊥
 
--- why a job has no answer
-abbrev pub IsTreeFault : List ℕ → CliFault → Type 0
-IsTreeFault input CommandLine = ⊥
-IsTreeFault input Open = ⊥
-IsTreeFault input Read = Unit {0}
-IsTreeFault input TooLong = most_bytes < length input
-IsTreeFault input (LinkJob refusal) = ⊥
-IsTreeFault input (Job refusal) = refusal ≢ no_memory → whole_job input ≡ Err refusal
-IsTreeFault input (Start refusal) = ⊥
-IsTreeFault input (Tree refusal) =
-    (job : JobValue) × (whole_job input ≡ Ok job) × IsScheduleReason job.params job.tree.parents job.items job.starts job.schedule refusal
-IsTreeFault input Write = Unit {0}
-IsTreeFault input Memory = Unit {0}
+-- a link task has no answer where the bytes are a link job whose start is refused
+abbrev pub IsStartFault : Task → List ℕ → StartFault → Type 0
+IsStartFault (Link trace) input refusal =
+    (job : OneLink) × (link_job input ≡ Ok job) × IsReason job.params job.start refusal
+IsStartFault WholeTreeTask input refusal = ⊥
 
--- why a task has no answer for these bytes
+-- a tree task has no answer where the bytes are no job; out of memory comes with any bytes
+abbrev pub IsJobFault : Task → List ℕ → JobFault → Type 0
+IsJobFault (Link trace) input refusal = ⊥
+IsJobFault WholeTreeTask input refusal = refusal ≢ no_memory → whole_job input ≡ Err refusal
+
+-- a tree task has no answer where the bytes are a job of which a start or an event is refused
+abbrev pub IsTreeFault : Task → List ℕ → TreeStartFault → Type 0
+IsTreeFault (Link trace) input refusal = ⊥
+IsTreeFault WholeTreeTask input refusal = (job : JobValue) × (whole_job input ≡ Ok job)
+    × IsScheduleReason job.params job.tree.parents job.items job.starts job.schedule refusal
+
+-- why a task has no answer for these bytes, or why its text was not written; a reader may fail, and
+-- memory may be refused, at any bytes
 abbrev pub IsFault : Task → List ℕ → CliFault → Type 0
-IsFault (Link trace) input fault = IsLinkFault input fault
-IsFault WholeTreeTask input fault = IsTreeFault input fault
+IsFault task input CommandLine = ⊥
+IsFault task input Open = ⊥
+IsFault task input Read = Unit {0}
+IsFault task input TooLong = most_bytes < length input
+IsFault task input (LinkJob refusal) = IsLinkJobFault task input refusal
+IsFault task input (Job refusal) = IsJobFault task input refusal
+IsFault task input (Start refusal) = IsStartFault task input refusal
+IsFault task input (Tree refusal) = IsTreeFault task input refusal
+IsFault task input Write = (text : List ℕ) × IsAnswer task input text
+IsFault task input Memory = Unit {0}

@@ -1,3 +1,4 @@
 pub mod Statuses
 pub mod Loading
 pub mod Answers
+pub mod CommandLine

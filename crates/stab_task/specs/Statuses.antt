@@ -10,7 +10,9 @@ use Rattle.stab_tree.specs.declared.fault.TreeFault.TheVariants as tree
 use Rattle.stab_run.specs.declared.fault.JobFault.{JobFault}
 use Rattle.stab_run.specs.declared.fault.JobFault.TheVariants as whole
 use Rattle.stab_task.specs.declared.fault.CliFault.{CliFault}
-use Rattle.stab_task.specs.declared.fault.CliFault.TheVariants.{CommandLine, Open, Read, TooLong, LinkJob, Job, Start, Tree, Write, Memory}
+use Rattle.stab_task.specs.declared.fault.CliFault.TheVariants.{CommandLine, Open, Read}
+use Rattle.stab_task.specs.declared.fault.CliFault.TheVariants.{TooLong, LinkJob, Job, Start}
+use Rattle.stab_task.specs.declared.fault.CliFault.TheVariants.{Tree, Write, Memory}
 
 -- a link job that is refused, and one for which memory was refused
 abbrev pub link_job_status : LinkJobFault → ℕ

@@ -1,6 +1,7 @@
-ghost use Rattle.std.specs.Prelude.{◌≡◌, ◌≢◌, ◌++◌, List, ℕ, string_bytes, IfSome, IfOk, IfErr, OnOk};
+ghost use Rattle.std.specs.Prelude.{◌≡◌, ◌≢◌, ◌++◌, List, ℕ, string_bytes};
+ghost use Rattle.std.specs.Prelude.{IfSome, IfOk, IfErr, OnOk};
 ghost use Rattle.std.specs.Io.KnownBytes.{Appends, Keeps};
-ghost use Rattle.stab_task.specs.Answers.{IsLinkAnswer, IsTreeAnswer, IsAnswer, IsLinkFault, IsTreeFault, IsFault};
+ghost use Rattle.stab_task.specs.Answers.{IsLinkAnswer, IsTreeAnswer, IsAnswer, IsFault};
 
 use crate::command::Task;
 use crate::fault::CliFault;
@@ -13,7 +14,8 @@ use std::alloc::Global;
 use std::io::{Read, Write};
 use std::sync::Wait;
 
-/// Reads a job, does the task, and writes the whole text; or writes nothing where the fault is another than `Write`.
+/// Reads a job, does the task, and writes the whole text; or writes nothing where the fault is
+/// another than `Write`.
 ///
 /// No task so far waits for anybody.
 pub fn act<T: Wait, R: Read, W: Write>(
@@ -24,15 +26,18 @@ pub fn act<T: Wait, R: Read, W: Write>(
     writer: &mut W,
 ) -> Result<(), CliFault>
     ensures answer { OnOk result (IfSome (R.remaining reader.old) (λ input.
-        (text : List ℕ) × IsAnswer task input text × Appends (W.contents writer.old) (W.contents writer.new) text)) }
-    ensures fault { IfErr result (λ fault. IfSome (R.remaining reader.old) (λ input. IsFault task input fault)) }
-    ensures nothing { IfErr result (λ fault. fault ≢ CliFault.Write → Keeps (W.contents writer.old) (W.contents writer.new)) }
+        (text : List ℕ) × IsAnswer task input text
+        × Appends (W.contents writer.old) (W.contents writer.new) text)) }
+    ensures fault { IfErr result (λ fault.
+        IfSome (R.remaining reader.old) (λ input. IsFault task input fault)) }
+    ensures nothing { IfErr result (λ fault.
+        fault ≢ CliFault.Write → Keeps (W.contents writer.old) (W.contents writer.new)) }
 {
     let _ = rt;
     answer(alloc, task, reader, writer)
 }
 
-/// The same, and it returns.
+/// What `act` does, by a function that returns: it is not handed the runtime, so it cannot wait.
 fn answer<R: Read, W: Write>(
     alloc: Global,
     task: Task,
@@ -40,31 +45,47 @@ fn answer<R: Read, W: Write>(
     writer: &mut W,
 ) -> Result<(), CliFault>
     ensures answer { OnOk result (IfSome (R.remaining reader.old) (λ input.
-        (text : List ℕ) × IsAnswer task input text × Appends (W.contents writer.old) (W.contents writer.new) text)) }
-    ensures fault { IfErr result (λ fault. IfSome (R.remaining reader.old) (λ input. IsFault task input fault)) }
-    ensures nothing { IfErr result (λ fault. fault ≢ CliFault.Write → Keeps (W.contents writer.old) (W.contents writer.new)) }
+        (text : List ℕ) × IsAnswer task input text
+        × Appends (W.contents writer.old) (W.contents writer.new) text)) }
+    ensures fault { IfErr result (λ fault.
+        IfSome (R.remaining reader.old) (λ input. IsFault task input fault)) }
+    ensures nothing { IfErr result (λ fault.
+        fault ≢ CliFault.Write → Keeps (W.contents writer.old) (W.contents writer.new)) }
 {
     let text = text_of(alloc, task, reader)?;
-    write_text(writer, &text)
+    write_text(writer, &text)?;
+    Ok(())
 }
 
 /// The text of a task for what the reader gives.
 fn text_of<R: Read>(alloc: Global, task: Task, reader: &mut R) -> Result<String, CliFault>
-    ensures answer { IfOk result (λ text. IfSome (R.remaining reader.old) (λ input. IsAnswer task input (string_bytes text))) }
-    ensures fault { IfErr result (λ fault. IfSome (R.remaining reader.old) (λ input. IsFault task input fault)) }
+    ensures answer { IfOk result (λ text.
+        IfSome (R.remaining reader.old) (λ input. IsAnswer task input (string_bytes text))) }
+    ensures fault { IfErr result (λ fault.
+        IfSome (R.remaining reader.old) (λ input. IsFault task input fault)) }
     ensures no_write { IfErr result (λ fault. fault ≢ CliFault.Write) }
 {
     let bytes = load(alloc, reader)?;
+    let text = answer_bytes(alloc, task, &bytes)?;
+    Ok(text)
+}
+
+/// The text of a task for these bytes.
+fn answer_bytes(alloc: Global, task: Task, bytes: &[u8]) -> Result<String, CliFault>
+    ensures answer { IfOk result (λ text. IsAnswer task bytes.now (string_bytes text)) }
+    ensures fault { IfErr result (IsFault task bytes.now) }
+    ensures no_write { IfErr result (λ fault. fault ≢ CliFault.Write) }
+{
     match task {
-        Task::Link { trace } => answer_link(alloc, trace, &bytes),
-        Task::Tree => answer_tree(alloc, &bytes),
+        Task::Link { trace } => answer_link(alloc, trace, bytes),
+        Task::Tree => answer_tree(alloc, bytes),
     }
 }
 
 /// The text of a link job, with the origins of what it delivers where they are asked for.
 fn answer_link(alloc: Global, with_trace: bool, bytes: &[u8]) -> Result<String, CliFault>
     ensures answer { IfOk result (λ text. IsLinkAnswer with_trace bytes.now (string_bytes text)) }
-    ensures fault { IfErr result (IsLinkFault bytes.now) }
+    ensures fault { IfErr result (IsFault (Task.Link with_trace) bytes.now) }
     ensures no_write { IfErr result (λ fault. fault ≢ CliFault.Write) }
 {
     let job = read_link_job(alloc, bytes)?;
@@ -81,7 +102,7 @@ fn answer_link(alloc: Global, with_trace: bool, bytes: &[u8]) -> Result<String, 
 /// The text of a whole tree after its schedule.
 fn answer_tree(alloc: Global, bytes: &[u8]) -> Result<String, CliFault>
     ensures answer { IfOk result (λ text. IsTreeAnswer bytes.now (string_bytes text)) }
-    ensures fault { IfErr result (IsTreeFault bytes.now) }
+    ensures fault { IfErr result (IsFault Task.Tree bytes.now) }
     ensures no_write { IfErr result (λ fault. fault ≢ CliFault.Write) }
 {
     let job = read_job(alloc, bytes)?;
@@ -96,9 +117,10 @@ fn answer_tree(alloc: Global, bytes: &[u8]) -> Result<String, CliFault>
     Ok(schedule_text(alloc, job.tree(), &state)?)
 }
 
-/// Writes a whole text, and hands on what the writer still holds back.
+/// Writes a whole text, and asks the writer for a flush.
 fn write_text<W: Write>(writer: &mut W, text: &str) -> Result<(), CliFault>
-    ensures written { OnOk result (Appends (W.contents writer.old) (W.contents writer.new) text.now) }
+    ensures written { OnOk result
+        (Appends (W.contents writer.old) (W.contents writer.new) text.now) }
     ensures fault { IfErr result (λ fault. fault ≡ CliFault.Write) }
 {
     writer

@@ -1,15 +1,22 @@
-ghost use Rattle.std.specs.Prelude.{◌≡◌, ◌≤◌, ◌⊎◌, codes, length, false, None, option_map, string_bytes, IfOk, IfErr, IsOkAnd};
-ghost use Rattle.clap.specs.Matches.{found_of, first_value};
+ghost use Rattle.std.specs.Prelude.{◌≡◌, ◌≢◌, ◌≤◌, ◌⊎◌, codes, false, length, map, None};
+ghost use Rattle.std.specs.Prelude.{option_map, string_bytes, IfOk, IfErr, IsOkAnd};
+ghost use Rattle.clap.specs.Words.{app_of, first_of, found_of, kind_of, rows_of, rule_of};
+ghost use Rattle.clap.specs.Words.{subcommand_of, subcommand_rows_of};
+ghost use Rattle.clap.specs.declared.builder.command.Command.TheViews.{out-Command as fields_of};
+ghost use Rattle.stab_task.specs.CommandLine.{has_trace, is_from_words, link_line, named_by};
+ghost use Rattle.stab_task.specs.CommandLine.{stab_line, task_of, trace_flag, tree_line};
+ghost use Rattle.stab_task.specs.CommandLine.{IsTaken, IsWordsFault};
 
 use crate::fault::CliFault;
 use clap::error::ErrorKind;
+use clap::parser::ValueSource;
 use clap::{Arg, ArgAction, ArgMatches, Command, Error};
 use std::alloc::{AllocError, Global};
 
 /// What the program is to do.
 #[derive(Clone, Copy, Debug, PartialEq, Eq, Hash)]
 pub enum Task {
-    /// Replay a link job, and with `trace` tell the origins of what it delivers.
+    /// Replay a link job, and with `trace` print the origins of what it delivers.
     Link { trace: bool },
     /// Run a job's schedule over its whole tree.
     Tree,
@@ -17,46 +24,116 @@ pub enum Task {
 
 /// The task that these words name, the program's name first, and its file where there is one.
 ///
-/// No words are `link` without a file. Whatever `clap` refuses is a refused command line, a request for help included.
+/// Words that name no command are `link` without a file. Whatever `clap` refuses is a refused
+/// command line, a request for help included.
 pub fn parse(alloc: Global, words: &[String]) -> Result<(Task, Option<String>), CliFault>
-    ensures no_words { length words.now ≤ 1 → IsOkAnd result (λ r. (r.0 ≡ Task.Link false) × (r.1 ≡ None)) }
-    ensures refused { IfErr result (λ fault. (fault ≡ CliFault.CommandLine) ⊎ (fault ≡ CliFault.Memory)) }
+    ensures no_words { length words.now ≤ 1
+        → IsOkAnd result (λ r. (r.0 ≡ Task.Link false) × (r.1 ≡ None)) }
+    ensures taken { IfOk result (λ r. IsTaken (map string_bytes words.now)) }
+    ensures named { IfOk result (λ r.
+        (r.0, option_map string_bytes r.1) ≡ named_by (map string_bytes words.now)) }
+    ensures fault { IfErr result (IsWordsFault (map string_bytes words.now)) }
 {
     if words.len() <= 1 {
         return Ok((Task::Link { trace: false }, None));
     }
-    let command = command(alloc)?;
-    let matches = match command.try_get_matches_from(words) {
-        Ok(matches) => matches,
-        Err(error) => return Err(refusal(&error)),
-    };
+    let matches = matches_of(alloc, words)?;
     match matches.subcommand() {
-        Some(("link", inner)) => {
-            let trace = inner.get_flag("trace");
-            Ok((Task::Link { trace }, file_of(alloc, inner)?))
-        }
-        Some(("tree", inner)) => Ok((Task::Tree, file_of(alloc, inner)?)),
-        _ => Err(CliFault::CommandLine),
+        None => Ok((Task::Link { trace: false }, None)),
+        Some((word, inner)) => Ok((named_task(word, inner), file_of(alloc, inner)?)),
     }
 }
 
-/// The command line, one level of subcommands.
-fn command<'a>(alloc: Global) -> Result<Command<'a>, AllocError> {
-    let trace = Arg::new(alloc, "trace")
-        .long("trace")
-        .action(ArgAction::SetTrue);
-    let link = Command::new(alloc, "link")
-        .arg(trace)?
-        .arg(Arg::new(alloc, "FILE"))?;
-    let tree = Command::new(alloc, "tree").arg(Arg::new(alloc, "FILE"))?;
-    Command::new(alloc, "stab")
+/// What `clap` finds in the words.
+fn matches_of<'a>(alloc: Global, words: &'a [String]) -> Result<ArgMatches<'a>, CliFault>
+    ensures taken { IfOk result (λ matches. IsTaken (map string_bytes words.entry.now)) }
+    ensures subcommand { IfOk result (λ matches.
+        subcommand_rows_of matches ≡ subcommand_of stab_line (map string_bytes words.entry.now)) }
+    ensures fault { IfErr result (IsWordsFault (map string_bytes words.entry.now)) }
+{
+    let command = stab(alloc)?;
+    match command.try_get_matches_from(words) {
+        Ok(matches) => Ok(matches),
+        Err(error) => Err(refusal(&error)),
+    }
+}
+
+/// The command `stab` with its two subcommands. It has no subcommand `help`.
+fn stab<'a>(alloc: Global) -> Result<Command<'a>, AllocError>
+    ensures { IfOk result (λ command. app_of command ≡ stab_line) }
+{
+    let link = link(alloc)?;
+    let tree = tree(alloc)?;
+    let stab = Command::new(alloc, "stab")
+        .disable_help_subcommand(true)
         .subcommand(link)?
-        .subcommand(tree)
+        .subcommand(tree)?;
+    Ok(stab)
+}
+
+/// The subcommand `link [--trace] [FILE]`.
+fn link<'a>(alloc: Global) -> Result<Command<'a>, AllocError>
+    ensures line { IfOk result (λ command. app_of command ≡ link_line) }
+    ensures local { IfOk result (λ command. (fields_of command).has_globals ≡ false) }
+{
+    let link = Command::new(alloc, "link")
+        .arg(trace_argument(alloc))?
+        .arg(Arg::new(alloc, "FILE"))?;
+    Ok(link)
+}
+
+/// The flag `--trace` of `link`.
+fn trace_argument<'a>(alloc: Global) -> Arg<'a>
+    ensures rule { rule_of result ≡ trace_flag }
+    ensures local { result.global ≡ false }
+{
+    Arg::new(alloc, "trace")
+        .long("trace")
+        .action(ArgAction::SetTrue)
+}
+
+/// The subcommand `tree [FILE]`.
+fn tree<'a>(alloc: Global) -> Result<Command<'a>, AllocError>
+    ensures line { IfOk result (λ command. app_of command ≡ tree_line) }
+    ensures local { IfOk result (λ command. (fields_of command).has_globals ≡ false) }
+{
+    let tree = Command::new(alloc, "tree").arg(Arg::new(alloc, "FILE"))?;
+    Ok(tree)
+}
+
+/// The task of a command word, which is `link` or `tree`.
+fn named_task(word: &str, matches: &ArgMatches<'_>) -> Task
+    ensures { result ≡ task_of word.now (rows_of (found_of matches.now)) }
+{
+    if word == "link" {
+        let trace = is_traced(matches);
+        Task::Link { trace }
+    } else {
+        Task::Tree
+    }
+}
+
+/// Whether `--trace` is among the words of a subcommand.
+fn is_traced(matches: &ArgMatches<'_>) -> bool
+    ensures { result ≡ has_trace (rows_of (found_of matches.now)) }
+{
+    is_written(matches.value_source("trace"))
+}
+
+/// Whether a value came from the words, and is no default.
+fn is_written(source: Option<ValueSource>) -> bool
+    ensures { result ≡ is_from_words source }
+{
+    match source {
+        Some(ValueSource::CommandLine) => true,
+        Some(ValueSource::DefaultValue) | None => false,
+    }
 }
 
 /// The file that a subcommand names.
 fn file_of(alloc: Global, matches: &ArgMatches<'_>) -> Result<Option<String>, CliFault>
-    ensures file { IfOk result (λ file. option_map string_bytes file ≡ first_value (found_of matches.now) (codes "FILE")) }
+    ensures file { IfOk result (λ file. option_map string_bytes file
+        ≡ first_of (codes "FILE") (rows_of (found_of matches.now))) }
     ensures memory { IfErr result (λ fault. fault ≡ CliFault.Memory) }
 {
     match matches.get_str("FILE") {
@@ -65,9 +142,10 @@ fn file_of(alloc: Global, matches: &ArgMatches<'_>) -> Result<Option<String>, Cl
     }
 }
 
-/// The fault of words that are refused: memory was refused, or the words are no command line.
+/// The fault of words that `clap` refuses: memory was refused, or the words are no command line.
 fn refusal(error: &Error) -> CliFault
-    ensures { (result ≡ CliFault.CommandLine) ⊎ (result ≡ CliFault.Memory) }
+    ensures { (result ≡ CliFault.Memory)
+        ⊎ ((result ≡ CliFault.CommandLine) × (kind_of error.now ≢ ErrorKind.OutOfMemory)) }
 {
     if error.kind() == ErrorKind::OutOfMemory {
         CliFault::Memory

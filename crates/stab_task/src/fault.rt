@@ -1,3 +1,4 @@
+use crate::file::LoadFault;
 use stab_core::StartFault;
 use stab_run::JobFault;
 use stab_script::{LinkJobFault, ScriptFault};
@@ -6,7 +7,7 @@ use stab_treecore::TreeStartFault;
 use std::alloc::{AllocError, AllocFailed};
 use thiserror::Error;
 
-/// What the program prints behind `stab: ` where it cannot do its task.
+/// Why the program cannot do its task. It prints the prefix `stab: ` and then this fault's text.
 #[derive(Clone, Copy, Debug, PartialEq, Eq, Error)]
 pub enum CliFault {
     /// The command line names no task; a request for help is one of these.
@@ -45,8 +46,9 @@ impl CliFault {
     ghost use Rattle.std.specs.Prelude.{◌≡◌};
     ghost use Rattle.stab_task.specs.Statuses.{status_of};
 
-    /// The status that the program ends with: 1 for a file or job that is refused, 2 for a command line that is refused,
-    /// 3 for a start, a step or a write that fails, and for want of memory anywhere.
+    /// The status that the program ends with: 1 for a file or job that is refused, 2 for a command
+    /// line that is refused, 3 for a start, a step or a write that fails, and for memory that is
+    /// refused anywhere.
     pub fn status(&self) -> u8
         ensures { result ≡ status_of self.now }
     {
@@ -90,6 +92,21 @@ impl<T: Drop> From<AllocFailed<T>> for CliFault {
 
     fn from(_refused: AllocFailed<T>) -> CliFault {
         CliFault::Memory
+    }
+}
+
+impl From<LoadFault> for CliFault {
+    ghost use Rattle.std.specs.Prelude.{◌≡◌};
+    ghost use Rattle.stab_task.specs.Loading.{fault_of_load};
+
+    ghost from_gives = { λ refusal fault. fault ≡ fault_of_load refusal };
+
+    fn from(refusal: LoadFault) -> CliFault {
+        match refusal {
+            LoadFault::Read => CliFault::Read,
+            LoadFault::TooLong => CliFault::TooLong,
+            LoadFault::Memory => CliFault::Memory,
+        }
     }
 }
 

@@ -1,6 +1,7 @@
-ghost use Rattle.std.specs.Prelude.{◌≡◌, ◌+◌, ◌<◌, ◌≤◌, length, take, ◌++◌, Some, MatchOption, IfOk, IfErr, OnOk};
+ghost use Rattle.std.specs.Prelude.{◌≡◌, ◌+◌, ◌<◌, ◌≤◌, length, take, ◌++◌, Some};
+ghost use Rattle.std.specs.Prelude.{MatchOption, IfOk, IfErr, OnOk};
 ghost use Rattle.std.specs.Io.KnownBytes.{Consumes, IsAtEnd, Keeps};
-ghost use Rattle.stab_task.specs.Loading.{IsWhole, IsLoadFault};
+ghost use Rattle.stab_task.specs.Loading.{IsWhole, IsLoadFault, IsUnloaded};
 
 use crate::fault::CliFault;
 use std::alloc::{AllocError, Global};
@@ -18,11 +19,42 @@ const CHUNK: usize = 65_536;
 /// Each turn gives a byte or more, or is an interruption, but for the last.
 const MAX_TURNS: usize = MAX_BYTES + MAX_INTERRUPTIONS + 2;
 
+/// Why a file cannot be loaded.
+#[derive(Clone, Copy, Debug, PartialEq, Eq)]
+pub enum LoadFault {
+    /// Reading failed, or was interrupted too often.
+    Read,
+    /// There are more than 16,777,216 bytes.
+    TooLong,
+    /// Memory was refused.
+    Memory,
+}
+
+impl From<AllocError> for LoadFault {
+    ghost use Rattle.std.specs.Prelude.{◌≡◌};
+    ghost use Rattle.stab_task.specs.declared.file.LoadFault.TheVariants.{Memory};
+
+    ghost from_gives = { λ _ fault. fault ≡ Memory };
+
+    fn from(_refused: AllocError) -> LoadFault {
+        LoadFault::Memory
+    }
+}
+
 /// All bytes of a reader, at most 16,777,216 of them.
 ///
-/// An interrupted read is tried again, at most 1,000 times; any other fault of the reader is a fault at once. What was
-/// read before a fault is gone.
+/// An interrupted read is tried again, at most 1,000 times; any other fault of the reader is a
+/// fault at once. What was read before a fault is gone.
 pub fn load<R: Read>(alloc: Global, reader: &mut R) -> Result<Vec<u8>, CliFault>
+    ensures whole { IfOk result (λ bytes. IsWhole (R.remaining reader.old) bytes.items) }
+    ensures faults { IfErr result (IsUnloaded (R.remaining reader.old)) }
+{
+    let bytes = read_all(alloc, reader)?;
+    Ok(bytes)
+}
+
+/// All bytes of a reader, or why they cannot be loaded.
+fn read_all<R: Read>(alloc: Global, reader: &mut R) -> Result<Vec<u8>, LoadFault>
     ensures whole { IfOk result (λ bytes. IsWhole (R.remaining reader.old) bytes.items) }
     ensures faults { IfErr result (IsLoadFault (R.remaining reader.old)) }
 {
@@ -35,7 +67,7 @@ pub fn load<R: Read>(alloc: Global, reader: &mut R) -> Result<Vec<u8>, CliFault>
             Some(count) => append(&mut bytes, &chunk[..count])?,
             None => {
                 if interruptions == MAX_INTERRUPTIONS {
-                    return Err(CliFault::Read);
+                    return Err(LoadFault::Read);
                 }
                 interruptions += 1;
             }
@@ -44,7 +76,7 @@ pub fn load<R: Read>(alloc: Global, reader: &mut R) -> Result<Vec<u8>, CliFault>
     unreachable!()
 }
 
-/// So many bytes to read into.
+/// Bytes to read into, `len` of them.
 fn zeros(alloc: Global, len: usize) -> Result<Vec<u8>, AllocError>
     ensures { IfOk result (λ bytes. length bytes.items ≡ len) }
 {
@@ -52,28 +84,34 @@ fn zeros(alloc: Global, len: usize) -> Result<Vec<u8>, AllocError>
 }
 
 /// Adds bytes that were read, where the file is not too long by them.
-fn append(bytes: &mut Vec<u8>, more: &[u8]) -> Result<(), CliFault>
+fn append(bytes: &mut Vec<u8>, more: &[u8]) -> Result<(), LoadFault>
     requires { length bytes.old.items ≤ MAX_BYTES }
     ensures appended { OnOk result (bytes.new.items ≡ bytes.old.items ++ more.now) }
     ensures not_too_long { OnOk result (length bytes.new.items ≤ MAX_BYTES) }
     ensures faults { IfErr result (IsLoadFault (Some (bytes.old.items ++ more.now))) }
 {
     if more.len() > MAX_BYTES - bytes.len() {
-        return Err(CliFault::TooLong);
+        return Err(LoadFault::TooLong);
     }
     bytes.extend_from_slice(more)?;
     Ok(())
 }
 
 /// One read: how many bytes it gave, none only at the end; or nothing where it was interrupted.
-fn read_chunk<R: Read>(reader: &mut R, chunk: &mut [u8]) -> Result<Option<usize>, CliFault>
+///
+/// A reader's contract does not say when it fails, so no clause can forbid a fault of this call;
+/// the tests do.
+fn read_chunk<R: Read>(reader: &mut R, chunk: &mut [u8]) -> Result<Option<usize>, LoadFault>
     requires { 0 < length chunk.old }
-    ensures room { IfOk result (λ given. MatchOption given (Unit {0}) (λ count. count ≤ length chunk.new)) }
+    ensures room { IfOk result (λ given. MatchOption given (Unit {0})
+        (λ count. count ≤ length chunk.new)) }
     ensures bytes { IfOk result (λ given. MatchOption given
         (Keeps (R.remaining reader.old) (R.remaining reader.new))
-        (λ count. Consumes (R.remaining reader.old) (R.remaining reader.new) (take count chunk.new))) }
-    ensures end { IfOk result (λ given. MatchOption given (Unit {0}) (λ count. count ≡ 0 → IsAtEnd (R.remaining reader.new))) }
-    ensures fault { IfErr result (λ fault. fault ≡ CliFault.Read) }
+        (λ count. Consumes (R.remaining reader.old) (R.remaining reader.new)
+        (take count chunk.new))) }
+    ensures end { IfOk result (λ given. MatchOption given (Unit {0})
+        (λ count. count ≡ 0 → IsAtEnd (R.remaining reader.new))) }
+    ensures fault { IfErr result (λ fault. fault ≡ LoadFault.Read) }
 {
     match reader.read(chunk) {
         Ok(count) => Ok(Some(count)),
@@ -81,7 +119,7 @@ fn read_chunk<R: Read>(reader: &mut R, chunk: &mut [u8]) -> Result<Option<usize>
             if error.kind() == ErrorKind::Interrupted {
                 Ok(None)
             } else {
-                Err(CliFault::Read)
+                Err(LoadFault::Read)
             }
         }
     }

@@ -1,3 +1,5 @@
+ghost use Rattle.std.specs.Prelude.{◌≡◌, ◌⊎◌, IfErr};
+
 use crate::answer::act;
 use crate::command::Task;
 use crate::fault::CliFault;
@@ -7,10 +9,18 @@ use std::io::{self, ErrorKind};
 use std::rt::{Env, Files};
 use std::sync::Wait;
 
-/// The words of the command line, the program's name first.
-pub fn words<R: Env + AllocGlobal>(rt: &R, alloc: Global) -> Result<Vec<String>, CliFault> {
+/// The words of the command line, the program's name first. A word that is no text is a refused
+/// command line.
+pub fn words<R: Env + AllocGlobal>(rt: &R, alloc: Global) -> Result<Vec<String>, CliFault>
+    ensures fault { IfErr result (λ fault.
+        (fault ≡ CliFault.Memory) ⊎ (fault ≡ CliFault.CommandLine)) }
+{
+    let args = match std::env::args(rt) {
+        Ok(args) => args,
+        Err(error) => return Err(fault_of(&error, CliFault::CommandLine)),
+    };
     let mut words = Vec::new(alloc);
-    for word in std::env::args(rt).map_err(refused_words)? {
+    for word in args {
         words.push(word)?;
     }
     Ok(words)
@@ -22,29 +32,22 @@ pub fn perform<R: Files + Input + Print + Wait + AllocGlobal>(
     task: Task,
     path: Option<String>,
 ) -> Result<(), CliFault> {
-    match path {
-        None => act(rt, rt.alloc(), task, &mut rt.reader(), &mut io::writer(rt)),
-        Some(path) => {
-            let mut file = fs::open(rt, &path).map_err(refused_file)?;
-            act(rt, rt.alloc(), task, &mut file, &mut io::writer(rt))
-        }
+    let Some(path) = path else {
+        return act(rt, rt.alloc(), task, &mut rt.reader(), &mut io::writer(rt));
+    };
+    match fs::open(rt, &path) {
+        Ok(mut file) => act(rt, rt.alloc(), task, &mut file, &mut io::writer(rt)),
+        Err(error) => Err(fault_of(&error, CliFault::Open)),
     }
 }
 
-/// The fault of a file that cannot be opened: memory was refused, or there is another cause.
-fn refused_file(error: io::Error) -> CliFault {
+/// The fault of an error of the system: memory was refused, or another fault that the caller names.
+fn fault_of(error: &io::Error, other: CliFault) -> CliFault
+    ensures { (result ≡ CliFault.Memory) ⊎ (result ≡ other) }
+{
     if error.kind() == ErrorKind::OutOfMemory {
         CliFault::Memory
     } else {
-        CliFault::Open
-    }
-}
-
-/// The fault of words that cannot be had: memory was refused, or one is no text.
-fn refused_words(error: io::Error) -> CliFault {
-    if error.kind() == ErrorKind::OutOfMemory {
-        CliFault::Memory
-    } else {
-        CliFault::CommandLine
+        other
     }
 }

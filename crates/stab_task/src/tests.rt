@@ -1,4 +1,5 @@
-//! The tasks at the values of the worked examples: command lines, files, and what each task prints or refuses.
+//! The tasks at the values of the worked examples: command lines, files, and what each task writes
+//! or refuses.
 
 mod files;
 mod links;
@@ -38,14 +39,14 @@ fn outcome<T: Wait>(
     (ended, written)
 }
 
-/// Fails the test where the task does not print this text for the job.
+/// Fails the test where the task does not write this text for the job.
 fn assert_answer<T: Wait + Abort + Alloc<A = Global>>(rt: &T, task: Task, job: &str, text: &str) {
     let (ended, written) = outcome(rt, rt.alloc(), task, job.as_bytes());
     assert_eq!(rt; ended, Ok(()), "{job}");
     assert!(rt; written.as_slice() == text.as_bytes(), "{job}");
 }
 
-/// Fails the test where the task does not refuse the bytes with this fault, or prints anything.
+/// Fails the test where the task does not refuse the bytes with this fault, or writes anything.
 fn assert_refused<T: Wait + Abort + Alloc<A = Global>>(
     rt: &T,
     task: Task,
@@ -53,8 +54,9 @@ fn assert_refused<T: Wait + Abort + Alloc<A = Global>>(
     fault: CliFault,
 ) {
     let (ended, written) = outcome(rt, rt.alloc(), task, job);
-    assert_eq!(rt; ended, Err(fault));
-    assert!(rt; written.is_empty());
+    let text = str::from_utf8(job).unwrap_or("a job that is not UTF-8");
+    assert_eq!(rt; ended, Err(fault), "{text}");
+    assert!(rt; written.is_empty(), "{text}");
 }
 
 /// Fails the test where the fault has another status or another text.
@@ -70,7 +72,7 @@ fn assert_fault<T: Abort + Alloc<A = Global>>(
 }
 
 #[test]
-fn want_of_memory_has_no_prefix(rt: HostRuntime) -> Result<(), Fail> {
+fn prints_out_of_memory_with_no_prefix(rt: HostRuntime) -> Result<(), Fail> {
     let faults = [
         CliFault::Memory,
         CliFault::LinkJob(LinkJobFault::Memory),

@@ -4,6 +4,7 @@ pub mod Described
 pub mod ForCallers
 pub mod Links
 pub mod NameSet
+pub mod OwnNames
 pub mod Places
 pub mod Roots
 pub mod Steps

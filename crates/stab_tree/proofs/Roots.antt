@@ -1,8 +1,8 @@
 -- The nodes without a parent, counted and found.
-use Rattle.std.proofs.Common.{◌≡◌, ℕ, zero, suc, ◌+◌, ◌<◌, ◌≤◌, List, [], ◌∷◌, length, Option, Some, None, is_none, cond, inl, inr, one-add, refl, arith}
+use Rattle.std.proofs.Common.{◌≡◌, ℕ, zero, suc, ◌+◌, ◌<◌, ◌≤◌, List, [], ◌∷◌, length, Option, Some, None, is_none, not, unwrap_or, cond, inl, inr, one-add, refl, arith}
 use Rattle.std.specs.List.{count_by, position}
 use Rattle.std.proofs.lemmas.Bool.{cases_lt, lt-ltb, le-ltb}
-use Rattle.std.proofs.lemmas.List.Sums.{sum_by-cons}
+use Rattle.std.proofs.lemmas.List.Sums.{prefix_len-le-length, sum_by-cons}
 use Rattle.stab_tree.specs.Nodes.{parent_at, root_of}
 
 -- the count at one node more
@@ -16,8 +16,8 @@ count-zero [] h = refl
 count-zero (None ∷ ps) h = absurd (omega arith)
 count-zero (Some p ∷ ps) h = omega (arith, count-cons (Some p) ps, count-zero ps (omega arith))
 
--- where one node is, some count
-pub count-some : (ps : List (Option ℕ)) → root_of ps < length ps → 1 ≤ count_by is_none ps
+-- where one node is without a parent, one counts at least
+count-some : (ps : List (Option ℕ)) → root_of ps < length ps → 1 ≤ count_by is_none ps
 count-some [] h = absurd (omega arith)
 count-some (None ∷ ps) h = omega (arith, count-cons None ps)
 count-some (Some p ∷ ps) h = omega (arith, count-cons (Some p) ps, count-some ps (omega arith))
@@ -35,7 +35,7 @@ each_has (None ∷ ps) w zero_counted within e = omega (arith, count-cons None p
 each_has (Some p ∷ ps) zero zero_counted within e = cc
 each_has (Some p ∷ ps) (suc w) zero_counted within e = each_has ps w (omega (arith, count-cons (Some p) ps)) (omega arith) e
 
--- where one counts, it is the root
+-- where one counts, each node without a parent is the root
 pub root-alone : (ps : List (Option ℕ)) (w : ℕ) → count_by is_none ps ≡ 1 → w < length ps → parent_at ps w ≡ None → w ≡ root_of ps
 root-alone [] w one within e = absurd (omega arith)
 root-alone (None ∷ ps) zero one within e = refl
@@ -43,16 +43,12 @@ root-alone (None ∷ ps) (suc w) one within e = absurd (each_has ps w (omega (ar
 root-alone (Some p ∷ ps) zero one within e = cc
 root-alone (Some p ∷ ps) (suc w) one within e = omega (arith, root-alone ps w (omega (arith, count-cons (Some p) ps)) (omega arith) e)
 
--- where no root is found, none counts
-pub count-none : (ps : List (Option ℕ)) → position is_none ps ≡ None → count_by is_none ps ≡ 0
-count-none ps none = count-zero ps (elim (cases_lt (root_of ps) (length ps)) [ inl h ↦ (let no = lt-ltb _ _ h in cc) | inr h ↦ h ])
-
--- where a root is found, it is the first, and some count
-pub count-found : (ps : List (Option ℕ)) (r : ℕ) → position is_none ps ≡ Some r → (r ≡ root_of ps) × (r < length ps) × (1 ≤ count_by is_none ps)
-count-found ps r found =
+-- the first root, and the number of nodes where there is none
+pub root_or_number : (ps : List (Option ℕ)) → unwrap_or (position is_none ps) (length ps) ≡ root_of ps
+root_or_number ps =
     elim (cases_lt (root_of ps) (length ps)) [
-      | inl h ↦ (let same : r ≡ root_of ps = (let in_list = lt-ltb _ _ h in cc) in (same, omega arith, count-some ps h))
-      | inr h ↦ (let past = le-ltb _ _ h in cc)
+      | inl inside ↦ rw (lt-ltb _ _ inside) refl
+      | inr past ↦ rw (le-ltb _ _ past) (omega (arith, prefix_len-le-length (λ o. not (is_none o)) ps))
     ]
 
 -- where none counts, none is found

@@ -30,7 +30,7 @@ depth_exists t tree w within =
     let same : depth_of t.parents w ≡ walk.0 = ap (λ o. unwrap_or o 0) found.0 in
     record { at = found.0 ∙ ap Some (sym same); is = refl; few = rw same found.1; steps = rw same walk.1 }
 
--- a stored depth is the depth
+-- a depth that was found is the depth
 pub stored_depth : (t : Nodes) → IsTree t → (w k : ℕ) → w < length t.parents → depth_at t.parents w ≡ Some k → DepthIs t.parents w k
 unfolding depth_of
 stored_depth t tree w k within stored =

@@ -41,7 +41,7 @@ off_path ps (suc k) j p w r leads more ends few =
           rw e (ne_eqb w p (λ same. let h : ancestor ps j p ≡ Some r = rw same at more in let no = steps_once ps (suc k) j p r r leads ends h ends in omega arith), off_path ps k j q w r (sym on ∙ leads) more ends (omega arith)))
     ]
 
--- no node stands twice on a path to a node without a parent
+-- no node occurs twice on a path to a node without a parent
 path_apart : (ps : List (Option ℕ)) (k w r : ℕ) → ancestor ps k w ≡ Some r → parent_at ps r ≡ None → IsDistinct eqb (path ps k w)
 unfolding path IsDistinct
 path_apart ps zero w r leads ends = IsDistinct-cons eqb w [] tt tt
@@ -59,8 +59,8 @@ path_inside ps zero w r q known within leads on = ⊎_elim (λ e. let same = eqb
 path_inside ps (suc k) w r q known within leads on =
     elim (option_cases (parent_at ps w)) [
       | inl e ↦ (let no = ancestor-none ps k w e in cc)
-      | inr (p, e) ↦ (let next = ancestor-suc ps k w p e in let on' : list_any (eqb q) (w ∷ path ps k p) ≡ true = rw e at on in
-          ⊎_elim (λ e. let same = eqb-true q w e in omega arith) (λ h. path_inside ps k p r q known (known w p e) (sym next ∙ leads) h) (or_cases (eqb q w) (list_any (eqb q) (path ps k p)) on'))
+      | inr (p, e) ↦ (let next = ancestor-suc ps k w p e in let on_rest : list_any (eqb q) (w ∷ path ps k p) ≡ true = rw e at on in
+          ⊎_elim (λ e. let same = eqb-true q w e in omega arith) (λ h. path_inside ps k p r q known (known w p e) (sym next ∙ leads) h) (or_cases (eqb q w) (list_any (eqb q) (path ps k p)) on_rest))
     ]
 
 -- a walk to a node without a parent has fewer steps than there are nodes

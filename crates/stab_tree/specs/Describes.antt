@@ -3,12 +3,11 @@
 use Rattle.std.specs.Prelude.{◌≡◌, ℕ, ◌<◌, List, length, slice_get, Option, Some, None, ⊤}
 use Rattle.serde_json.specs.Data.{Data}
 use Rattle.stab_tree.specs.Depth.{EndsAfter}
-use Rattle.stab_tree.specs.Entry.{Entry, entries_of}
+use Rattle.stab_tree.specs.Entry.{Entry, entries_of, names_of}
 use Rattle.stab_tree.specs.Nodes.{Nodes, parent_at}
-use Rattle.stab_tree.specs.Read.{names_of}
 
--- an entry without a parent stands for a node without one, one with a parent for a child of the
--- node of that name
+-- an entry without a parent describes a node without one, and an entry with a parent describes a
+-- child of the node of that name
 abbrev pub IsParent : List (List ℕ) → Option (List ℕ) → Option ℕ → Type 0
 IsParent names None None = ⊤
 IsParent names None (Some p) = ⊥
@@ -21,13 +20,13 @@ pub record Describes (d : Data) (t : Nodes) : Type 0 where
   pub listed : entries_of d ≡ Some entries
   pub names : t.names ≡ names_of entries
   pub number : length t.parents ≡ length entries
-  pub parents : (w : ℕ) (e : Entry) → slice_get entries w ≡ Some e → IsParent t.names e.parent (parent_at t.parents w)
+  pub parents : (w : ℕ) (e : Entry) → slice_get entries w ≡ Some e
+      → IsParent t.names e.parent (parent_at t.parents w)
 
--- the value describes nodes, and no number of parent steps from one of them leads to a node
--- without a parent
+-- the value describes nodes, and the parent steps of one of them never end
 pub record HasCycle (d : Data) : Type 0 where
   pub nodes : Nodes
   pub described : Describes d nodes
   pub start : ℕ
-  pub within : start < length nodes.parents
+  pub is_node : start < length nodes.parents
   pub endless : (k : ℕ) → ¬ EndsAfter nodes.parents start k

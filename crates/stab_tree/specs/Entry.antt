@@ -1,8 +1,9 @@
 -- What one object of a tree's list says: a name, and the name of a parent where there is one
 -- (this project's profile).
-use Rattle.std.specs.Prelude.{ℕ, List, [], ◌∷◌, codes, Option, Some, None, option_map, option_and_then}
-use Rattle.serde_json.specs.Data.{Data, null, boolean, number, string, array, object, Items, no_items, item}
+use Rattle.std.specs.Prelude.{ℕ, List, map, codes, Option, Some, None, option_map}
+use Rattle.serde_json.specs.Data.{Data, null}
 use Rattle.serde_json.specs.Find.{get, as_str}
+use Rattle.stab_json.specs.Values.{◌>>=◌, list_of}
 
 pub record Entry : Type 0 where
   pub name : List ℕ
@@ -12,29 +13,19 @@ pub record Entry : Type 0 where
 abbrev pub parent_member : Option Data → Option (Option (List ℕ))
 parent_member None = Some None
 parent_member (Some null) = Some None
-parent_member (Some (boolean b)) = None
-parent_member (Some (number n)) = None
-parent_member (Some (string s)) = Some (Some s)
-parent_member (Some (array ds)) = None
-parent_member (Some (object ms)) = None
+parent_member (Some d) = option_map (λ s. Some s) (as_str d)
 
 -- an object with a text `name`; its other members are ignored
 abbrev pub entry_of : Data → Option Entry
-entry_of d =
-    option_and_then
-    (λ name. option_map (λ parent. record { name = name; parent = parent }) (parent_member (get (codes "parent") d)))
-    (option_and_then as_str (get (codes "name") d))
-
--- each of the items as an entry
-abbrev pub entry_list : Items → Option (List Entry)
-entry_list no_items = Some []
-entry_list (item d ds) = option_and_then (λ e. option_map (λ es. e ∷ es) (entry_list ds)) (entry_of d)
+entry_of d = do
+  its_name ← get (codes "name") d >>= as_str
+  its_parent ← parent_member (get (codes "parent") d)
+  Some (record { name = its_name; parent = its_parent })
 
 -- a list of such objects
 abbrev pub entries_of : Data → Option (List Entry)
-entries_of null = None
-entries_of (boolean b) = None
-entries_of (number n) = None
-entries_of (string s) = None
-entries_of (array ds) = entry_list ds
-entries_of (object ms) = None
+entries_of = list_of entry_of
+
+-- the names of the entries
+abbrev pub names_of : List Entry → List (List ℕ)
+names_of es = map (λ (e : Entry). e.name) es

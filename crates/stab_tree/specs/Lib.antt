@@ -5,6 +5,7 @@ pub mod IsTree
 pub mod Links
 pub mod Name
 pub mod Nodes
+pub mod Parents
 pub mod Read
 pub mod Steps
 pub mod Stored

@@ -4,6 +4,10 @@ use Rattle.std.specs.Prelude.{ℕ, List, Option, None, is_none, slice_index_or}
 use Rattle.std.specs.List.{position, position_or_len}
 use Rattle.std.specs.Str.{bytes_eq}
 
+-- the most nodes that a tree has
+abbrev pub most_nodes : ℕ
+most_nodes = 64
+
 pub record Nodes : Type 0 where
   pub names : List (List ℕ)
   pub parents : List (Option ℕ)

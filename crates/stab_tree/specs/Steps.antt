@@ -13,14 +13,15 @@ ancestor parents (suc k) w = option_and_then (ancestor parents k) (parent_at par
 abbrev pub Reaches : List (Option ℕ) → ℕ → ℕ → Type 0
 Reaches parents w r = (k : ℕ) × (ancestor parents k w ≡ Some r)
 
--- the number of parent steps from w to a node without a parent, found within that many nodes
-abbrev pub steps_within : List (Option ℕ) → ℕ → ℕ → Option ℕ
-steps_within parents zero w = None
-steps_within parents (suc nodes) w = option_map_or (λ p. option_map suc (steps_within parents nodes p)) (parent_at parents w) (Some 0)
+-- the number of parent steps from w to a node without a parent, where it is below this limit
+abbrev pub steps_below : List (Option ℕ) → ℕ → ℕ → Option ℕ
+steps_below parents zero w = None
+steps_below parents (suc limit) w =
+    option_map_or (λ p. option_map suc (steps_below parents limit p)) (parent_at parents w) (Some 0)
 
 -- the depth of w, and nothing where its parent steps never end
 abbrev pub depth_at : List (Option ℕ) → ℕ → Option ℕ
-depth_at parents w = steps_within parents (length parents) w
+depth_at parents w = steps_below parents (length parents) w
 
 -- the depth of w in a tree
 unfoldable pub depth_of : List (Option ℕ) → ℕ → ℕ

@@ -1,5 +1,4 @@
-//! Laws of trees, for the crates above: each is a fact of the definitions in `specs/`, and takes no
-//! step.
+//! Laws of trees for the crates above: each is a fact of the definitions in `specs/`.
 ghost use Rattle.std.specs.Prelude.{◌≡◌, ℕ, ◌<◌, ◌↔◌, List, length, Option, Some, Ok, Err};
 ghost use Rattle.stab_tree.specs.Depth.{EndsAfter, HasDepths};
 ghost use Rattle.stab_tree.specs.Describes.{Describes, HasCycle};

@@ -4,9 +4,9 @@
 //! that fails. A `Tree` is seen as its names and its parents' places in file order
 //! (`specs/Nodes.antt`), and its type keeps that they form a tree (`specs/IsTree.antt`): one node
 //! alone has no parent, and each node reaches it by parent steps, whose number is its depth.
-//! A link is named by its child, and links stand in the file order of their children
+//! A link is named by its child, and links are in the file order of their children
 //! (`specs/Links.antt`). The layer above learns from `Tree::root` that its tree is one, and from
-//! `laws` what follows for depths and links.
+//! `laws` what follows for depths and links; `proofs/ForCallers.antt` has induction from the root.
 #![tactic(auto)]
 
 mod entry;

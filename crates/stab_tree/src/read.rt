@@ -1,28 +1,16 @@
-ghost use Rattle.std.specs.Prelude.{◌≡◌, ◌≢◌, None, Ok, Err, IfOk, IfErr};
+ghost use Rattle.std.specs.Prelude.{◌≡◌, ◌≢◌, Ok, Err, IfOk, IfErr, IsSome};
+ghost use Rattle.serde_json.specs.Find.{as_array};
 ghost use Rattle.serde_json.specs.View.{view};
-ghost use Rattle.stab_tree.specs.Entry.{Entry};
-ghost use Rattle.stab_tree.specs.Read.{names_fault, tree_of, tree_of_named};
+ghost use Rattle.stab_tree.specs.Read.{tree_of};
 
-use crate::entry::{self, EntryRef};
+use crate::entry::EntryRef;
 use crate::fault::TreeFault;
+use crate::names::{self, MAX_NODES};
+use crate::parents;
 use crate::tree::Tree;
-use crate::{names, parents};
 use serde_json::Value;
+use stab_json::read_entries;
 use std::alloc::Global;
-
-/// The tree of entries whose names have passed.
-fn build(alloc: Global, entries: &[EntryRef<'_>]) -> Result<Tree, TreeFault>
-    requires { names_fault entries.now ≡ None }
-    ensures ok { IfOk result (λ tree. tree_of_named entries.now None ≡ Ok tree) }
-    ensures err { IfErr result (λ fault. fault ≢ TreeFault.Memory
-        → tree_of_named entries.now None ≡ Err fault) }
-{
-    let names = names::copy_names(alloc, entries)?;
-    let parents = parents::find_parents(alloc, &names, entries)?;
-    let root = parents::only_root(parents.as_slice())?;
-    let depths = parents::find_depths(alloc, parents.as_slice())?;
-    Ok(Tree::from_parts(names, parents, depths, root))
-}
 
 /// Reads a list of nodes, each an object with a `name` and, but for the root, a `parent`.
 #[tactic(auto, unfolding(crate::specs::Read::tree_of))]
@@ -30,8 +18,38 @@ pub fn read_tree(alloc: Global, value: &Value) -> Result<Tree, TreeFault>
     ensures ok { IfOk result (λ tree. tree_of (view value.now) ≡ Ok tree) }
     ensures err { IfErr result (λ fault. fault ≢ TreeFault.Memory
         → tree_of (view value.now) ≡ Err fault) }
+    ensures memory { result ≡ Err TreeFault.Memory → IsSome (as_array (view value.now)) }
 {
-    let entries = entry::entries(alloc, value)?;
-    names::check_names(entries.as_slice())?;
-    build(alloc, entries.as_slice())
+    let Some(values) = value.as_array() else {
+        return Err(TreeFault::Shape);
+    };
+    let Some(entries) = read_entries::<EntryRef<'_>>(alloc, values.as_slice())? else {
+        return Err(TreeFault::Shape);
+    };
+    let entries = entries.as_slice();
+    if entries.len() > MAX_NODES {
+        return Err(TreeFault::TooManyNodes);
+    }
+    if !names::have_lawful_names(entries) {
+        return Err(TreeFault::BadName);
+    }
+    if names::have_same_name(entries) {
+        return Err(TreeFault::SameName);
+    }
+    let names = names::copy_names(alloc, entries)?;
+    let Some(parents) = parents::find_parents(alloc, &names, entries)? else {
+        return Err(TreeFault::UnknownParent);
+    };
+    let roots = parents::root_count(parents.as_slice());
+    if roots == 0 {
+        return Err(TreeFault::NoRoot);
+    }
+    if roots > 1 {
+        return Err(TreeFault::TwoRoots);
+    }
+    let root = parents::first_root(parents.as_slice());
+    let Some(depths) = parents::find_depths(alloc, parents.as_slice())? else {
+        return Err(TreeFault::Cycle);
+    };
+    Ok(Tree::from_parts(names, parents, depths, root))
 }

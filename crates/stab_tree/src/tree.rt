@@ -5,7 +5,7 @@ use crate::node::NodeId;
 use indexmap::IndexSet;
 use std::marker::Model;
 
-/// The nodes of a tree, in file order. No call of its takes memory.
+/// The nodes of a tree, in file order. None of its calls takes memory.
 #[derive(Debug, Drop)]
 pub struct Tree {
     names: IndexSet<String>,
@@ -34,7 +34,7 @@ impl Model for Tree {
 impl Tree {
     ghost use Rattle.stab_tree.specs.IsTree.{IsTree};
     ghost use Rattle.stab_tree.specs.Links.{links_of, link_place_of};
-    ghost use Rattle.stab_tree.specs.Nodes.{parent_at, root_of, place_of};
+    ghost use Rattle.stab_tree.specs.Nodes.{most_nodes, parent_at, root_of, place_of};
     ghost use Rattle.stab_tree.specs.Steps.{ancestor, depth_at, depth_of};
     ghost use Rattle.stab_tree.specs.Stored.{IsStored};
 
@@ -48,7 +48,8 @@ impl Tree {
         requires { IsStored
             (record { names = map string_bytes names.keys; parents = parents.items })
             depths.items root }
-        ensures { result ≡ record { names = map string_bytes names.keys; parents = parents.items } }
+        ensures { result
+            ≡ record { names = map string_bytes names.keys; parents = parents.items } }
     {
         Tree {
             names,
@@ -62,7 +63,7 @@ impl Tree {
     pub fn len(&self) -> u16
         ensures value { result ≡ length self.now.parents }
         ensures some { 1 ≤ result }
-        ensures few { result ≤ 64 }
+        ensures few { result ≤ most_nodes }
     {
         self.parents.len() as u16
     }
@@ -143,11 +144,12 @@ impl Tree {
         }
     }
 
-    /// The place of the link into a node; the root and strangers have none.
+    /// The place of the link into a node. The root has none, and neither has a number of no node.
     pub fn link_place(&self, node: NodeId) -> Option<u16>
         ensures value { result ≡ link_place_of self.now.parents node }
         ensures child { IsSome result ↔ IsSome (parent_at self.now.parents node) }
-        ensures found { IfSome result (λ place. slice_get (links_of self.now.parents) place ≡ Some node) }
+        ensures found { IfSome result
+            (λ place. slice_get (links_of self.now.parents) place ≡ Some node) }
     {
         if node.index() >= self.parents.len() {
             return None;

@@ -5,7 +5,7 @@ use stab_tree::TreeFault;
 use std::test::Fail;
 
 #[test]
-fn texts_of_refused_jobs(rt: HostRuntime) -> Result<(), Fail> {
+fn prints_each_fault_of_a_job(rt: HostRuntime) -> Result<(), Fail> {
     let texts = [
         (JobFault::Json, "job: not JSON"),
         (JobFault::Version, "job: unknown version"),
@@ -26,7 +26,7 @@ fn texts_of_refused_jobs(rt: HostRuntime) -> Result<(), Fail> {
 }
 
 #[test]
-fn texts_of_refused_parts(rt: HostRuntime) -> Result<(), Fail> {
+fn prints_the_fault_of_a_part(rt: HostRuntime) -> Result<(), Fail> {
     let texts = [
         (
             JobFault::Params(ParamsFault::CapacityOutOfRange),
@@ -57,7 +57,7 @@ fn texts_of_refused_parts(rt: HostRuntime) -> Result<(), Fail> {
 }
 
 #[test]
-fn want_of_memory_is_told_as_that_alone(rt: HostRuntime) -> Result<(), Fail> {
+fn reports_refused_memory_as_that_alone(rt: HostRuntime) -> Result<(), Fail> {
     assert_eq!(rt; JobFault::from(TreeFault::Memory), JobFault::Memory);
     assert_eq!(rt; JobFault::from(ScriptFault::Memory), JobFault::Memory);
     assert_eq!(rt;

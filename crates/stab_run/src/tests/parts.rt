@@ -1,19 +1,19 @@
 use crate::{Job, JobFault, read_job};
-use stab_core::Start;
+use stab_core::{LinkAct, Start};
 use stab_frames::{Frame, Item, Label};
 use stab_script::{InAct, OutAct, Script};
 use stab_tree::NodeId;
-use stab_treecore::{LinkAct, TreeEvent};
+use stab_treecore::TreeEvent;
 use std::alloc::Global;
 use std::process::Abort;
 use std::test::Fail;
 
-// What the text of a job is read as.
+/// What the text of a job is read as.
 fn job(alloc: Global, text: &str) -> Result<Job, JobFault> {
     read_job(alloc, text.as_bytes())
 }
 
-// A job has so many nodes and links, these items and turns, and no schedule.
+/// A job has as many nodes and links as counted, these items and turns, and no schedule.
 fn assert_tree(rt: &impl Abort, job: &Job, counts: (u16, u16), items: &[Item], turns: u32) {
     assert_eq!(rt; (job.tree().len(), job.tree().link_count()), counts);
     assert!(rt; job.items() == items);
@@ -21,7 +21,7 @@ fn assert_tree(rt: &impl Abort, job: &Job, counts: (u16, u16), items: &[Item], t
     assert!(rt; job.schedule().is_empty());
 }
 
-// A start holds these frames, acknowledgements and labels.
+/// A start has these frames, acknowledgements and labels.
 fn assert_start(
     rt: &impl Abort,
     start: &Start,
@@ -34,7 +34,7 @@ fn assert_start(
     assert_eq!(rt; (start.send_label, start.recv_label), labels);
 }
 
-// The acts of a script's sender are these, and its receiver has none.
+/// The acts of a script's sender are these, and its receiver has none.
 fn assert_script(rt: &impl Abort, script: &Script, frames_out: &[OutAct], acks_in: &[InAct]) {
     assert!(rt; script.frames_out() == frames_out);
     assert!(rt; script.acks_in() == acks_in);
@@ -43,19 +43,21 @@ fn assert_script(rt: &impl Abort, script: &Script, frames_out: &[OutAct], acks_i
 }
 
 #[test]
-fn a_lone_root(rt: HostRuntime) -> Result<(), Fail> {
-    let text = "{\"capacity\":1,\"labels\":4,\"tree\":[{\"name\":\"r\"}],\"items\":[7,8]}";
+fn reads_a_lone_root(rt: HostRuntime) -> Result<(), Fail> {
+    let text = r#"{"capacity":1,"labels":4,"tree":[{"name":"r"}],"items":[7,8]}"#;
     let job = job(rt.alloc(), text)?;
     assert_tree(&rt, &job, (1, 0), &[7, 8], 100_000);
+    assert_eq!(rt; job.tree().find("r"), Some(NodeId::new(0)));
     assert_eq!(rt; (job.params().capacity(), job.params().labels()), (1, 4));
     assert_eq!(rt; (job.starts().len(), job.scripts().len()), (0, 0));
     Ok(())
 }
 
 #[test]
-fn what_is_absent(rt: HostRuntime) -> Result<(), Fail> {
-    let text =
-        "{\"capacity\":3,\"labels\":8,\"tree\":[{\"name\":\"a\",\"parent\":\"r\"},{\"name\":\"r\"},{\"name\":\"b\",\"parent\":\"a\"}],\"items\":[],\"more\":null}";
+fn gives_each_link_a_clean_start_and_an_empty_script(rt: HostRuntime) -> Result<(), Fail> {
+    let text = r#"{"capacity":3,"labels":8,
+        "tree":[{"name":"a","parent":"r"},{"name":"r"},{"name":"b","parent":"a"}],
+        "items":[],"more":null}"#;
     let job = job(rt.alloc(), text)?;
     assert_tree(&rt, &job, (3, 2), &[], 100_000);
     assert_eq!(rt; (job.starts().len(), job.scripts().len()), (2, 2));
@@ -69,9 +71,13 @@ fn what_is_absent(rt: HostRuntime) -> Result<(), Fail> {
 }
 
 #[test]
-fn starts_and_scripts_of_two_links(rt: HostRuntime) -> Result<(), Fail> {
-    let text =
-        "{\"version\":1,\"capacity\":1,\"labels\":4,\"tree\":[{\"name\":\"r\"},{\"name\":\"a\",\"parent\":\"r\"},{\"name\":\"b\",\"parent\":\"a\"}],\"items\":[10],\"starts\":[{\"frames\":[[2,99]],\"acks\":[0],\"send\":0,\"recv\":1},{\"send\":5,\"recv\":6}],\"scripts\":[{\"frames_out\":\"PDE\",\"acks_in\":\"TK\"},null],\"turns\":1000000}";
+fn reads_the_starts_and_scripts_of_two_links(rt: HostRuntime) -> Result<(), Fail> {
+    let text = r#"{"version":1,"capacity":1,"labels":4,
+        "tree":[{"name":"r"},{"name":"a","parent":"r"},{"name":"b","parent":"a"}],
+        "items":[10],
+        "starts":[{"frames":[[2,99]],"acks":[0],"send":0,"recv":1},{"send":5,"recv":6}],
+        "scripts":[{"frames_out":"PDE","acks_in":"TK"},null],
+        "turns":1000000}"#;
     let job = job(rt.alloc(), text)?;
     assert_tree(&rt, &job, (3, 2), &[10], 1_000_000);
     let [first, second] = job.starts() else {
@@ -90,9 +96,13 @@ fn starts_and_scripts_of_two_links(rt: HostRuntime) -> Result<(), Fail> {
 }
 
 #[test]
-fn each_act_of_a_schedule(rt: HostRuntime) -> Result<(), Fail> {
-    let text =
-        "{\"capacity\":1,\"labels\":4,\"tree\":[{\"name\":\"r\"},{\"name\":\"a\",\"parent\":\"r\"}],\"items\":[],\"turns\":1,\"schedule\":[[\"r\",\"offer\"],[\"a\",\"send_frame\"],[\"a\",\"recv_frame\"],[\"a\",\"recv_frame_keep\"],[\"a\",\"send_ack\"],[\"a\",\"recv_ack\"],[\"a\",\"recv_ack_keep\"],[\"a\",\"lose_frame\",5],[\"a\",\"lose_ack\",65535],[\"r\",\"close\"]]}";
+fn reads_each_act_of_a_schedule(rt: HostRuntime) -> Result<(), Fail> {
+    let text = r#"{"capacity":1,"labels":4,
+        "tree":[{"name":"r"},{"name":"a","parent":"r"}],
+        "items":[],"turns":1,
+        "schedule":[["r","offer"],["a","send_frame"],["a","recv_frame"],["a","recv_frame_keep"],
+        ["a","send_ack"],["a","recv_ack"],["a","recv_ack_keep"],["a","lose_frame",5],
+        ["a","lose_ack",65535],["r","close"]]}"#;
     let job = job(rt.alloc(), text)?;
     let acts = [
         (0, LinkAct::Offer),

@@ -6,36 +6,44 @@ use std::alloc::{AllocError, Global};
 use std::test::Fail;
 
 /// A job of one node, which publishes two items.
-const LONE_ROOT: &str = "{\"capacity\":1,\"labels\":4,\"tree\":[{\"name\":\"r\"}],\"items\":[7,8]}";
+const LONE_ROOT: &str = r#"{"capacity":1,"labels":4,"tree":[{"name":"r"}],"items":[7,8]}"#;
 
 /// The same, up to a member that a test adds.
-const LONE_ROOT_WITH: &str =
-    "{\"capacity\":1,\"labels\":4,\"tree\":[{\"name\":\"r\"}],\"items\":[7,8],";
+const LONE_ROOT_WITH: &str = r#"{"capacity":1,"labels":4,"tree":[{"name":"r"}],"items":[7,8],"#;
 
 /// A root with one child, up to a member that a test adds.
 const PAIR_WITH: &str =
-    "{\"capacity\":1,\"labels\":4,\"tree\":[{\"name\":\"r\"},{\"name\":\"a\",\"parent\":\"r\"}],\"items\":[7],";
+    r#"{"capacity":1,"labels":4,"tree":[{"name":"r"},{"name":"a","parent":"r"}],"items":[7],"#;
 
-// How a job is refused, or `None` where it is read.
+/// A root with two children, up to a member that a test adds.
+const FORK_WITH: &str = r#"{"capacity":1,"labels":4,"items":[7],
+    "tree":[{"name":"r"},{"name":"a","parent":"r"},{"name":"b","parent":"r"}],"#;
+
+/// These pieces, one after the other.
+fn joined(alloc: Global, pieces: &[&str]) -> Result<String, AllocError> {
+    let mut text = String::new(alloc);
+    for piece in pieces {
+        text.push_str(piece)?;
+    }
+    Ok(text)
+}
+
+/// How a job is refused, or `None` where it is read.
 fn refusal(alloc: Global, job: &str) -> Option<JobFault> {
     read_job(alloc, job.as_bytes()).err()
 }
 
-// How a job of these pieces is refused, or `None` where it is read.
+/// How a job of these pieces is refused, or `None` where it is read.
 fn refusal_of(alloc: Global, pieces: &[&str]) -> Result<Option<JobFault>, AllocError> {
-    let mut job = String::new(alloc);
-    for piece in pieces {
-        job.push_str(piece)?;
-    }
-    Ok(refusal(alloc, job.as_str()))
+    Ok(refusal(alloc, joined(alloc, pieces)?.as_str()))
 }
 
-// How a job is refused that goes on with this member.
+/// How a job is refused that goes on with this member.
 fn refusal_with(alloc: Global, start: &str, member: &str) -> Result<Option<JobFault>, AllocError> {
     refusal_of(alloc, &[start, member, "}"])
 }
 
-// So many entries, one after the other.
+/// An entry as many times as counted.
 fn listed(alloc: Global, entry: &str, count: u32) -> Result<String, AllocError> {
     let mut text = String::from_str(alloc, entry)?;
     for _ in 1..count {
@@ -45,73 +53,94 @@ fn listed(alloc: Global, entry: &str, count: u32) -> Result<String, AllocError> 
     Ok(text)
 }
 
+/// A job whose schedule is an entry as many times as counted.
+fn scheduled(alloc: Global, entry: &str, count: u32) -> Result<String, AllocError> {
+    let entries = listed(alloc, entry, count)?;
+    joined(
+        alloc,
+        &[LONE_ROOT_WITH, r#""schedule":["#, entries.as_str(), "]}"],
+    )
+}
+
 #[test]
-fn refused_jobs(rt: HostRuntime) -> Result<(), Fail> {
+fn refuses_values_that_are_no_job(rt: HostRuntime) -> Result<(), Fail> {
     let rows = [
-        ("", Some(JobFault::Json)),
-        ("[]", Some(JobFault::Shape)),
-        ("{\"version\":3}", Some(JobFault::Version)),
+        ("", JobFault::Json),
+        ("[]", JobFault::Shape),
+        (r#"{"version":3}"#, JobFault::Version),
         (
-            "{\"capacity\":1,\"labels\":3,\"tree\":[],\"items\":[7,8]}",
-            Some(JobFault::Params(ParamsFault::LabelsTooFew)),
+            r#"{"capacity":1,"labels":3,"tree":[],"items":[7,8]}"#,
+            JobFault::Params(ParamsFault::LabelsTooFew),
         ),
         (
-            "{\"capacity\":1,\"labels\":4,\"tree\":[],\"items\":[7,8]}",
-            Some(JobFault::Tree(TreeFault::NoRoot)),
+            r#"{"capacity":1,"labels":4,"tree":[],"items":[7,8]}"#,
+            JobFault::Tree(TreeFault::NoRoot),
         ),
     ];
     for (row, want) in rows {
-        assert_eq!(rt; refusal(rt.alloc(), row), want, "{row}");
+        assert_eq!(rt; refusal(rt.alloc(), row), Some(want), "{row}");
     }
     Ok(())
 }
 
 #[test]
-fn refused_members(rt: HostRuntime) -> Result<(), Fail> {
-    let rate = Some(JobFault::Script(ScriptFault::RateOutOfRange));
+fn refuses_members_that_do_not_fit_the_tree(rt: HostRuntime) -> Result<(), Fail> {
     let rows = [
         (
             LONE_ROOT_WITH,
-            "\"starts\":[{\"send\":0,\"recv\":1}]",
-            Some(JobFault::StartCount),
+            r#""starts":[{"send":0,"recv":1}]"#,
+            JobFault::StartCount,
+        ),
+        (LONE_ROOT_WITH, r#""scripts":[null]"#, JobFault::ScriptCount),
+        (LONE_ROOT_WITH, r#""turns":0"#, JobFault::TurnsOutOfRange),
+        (
+            LONE_ROOT_WITH,
+            r#""schedule":[["r","jump"]]"#,
+            JobFault::Event,
         ),
         (
             LONE_ROOT_WITH,
-            "\"scripts\":[null]",
-            Some(JobFault::ScriptCount),
-        ),
-        (
-            LONE_ROOT_WITH,
-            "\"turns\":0",
-            Some(JobFault::TurnsOutOfRange),
-        ),
-        (
-            LONE_ROOT_WITH,
-            "\"schedule\":[[\"r\",\"jump\"]]",
-            Some(JobFault::Event),
-        ),
-        (
-            LONE_ROOT_WITH,
-            "\"schedule\":[[\"x\",\"offer\"]]",
-            Some(JobFault::UnknownNode),
+            r#""schedule":[["x","offer"]]"#,
+            JobFault::UnknownNode,
         ),
         (
             PAIR_WITH,
-            "\"scripts\":[{\"seed\":[42,54],\"length\":1,\"loss\":1001,\"repeat\":0}]",
-            rate,
+            r#""scripts":[{"seed":[42,54],"length":1,"loss":1001,"repeat":0}]"#,
+            JobFault::Script(ScriptFault::RateOutOfRange),
         ),
     ];
     for (start, member, want) in rows {
-        assert_eq!(rt; refusal_with(rt.alloc(), start, member)?, want, "{member}");
+        assert_eq!(rt;
+            refusal_with(rt.alloc(), start, member)?,
+            Some(want),
+            "{member}"
+        );
     }
     Ok(())
 }
 
-// How a job is refused that publishes so many items and takes no turn.
+#[test]
+fn names_the_first_faulty_script(rt: HostRuntime) -> Result<(), Fail> {
+    let rate = r#"{"seed":[42,54],"length":1,"loss":1001,"repeat":0}"#;
+    let long = r#"{"seed":[42,54],"length":100001,"loss":0,"repeat":0}"#;
+    for (scripts, want) in [
+        ([rate, long], ScriptFault::RateOutOfRange),
+        ([long, rate], ScriptFault::TooLong),
+        (["null", rate], ScriptFault::RateOutOfRange),
+    ] {
+        let [first, second] = scripts;
+        let pieces = [FORK_WITH, r#""scripts":["#, first, ",", second, "]}"];
+        let fault = refusal_of(rt.alloc(), &pieces)?;
+        assert_eq!(rt; fault, Some(JobFault::Script(want)), "{first}");
+    }
+    Ok(())
+}
+
+/// How a job is refused that publishes as many items as counted and has no turn.
 fn refusal_of_items(alloc: Global, count: u32) -> Result<Option<JobFault>, AllocError> {
     let items = listed(alloc, "7", count)?;
     let pieces = [
-        "{\"capacity\":1,\"labels\":4,\"tree\":[{\"name\":\"r\"}],\"turns\":0,\"items\":[",
+        r#"{"capacity":1,"labels":4,"tree":[{"name":"r"}],"turns":0,"items":["#,
         items.as_str(),
         "]}",
     ];
@@ -119,7 +148,7 @@ fn refusal_of_items(alloc: Global, count: u32) -> Result<Option<JobFault>, Alloc
 }
 
 #[test]
-fn too_many_items(rt: HostRuntime) -> Result<(), Fail> {
+fn refuses_10001_items(rt: HostRuntime) -> Result<(), Fail> {
     let most = refusal_of_items(rt.alloc(), 10_000)?;
     assert_eq!(rt; most, Some(JobFault::TurnsOutOfRange));
     let more = refusal_of_items(rt.alloc(), 10_001)?;
@@ -128,20 +157,23 @@ fn too_many_items(rt: HostRuntime) -> Result<(), Fail> {
 }
 
 #[test]
-fn too_many_events(rt: HostRuntime) -> Result<(), Fail> {
-    for (entry, count, want) in [
-        ("[\"r\",\"close\"]", 1_000_000, None),
-        ("0", 1_000_001, Some(JobFault::TooManyEvents)),
-    ] {
-        let entries = listed(rt.alloc(), entry, count)?;
-        let pieces = [LONE_ROOT_WITH, "\"schedule\":[", entries.as_str(), "]}"];
-        assert_eq!(rt; refusal_of(rt.alloc(), &pieces)?, want, "{count} events");
-    }
+fn reads_1000000_events(rt: HostRuntime) -> Result<(), Fail> {
+    let longest = scheduled(rt.alloc(), r#"["r","close"]"#, 1_000_000)?;
+    let job = read_job(rt.alloc(), longest.as_bytes())?;
+    assert_eq!(rt; job.schedule().len(), 1_000_000);
     Ok(())
 }
 
 #[test]
-fn a_job_cut_short(rt: HostRuntime) -> Result<(), Fail> {
+fn refuses_1000001_events(rt: HostRuntime) -> Result<(), Fail> {
+    let too_long = scheduled(rt.alloc(), "0", 1_000_001)?;
+    let fault = refusal(rt.alloc(), too_long.as_str());
+    assert_eq!(rt; fault, Some(JobFault::TooManyEvents));
+    Ok(())
+}
+
+#[test]
+fn refuses_each_part_of_a_job(rt: HostRuntime) -> Result<(), Fail> {
     let whole = LONE_ROOT.as_bytes();
     for bytes in 0..whole.len() {
         let cut = read_job(rt.alloc(), &whole[..bytes]);
@@ -153,21 +185,21 @@ fn a_job_cut_short(rt: HostRuntime) -> Result<(), Fail> {
 }
 
 #[test]
-fn cycles(rt: HostRuntime) -> Result<(), Fail> {
+fn refuses_values_that_are_no_tree(rt: HostRuntime) -> Result<(), Fail> {
     let rows = [
         (
-            "[{\"name\":\"r\"},{\"name\":\"a\",\"parent\":\"b\"},{\"name\":\"b\",\"parent\":\"a\"}]",
+            r#"[{"name":"r"},{"name":"a","parent":"b"},{"name":"b","parent":"a"}]"#,
             TreeFault::Cycle,
         ),
-        ("[{\"name\":\"a\",\"parent\":\"a\"}]", TreeFault::NoRoot),
+        (r#"[{"name":"a","parent":"a"}]"#, TreeFault::NoRoot),
         ("null", TreeFault::Shape),
         ("[{}]", TreeFault::Shape),
     ];
     for (row, want) in rows {
         let pieces = [
-            "{\"capacity\":1,\"labels\":4,\"tree\":",
+            r#"{"capacity":1,"labels":4,"items":[7,8],"tree":"#,
             row,
-            ",\"items\":[7,8]}",
+            "}",
         ];
         let fault = refusal_of(rt.alloc(), &pieces)?;
         assert_eq!(rt; fault, Some(JobFault::Tree(want)), "{row}");
@@ -176,20 +208,20 @@ fn cycles(rt: HostRuntime) -> Result<(), Fail> {
 }
 
 #[test]
-fn wrong_shapes(rt: HostRuntime) -> Result<(), Fail> {
+fn refuses_wrong_shapes(rt: HostRuntime) -> Result<(), Fail> {
     let members = [
-        "\"starts\":null",
-        "\"starts\":[{\"send\":0}]",
-        "\"scripts\":null",
-        "\"scripts\":[7]",
-        "\"scripts\":[{\"seed\":null}]",
-        "\"scripts\":[{\"seed\":[42,54],\"length\":1,\"loss\":0}]",
-        "\"scripts\":[{\"frames_out\":\"X\"}]",
-        "\"scripts\":[{\"acks_in\":\"P\"}]",
-        "\"schedule\":null",
-        "\"turns\":null",
-        "\"turns\":1.0",
-        "\"turns\":-1",
+        r#""starts":null"#,
+        r#""starts":[{"send":0}]"#,
+        r#""scripts":null"#,
+        r#""scripts":[7]"#,
+        r#""scripts":[{"seed":null}]"#,
+        r#""scripts":[{"seed":[42,54],"length":1,"loss":0}]"#,
+        r#""scripts":[{"frames_out":"X"}]"#,
+        r#""scripts":[{"acks_in":"P"}]"#,
+        r#""schedule":null"#,
+        r#""turns":null"#,
+        r#""turns":1.0"#,
+        r#""turns":-1"#,
     ];
     for member in members {
         let fault = refusal_with(rt.alloc(), LONE_ROOT_WITH, member)?;
@@ -198,12 +230,12 @@ fn wrong_shapes(rt: HostRuntime) -> Result<(), Fail> {
     let jobs = [
         "null",
         "{}",
-        "{\"version\":1}",
-        "{\"capacity\":1,\"labels\":4,\"items\":[7,8]}",
-        "{\"capacity\":1,\"labels\":4,\"tree\":[],\"items\":[-7]}",
-        "{\"capacity\":1,\"labels\":4,\"tree\":[],\"items\":[4294967296]}",
-        "{\"capacity\":1,\"labels\":4,\"tree\":[]}",
-        "{\"capacity\":1,\"labels\":\"4\",\"tree\":[],\"items\":[]}",
+        r#"{"version":1}"#,
+        r#"{"capacity":1,"labels":4,"items":[7,8]}"#,
+        r#"{"capacity":1,"labels":4,"tree":[],"items":[-7]}"#,
+        r#"{"capacity":1,"labels":4,"tree":[],"items":[4294967296]}"#,
+        r#"{"capacity":1,"labels":4,"tree":[]}"#,
+        r#"{"capacity":1,"labels":"4","tree":[],"items":[]}"#,
     ];
     for job in jobs {
         assert_eq!(rt; refusal(rt.alloc(), job), Some(JobFault::Shape), "{job}");
@@ -212,40 +244,33 @@ fn wrong_shapes(rt: HostRuntime) -> Result<(), Fail> {
 }
 
 #[test]
-fn versions(rt: HostRuntime) -> Result<(), Fail> {
-    for version in ["0", "2", "1.0", "\"1\"", "true", "null", "[1]"] {
-        let fault = refusal_with(rt.alloc(), "{\"version\":", version)?;
+fn refuses_unknown_versions(rt: HostRuntime) -> Result<(), Fail> {
+    for version in ["0", "2", "1.0", r#""1""#, "true", "null", "[1]"] {
+        let fault = refusal_with(rt.alloc(), r#"{"version":"#, version)?;
         assert_eq!(rt; fault, Some(JobFault::Version), "{version}");
     }
-    assert_eq!(rt;
-        refusal_with(rt.alloc(), LONE_ROOT_WITH, "\"version\":1")?,
-        None
-    );
+    let known = refusal_with(rt.alloc(), LONE_ROOT_WITH, r#""version":1"#)?;
+    assert_eq!(rt; known, None);
     Ok(())
 }
 
 #[test]
-fn bad_events(rt: HostRuntime) -> Result<(), Fail> {
+fn refuses_bad_events_before_unknown_nodes(rt: HostRuntime) -> Result<(), Fail> {
     let entries = [
-        "\"offer\"",
+        r#""offer""#,
         "[]",
-        "[\"r\"]",
-        "[0,\"offer\"]",
-        "[\"r\",0]",
-        "[\"r\",\"offer\",7]",
-        "[\"r\",\"close\",0]",
-        "[\"r\",\"lose_frame\"]",
-        "[\"r\",\"lose_frame\",65536]",
-        "[\"r\",\"lose_ack\",-1]",
-        "[\"r\",\"lose_ack\",0,0]",
+        r#"["r"]"#,
+        r#"[0,"offer"]"#,
+        r#"["r",0]"#,
+        r#"["r","offer",7]"#,
+        r#"["r","close",0]"#,
+        r#"["r","lose_frame"]"#,
+        r#"["r","lose_frame",65536]"#,
+        r#"["r","lose_ack",-1]"#,
+        r#"["r","lose_ack",0,0]"#,
     ];
     for entry in entries {
-        let pieces = [
-            LONE_ROOT_WITH,
-            "\"schedule\":[[\"x\",\"close\"],",
-            entry,
-            "]}",
-        ];
+        let pieces = [LONE_ROOT_WITH, r#""schedule":[["x","close"],"#, entry, "]}"];
         let fault = refusal_of(rt.alloc(), &pieces)?;
         assert_eq!(rt; fault, Some(JobFault::Event), "{entry}");
     }
@@ -253,54 +278,48 @@ fn bad_events(rt: HostRuntime) -> Result<(), Fail> {
 }
 
 #[test]
-fn order_of_the_checks(rt: HostRuntime) -> Result<(), Fail> {
+fn checks_in_the_stated_order(rt: HostRuntime) -> Result<(), Fail> {
     let rows = [
         (
-            "\"version\":2,\"capacity\":0,\"labels\":4,\"tree\":[],\"items\":[7],\"turns\":null",
+            r#""version":2,"capacity":0,"labels":4,"tree":[],"items":[7],"turns":null"#,
             JobFault::Version,
         ),
         (
-            "\"capacity\":0,\"labels\":4,\"tree\":[],\"items\":[7],\"scripts\":[7]",
+            r#""capacity":0,"labels":4,"tree":[],"items":[7],"scripts":[7]"#,
             JobFault::Shape,
         ),
         (
-            "\"capacity\":70000,\"labels\":4,\"tree\":[],\"items\":[7],\"starts\":[]",
+            r#""capacity":70000,"labels":4,"tree":[],"items":[7],"starts":[]"#,
             JobFault::Params(ParamsFault::CapacityOutOfRange),
         ),
         (
-            "\"capacity\":1,\"labels\":4,\"tree\":{},\"items\":[7],\"turns\":0",
+            r#""capacity":1,"labels":4,"tree":{},"items":[7],"turns":0"#,
             JobFault::Tree(TreeFault::Shape),
         ),
+    ];
+    for (row, want) in rows {
+        assert_eq!(rt; refusal_with(rt.alloc(), "{", row)?, Some(want), "{row}");
+    }
+    let rows = [
+        (r#""starts":[],"scripts":[]"#, JobFault::StartCount),
+        (r#""scripts":[null,null],"turns":0"#, JobFault::ScriptCount),
         (
-            "\"capacity\":1,\"labels\":4,\"tree\":T,\"items\":[7],\"starts\":[],\"scripts\":[]",
-            JobFault::StartCount,
-        ),
-        (
-            "\"capacity\":1,\"labels\":4,\"tree\":T,\"items\":[7],\"scripts\":[null,null],\"turns\":0",
-            JobFault::ScriptCount,
-        ),
-        (
-            "\"capacity\":1,\"labels\":4,\"tree\":T,\"items\":[7],\"scripts\":[{\"seed\":[0,0],\"length\":100001,\"loss\":1001,\"repeat\":0}],\"turns\":0",
+            r#""scripts":[{"seed":[0,0],"length":100001,"loss":1001,"repeat":0}],"turns":0"#,
             JobFault::Script(ScriptFault::TooLong),
         ),
         (
-            "\"capacity\":1,\"labels\":4,\"tree\":T,\"items\":[7],\"turns\":1000001,\"schedule\":[0]",
+            r#""turns":1000001,"schedule":[0]"#,
             JobFault::TurnsOutOfRange,
         ),
+        (r#""schedule":[["x","close"],0]"#, JobFault::Event),
         (
-            "\"capacity\":1,\"labels\":4,\"tree\":T,\"items\":[7],\"schedule\":[[\"x\",\"close\"],0]",
-            JobFault::Event,
-        ),
-        (
-            "\"capacity\":1,\"labels\":4,\"tree\":T,\"items\":[7],\"schedule\":[[\"x\",\"close\"],[\"a\",\"close\"]]",
+            r#""schedule":[["x","close"],["a","close"]]"#,
             JobFault::UnknownNode,
         ),
     ];
-    let tree = "[{\"name\":\"r\"},{\"name\":\"a\",\"parent\":\"r\"}]";
-    for (row, want) in rows {
-        let members = row.replace(rt.alloc(), "T", tree)?;
-        let fault = refusal_with(rt.alloc(), "{", members.as_str())?;
-        assert_eq!(rt; fault, Some(want), "{row}");
+    for (member, want) in rows {
+        let fault = refusal_with(rt.alloc(), PAIR_WITH, member)?;
+        assert_eq!(rt; fault, Some(want), "{member}");
     }
     Ok(())
 }

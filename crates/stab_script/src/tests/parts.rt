@@ -1,81 +1,94 @@
-use crate::{PartFault, event, read_start};
+use crate::{PartFault, event, loss_act, plain_act, read_start};
 use serde_json::Value;
-use stab_core::Event;
+use stab_core::{Event, LinkAct};
 use stab_frames::Frame;
 use std::test::Fail;
 
 #[test]
-fn the_worst_start_is_read(rt: HostRuntime) -> Result<(), Fail> {
-    let text = "{\"frames\":[[2,99]],\"acks\":[0],\"send\":0,\"recv\":1}";
+fn reads_the_worst_start(rt: HostRuntime) -> Result<(), Fail> {
+    let text = r#"{"frames":[[2,99]],"acks":[0],"send":0,"recv":1}"#;
     let start = read_start(rt.alloc(), &Value::from_str(rt.alloc(), text)?)?;
-    let frames = [Frame { label: 2, item: 99 }];
-    assert_eq!(rt; start.frames.as_slice(), frames.as_slice());
-    assert_eq!(rt; start.acks.as_slice(), [0].as_slice());
-    assert_eq!(rt; (start.send_label, start.recv_label), (0, 1));
+    assert!(rt; start.frames.as_slice() == [Frame { label: 2, item: 99 }].as_slice());
+    assert!(rt; start.acks.as_slice() == [0].as_slice());
+    assert!(rt; (start.send_label, start.recv_label) == (0, 1));
     Ok(())
 }
 
 #[test]
-fn starts_without_lists(rt: HostRuntime) -> Result<(), Fail> {
-    let text = "{\"send\":65535,\"recv\":7,\"more\":null}";
+fn a_start_without_lists_is_empty(rt: HostRuntime) -> Result<(), Fail> {
+    let text = r#"{"send":65535,"recv":7,"more":null}"#;
     let start = read_start(rt.alloc(), &Value::from_str(rt.alloc(), text)?)?;
     assert!(rt; start.frames.is_empty());
     assert!(rt; start.acks.is_empty());
-    assert_eq!(rt; (start.send_label, start.recv_label), (65535, 7));
+    assert!(rt; (start.send_label, start.recv_label) == (65535, 7));
     Ok(())
 }
 
 #[test]
-fn refused_starts(rt: HostRuntime) -> Result<(), Fail> {
+fn refuses_starts_of_another_shape(rt: HostRuntime) -> Result<(), Fail> {
     let rows = [
         "[]",
-        "{\"send\":0}",
-        "{\"recv\":0}",
-        "{\"send\":0,\"recv\":65536}",
-        "{\"send\":-0,\"recv\":1}",
-        "{\"send\":0,\"recv\":1,\"frames\":null}",
-        "{\"send\":0,\"recv\":1,\"acks\":null}",
-        "{\"send\":0,\"recv\":1,\"acks\":[\"0\"]}",
-        "{\"send\":0,\"recv\":1,\"frames\":[[2]]}",
-        "{\"send\":0,\"recv\":1,\"frames\":[[2,99,0]]}",
-        "{\"send\":0,\"recv\":1,\"frames\":[[2,4294967296]]}",
+        r#"{"send":0}"#,
+        r#"{"recv":0}"#,
+        r#"{"send":0,"recv":65536}"#,
+        r#"{"send":-0,"recv":1}"#,
+        r#"{"send":0,"recv":1,"frames":null}"#,
+        r#"{"send":0,"recv":1,"acks":null}"#,
+        r#"{"send":0,"recv":1,"acks":["0"]}"#,
+        r#"{"send":0,"recv":1,"frames":[[2]]}"#,
+        r#"{"send":0,"recv":1,"frames":[[2,99,0]]}"#,
+        r#"{"send":0,"recv":1,"frames":[[2,4294967296]]}"#,
     ];
     for row in rows {
         let start = read_start(rt.alloc(), &Value::from_str(rt.alloc(), row)?);
-        assert_eq!(rt; start.err(), Some(PartFault::Shape), "{row}");
+        assert!(rt; start.err() == Some(PartFault::Shape), "{row}");
     }
     Ok(())
 }
 
 #[test]
-fn events_of_a_job(rt: HostRuntime) -> Result<(), Fail> {
+fn each_word_is_its_event(rt: HostRuntime) -> Result<(), Fail> {
     let rows = [
-        ("[\"offer\",4294967295]", Some(Event::Offer(4294967295))),
-        ("\"send_frame\"", Some(Event::SendFrame)),
-        ("\"recv_frame\"", Some(Event::RecvFrame { keep: false })),
-        ("\"recv_frame_keep\"", Some(Event::RecvFrame { keep: true })),
-        ("\"send_ack\"", Some(Event::SendAck)),
-        ("\"recv_ack\"", Some(Event::RecvAck { keep: false })),
-        ("\"recv_ack_keep\"", Some(Event::RecvAck { keep: true })),
-        ("[\"lose_frame\",5]", Some(Event::LoseFrame(5))),
-        ("[\"lose_ack\",65535]", Some(Event::LoseAck(65535))),
-        ("\"close\"", Some(Event::Close)),
-        ("\"jump\"", None),
-        ("\"offer\"", None),
-        ("[\"close\"]", None),
-        ("[\"close\",1]", None),
-        ("[\"offer\",4294967296]", None),
-        ("[\"offer\",1.0]", None),
-        ("[\"offer\",1,2]", None),
-        ("[\"lose_ack\",65536]", None),
-        ("[1,\"offer\"]", None),
+        (r#"["offer",4294967295]"#, Some(Event::Offer(4294967295))),
+        (r#""send_frame""#, Some(Event::SendFrame)),
+        (r#""recv_frame""#, Some(Event::RecvFrame { keep: false })),
+        (
+            r#""recv_frame_keep""#,
+            Some(Event::RecvFrame { keep: true }),
+        ),
+        (r#""send_ack""#, Some(Event::SendAck)),
+        (r#""recv_ack""#, Some(Event::RecvAck { keep: false })),
+        (r#""recv_ack_keep""#, Some(Event::RecvAck { keep: true })),
+        (r#"["lose_frame",5]"#, Some(Event::LoseFrame(5))),
+        (r#"["lose_ack",65535]"#, Some(Event::LoseAck(65535))),
+        (r#""close""#, Some(Event::Close)),
+        (r#""jump""#, None),
+        (r#""offer""#, None),
+        (r#""lose_frame""#, None),
+        (r#"["close"]"#, None),
+        (r#"["close",1]"#, None),
+        (r#"["offer",4294967296]"#, None),
+        (r#"["offer",1.0]"#, None),
+        (r#"["offer",1,2]"#, None),
+        (r#"["lose_ack",65536]"#, None),
+        (r#"[1,"offer"]"#, None),
         ("{}", None),
         ("null", None),
         ("7", None),
     ];
     for (row, want) in rows {
         let value = Value::from_str(rt.alloc(), row)?;
-        assert_eq!(rt; event(&value), want, "{row}");
+        assert!(rt; event(&value) == want, "{row}");
     }
+    Ok(())
+}
+
+#[test]
+fn an_act_alone_may_be_an_offer_and_no_loss(rt: HostRuntime) -> Result<(), Fail> {
+    let place = Value::from_str(rt.alloc(), "3")?;
+    assert!(rt; plain_act("offer") == Some(LinkAct::Offer));
+    assert!(rt; plain_act("lose_frame").is_none());
+    assert!(rt; loss_act("lose_frame", &place) == Some(LinkAct::LoseFrame(3)));
+    assert!(rt; loss_act("offer", &place).is_none());
     Ok(())
 }

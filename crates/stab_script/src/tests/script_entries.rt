@@ -4,22 +4,19 @@ use serde_json::Value;
 use std::alloc::{AllocError, Global};
 use std::test::Fail;
 
-// What a script entry is read as.
+/// What a script entry is read as.
 fn entry(alloc: Global, text: &str) -> Result<Script, Fail> {
     Ok(read_script(alloc, &Value::from_str(alloc, text)?)?)
 }
 
 #[test]
-fn scripts_of_letters(rt: HostRuntime) -> Result<(), Fail> {
+fn each_letter_is_its_act(rt: HostRuntime) -> Result<(), Fail> {
     let alloc = rt.alloc();
     let (pass, lost, evicted) = (OutAct::Pass, OutAct::Drop, OutAct::Evict);
     let (take, keep) = (InAct::Take, InAct::Keep);
-    let first = entry(alloc, "{\"frames_out\":\"PDE\",\"acks_in\":\"TK\"}")?;
+    let first = entry(alloc, r#"{"frames_out":"PDE","acks_in":"TK"}"#)?;
     assert_lists(&rt, &first, &[pass, lost, evicted], &[], &[], &[take, keep]);
-    let second = entry(
-        alloc,
-        "{\"frames_in\":\"K\",\"acks_out\":\"E\",\"length\":null}",
-    )?;
+    let second = entry(alloc, r#"{"frames_in":"K","acks_out":"E","length":null}"#)?;
     assert_lists(&rt, &second, &[], &[keep], &[evicted], &[]);
     let none = entry(alloc, "null")?;
     assert_lists(&rt, &none, &[], &[], &[], &[]);
@@ -27,8 +24,8 @@ fn scripts_of_letters(rt: HostRuntime) -> Result<(), Fail> {
 }
 
 #[test]
-fn scripts_of_a_seed(rt: HostRuntime) -> Result<(), Fail> {
-    let text = "{\"seed\":[42,54],\"length\":6,\"loss\":100,\"repeat\":0,\"frames_out\":7}";
+fn a_seed_draws_its_script(rt: HostRuntime) -> Result<(), Fail> {
+    let text = r#"{"seed":[42,54],"length":6,"loss":100,"repeat":0,"frames_out":7}"#;
     let script = entry(rt.alloc(), text)?;
     let drawn = seeded(rt.alloc(), 42, 54, 6, 100, 0)?;
     assert_same(&rt, &script, &drawn);
@@ -36,58 +33,51 @@ fn scripts_of_a_seed(rt: HostRuntime) -> Result<(), Fail> {
 }
 
 #[test]
-fn refused_script_entries(rt: HostRuntime) -> Result<(), Fail> {
+fn refuses_a_script_entry_by_its_first_failed_check(rt: HostRuntime) -> Result<(), Fail> {
     let too_long = Some(PartFault::Script(ScriptFault::TooLong));
     let rate = Some(PartFault::Script(ScriptFault::RateOutOfRange));
     let rows = [
         ("{}", None),
         ("[]", Some(PartFault::Shape)),
-        ("\"PDE\"", Some(PartFault::Shape)),
-        ("{\"frames_out\":\"X\"}", Some(PartFault::Shape)),
-        ("{\"frames_in\":\"P\"}", Some(PartFault::Shape)),
-        ("{\"acks_in\":null}", Some(PartFault::Shape)),
-        ("{\"seed\":null}", Some(PartFault::Shape)),
+        (r#""PDE""#, Some(PartFault::Shape)),
+        (r#"{"frames_out":"X"}"#, Some(PartFault::Shape)),
+        (r#"{"frames_in":"P"}"#, Some(PartFault::Shape)),
+        (r#"{"acks_in":null}"#, Some(PartFault::Shape)),
+        (r#"{"seed":null}"#, Some(PartFault::Shape)),
         (
-            "{\"seed\":[1],\"length\":1,\"loss\":0,\"repeat\":0}",
+            r#"{"seed":[1],"length":1,"loss":0,"repeat":0}"#,
             Some(PartFault::Shape),
         ),
         (
-            "{\"seed\":[1,2],\"loss\":0,\"repeat\":0}",
+            r#"{"seed":[1,2],"loss":0,"repeat":0}"#,
             Some(PartFault::Shape),
         ),
         (
-            "{\"seed\":[1,2],\"length\":1.0,\"loss\":0,\"repeat\":0}",
+            r#"{"seed":[1,2],"length":1.0,"loss":0,"repeat":0}"#,
             Some(PartFault::Shape),
         ),
         (
-            "{\"seed\":[1,2],\"length\":100001,\"loss\":1001,\"repeat\":0}",
+            r#"{"seed":[1,2],"length":100001,"loss":1001,"repeat":0}"#,
             too_long,
         ),
         (
-            "{\"seed\":[1,2],\"length\":4294967297,\"loss\":0,\"repeat\":0}",
+            r#"{"seed":[1,2],"length":4294967297,"loss":0,"repeat":0}"#,
             too_long,
         ),
+        (r#"{"seed":[1,2],"length":1,"loss":65537,"repeat":0}"#, rate),
+        (r#"{"seed":[1,2],"length":1,"loss":0,"repeat":1001}"#, rate),
         (
-            "{\"seed\":[1,2],\"length\":1,\"loss\":65537,\"repeat\":0}",
-            rate,
-        ),
-        (
-            "{\"seed\":[1,2],\"length\":1,\"loss\":0,\"repeat\":1001}",
-            rate,
-        ),
-        (
-            "{\"seed\":[18446744073709551615,0],\"length\":1,\"loss\":0,\"repeat\":0}",
+            r#"{"seed":[18446744073709551615,0],"length":1,"loss":0,"repeat":0}"#,
             None,
         ),
     ];
     for (row, want) in rows {
-        let read = read_script(rt.alloc(), &Value::from_str(rt.alloc(), row)?);
-        assert_eq!(rt; read.err(), want, "{row}");
+        assert!(rt; refusal(rt.alloc(), row)? == want, "{row}");
     }
     Ok(())
 }
 
-// A letter, repeated.
+/// A letter, repeated.
 fn repeated(alloc: Global, letter: &str, count: u32) -> Result<String, AllocError> {
     let mut text = String::new(alloc);
     for _ in 0..count {
@@ -96,16 +86,16 @@ fn repeated(alloc: Global, letter: &str, count: u32) -> Result<String, AllocErro
     Ok(text)
 }
 
-// An entry with this many letters in each list, and then one more letter in the last.
+/// An entry with this many letters in each list, and then one more letter in the last.
 fn long_entry(alloc: Global, count: u32, last: &str) -> Result<String, AllocError> {
     let outs = repeated(alloc, "E", count)?;
     let ins = repeated(alloc, "K", count)?;
     let lists = [
-        ("{\"frames_out\":\"", outs.as_str()),
-        ("\",\"frames_in\":\"", ins.as_str()),
-        ("\",\"acks_out\":\"", outs.as_str()),
-        ("\",\"acks_in\":\"", ins.as_str()),
-        (last, "\"}"),
+        (r#"{"frames_out":""#, outs.as_str()),
+        (r#"","frames_in":""#, ins.as_str()),
+        (r#"","acks_out":""#, outs.as_str()),
+        (r#"","acks_in":""#, ins.as_str()),
+        (last, r#""}"#),
     ];
     let mut text = String::new(alloc);
     for (key, letters) in lists {
@@ -116,17 +106,26 @@ fn long_entry(alloc: Global, count: u32, last: &str) -> Result<String, AllocErro
 }
 
 #[test]
-fn a_hundred_thousand_letters_and_one_more(rt: HostRuntime) -> Result<(), Fail> {
+fn reads_100000_letters(rt: HostRuntime) -> Result<(), Fail> {
     let text = long_entry(rt.alloc(), 100_000, "")?;
     let script = entry(rt.alloc(), text.as_str())?;
-    assert_eq!(rt; script.frames_out().len(), 100_000);
-    assert_eq!(rt; script.acks_in().last().copied(), Some(InAct::Keep));
-    let text = long_entry(rt.alloc(), 100_000, "T")?;
-    let long = read_script(rt.alloc(), &Value::from_str(rt.alloc(), text.as_str())?);
-    assert_eq!(rt; long.err(), Some(PartFault::Script(ScriptFault::TooLong)));
-    let text = long_entry(rt.alloc(), 100_000, "X")?;
-    let wrong = read_script(rt.alloc(), &Value::from_str(rt.alloc(), text.as_str())?);
-    assert_eq!(rt; wrong.err(), Some(PartFault::Shape));
+    assert!(rt; script.frames_out().len() == 100_000);
+    assert!(rt; script.acks_in().last().copied() == Some(InAct::Keep));
+    Ok(())
+}
+
+/// How a text is refused, or `None` where it is read as a script.
+fn refusal(alloc: Global, text: &str) -> Result<Option<PartFault>, Fail> {
+    Ok(read_script(alloc, &Value::from_str(alloc, text)?).err())
+}
+
+#[test]
+fn refuses_100001_letters_and_a_wrong_one_among_them(rt: HostRuntime) -> Result<(), Fail> {
+    let too_long = PartFault::Script(ScriptFault::TooLong);
+    for (last, want) in [("T", too_long), ("X", PartFault::Shape)] {
+        let text = long_entry(rt.alloc(), 100_000, last)?;
+        assert!(rt; refusal(rt.alloc(), text.as_str())? == Some(want), "{last}");
+    }
     Ok(())
 }
 
@@ -145,7 +144,7 @@ fn texts_of_refused_parts(rt: HostRuntime) -> Result<(), Fail> {
         (PartFault::Memory, "out of memory"),
     ];
     for (fault, want) in texts {
-        assert_eq!(rt; fault.to_string(rt.alloc())?.as_str(), want);
+        assert!(rt; fault.to_string(rt.alloc())?.as_str() == want);
     }
     Ok(())
 }

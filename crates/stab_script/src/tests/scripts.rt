@@ -7,10 +7,10 @@ use std::marker::Model;
 use std::process::Abort;
 use std::test::Fail;
 
-// The words of the worked example.
+/// The words of the worked example.
 const WORDS: [u32; 6] = [2707161783, 97, 824, 955, 955, 566];
 
-// A generator of those words, and then of zeros; a contract sees how many of them it gave.
+/// A generator of those words, and then of zeros; a contract sees how many of them it gave.
 #[derive(Drop)]
 struct FewWords {
     given: u32,
@@ -54,7 +54,7 @@ impl Rng for FewWords {
     }
 }
 
-// The acts of a list are these.
+/// The acts of a list are these.
 fn assert_acts<T: Eq>(rt: &impl Abort, list: &[T], acts: &[T]) {
     assert!(rt;
         list == acts,
@@ -64,7 +64,7 @@ fn assert_acts<T: Eq>(rt: &impl Abort, list: &[T], acts: &[T]) {
     );
 }
 
-// The four lists of a script are these.
+/// The four lists of a script are these.
 pub(super) fn assert_lists(
     rt: &impl Abort,
     script: &Script,
@@ -79,19 +79,19 @@ pub(super) fn assert_lists(
     assert_acts(rt, script.acks_in(), acks_in);
 }
 
-// The two scripts have the same lists.
-pub(super) fn assert_same(rt: &impl Abort, left: &Script, right: &Script) {
+/// The two scripts have the same lists.
+pub(super) fn assert_same(rt: &impl Abort, first: &Script, second: &Script) {
     assert_lists(
         rt,
-        left,
-        right.frames_out(),
-        right.frames_in(),
-        right.acks_out(),
-        right.acks_in(),
+        first,
+        second.frames_out(),
+        second.frames_in(),
+        second.acks_out(),
+        second.acks_in(),
     );
 }
 
-// The script drawn from a seed.
+/// The script drawn from a seed.
 pub(super) fn seeded(
     alloc: Global,
     state: u64,
@@ -103,7 +103,7 @@ pub(super) fn seeded(
     Script::from_seed(alloc, state, stream, len, loss, repeat)
 }
 
-// The script drawn from the first words.
+/// The script drawn from the first words.
 fn from_words(
     alloc: Global,
     words: &mut FewWords,
@@ -115,14 +115,14 @@ fn from_words(
 }
 
 #[test]
-fn a_drawn_script(rt: HostRuntime) -> Result<(), Fail> {
+fn six_acts_drawn_take_24_words(rt: HostRuntime) -> Result<(), Fail> {
     let mut words = FewWords { given: 0 };
     let script = from_words(rt.alloc(), &mut words, 6, 100, 0)?;
     let (pass, lost) = (OutAct::Pass, OutAct::Drop);
     let frames_out = [pass, lost, pass, pass, pass, pass];
     let takes = [InAct::Take; 6];
     assert_lists(&rt, &script, &frames_out, &takes, &[lost; 6], &takes);
-    assert_eq!(rt; words.given, 24);
+    assert!(rt; words.given == 24);
     let by_seed = seeded(rt.alloc(), 42, 54, 6, 100, 0)?;
     let by_generator = Script::draw(rt.alloc(), &mut Pcg32::new(42, 54), 6, 100, 0)?;
     assert_same(&rt, &by_seed, &by_generator);
@@ -130,7 +130,7 @@ fn a_drawn_script(rt: HostRuntime) -> Result<(), Fail> {
 }
 
 #[test]
-fn one_draw_of_each_list(rt: HostRuntime) -> Result<(), Fail> {
+fn each_list_is_drawn_at_its_rate(rt: HostRuntime) -> Result<(), Fail> {
     let script = from_words(rt.alloc(), &mut FewWords { given: 0 }, 1, 800, 100)?;
     assert_lists(
         &rt,
@@ -144,18 +144,18 @@ fn one_draw_of_each_list(rt: HostRuntime) -> Result<(), Fail> {
 }
 
 #[test]
-fn the_published_words_of_pcg32(rt: HostRuntime) {
+fn pcg32_gives_its_published_words(rt: HostRuntime) {
     let mut words = Pcg32::new(42, 54);
     let published = [
         0xa15c02b7, 0x7b47f409, 0xba1d3330, 0x83d2f293, 0xbfa4784b, 0xcbed606e,
     ];
     for want in published {
-        assert_eq!(rt; words.next_u32(), want);
+        assert!(rt; words.next_u32() == want);
     }
 }
 
 #[test]
-fn limits_of_draws(rt: HostRuntime) -> Result<(), Fail> {
+fn refuses_100001_acts_and_then_rates_over_1000(rt: HostRuntime) -> Result<(), Fail> {
     let rows = [
         (100001, 1001, 1001, Some(ScriptFault::TooLong)),
         (1, 1001, 0, Some(ScriptFault::RateOutOfRange)),
@@ -164,12 +164,12 @@ fn limits_of_draws(rt: HostRuntime) -> Result<(), Fail> {
     ];
     for (len, loss, repeat, want) in rows {
         let by_seed = seeded(rt.alloc(), 42, 54, len, loss, repeat).err();
-        assert_eq!(rt; by_seed, want, "{len} acts at {loss} and {repeat}");
+        assert!(rt; by_seed == want, "{len} acts at {loss} and {repeat}");
         let mut words = FewWords { given: 0 };
         let by_words = from_words(rt.alloc(), &mut words, len, loss, repeat).err();
-        assert_eq!(rt; by_words, want, "{len} acts at {loss} and {repeat}");
+        assert!(rt; by_words == want, "{len} acts at {loss} and {repeat}");
         let taken = if want.is_none() { 400000 } else { 0 };
-        assert_eq!(rt; words.given, taken, "{len} acts at {loss} and {repeat}");
+        assert!(rt; words.given == taken, "{len} acts at {loss} and {repeat}");
     }
     let none = seeded(rt.alloc(), 42, 54, 0, 0, 0)?;
     assert_lists(&rt, &none, &[], &[], &[], &[]);
@@ -179,7 +179,7 @@ fn limits_of_draws(rt: HostRuntime) -> Result<(), Fail> {
     Ok(())
 }
 
-// The script with lists of these lengths, of any acts.
+/// The script with lists of these lengths, of any acts.
 fn of_lengths(alloc: Global, lengths: [usize; 4]) -> Result<Option<ScriptFault>, AllocError> {
     let frames_out = vec![in alloc; OutAct::Evict; lengths[0]]?;
     let frames_in = vec![in alloc; InAct::Keep; lengths[1]]?;
@@ -189,7 +189,7 @@ fn of_lengths(alloc: Global, lengths: [usize; 4]) -> Result<Option<ScriptFault>,
 }
 
 #[test]
-fn limits_of_scripts(rt: HostRuntime) -> Result<(), Fail> {
+fn refuses_a_list_of_100001_acts(rt: HostRuntime) -> Result<(), Fail> {
     let rows = [
         ([100000, 100000, 100000, 100000], None),
         ([100001, 0, 0, 0], Some(ScriptFault::TooLong)),
@@ -198,28 +198,28 @@ fn limits_of_scripts(rt: HostRuntime) -> Result<(), Fail> {
         ([0, 0, 0, 100001], Some(ScriptFault::TooLong)),
     ];
     for (lengths, want) in rows {
-        assert_eq!(rt; of_lengths(rt.alloc(), lengths)?, want, "{lengths:?}");
+        assert!(rt; of_lengths(rt.alloc(), lengths)? == want, "{lengths:?}");
     }
     Ok(())
 }
 
-// The next acts for what goes out are these; each is seen before it is taken.
+/// The next acts for what goes out are these; each is seen before it is taken.
 fn assert_outs(rt: &impl Abort, half: &mut HalfScript, acts: &[OutAct]) {
     for act in acts {
-        assert_eq!(rt; half.peek_out(), *act);
-        assert_eq!(rt; half.next_out(), *act);
+        assert!(rt; half.peek_out() == *act);
+        assert!(rt; half.next_out() == *act);
     }
 }
 
-// The next acts for what comes in are these; each is seen before it is taken.
+/// The next acts for what comes in are these; each is seen before it is taken.
 fn assert_ins(rt: &impl Abort, half: &mut HalfScript, acts: &[InAct]) {
     for act in acts {
-        assert_eq!(rt; half.peek_in(), *act);
-        assert_eq!(rt; half.next_in(), *act);
+        assert!(rt; half.peek_in() == *act);
+        assert!(rt; half.next_in() == *act);
     }
 }
 
-// A script with acts in three of its lists.
+/// A script with acts in three of its lists.
 fn some_acts(alloc: Global) -> Result<Script, Fail> {
     let script = Script::new(
         vec![in alloc; OutAct::Drop, OutAct::Pass, OutAct::Evict]?,
@@ -245,7 +245,7 @@ fn each_half_takes_its_own_acts(rt: HostRuntime) -> Result<(), Fail> {
 }
 
 #[test]
-fn a_script_without_acts(rt: HostRuntime) {
+fn a_script_without_acts_passes_and_takes(rt: HostRuntime) {
     let (mut send, mut recv) = Script::none(rt.alloc()).split();
     assert_outs(&rt, &mut send, &[OutAct::Pass, OutAct::Pass]);
     assert_ins(&rt, &mut send, &[InAct::Take]);
@@ -261,7 +261,7 @@ fn texts_of_refused_scripts(rt: HostRuntime) -> Result<(), Fail> {
         (ScriptFault::Memory, "out of memory"),
     ];
     for (fault, want) in texts {
-        assert_eq!(rt; fault.to_string(rt.alloc())?.as_str(), want);
+        assert!(rt; fault.to_string(rt.alloc())?.as_str() == want);
     }
     Ok(())
 }

@@ -1,12 +1,12 @@
 use super::*;
 use std::io::{self, ErrorKind, Read, Write};
 
-/// So many spaces.
+/// Spaces, `len` of them.
 fn blanks(alloc: Global, len: usize) -> Result<Vec<u8>, AllocError> {
     vec![in alloc; b' '; len]
 }
 
-/// A reader that is interrupted so many times, and then gives its bytes.
+/// A reader that is interrupted `times` times, and then gives its bytes.
 #[derive(Drop)]
 struct Interrupted<'a> {
     times: usize,
@@ -52,19 +52,33 @@ impl Write for Refusing {
     }
 }
 
-/// What is loaded from a reader of the worst start that is interrupted so many times.
-fn load_interrupted(alloc: Global, times: usize) -> Result<Vec<u8>, CliFault> {
-    load(
-        alloc,
-        &mut Interrupted {
-            times,
-            bytes: WORST_START.as_bytes(),
-        },
-    )
+/// A writer that takes everything and fails at a flush.
+#[derive(Drop)]
+struct Unflushed;
+
+impl Write for Unflushed {
+    fn write(&mut self, buf: &[u8]) -> io::Result<usize> {
+        Ok(buf.len())
+    }
+
+    fn flush(&mut self) -> io::Result<()> {
+        Err(io::Error::from(ErrorKind::Other))
+    }
+}
+
+/// How the worst start ends, and what it writes, where its reader is interrupted `times` times.
+fn ended_after<T: Wait>(rt: &T, alloc: Global, times: usize) -> (Result<(), CliFault>, Vec<u8>) {
+    let mut reader = Interrupted {
+        times,
+        bytes: WORST_START.as_bytes(),
+    };
+    let mut written = Vec::new(alloc);
+    let ended = act(rt, alloc, PLAIN, &mut reader, &mut written);
+    (ended, written)
 }
 
 #[test]
-fn a_file_that_cannot_be_opened(rt: HostRuntime) -> Result<(), Fail> {
+fn refuses_a_file_that_is_not_there(rt: HostRuntime) -> Result<(), Fail> {
     let path = String::from_str(rt.alloc(), "there/is/no/such/file.json")?;
     assert_eq!(rt; perform(&rt, PLAIN, Some(path)), Err(CliFault::Open));
     assert_fault(&rt, CliFault::Open, 1, "file: cannot be opened")?;
@@ -72,29 +86,35 @@ fn a_file_that_cannot_be_opened(rt: HostRuntime) -> Result<(), Fail> {
 }
 
 #[test]
-fn reads_that_are_interrupted(rt: HostRuntime) -> Result<(), Fail> {
-    let patient = load_interrupted(rt.alloc(), 1_000)?;
-    assert!(rt; patient.as_slice() == WORST_START.as_bytes());
-    assert_eq!(rt; load_interrupted(rt.alloc(), 1_001), Err(CliFault::Read));
-    Ok(())
+fn reads_on_after_1000_interruptions_and_no_more(rt: HostRuntime) {
+    let (ended, written) = ended_after(&rt, rt.alloc(), 1_000);
+    assert_eq!(rt; ended, Ok(()));
+    assert!(rt; written.as_slice() == WORST_TEXT.as_bytes());
+    let (ended, written) = ended_after(&rt, rt.alloc(), 1_001);
+    assert_eq!(rt; ended, Err(CliFault::Read));
+    assert!(rt; written.is_empty());
 }
 
 #[test]
-fn readers_and_writers_that_fail(rt: HostRuntime) -> Result<(), Fail> {
-    let alloc = rt.alloc();
-    let mut written = Vec::new(alloc);
+fn reports_a_failing_reader_and_writes_nothing(rt: HostRuntime) -> Result<(), Fail> {
+    let mut written = Vec::new(rt.alloc());
     let mut failing = Failing {
         bytes: b"0123456789",
     };
     assert_eq!(rt;
-        act(&rt, alloc, PLAIN, &mut failing, &mut written),
+        act(&rt, rt.alloc(), PLAIN, &mut failing, &mut written),
         Err(CliFault::Read)
     );
     assert!(rt; written.is_empty());
     assert_fault(&rt, CliFault::Read, 1, "file: cannot be read")?;
+    Ok(())
+}
+
+#[test]
+fn reports_a_writer_that_fails_to_write(rt: HostRuntime) -> Result<(), Fail> {
     let mut job = WORST_START.as_bytes();
     assert_eq!(rt;
-        act(&rt, alloc, PLAIN, &mut job, &mut Refusing),
+        act(&rt, rt.alloc(), PLAIN, &mut job, &mut Refusing),
         Err(CliFault::Write)
     );
     assert_fault(&rt, CliFault::Write, 3, "output: cannot be written")?;
@@ -102,7 +122,16 @@ fn readers_and_writers_that_fail(rt: HostRuntime) -> Result<(), Fail> {
 }
 
 #[test]
-fn the_longest_file(rt: HostRuntime) -> Result<(), Fail> {
+fn reports_a_writer_that_fails_to_flush(rt: HostRuntime) {
+    let mut job = WORST_START.as_bytes();
+    assert_eq!(rt;
+        act(&rt, rt.alloc(), PLAIN, &mut job, &mut Unflushed),
+        Err(CliFault::Write)
+    );
+}
+
+#[test]
+fn reads_16777216_bytes_and_no_more(rt: HostRuntime) -> Result<(), Fail> {
     let mut spaces = blanks(rt.alloc(), 16_777_216)?;
     assert_eq!(rt; load(rt.alloc(), &mut spaces.as_slice())?.len(), 16_777_216);
     assert_refused(&rt, PLAIN, &spaces, CliFault::LinkJob(LinkJobFault::Json));

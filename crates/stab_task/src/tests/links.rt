@@ -2,7 +2,7 @@ use super::*;
 use stab_frames::ParamsFault;
 
 #[test]
-fn worst_start_and_its_trace(rt: HostRuntime) -> Result<(), Fail> {
+fn prints_the_worst_start_and_its_trace(rt: HostRuntime) -> Result<(), Fail> {
     assert_answer(&rt, PLAIN, WORST_START, WORST_TEXT);
     let mut text = String::from_str(rt.alloc(), WORST_TEXT)?;
     text.push_str("origins: s0 i3\n")?;
@@ -11,7 +11,7 @@ fn worst_start_and_its_trace(rt: HostRuntime) -> Result<(), Fail> {
 }
 
 #[test]
-fn nothing_after_the_close(rt: HostRuntime) {
+fn delivers_nothing_after_the_close(rt: HostRuntime) {
     assert_answer(
         &rt,
         TRACED,
@@ -21,7 +21,7 @@ fn nothing_after_the_close(rt: HostRuntime) {
 }
 
 #[test]
-fn refused_jobs(rt: HostRuntime) -> Result<(), Fail> {
+fn refuses_link_jobs_by_name(rt: HostRuntime) -> Result<(), Fail> {
     let rows = [
         (
             "",

@@ -4,7 +4,8 @@ use stab_tree::TreeFault;
 
 const LONE_ROOT: &str = r#"{"capacity":1,"labels":4,"tree":[{"name":"r"}],"items":[7,8]}"#;
 
-/// The acts of the worst start and what follows it, on the link into this node: one round that finds it, and so many more.
+/// The acts on the link into this node that begin at the worst start: one round that meets what the
+/// start holds, and then `rounds` more.
 fn push_steps(schedule: &mut String, child: &str, rounds: usize) -> Result<(), AllocError> {
     let worst = [
         "offer",
@@ -33,6 +34,7 @@ fn push_steps(schedule: &mut String, child: &str, rounds: usize) -> Result<(), A
     Ok(())
 }
 
+/// Adds one act on the link into this node.
 fn push_step(schedule: &mut String, child: &str, act: &str) -> Result<(), AllocError> {
     if !schedule.is_empty() {
         schedule.push_str(",")?;
@@ -44,7 +46,7 @@ fn push_step(schedule: &mut String, child: &str, act: &str) -> Result<(), AllocE
 }
 
 #[test]
-fn two_links_under_one_schedule(rt: HostRuntime) -> Result<(), Fail> {
+fn prints_two_links_under_one_schedule(rt: HostRuntime) -> Result<(), Fail> {
     let mut schedule = String::new(rt.alloc());
     push_steps(&mut schedule, "a", 3)?;
     push_steps(&mut schedule, "b", 1)?;
@@ -64,7 +66,7 @@ fn two_links_under_one_schedule(rt: HostRuntime) -> Result<(), Fail> {
 }
 
 #[test]
-fn a_lone_root(rt: HostRuntime) {
+fn prints_a_lone_root_with_its_items(rt: HostRuntime) {
     assert_answer(
         &rt,
         Task::Tree,
@@ -74,7 +76,7 @@ fn a_lone_root(rt: HostRuntime) {
 }
 
 #[test]
-fn an_offer_of_nothing(rt: HostRuntime) {
+fn offers_nothing_before_an_item_is_received(rt: HostRuntime) {
     assert_answer(
         &rt,
         Task::Tree,
@@ -84,7 +86,7 @@ fn an_offer_of_nothing(rt: HostRuntime) {
 }
 
 #[test]
-fn a_job_cut_short(rt: HostRuntime) -> Result<(), Fail> {
+fn refuses_every_job_cut_short(rt: HostRuntime) -> Result<(), Fail> {
     let whole = LONE_ROOT.as_bytes();
     let fault = CliFault::Job(JobFault::Json);
     for len in 0..whole.len() {
@@ -95,7 +97,7 @@ fn a_job_cut_short(rt: HostRuntime) -> Result<(), Fail> {
 }
 
 #[test]
-fn refused_trees_and_schedules(rt: HostRuntime) -> Result<(), Fail> {
+fn refuses_trees_and_schedules_by_name(rt: HostRuntime) -> Result<(), Fail> {
     let rows = [
         (
             r#"{"capacity":1,"labels":4,"tree":[{"name":"r"}],"items":[7,8],"schedule":[["r","offer"]]}"#,

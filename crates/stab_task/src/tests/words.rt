@@ -18,10 +18,18 @@ fn parsed(
 }
 
 #[test]
-fn command_lines(rt: HostRuntime) -> Result<(), Fail> {
+fn takes_a_command_word_a_flag_and_a_file(rt: HostRuntime) -> Result<(), Fail> {
     let rows = [
         (["stab"].as_slice(), PLAIN, None),
+        (["stab", "--"].as_slice(), PLAIN, None),
         (["stab", "link"].as_slice(), PLAIN, None),
+        (["stab", "link", "-"].as_slice(), PLAIN, Some("-")),
+        (["stab", "link", ""].as_slice(), PLAIN, Some("")),
+        (
+            ["stab", "link", "--trace", "job.json"].as_slice(),
+            TRACED,
+            Some("job.json"),
+        ),
         (["stab", "link", "--trace"].as_slice(), TRACED, None),
         (
             ["stab", "link", "job.json", "--trace"].as_slice(),
@@ -49,13 +57,16 @@ fn command_lines(rt: HostRuntime) -> Result<(), Fail> {
 }
 
 #[test]
-fn unknown_flag_and_help(rt: HostRuntime) -> Result<(), Fail> {
+fn refuses_other_words_and_help(rt: HostRuntime) -> Result<(), Fail> {
     let lines = [
         ["stab", "run", "--fast"].as_slice(),
         ["stab", "link", "--fast"].as_slice(),
         ["stab", "tree", "--trace"].as_slice(),
         ["stab", "--trace"].as_slice(),
         ["stab", "job.json"].as_slice(),
+        ["stab", "--", "link"].as_slice(),
+        ["stab", "link", "--trace=1"].as_slice(),
+        ["stab", "link", "--trace", "--trace"].as_slice(),
         ["stab", "--help"].as_slice(),
         ["stab", "help"].as_slice(),
         ["stab", "link", "--help"].as_slice(),

@@ -1,11 +1,12 @@
 use Rattle.std.proofs.Common.{◌≡◌, drop}
 use Rattle.serde_json.specs.View.{items_view}
 use Rattle.stab_json.specs.Values.{entries}
-use Rattle.stab_run.specs.ScheduleEntries.{named_act, schedule}
+use Rattle.stab_run.specs.Jobs.{schedule}
+use Rattle.stab_run.specs.ScheduleEntries.{named_act}
 use Rattle.stab_run.proofs.Schedules.{schedule_after}
 use Rattle.stab_run.proofs.schedule.read_schedule.Given as goal
 
--- what was read, and then what is left, gives the whole schedule
+-- what was read and then the rest give the whole schedule
 abbrev pub invariant-loop-value : goal.invariant-loop-value
 invariant-loop-value l =
     schedule l.tree.names (items_view l.values)

@@ -7,4 +7,4 @@ use Rattle.stab_script.proofs.script_entry.read_letters.Given as goal
 abbrev pub invariant-loop-letter : goal.invariant-loop-letter
 invariant-loop-letter g l =
     letters g.A.Lettered.of_letter l.text
-    ≡ read_before l.acts.items (letters g.A.Lettered.of_letter (drop l.letter-index l.text))
+    ≡ read_before l.acts (letters g.A.Lettered.of_letter (drop l.letter-index l.text))

@@ -1,8 +1,0 @@
-use Rattle.std.proofs.Common.{◌≡◌, drop, is_some}
-use Rattle.stab_script.specs.ScriptEntries.{in_letter, letters}
-use Rattle.stab_run.proofs.script_shape.are_in_letters.Given as goal
-
--- the letters so far are acts, so all are where those that are left are
-abbrev pub invariant-loop-letter : goal.invariant-loop-letter
-invariant-loop-letter l =
-    is_some (letters in_letter l.text) ≡ is_some (letters in_letter (drop l.letter-index l.text))

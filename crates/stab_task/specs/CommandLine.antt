@@ -1,0 +1,79 @@
+-- The command line of `stab`, and the task and the file that its words name.
+-- Source: this project's own; which words match is the model of the crate `clap`.
+use Rattle.std.specs.Prelude.{◌≡◌, ◌≢◌, ◌⊎◌, Bool, true, false, List, [], Option, Some, None}
+use Rattle.std.specs.Prelude.{codes, find, option_and_then, if◌then◌else◌}
+use Rattle.std.specs.Str.{bytes_eq}
+use Rattle.clap.specs.Words.{App, Row, Rule, Text, fault_of, first_of, new_app, new_rule}
+use Rattle.clap.specs.Words.{subcommand_of, with_rule, with_subcommand}
+use Rattle.clap.specs.Simple.{on_top}
+use Rattle.clap.specs.declared.builder.action.ArgAction.TheVariants.{SetTrue}
+use Rattle.clap.specs.declared.parser.matches.ValueSource.{ValueSource}
+use Rattle.clap.specs.declared.parser.matches.ValueSource.TheVariants as source
+use Rattle.stab_task.specs.declared.command.Task.{Task}
+use Rattle.stab_task.specs.declared.command.Task.TheVariants.{Link, Tree}
+use Rattle.stab_task.specs.declared.fault.CliFault.{CliFault}
+use Rattle.stab_task.specs.declared.fault.CliFault.TheVariants.{CommandLine, Memory}
+
+-- the flag `--trace`
+abbrev pub trace_flag : Rule
+trace_flag = record (new_rule (codes "trace")) {
+  long = Some (codes "trace");
+  action = Some SetTrue;
+}
+
+-- a file, which may be left out
+abbrev pub file_argument : Rule
+file_argument = new_rule (codes "FILE")
+
+-- `link [--trace] [FILE]`
+abbrev pub link_line : App
+link_line = with_rule (with_rule (new_app (codes "link")) trace_flag) file_argument
+
+-- `tree [FILE]`
+abbrev pub tree_line : App
+tree_line = with_rule (new_app (codes "tree")) file_argument
+
+-- `stab` without its subcommands; it has no subcommand `help`
+abbrev pub bare_line : App
+bare_line = on_top (λ s. record s { disable_help_subcommand = true }) (new_app (codes "stab"))
+
+-- `stab link [--trace] [FILE]` and `stab tree [FILE]`
+abbrev pub stab_line : App
+stab_line = with_subcommand (with_subcommand bare_line link_line.top) tree_line.top
+
+-- where the value of an argument came from
+abbrev pub source_of : Text → List Row → Option ValueSource
+source_of id rows = option_and_then (λ r. r.source) (find (λ r. bytes_eq r.id id) rows)
+
+-- a value came from the words, and is no default
+abbrev pub is_from_words : Option ValueSource → Bool
+is_from_words None = false
+is_from_words (Some source.DefaultValue) = false
+is_from_words (Some source.CommandLine) = true
+
+-- `--trace` is among the words after the command word
+abbrev pub has_trace : List Row → Bool
+has_trace rows = is_from_words (source_of (codes "trace") rows)
+
+-- the task of a command word
+abbrev pub task_of : Text → List Row → Task
+task_of word rows = if bytes_eq word (codes "link") then Link (has_trace rows) else Tree
+
+-- the task and the file of a command word and what follows it; with no command word, those of
+-- `stab link`
+abbrev pub task_and_file : Option (Text × List Row) → Task × Option Text
+task_and_file None = (Link false, None)
+task_and_file (Some p) = (task_of p.0 p.1, first_of (codes "FILE") p.1)
+
+-- the task and the file that the words of a command line name, where they are taken
+abbrev pub named_by : List Text → Task × Option Text
+named_by words = task_and_file (subcommand_of stab_line words)
+
+-- the words of a command line are taken
+abbrev pub IsTaken : List Text → Type 0
+IsTaken words = fault_of stab_line words ≡ []
+
+-- why words name no task: memory was refused, or they are
+abbrev pub IsWordsFault : List Text → CliFault → Type 0
+IsWordsFault words fault =
+    (fault ≡ Memory) ⊎ ((fault ≡ CommandLine) × (fault_of stab_line words ≢ []))

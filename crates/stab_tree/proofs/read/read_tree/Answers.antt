@@ -1,0 +1,44 @@
+use Rattle.std.proofs.Common.{◌≡◌, true, false, map, string_bytes, arith}
+use Rattle.std.proofs.lemmas.Grind.{common_steps}
+use Rattle.stab_tree.specs.Entry.{names_of}
+use Rattle.stab_tree.specs.Name.{has_same_name}
+use Rattle.stab_tree.specs.Parents.{have_depths}
+use Rattle.stab_tree.proofs.Checked.{Passed, few_parents, known_parents, IsTree-from_checks}
+use Rattle.stab_tree.proofs.read.read_tree.Goals as goal
+use Rattle.stab_tree.proofs.read.read_tree.Goals.{Else-roots-gt1}
+
+-- what the checks up to the number of roots have shown
+passed : (c : Else-roots-gt1) → Passed c.as_slice-entries.result.now c.in-Some-3.parents.items
+passed c =
+    let entries = c.as_slice-entries.result.now in
+    let own : has_same_name (names_of entries) ≡ false = grind (arith, common_steps) in
+    let names : map string_bytes c.in_ok-names.names.keys ≡ names_of entries = c.in_ok-names.ensures own in
+    record {
+      few = omega arith;
+      lawful = grind (arith, common_steps);
+      own = own;
+      found = rw (← names) (grind (arith, common_steps));
+      one = rw (← c.as_slice-2.ensures.value, ← c.root_count-roots.ensures) (omega arith);
+    }
+
+pub first_root-root-requires : goal.first_root-root-requires
+first_root-root-requires c =
+    rw c.as_slice-3.ensures.value (few_parents (passed (goal.at.first_root-root-requires c).Else-roots-gt1))
+
+pub find_depths-requires-clause-few : goal.find_depths-requires-clause-few
+find_depths-requires-clause-few c =
+    rw c.as_slice-4.ensures.value (few_parents (passed (goal.at.find_depths-requires-clause-few c).Else-roots-gt1))
+
+pub find_depths-requires-clause-known : goal.find_depths-requires-clause-known
+find_depths-requires-clause-known c =
+    rw c.as_slice-4.ensures.value (known_parents (passed (goal.at.find_depths-requires-clause-known c).Else-roots-gt1))
+
+pub from_parts-requires : goal.from_parts-requires
+from_parts-requires c =
+    let so_far = passed (goal.at.from_parts-requires c).Else-roots-gt1 in
+    let deep : have_depths c.in-Some-3.parents.items ≡ true = grind (arith, common_steps) in
+    record {
+      tree = rw (c.in_ok-names.ensures so_far.own) (IsTree-from_checks _ _ so_far deep);
+      depths_are = rw c.as_slice-4.ensures.value at (rw c.in-Some-4.is at c.in_ok-depths.ensures.each);
+      root_is = rw (← c.as_slice-3.ensures.value) c.first_root-root.ensures;
+    }
