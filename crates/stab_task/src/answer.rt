@@ -6,7 +6,7 @@ ghost use Rattle.stab_task.specs.Answers.{IsLinkAnswer, IsTreeAnswer, IsAnswer, 
 use crate::command::Task;
 use crate::fault::CliFault;
 use crate::file::load;
-use stab_core::{link_text, origins_text, run_link, run_traced};
+use stab_core::{link_text, push_origins_text, run_link, run_traced};
 use stab_run::read_job;
 use stab_script::read_link_job;
 use stab_treecore::{run_schedule, schedule_text};
@@ -95,7 +95,7 @@ fn answer_link(alloc: Global, with_trace: bool, bytes: &[u8]) -> Result<String, 
     }
     let (link, origins) = run_traced(alloc, job.params, &job.start, job.events.as_slice())?;
     let mut text = link_text(alloc, &link)?;
-    text.push_str(&origins_text(alloc, &origins)?)?;
+    push_origins_text(&mut text, &origins)?;
     Ok(text)
 }
 
