@@ -49,7 +49,12 @@ fn numbers_too_large_for_a_member_are_its_largest(rt: HostRuntime) -> Result<(),
 
 #[test]
 fn only_lists_of_two_are_pairs(rt: HostRuntime) -> Result<(), Fail> {
-    let rows = [("[1,2]", true), ("[1]", false), ("[1,2,3]", false), ("{}", false)];
+    let rows = [
+        ("[1,2]", true),
+        ("[1]", false),
+        ("[1,2,3]", false),
+        ("{}", false),
+    ];
     for (row, is_pair) in rows {
         let value = Value::from_str(rt.alloc(), row)?;
         assert!(rt; pair(&value).is_some() == is_pair, "{row}");
