@@ -54,41 +54,68 @@ impl Rng for FewWords {
     }
 }
 
-/// The acts of a list are these.
-fn assert_acts<T: Eq>(rt: &impl Abort, list: &[T], acts: &[T]) {
-    assert!(rt;
-        list == acts,
-        "{} acts where {} are wanted, or others",
-        list.len(),
-        acts.len()
-    );
+/// The letter of an act for what goes out.
+fn out_letter(act: OutAct) -> &'static str {
+    match act {
+        OutAct::Pass => "P",
+        OutAct::Drop => "D",
+        OutAct::Evict => "E",
+    }
 }
 
-/// The four lists of a script are these.
+/// The letter of an act for what comes in.
+fn in_letter(act: InAct) -> &'static str {
+    match act {
+        InAct::Take => "T",
+        InAct::Keep => "K",
+    }
+}
+
+/// Adds the letters of acts for what goes out, and a semicolon.
+fn push_outs(text: &mut String, acts: &[OutAct]) -> Result<(), AllocError> {
+    for act in acts {
+        text.push_str(out_letter(*act))?;
+    }
+    text.push_str(";")
+}
+
+/// Adds the letters of acts for what comes in, and a semicolon.
+fn push_ins(text: &mut String, acts: &[InAct]) -> Result<(), AllocError> {
+    for act in acts {
+        text.push_str(in_letter(*act))?;
+    }
+    text.push_str(";")
+}
+
+/// The acts of a script in letters: frames out, frames in, acknowledgements out and
+/// acknowledgements in, a semicolon after each list.
+fn lettered(alloc: Global, script: &Script) -> Result<String, AllocError> {
+    let mut text = String::new(alloc);
+    push_outs(&mut text, script.frames_out())?;
+    push_ins(&mut text, script.frames_in())?;
+    push_outs(&mut text, script.acks_out())?;
+    push_ins(&mut text, script.acks_in())?;
+    Ok(text)
+}
+
+/// The four lists of a script have these letters.
 pub(super) fn assert_lists(
-    rt: &impl Abort,
+    rt: &(impl Abort + Alloc<A = Global>),
     script: &Script,
-    frames_out: &[OutAct],
-    frames_in: &[InAct],
-    acks_out: &[OutAct],
-    acks_in: &[InAct],
-) {
-    assert_acts(rt, script.frames_out(), frames_out);
-    assert_acts(rt, script.frames_in(), frames_in);
-    assert_acts(rt, script.acks_out(), acks_out);
-    assert_acts(rt, script.acks_in(), acks_in);
+    letters: &str,
+) -> Result<(), AllocError> {
+    let text = lettered(rt.alloc(), script)?;
+    assert!(rt; text.as_str() == letters, "{text}");
+    Ok(())
 }
 
 /// The two scripts have the same lists.
-pub(super) fn assert_same(rt: &impl Abort, first: &Script, second: &Script) {
-    assert_lists(
-        rt,
-        first,
-        second.frames_out(),
-        second.frames_in(),
-        second.acks_out(),
-        second.acks_in(),
-    );
+pub(super) fn assert_same(
+    rt: &(impl Abort + Alloc<A = Global>),
+    first: &Script,
+    second: &Script,
+) -> Result<(), AllocError> {
+    assert_lists(rt, first, lettered(rt.alloc(), second)?.as_str())
 }
 
 /// The script drawn from a seed.
@@ -103,10 +130,10 @@ pub(super) fn seeded(
     Script::from_seed(alloc, state, stream, len, loss, repeat)
 }
 
-/// The script drawn from the first words.
-fn from_words(
+/// The script drawn from the words of a generator.
+fn from_words<R: Rng>(
     alloc: Global,
-    words: &mut FewWords,
+    words: &mut R,
     len: u32,
     loss: u16,
     repeat: u16,
@@ -114,37 +141,38 @@ fn from_words(
     Script::draw(alloc, words, len, loss, repeat)
 }
 
+/// The script drawn from the words of the worked example, and how many of them it took.
+fn from_few_words(
+    alloc: Global,
+    len: u32,
+    loss: u16,
+    repeat: u16,
+) -> Result<(Script, u32), ScriptFault> {
+    let mut words = FewWords { given: 0 };
+    let script = from_words(alloc, &mut words, len, loss, repeat)?;
+    Ok((script, words.given))
+}
+
 #[test]
 fn six_acts_drawn_take_24_words(rt: HostRuntime) -> Result<(), Fail> {
-    let mut words = FewWords { given: 0 };
-    let script = from_words(rt.alloc(), &mut words, 6, 100, 0)?;
-    let (pass, lost) = (OutAct::Pass, OutAct::Drop);
-    let frames_out = [pass, lost, pass, pass, pass, pass];
-    let takes = [InAct::Take; 6];
-    assert_lists(&rt, &script, &frames_out, &takes, &[lost; 6], &takes);
-    assert!(rt; words.given == 24);
+    let (script, given) = from_few_words(rt.alloc(), 6, 100, 0)?;
+    assert_lists(&rt, &script, "PDPPPP;TTTTTT;DDDDDD;TTTTTT;")?;
+    assert!(rt; given == 24);
     Ok(())
 }
 
 #[test]
 fn a_seed_draws_what_its_generator_does(rt: HostRuntime) -> Result<(), Fail> {
     let by_seed = seeded(rt.alloc(), 42, 54, 6, 100, 0)?;
-    let by_generator = Script::draw(rt.alloc(), &mut Pcg32::new(42, 54), 6, 100, 0)?;
-    assert_same(&rt, &by_seed, &by_generator);
+    let by_generator = from_words(rt.alloc(), &mut Pcg32::new(42, 54), 6, 100, 0)?;
+    assert_same(&rt, &by_seed, &by_generator)?;
     Ok(())
 }
 
 #[test]
 fn each_list_is_drawn_at_its_rate(rt: HostRuntime) -> Result<(), Fail> {
-    let script = from_words(rt.alloc(), &mut FewWords { given: 0 }, 1, 800, 100)?;
-    assert_lists(
-        &rt,
-        &script,
-        &[OutAct::Drop],
-        &[InAct::Keep],
-        &[OutAct::Pass],
-        &[InAct::Take],
-    );
+    let (script, _given) = from_few_words(rt.alloc(), 1, 800, 100)?;
+    assert_lists(&rt, &script, "D;K;P;T;")?;
     Ok(())
 }
 
@@ -192,11 +220,10 @@ fn refuses_100001_acts_and_then_rates_over_1000(rt: HostRuntime) {
 
 #[test]
 fn rates_of_1000_lose_and_keep_all(rt: HostRuntime) -> Result<(), Fail> {
-    let none = seeded(rt.alloc(), 42, 54, 0, 0, 0)?;
-    assert_lists(&rt, &none, &[], &[], &[], &[]);
-    let all = seeded(rt.alloc(), 42, 54, 2, 1000, 1000)?;
-    let (lost, kept) = ([OutAct::Drop; 2], [InAct::Keep; 2]);
-    assert_lists(&rt, &all, &lost, &kept, &lost, &kept);
+    for (len, rate, letters) in [(0, 0, ";;;;"), (2, 1000, "DD;KK;DD;KK;")] {
+        let script = seeded(rt.alloc(), 42, 54, len, rate, rate)?;
+        assert_lists(&rt, &script, letters)?;
+    }
     Ok(())
 }
 
@@ -218,26 +245,31 @@ fn of_lengths(
 #[test]
 fn refuses_a_list_of_100001_acts(rt: HostRuntime) -> Result<(), Fail> {
     let too_long = Some(ScriptFault::TooLong);
-    let alloc = rt.alloc();
-    assert!(rt; of_lengths(alloc, 100000, 100000, 100000, 100000)?.is_none());
-    assert!(rt; of_lengths(alloc, 100001, 0, 0, 0)? == too_long);
-    assert!(rt; of_lengths(alloc, 0, 100001, 0, 0)? == too_long);
-    assert!(rt; of_lengths(alloc, 0, 0, 100001, 0)? == too_long);
-    assert!(rt; of_lengths(alloc, 0, 0, 0, 100001)? == too_long);
+    let rows = [
+        (100000, 100000, 100000, 100000, None),
+        (100001, 0, 0, 0, too_long),
+        (0, 100001, 0, 0, too_long),
+        (0, 0, 100001, 0, too_long),
+        (0, 0, 0, 100001, too_long),
+    ];
+    for (frames_out, frames_in, acks_out, acks_in, want) in rows {
+        let refused = of_lengths(rt.alloc(), frames_out, frames_in, acks_out, acks_in)?;
+        assert!(rt;
+            refused == want,
+            "{frames_out}, {frames_in}, {acks_out} and {acks_in} acts"
+        );
+    }
     Ok(())
 }
 
-/// The next acts for what goes out are these; each is seen before it is taken.
-fn assert_outs(rt: &impl Abort, half: &mut HalfScript, acts: &[OutAct]) {
-    for act in acts {
+/// The next acts of a half are these, for what goes out and for what comes in; each is seen before
+/// it is taken.
+fn assert_half(rt: &impl Abort, mut half: HalfScript, outs: &[OutAct], ins: &[InAct]) {
+    for act in outs {
         assert!(rt; half.peek_out() == *act);
         assert!(rt; half.next_out() == *act);
     }
-}
-
-/// The next acts for what comes in are these; each is seen before it is taken.
-fn assert_ins(rt: &impl Abort, half: &mut HalfScript, acts: &[InAct]) {
-    for act in acts {
+    for act in ins {
         assert!(rt; half.peek_in() == *act);
         assert!(rt; half.next_in() == *act);
     }
@@ -255,26 +287,28 @@ fn some_acts(alloc: Global) -> Result<Script, Fail> {
 }
 
 #[test]
-fn each_half_takes_its_own_acts(rt: HostRuntime) -> Result<(), Fail> {
+fn a_copy_has_the_same_acts(rt: HostRuntime) -> Result<(), Fail> {
     let script = some_acts(rt.alloc())?;
     let copy = script.copy(rt.alloc())?;
-    assert_same(&rt, &script, &copy);
-    let (mut send, mut recv) = copy.split();
+    assert_same(&rt, &script, &copy)?;
+    Ok(())
+}
+
+#[test]
+fn each_half_takes_its_own_acts(rt: HostRuntime) -> Result<(), Fail> {
+    let (send, recv) = some_acts(rt.alloc())?.copy(rt.alloc())?.split();
     let (pass, lost, evicted) = (OutAct::Pass, OutAct::Drop, OutAct::Evict);
-    assert_outs(&rt, &mut send, &[lost, pass, evicted, pass, pass]);
-    assert_ins(&rt, &mut send, &[InAct::Keep, InAct::Take]);
-    assert_outs(&rt, &mut recv, &[evicted, pass]);
-    assert_ins(&rt, &mut recv, &[InAct::Take]);
+    let (take, keep) = (InAct::Take, InAct::Keep);
+    assert_half(&rt, send, &[lost, pass, evicted, pass, pass], &[keep, take]);
+    assert_half(&rt, recv, &[evicted, pass], &[take]);
     Ok(())
 }
 
 #[test]
 fn a_script_without_acts_passes_and_takes(rt: HostRuntime) {
-    let (mut send, mut recv) = Script::none(rt.alloc()).split();
-    assert_outs(&rt, &mut send, &[OutAct::Pass, OutAct::Pass]);
-    assert_ins(&rt, &mut send, &[InAct::Take]);
-    assert_outs(&rt, &mut recv, &[OutAct::Pass]);
-    assert_ins(&rt, &mut recv, &[InAct::Take]);
+    let (send, recv) = Script::none(rt.alloc()).split();
+    assert_half(&rt, send, &[OutAct::Pass, OutAct::Pass], &[InAct::Take]);
+    assert_half(&rt, recv, &[OutAct::Pass], &[InAct::Take]);
 }
 
 #[test]
