@@ -1,4 +1,4 @@
-ghost use Rattle.std.specs.Prelude.{◌≡◌, Option, IfOk, option_map};
+ghost use Rattle.std.specs.Prelude.{◌≡◌, Option, IfOk, OnErr, IsSome, option_map};
 ghost use Rattle.serde_json.specs.Data.{Data};
 ghost use Rattle.serde_json.specs.View.{view, items_view};
 ghost use Rattle.stab_json.specs.Values.{entries, frame, label, item_number, list_or_absent};
@@ -69,13 +69,14 @@ pub fn read_entries<'v, E: Entry<'v>>(
 }
 
 /// The entries of a list, which is empty where it is absent, or `None` where the value is no list
-/// or one of the entries means nothing.
+/// or one of the entries means nothing. A list that is absent takes no memory.
 pub fn read_list<'v, E: Entry<'v>>(
     alloc: Global,
     value: Option<&'v Value>,
 ) -> Result<Option<Sequence<E::Read>>, AllocError>
-    ensures { IfOk result (λ list. list
+    ensures list { IfOk result (λ list. list
         ≡ list_or_absent E.meaning (option_map (λ given. view given.now) value.entry)) }
+    ensures memory { OnErr result (IsSome (option_map (λ given. view given.now) value.entry)) }
 {
     let Some(value) = value else {
         return Ok(Some(Sequence::new(alloc)));

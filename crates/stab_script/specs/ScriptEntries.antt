@@ -2,6 +2,7 @@
 -- Source: this project's profile. An entry has texts of letters, an act each, or the numbers of a
 -- draw.
 use Rattle.std.specs.Prelude.{ℕ, ◌==◌, codes, List, [], ◌∷◌, if◌then◌else◌, Option, Some, None}
+use Rattle.std.specs.Prelude.{Bool, true, false}
 use Rattle.serde_json.specs.Data.{Data, null, boolean, number, string, array, object}
 use Rattle.serde_json.specs.Find.{get, as_str}
 use Rattle.stab_json.specs.Values.{◌>>=◌, most_u16, most_u32, whole, capped, pair}
@@ -85,3 +86,12 @@ script_entry (number n) = None
 script_entry (string s) = None
 script_entry (array ds) = None
 script_entry (object ms) = draw_or_lists (get (codes "seed") (object ms)) (object ms)
+
+-- an object: any other value takes no memory as a script entry
+abbrev pub is_object : Data → Bool
+is_object null = false
+is_object (boolean b) = false
+is_object (number n) = false
+is_object (string s) = false
+is_object (array ds) = false
+is_object (object ms) = true

@@ -1,6 +1,6 @@
 -- Starts: what a JSON value means as the start of a link.
 -- Source: this project's profile. The capacity bounds a start where a link begins, not here.
-use Rattle.std.specs.Prelude.{codes, Option, Some}
+use Rattle.std.specs.Prelude.{codes, Bool, ◌||◌, Option, Some, is_some}
 use Rattle.stab_core.specs.declared.start.Start.{Start}
 use Rattle.serde_json.specs.Data.{Data}
 use Rattle.serde_json.specs.Find.{get}
@@ -20,3 +20,7 @@ start d = do
     send_label = its_send_label;
     recv_label = its_recv_label;
   })
+
+-- a list of frames or of acknowledgements is named: a start without either takes no memory
+abbrev pub names_a_list : Data → Bool
+names_a_list d = is_some (get (codes "frames") d) || is_some (get (codes "acks") d)

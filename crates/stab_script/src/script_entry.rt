@@ -1,9 +1,11 @@
 ghost use Rattle.std.specs.Prelude.{◌≡◌, ◌≢◌, ℕ, Option, codes, true, Ok, Err, MatchResult, IfOk};
+ghost use Rattle.std.specs.Prelude.{OnErr};
 ghost use Rattle.serde_json.specs.Find.{get};
 ghost use Rattle.serde_json.specs.View.{view};
 ghost use Rattle.stab_script.specs.MadeScripts.{made, takes_memory, script};
 ghost use Rattle.stab_script.specs.ScriptEntries.{out_letter, in_letter, letters};
 ghost use Rattle.stab_script.specs.ScriptEntries.{letters_or_absent, lists, draw, script_entry};
+ghost use Rattle.stab_script.specs.ScriptEntries.{is_object};
 
 use crate::act::{InAct, OutAct};
 use crate::fault::{PartFault, ScriptFault};
@@ -40,19 +42,7 @@ impl<'v> Entry<'v> for ScriptEntry {
     ghost meaning = { script_entry };
 
     fn read(alloc: Global, value: &'v Value) -> Result<Option<ScriptEntry>, AllocError> {
-        match value {
-            Value::Null => Ok(Some(ScriptEntry::Lists {
-                frames_out: Sequence::new(alloc),
-                frames_in: Sequence::new(alloc),
-                acks_out: Sequence::new(alloc),
-                acks_in: Sequence::new(alloc),
-            })),
-            Value::Object(_) => match value.get("seed") {
-                Some(seed) => Ok(read_draw(seed, value)),
-                None => read_lists(alloc, value),
-            },
-            _ => Ok(None),
-        }
+        read_entry(alloc, value)
     }
 }
 
@@ -88,19 +78,41 @@ impl ScriptEntry {
     }
 }
 
-/// The script that an entry of a job's scripts means, or the first check that it fails.
+/// The script that an entry of a job's scripts means, or the first check that it fails. Only an
+/// object takes memory.
 pub fn read_script(alloc: Global, value: &Value) -> Result<Script, PartFault>
-    ensures { MatchResult result
+    ensures script { MatchResult result
         (λ made. script (view value.now) ≡ Ok made)
         (λ fault. fault ≢ PartFault.Memory → script (view value.now) ≡ Err fault) }
+    ensures memory { result ≡ Err PartFault.Memory → is_object (view value.now) ≡ true }
 {
-    let Some(entry) = ScriptEntry::read(alloc, value)? else {
+    let Some(entry) = read_entry(alloc, value)? else {
         return Err(PartFault::Shape);
     };
     match entry.make(alloc) {
         Ok(script) => Ok(script),
         Err(ScriptFault::Memory) => Err(PartFault::Memory),
         Err(fault) => Err(PartFault::Script(fault)),
+    }
+}
+
+/// What an entry of a job's scripts says, or `None` where it has another shape.
+fn read_entry(alloc: Global, value: &Value) -> Result<Option<ScriptEntry>, AllocError>
+    ensures entry { IfOk result (λ entry. entry ≡ script_entry (view value.now)) }
+    ensures memory { OnErr result (is_object (view value.now) ≡ true) }
+{
+    match value {
+        Value::Null => Ok(Some(ScriptEntry::Lists {
+            frames_out: Sequence::new(alloc),
+            frames_in: Sequence::new(alloc),
+            acks_out: Sequence::new(alloc),
+            acks_in: Sequence::new(alloc),
+        })),
+        Value::Object(_) => match value.get("seed") {
+            Some(seed) => Ok(read_draw(seed, value)),
+            None => read_lists(alloc, value),
+        },
+        _ => Ok(None),
     }
 }
 

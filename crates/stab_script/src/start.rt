@@ -1,9 +1,9 @@
-ghost use Rattle.std.specs.Prelude.{◌≡◌, ◌≢◌, codes, MatchResult, IfOk, Some, None};
+ghost use Rattle.std.specs.Prelude.{◌≡◌, ◌≢◌, codes, true, Err, MatchResult, IfOk, OnErr, Some, None};
 ghost use Rattle.std.specs.Prelude.{option_map, option_and_then};
 ghost use Rattle.serde_json.specs.Find.{get};
 ghost use Rattle.serde_json.specs.View.{view};
 ghost use Rattle.stab_json.specs.Values.{label, list_or_absent};
-ghost use Rattle.stab_script.specs.Starts.{start};
+ghost use Rattle.stab_script.specs.Starts.{start, names_a_list};
 
 use crate::fault::PartFault;
 use serde_json::Value;
@@ -25,14 +25,16 @@ impl<'v> Entry<'v> for StartEntry {
     }
 }
 
-/// The start of a link, where the value means one.
+/// The start of a link, where the value means one. Only the lists of frames and of
+/// acknowledgements take memory.
 pub fn read_start(alloc: Global, value: &Value) -> Result<Start, PartFault>
-    ensures { MatchResult result
+    ensures start { MatchResult result
         (λ its_start. start (view value.now) ≡ Some its_start)
         (λ fault. fault ≢ PartFault.Memory
         → (fault ≡ PartFault.Shape) × (start (view value.now) ≡ None)) }
+    ensures memory { result ≡ Err PartFault.Memory → names_a_list (view value.now) ≡ true }
 {
-    match StartEntry::read(alloc, value) {
+    match start_of(alloc, value) {
         Ok(Some(start)) => Ok(start),
         Ok(None) => Err(PartFault::Shape),
         Err(_) => Err(PartFault::Memory),
@@ -41,7 +43,8 @@ pub fn read_start(alloc: Global, value: &Value) -> Result<Start, PartFault>
 
 /// The start, or `None` where the value means none; only memory can be refused.
 fn start_of(alloc: Global, value: &Value) -> Result<Option<Start>, AllocError>
-    ensures { IfOk result (λ its_start. its_start ≡ start (view value.now)) }
+    ensures start { IfOk result (λ its_start. its_start ≡ start (view value.now)) }
+    ensures memory { OnErr result (names_a_list (view value.now) ≡ true) }
 {
     let Some(frames) = read_list::<Frame>(alloc, value.get("frames"))? else {
         return Ok(None);
