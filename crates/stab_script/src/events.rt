@@ -46,7 +46,7 @@ fn numbered_event(word: &str, item_or_place: &Value) -> Option<Event>
 }
 
 /// The event that a value means: a word alone, or a list of a word and a number.
-pub fn event(value: &Value) -> Option<Event>
+pub(crate) fn event(value: &Value) -> Option<Event>
     ensures { result ≡ event (view value.now) }
 {
     match value {

@@ -21,11 +21,11 @@ mod script_entry;
 mod start;
 
 pub use act::{InAct, OutAct};
-pub use events::{event, loss_act, plain_act};
+pub use events::{loss_act, plain_act};
 pub use fault::{PartFault, ScriptFault};
 pub use half::HalfScript;
 pub use link_job::{LinkJob, LinkJobFault, read_link_job};
-pub use script::{MAX_ACTS, Script};
+pub use script::Script;
 pub use script_entry::{ScriptEntry, read_script};
 pub use start::{StartEntry, read_start};
 

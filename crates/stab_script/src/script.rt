@@ -9,7 +9,7 @@ use std::alloc::{AllocError, Global};
 use std::marker::Model;
 
 /// The most acts that a list of a script may have.
-pub const MAX_ACTS: u32 = 100_000;
+pub(crate) const MAX_ACTS: u32 = 100_000;
 
 /// What a link is to lose and to repeat: a list of acts for each of frames going out, frames coming
 /// in, acknowledgements going out and acknowledgements coming in. Past its end a list passes or

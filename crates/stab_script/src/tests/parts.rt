@@ -1,4 +1,5 @@
-use crate::{PartFault, event, loss_act, plain_act, read_start};
+use crate::events::event;
+use crate::{PartFault, loss_act, plain_act, read_start};
 use serde_json::Value;
 use stab_core::{Event, LinkAct};
 use stab_frames::Frame;

@@ -275,13 +275,18 @@ fn assert_half(rt: &impl Abort, mut half: HalfScript, outs: &[OutAct], ins: &[In
     }
 }
 
+/// A list of these acts.
+fn list<A: Copy>(alloc: Global, acts: &[A]) -> Result<Vec<A>, AllocError> {
+    acts.to_vec(alloc)
+}
+
 /// A script with acts in three of its lists.
 fn some_acts(alloc: Global) -> Result<Script, Fail> {
     let script = Script::new(
-        vec![in alloc; OutAct::Drop, OutAct::Pass, OutAct::Evict]?,
+        list(alloc, &[OutAct::Drop, OutAct::Pass, OutAct::Evict])?,
         Vec::new(alloc),
-        vec![in alloc; OutAct::Evict]?,
-        vec![in alloc; InAct::Keep]?,
+        list(alloc, &[OutAct::Evict])?,
+        list(alloc, &[InAct::Keep])?,
     )?;
     Ok(script)
 }
