@@ -1,4 +1,5 @@
 use super::*;
+use std::alloc::{AllocError, Global};
 use std::test::Fail;
 
 #[test]
@@ -15,7 +16,7 @@ fn refuses_unlawful_parameters(rt: HostRuntime) {
     ];
     for (capacity, labels, want) in rows {
         let made = Params::new(capacity, labels).map(|p| (p.capacity(), p.labels()));
-        assert_eq!(rt; made, want, "capacity {capacity}, labels {labels}");
+        assert!(rt; made == want, "capacity {capacity}, labels {labels}");
     }
 }
 
@@ -29,20 +30,40 @@ fn label_0_follows_the_last_label(rt: HostRuntime) -> Result<(), Fail> {
 }
 
 #[test]
-fn a_full_queue_refuses_an_entry(rt: HostRuntime) -> Result<(), Fail> {
+fn a_new_queue_is_empty_and_takes_two_entries(rt: HostRuntime) -> Result<(), Fail> {
     let mut queue: FrameQueue<u32> = FrameQueue::new(rt.alloc(), 2)?;
     assert!(rt; queue.is_empty());
     assert!(rt; queue.put(5));
     assert!(rt; queue.put(6));
+    Ok(())
+}
+
+/// A queue with room for two entries, which holds 5 and 6.
+fn full_queue(alloc: Global) -> Result<FrameQueue<u32>, AllocError> {
+    let mut queue = FrameQueue::new(alloc, 2)?;
+    queue.put(5);
+    queue.put(6);
+    Ok(queue)
+}
+
+#[test]
+fn a_full_queue_refuses_an_entry(rt: HostRuntime) -> Result<(), Fail> {
+    let mut queue = full_queue(rt.alloc())?;
     assert!(rt; queue.is_full());
     assert!(rt; !queue.put(7));
-    assert_eq!(rt; queue.front(), Some(5));
-    assert_eq!(rt; queue.get(1), Some(6));
-    assert_eq!(rt; queue.get(2), None);
+    assert!(rt; queue.front() == Some(5));
+    assert!(rt; queue.get(1) == Some(6));
+    assert!(rt; queue.get(2).is_none());
+    Ok(())
+}
+
+#[test]
+fn an_entry_is_lost_or_taken_once(rt: HostRuntime) -> Result<(), Fail> {
+    let mut queue = full_queue(rt.alloc())?;
     assert!(rt; queue.lose(0));
-    assert_eq!(rt; queue.len(), 1);
-    assert_eq!(rt; queue.take(), Some(6));
-    assert_eq!(rt; queue.take(), None);
+    assert!(rt; queue.len() == 1);
+    assert!(rt; queue.take() == Some(6));
+    assert!(rt; queue.take().is_none());
     assert!(rt; !queue.lose(0));
     Ok(())
 }
@@ -53,10 +74,10 @@ fn a_sequence_grows_at_its_end(rt: HostRuntime) -> Result<(), Fail> {
     assert!(rt; items.is_empty());
     items.push(7)?;
     items.push(8)?;
-    assert_eq!(rt; items.len(), 2);
-    assert_eq!(rt; items.as_slice(), [7, 8].as_slice());
+    assert!(rt; items.len() == 2);
+    assert!(rt; items.as_slice() == [7, 8].as_slice());
     let again = Sequence::from_vec(items.into_vec());
-    assert_eq!(rt; again.as_slice(), [7, 8].as_slice());
+    assert!(rt; again.as_slice() == [7, 8].as_slice());
     let none: Sequence<u32> = Sequence::new(rt.alloc());
     assert!(rt; none.as_slice().is_empty());
     Ok(())
@@ -73,7 +94,7 @@ fn texts_of_refused_parameters(rt: HostRuntime) -> Result<(), Fail> {
         (ParamsFault::LabelsTooMany, "job: too many labels"),
     ];
     for (fault, want) in texts {
-        assert_eq!(rt; fault.to_string(rt.alloc())?.as_str(), want);
+        assert!(rt; fault.to_string(rt.alloc())?.as_str() == want);
     }
     Ok(())
 }
