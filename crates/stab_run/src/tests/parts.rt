@@ -135,6 +135,6 @@ fn reads_each_act_of_a_schedule(rt: HostRuntime) -> Result<(), Fail> {
         event(0, LinkAct::Close),
     ];
     assert!(rt; job.turns() == 1);
-    assert!(rt; job.schedule() == schedule);
+    assert!(rt; job.schedule() == schedule.as_slice());
     Ok(())
 }
