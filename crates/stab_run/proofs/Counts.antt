@@ -1,5 +1,5 @@
 -- Numbers of entries.
-use Rattle.std.proofs.Common.{nat_lt, ◌≡◌, ◌≤◌, ℕ, suc, false, List, [], ◌∷◌, length, replicate, Option, Some, None, Result, Ok, Err, refl, sym, ap, ◌∙◌}
+use Rattle.std.proofs.Common.{nat_lt, ◌≡◌, ℕ, suc, false, List, [], ◌∷◌, length, replicate, Option, Some, None, Result, Ok, Err, refl, sym, ap, ◌∙◌}
 use Rattle.std.proofs.lemmas.Bool.{eqb-true, ltb-false, or_parts}
 use Rattle.std.proofs.lemmas.List.{length-replicate}
 use Rattle.stab_json.specs.Checks.{◌>>=◌}
