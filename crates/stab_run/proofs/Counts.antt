@@ -1,6 +1,6 @@
 -- Numbers of entries.
-use Rattle.std.proofs.Common.{◌≡◌, ◌≤◌, ℕ, suc, false, List, [], ◌∷◌, length, replicate, Option, Some, None, Result, Ok, Err, refl, sym, ap, ◌∙◌}
-use Rattle.std.proofs.lemmas.Bool.{eqb-true, ltb-false}
+use Rattle.std.proofs.Common.{nat_lt, ◌≡◌, ℕ, suc, false, List, [], ◌∷◌, length, replicate, Option, Some, None, Result, Ok, Err, refl, sym, ap, ◌∙◌}
+use Rattle.std.proofs.lemmas.Bool.{eqb-true, ltb-false, or_parts}
 use Rattle.std.proofs.lemmas.List.{length-replicate}
 use Rattle.stab_json.specs.Checks.{◌>>=◌}
 use Rattle.stab_script.specs.declared.fault.ScriptFault.{ScriptFault}
@@ -15,7 +15,7 @@ use Rattle.stab_treecore.specs.declared.event.TreeEvent.{TreeEvent}
 use Rattle.stab_run.specs.JobLinks.{are_miscounted, all_made, starts_of, scripts_of}
 use Rattle.stab_run.specs.JobMembers.{Members}
 use Rattle.stab_run.specs.JobValues.{IsJob, links, most_items, most_turns}
-use Rattle.stab_run.specs.Jobs.{AreCounted}
+use Rattle.stab_run.specs.Jobs.{AreCounted, are_out_of_range}
 
 -- a script before others is one more
 length_more : (first : Result Acts ScriptFault) (others : Result (List Acts) ScriptFault) (n : ℕ) (scripts : List Acts)
@@ -45,15 +45,19 @@ length_starts : (links : ℕ) (starts : Option (List Start)) → are_miscounted 
 length_starts links None right = length-replicate links clean_start
 length_starts links (Some starts) right = right_number links starts right
 
+-- where the numbers of entries are right, there is a script for each link
+pub script_each : (m : Members) (t : Nodes) (n : ℕ) (scripts : List Acts)
+    → AreCounted n m → n ≡ links t → scripts_of n m.scripts ≡ Ok scripts → length scripts ≡ links t
+script_each m t n scripts counted each made = length_scripts n m.scripts scripts counted.one_script_each made ∙ each
+
 -- members whose numbers of entries and turns are right are those of a job
 pub parts_of_job : (m : Members) (t : Nodes) (params : Parameters) (n : ℕ) (starts : List Start) (scripts : List Acts) (events : List TreeEvent)
-    → AreCounted n m → n ≡ links t → starts ≡ starts_of n m.starts → scripts_of n m.scripts ≡ Ok scripts
-    → 1 ≤ m.turns → m.turns ≤ most_turns
+    → AreCounted (links t) m → length scripts ≡ links t → n ≡ links t → starts ≡ starts_of n m.starts → are_out_of_range m.turns ≡ false
     → IsJob (record { params = params; tree = t; items = m.items; starts = starts; scripts = scripts; turns = m.turns; schedule = events })
-parts_of_job m t params n starts scripts events counted each are_starts are_scripts some few = record {
-  one_start_each = ap length are_starts ∙ length_starts n m.starts counted.one_start_each ∙ each;
-  one_script_each = length_scripts n m.scripts scripts counted.one_script_each are_scripts ∙ each;
+parts_of_job m t params n starts scripts events counted script_each each are_starts in_range = record {
+  one_start_each = ap length are_starts ∙ length_starts n m.starts (rw each counted.one_start_each) ∙ each;
+  one_script_each = script_each;
   few_items = ltb-false most_items (length m.items) counted.few_items;
-  some_turns = some;
-  few_turns = few;
+  some_turns = ltb-false m.turns 1 (or_parts (nat_lt m.turns 1) (nat_lt most_turns m.turns) in_range).0;
+  few_turns = ltb-false most_turns m.turns (or_parts (nat_lt m.turns 1) (nat_lt most_turns m.turns) in_range).1;
 }

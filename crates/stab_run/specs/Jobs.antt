@@ -1,6 +1,7 @@
 -- Jobs: what the bytes of a job mean, or the first check, in the stated order, that they fail.
 -- Source: this project's profile. Each line of the lists below is a check beside its fault: `job` has
--- the first five, `job_on_tree` those that follow once there is a tree, `schedule` the last two.
+-- the first five, `job_on_tree` those that follow once there is a tree, `job_of_scripts` the one
+-- after the scripts, `schedule` the last two.
 use Rattle.std.specs.Prelude.{ℕ, codes, ◌≡◌, List, length, ◌==◌, ◌||◌, Bool, true, false, not, nat_lt, Option, Some, None, option_map, Result, Ok}
 use Rattle.std.specs.Option.{option_map_or}
 use Rattle.serde_json.specs.Data.{Data, Items}
@@ -8,6 +9,7 @@ use Rattle.serde_json.specs.Find.{get}
 use Rattle.stab_frames.specs.Parameters.{fault_of}
 use Rattle.stab_json.specs.Checks.{◌>>=◌, ◌>>◌, ◌or◌, ◌when◌, ◌refused_as◌}
 use Rattle.stab_json.specs.Values.{value_of, whole, count, entries}
+use Rattle.stab_script.specs.Scripts.{Acts}
 use Rattle.stab_tree.specs.Nodes.{Nodes}
 use Rattle.stab_tree.specs.Read.{tree_of}
 use Rattle.stab_treecore.specs.declared.event.TreeEvent.{TreeEvent}
@@ -30,15 +32,14 @@ schedule names its_entries = do
   acts ← entries named_act its_entries or fault.Event
   events_of names acts or fault.UnknownNode
 
--- the job of these members on their tree
-abbrev pub job_on_tree : Nodes → Members → Result JobValue JobFault
-job_on_tree t m = do
-  fault.TooManyItems when nat_lt most_items (length m.items)
-  fault.TooManyEvents when nat_lt most_events (count m.schedule)
-  fault.StartCount when are_miscounted (links t) m.starts
-  fault.ScriptCount when are_miscounted (links t) m.scripts
-  scripts ← scripts_of (links t) m.scripts refused_as fault.Script
-  fault.TurnsOutOfRange when (nat_lt m.turns 1 || nat_lt most_turns m.turns)
+-- the turns are none, or too many
+abbrev pub are_out_of_range : ℕ → Bool
+are_out_of_range turns = nat_lt turns 1 || nat_lt most_turns turns
+
+-- the job of these members on their tree with these scripts
+abbrev pub job_of_scripts : Nodes → Members → List Acts → Result JobValue JobFault
+job_of_scripts t m scripts = do
+  fault.TurnsOutOfRange when are_out_of_range m.turns
   events ← schedule t.names m.schedule
   Ok (record {
     params = record { capacity = m.capacity; labels = m.labels };
@@ -49,6 +50,16 @@ job_on_tree t m = do
     turns = m.turns;
     schedule = events;
   })
+
+-- the job of these members on their tree
+abbrev pub job_on_tree : Nodes → Members → Result JobValue JobFault
+job_on_tree t m = do
+  fault.TooManyItems when nat_lt most_items (length m.items)
+  fault.TooManyEvents when nat_lt most_events (count m.schedule)
+  fault.StartCount when are_miscounted (links t) m.starts
+  fault.ScriptCount when are_miscounted (links t) m.scripts
+  scripts ← scripts_of (links t) m.scripts refused_as fault.Script
+  job_of_scripts t m scripts
 
 -- the job of these bytes
 abbrev pub job : List ℕ → Result JobValue JobFault

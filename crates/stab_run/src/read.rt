@@ -1,10 +1,11 @@
-ghost use Rattle.std.specs.Prelude.{◌≡◌, ◌≢◌, ◌<◌, codes, true, length, IfErr, MatchResult, None, Ok, Err};
+ghost use Rattle.std.specs.Prelude.{◌≡◌, ◌≢◌, ◌<◌, codes, true, false, length, IfErr, MatchResult, None, Ok, Err};
 ghost use Rattle.serde_json.specs.Find.{get};
 ghost use Rattle.serde_json.specs.View.{view};
 ghost use Rattle.stab_json.specs.Values.{value_of};
 ghost use Rattle.stab_run.specs.JobLinks.{are_miscounted};
 ghost use Rattle.stab_run.specs.JobValues.{links};
-ghost use Rattle.stab_run.specs.Jobs.{AreCounted, is_known_version, job, job_on_tree};
+ghost use Rattle.stab_run.specs.Jobs.{AreCounted, are_out_of_range, is_known_version};
+ghost use Rattle.stab_run.specs.Jobs.{job, job_on_tree, job_of_scripts};
 ghost use Rattle.stab_run.specs.LentMembers.{members_lent};
 ghost use Rattle.stab_run.specs.Refusals.{is_of_value};
 ghost use Rattle.stab_tree.specs.Nodes.{Nodes};
@@ -17,7 +18,7 @@ use crate::schedule::read_schedule;
 use serde_json::Value;
 use stab_frames::{Params, Sequence};
 use stab_json::read_value;
-use stab_script::ScriptFault;
+use stab_script::{Script, ScriptFault};
 use stab_tree::{Tree, TreeFault, read_tree};
 use std::alloc::Global;
 
@@ -74,7 +75,7 @@ fn job_on_tree(
     alloc: Global,
     params: Params,
     tree: Tree,
-    members: LentMembers<'_>,
+    mut members: LentMembers<'_>,
 ) -> Result<Job, JobFault>
     requires capacity { params.capacity ≡ members.capacity }
     requires labels { params.labels ≡ members.labels }
@@ -86,13 +87,32 @@ fn job_on_tree(
 {
     let links = tree.link_count();
     check_counts(links, &members)?;
-    let scripts = make_scripts(alloc, links, members.scripts)?;
-    if members.turns < 1 || members.turns > MAX_TURNS {
-        return Err(JobFault::TurnsOutOfRange);
-    }
+    let scripts = make_scripts(alloc, links, members.scripts.take())?;
+    job_of_scripts(alloc, params, tree, members, scripts)
+}
+
+/// The job of these scripts and of the other members, whose numbers of entries are right; or the
+/// first check that the turns and the schedule fail.
+fn job_of_scripts(
+    alloc: Global,
+    params: Params,
+    tree: Tree,
+    members: LentMembers<'_>,
+    scripts: Sequence<Script>,
+) -> Result<Job, JobFault>
+    requires capacity { params.capacity ≡ members.capacity }
+    requires labels { params.labels ≡ members.labels }
+    requires counted { AreCounted (links tree) (members_lent members) }
+    requires one_script_each { length scripts ≡ links tree }
+    ensures job { MatchResult result
+        (λ its_job. job_of_scripts tree (members_lent members.entry) scripts ≡ Ok its_job)
+        (λ fault. fault ≢ JobFault.Memory
+        → job_of_scripts tree (members_lent members.entry) scripts ≡ Err fault) }
+    ensures reported { IfErr result (λ fault. is_of_value fault ≡ true) }
+{
+    let turns = turns_in_range(members.turns)?;
     let schedule = read_schedule(alloc, &tree, members.schedule)?;
-    let starts = starts_of(alloc, links, members.starts)?;
-    let turns = members.turns as u32;
+    let starts = starts_of(alloc, tree.link_count(), members.starts)?;
     Ok(Job::from_parts(
         params,
         tree,
@@ -102,6 +122,18 @@ fn job_on_tree(
         turns,
         schedule,
     ))
+}
+
+/// These turns, where they are 1 to 1,000,000.
+fn turns_in_range(turns: u64) -> Result<u32, JobFault>
+    ensures { MatchResult result
+        (λ its_turns. (its_turns ≡ turns) × (are_out_of_range turns ≡ false))
+        (λ fault. (fault ≡ JobFault.TurnsOutOfRange) × (are_out_of_range turns ≡ true)) }
+{
+    if turns < 1 || turns > MAX_TURNS {
+        return Err(JobFault::TurnsOutOfRange);
+    }
+    Ok(turns as u32)
 }
 
 /// Whether the numbers of entries of these members are right over that many links, or the first

@@ -1,15 +1,19 @@
 ghost use Rattle.std.specs.Prelude.{◌≡◌, ◌≢◌, ◌++◌, List, ℕ, string_bytes};
-ghost use Rattle.std.specs.Prelude.{IfSome, IfOk, IfErr, OnOk};
+ghost use Rattle.std.specs.Prelude.{All, IfSome, IfOk, IfErr, OnOk};
 ghost use Rattle.std.specs.Io.KnownBytes.{Appends, Keeps};
+ghost use Rattle.stab_core.specs.Link.{IsReason, link_at};
+ghost use Rattle.stab_core.specs.Replay.{IsLawful, opening, replay};
+ghost use Rattle.stab_treecore.specs.Refusals.{IsScheduleReason, NamesLink};
+ghost use Rattle.stab_treecore.specs.TreeReplay.{tree_opening, tree_replay};
 ghost use Rattle.stab_task.specs.Answers.{IsLinkAnswer, IsTreeAnswer, IsAnswer, IsFault};
 
 use crate::command::Task;
 use crate::fault::CliFault;
 use crate::file::load;
-use stab_core::{link_text, push_origins_text, run_link, run_traced};
-use stab_run::read_job;
-use stab_script::read_link_job;
-use stab_treecore::{run_schedule, schedule_text};
+use stab_core::{Link, StartFault, link_text, push_origins_text, run_link, run_traced};
+use stab_run::{Job, read_job};
+use stab_script::{LinkJob, read_link_job};
+use stab_treecore::{TreeStartFault, TreeState, run_schedule, schedule_text};
 use std::alloc::Global;
 use std::io::{Read, Write};
 use std::sync::Wait;
@@ -90,13 +94,23 @@ fn answer_link(alloc: Global, with_trace: bool, bytes: &[u8]) -> Result<String, 
 {
     let job = read_link_job(alloc, bytes)?;
     if !with_trace {
-        let link = run_link(alloc, job.params, &job.start, job.events.as_slice())?;
+        let link = replay_link(alloc, &job)?;
         return Ok(link_text(alloc, &link)?);
     }
     let (link, origins) = run_traced(alloc, job.params, &job.start, job.events.as_slice())?;
     let mut text = link_text(alloc, &link)?;
     push_origins_text(&mut text, &origins)?;
     Ok(text)
+}
+
+/// The link of a job after its events.
+fn replay_link(alloc: Global, job: &LinkJob) -> Result<Link, StartFault>
+    ensures replay { IfOk result (λ link. link ≡ link_at job.now.params
+        (replay job.now.params (opening job.now.start) job.now.events)) }
+    ensures lawful { OnOk result (IsLawful job.now.params job.now.start) }
+    ensures refused { IfErr result (IsReason job.now.params job.now.start) }
+{
+    run_link(alloc, job.params, &job.start, job.events.as_slice())
 }
 
 /// The text of a whole tree after its schedule.
@@ -106,15 +120,29 @@ fn answer_tree(alloc: Global, bytes: &[u8]) -> Result<String, CliFault>
     ensures no_write { IfErr result (λ fault. fault ≢ CliFault.Write) }
 {
     let job = read_job(alloc, bytes)?;
-    let state = run_schedule(
+    let state = replay_tree(alloc, &job)?;
+    Ok(schedule_text(alloc, job.tree(), &state)?)
+}
+
+/// The whole tree of a job after its schedule.
+fn replay_tree(alloc: Global, job: &Job) -> Result<TreeState, TreeStartFault>
+    ensures replay { IfOk result (λ state. state ≡ tree_replay
+        (tree_opening job.now.params job.now.tree.parents job.now.items job.now.starts)
+        job.now.schedule) }
+    ensures same_tree { IfOk result (λ state. state.parents ≡ job.now.tree.parents) }
+    ensures lawful { OnOk result (All (IsLawful job.now.params) job.now.starts) }
+    ensures named { OnOk result (All (NamesLink job.now.tree.parents) job.now.schedule) }
+    ensures refused { IfErr result (IsScheduleReason job.now.params job.now.tree.parents
+        job.now.items job.now.starts job.now.schedule) }
+{
+    run_schedule(
         alloc,
         job.params(),
         job.tree(),
         job.items(),
         job.starts(),
         job.schedule(),
-    )?;
-    Ok(schedule_text(alloc, job.tree(), &state)?)
+    )
 }
 
 /// Writes a whole text, and asks the writer for a flush.

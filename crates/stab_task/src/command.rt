@@ -144,8 +144,9 @@ fn file_of(alloc: Global, matches: &ArgMatches<'_>) -> Result<Option<String>, Cl
 
 /// The fault of words that `clap` refuses: memory was refused, or the words are no command line.
 fn refusal(error: &Error) -> CliFault
-    ensures { (result ≡ CliFault.Memory)
+    ensures fault { (result ≡ CliFault.Memory)
         ⊎ ((result ≡ CliFault.CommandLine) × (kind_of error.now ≢ ErrorKind.OutOfMemory)) }
+    ensures words { kind_of error.now ≢ ErrorKind.OutOfMemory → result ≡ CliFault.CommandLine }
 {
     if error.kind() == ErrorKind::OutOfMemory {
         CliFault::Memory

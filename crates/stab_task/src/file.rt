@@ -1,4 +1,4 @@
-ghost use Rattle.std.specs.Prelude.{◌≡◌, ◌+◌, ◌<◌, ◌≤◌, length, take, ◌++◌, Some};
+ghost use Rattle.std.specs.Prelude.{◌≡◌, ◌+◌, ◌<◌, ◌≤◌, length, take, ◌++◌, Some, Err};
 ghost use Rattle.std.specs.Prelude.{MatchOption, IfOk, IfErr, OnOk};
 ghost use Rattle.std.specs.Io.KnownBytes.{Consumes, IsAtEnd, Keeps};
 ghost use Rattle.stab_task.specs.Loading.{IsWhole, IsLoadFault, IsUnloaded};
@@ -89,6 +89,8 @@ fn append(bytes: &mut Vec<u8>, more: &[u8]) -> Result<(), LoadFault>
     ensures appended { OnOk result (bytes.new.items ≡ bytes.old.items ++ more.now) }
     ensures not_too_long { OnOk result (length bytes.new.items ≤ MAX_BYTES) }
     ensures faults { IfErr result (IsLoadFault (Some (bytes.old.items ++ more.now))) }
+    ensures too_long { MAX_BYTES < length bytes.old.items + length more.now
+        → result ≡ Err LoadFault.TooLong }
 {
     if more.len() > MAX_BYTES - bytes.len() {
         return Err(LoadFault::TooLong);

@@ -1,4 +1,5 @@
-ghost use Rattle.std.specs.Prelude.{◌≡◌, ◌⊎◌, IfErr};
+ghost use Rattle.std.specs.Prelude.{◌≡◌, ◌≢◌, ◌⊎◌, IfErr};
+ghost use Rattle.std.specs.IoError.{error_kind};
 
 use crate::answer::act;
 use crate::command::Task;
@@ -43,7 +44,8 @@ pub fn perform<R: Files + Input + Print + Wait + AllocGlobal>(
 
 /// The fault of an error of the system: memory was refused, or another fault that the caller names.
 fn fault_of(error: &io::Error, other: CliFault) -> CliFault
-    ensures { (result ≡ CliFault.Memory) ⊎ (result ≡ other) }
+    ensures memory { error_kind error.now ≡ ErrorKind.OutOfMemory → result ≡ CliFault.Memory }
+    ensures other { error_kind error.now ≢ ErrorKind.OutOfMemory → result ≡ other }
 {
     if error.kind() == ErrorKind::OutOfMemory {
         CliFault::Memory

@@ -1,12 +1,12 @@
 -- The tree that a JSON value describes, or the fault of the first check that fails. Each check is
 -- made over the whole list before the next (this project's profile).
-use Rattle.std.specs.Prelude.{length, not, ◌==◌, nat_lt, Result, Ok}
+use Rattle.std.specs.Prelude.{◌≡◌, List, length, not, true, false, ◌==◌, nat_lt, Result, Ok}
 use Rattle.std.specs.List.{list_all}
 use Rattle.serde_json.specs.Data.{Data}
 use Rattle.stab_json.specs.Checks.{◌>>=◌, ◌>>◌, ◌or◌, ◌when◌}
 use Rattle.stab_tree.specs.declared.fault.TreeFault.{TreeFault}
 use Rattle.stab_tree.specs.declared.fault.TreeFault.TheVariants.{Shape, TooManyNodes, BadName, SameName, UnknownParent, NoRoot, TwoRoots, Cycle}
-use Rattle.stab_tree.specs.Entry.{entries_of, names_of}
+use Rattle.stab_tree.specs.Entry.{Entry, entries_of, names_of}
 use Rattle.stab_tree.specs.Name.{is_name, has_same_name}
 use Rattle.stab_tree.specs.Nodes.{Nodes, most_nodes}
 use Rattle.stab_tree.specs.Parents.{parents_of, root_count, have_depths}
@@ -23,3 +23,9 @@ tree_of d = do
   TwoRoots when nat_lt 1 (root_count parents)
   Cycle when not (have_depths parents)
   Ok (record { names = names; parents = parents })
+
+-- these entries are not too many, and each has a lawful name of its own
+pub record AreNamed (entries : List Entry) : Type 0 where
+  pub few : nat_lt most_nodes (length entries) ≡ false
+  pub lawful : list_all is_name (names_of entries) ≡ true
+  pub own : has_same_name (names_of entries) ≡ false

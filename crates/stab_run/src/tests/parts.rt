@@ -47,9 +47,11 @@ fn reads_a_lone_root(rt: HostRuntime) -> Result<(), Fail> {
     let text = r#"{"capacity":1,"labels":4,"tree":[{"name":"r"}],"items":[7,8]}"#;
     let job = job(rt.alloc(), text)?;
     assert_tree(&rt, &job, (1, 0), &[7, 8], 100_000);
-    assert_eq!(rt; job.tree().find("r"), Some(NodeId::new(0)));
-    assert_eq!(rt; (job.params().capacity(), job.params().labels()), (1, 4));
-    assert_eq!(rt; (job.starts().len(), job.scripts().len()), (0, 0));
+    assert!(rt; job.tree().find("r") == Some(NodeId::new(0)));
+    assert!(rt; job.params().capacity() == 1);
+    assert!(rt; job.params().labels() == 4);
+    assert!(rt; job.starts().is_empty());
+    assert!(rt; job.scripts().is_empty());
     Ok(())
 }
 
@@ -70,15 +72,17 @@ fn gives_each_link_a_clean_start_and_an_empty_script(rt: HostRuntime) -> Result<
     Ok(())
 }
 
+/// A job of two links, with a start and a script of its own for each.
+const TWO_LINKS: &str = r#"{"version":1,"capacity":1,"labels":4,
+    "tree":[{"name":"r"},{"name":"a","parent":"r"},{"name":"b","parent":"a"}],
+    "items":[10],
+    "starts":[{"frames":[[2,99]],"acks":[0],"send":0,"recv":1},{"send":5,"recv":6}],
+    "scripts":[{"frames_out":"PDE","acks_in":"TK"},null],
+    "turns":1000000}"#;
+
 #[test]
-fn reads_the_starts_and_scripts_of_two_links(rt: HostRuntime) -> Result<(), Fail> {
-    let text = r#"{"version":1,"capacity":1,"labels":4,
-        "tree":[{"name":"r"},{"name":"a","parent":"r"},{"name":"b","parent":"a"}],
-        "items":[10],
-        "starts":[{"frames":[[2,99]],"acks":[0],"send":0,"recv":1},{"send":5,"recv":6}],
-        "scripts":[{"frames_out":"PDE","acks_in":"TK"},null],
-        "turns":1000000}"#;
-    let job = job(rt.alloc(), text)?;
+fn reads_the_starts_of_two_links(rt: HostRuntime) -> Result<(), Fail> {
+    let job = job(rt.alloc(), TWO_LINKS)?;
     assert_tree(&rt, &job, (3, 2), &[10], 1_000_000);
     let [first, second] = job.starts() else {
         return Err(Fail::from("two starts"));
@@ -86,6 +90,12 @@ fn reads_the_starts_and_scripts_of_two_links(rt: HostRuntime) -> Result<(), Fail
     let frame = Frame { label: 2, item: 99 };
     assert_start(&rt, first, &[frame], &[0], (0, 1));
     assert_start(&rt, second, &[], &[], (5, 6));
+    Ok(())
+}
+
+#[test]
+fn reads_the_scripts_of_two_links(rt: HostRuntime) -> Result<(), Fail> {
+    let job = job(rt.alloc(), TWO_LINKS)?;
     let [first, second] = job.scripts() else {
         return Err(Fail::from("two scripts"));
     };
@@ -93,6 +103,14 @@ fn reads_the_starts_and_scripts_of_two_links(rt: HostRuntime) -> Result<(), Fail
     assert_script(&rt, first, &outs, &[InAct::Take, InAct::Keep]);
     assert_script(&rt, second, &[], &[]);
     Ok(())
+}
+
+/// An act on the link into the node at this place.
+fn event(child: u16, act: LinkAct) -> TreeEvent {
+    TreeEvent {
+        child: NodeId::new(child),
+        act,
+    }
 }
 
 #[test]
@@ -104,26 +122,19 @@ fn reads_each_act_of_a_schedule(rt: HostRuntime) -> Result<(), Fail> {
         ["a","send_ack"],["a","recv_ack"],["a","recv_ack_keep"],["a","lose_frame",5],
         ["a","lose_ack",65535],["r","close"]]}"#;
     let job = job(rt.alloc(), text)?;
-    let acts = [
-        (0, LinkAct::Offer),
-        (1, LinkAct::SendFrame),
-        (1, LinkAct::RecvFrame { keep: false }),
-        (1, LinkAct::RecvFrame { keep: true }),
-        (1, LinkAct::SendAck),
-        (1, LinkAct::RecvAck { keep: false }),
-        (1, LinkAct::RecvAck { keep: true }),
-        (1, LinkAct::LoseFrame(5)),
-        (1, LinkAct::LoseAck(65535)),
-        (0, LinkAct::Close),
+    let schedule = [
+        event(0, LinkAct::Offer),
+        event(1, LinkAct::SendFrame),
+        event(1, LinkAct::RecvFrame { keep: false }),
+        event(1, LinkAct::RecvFrame { keep: true }),
+        event(1, LinkAct::SendAck),
+        event(1, LinkAct::RecvAck { keep: false }),
+        event(1, LinkAct::RecvAck { keep: true }),
+        event(1, LinkAct::LoseFrame(5)),
+        event(1, LinkAct::LoseAck(65535)),
+        event(0, LinkAct::Close),
     ];
-    assert_eq!(rt; job.turns(), 1);
-    assert_eq!(rt; job.schedule().len(), 10);
-    for (event, (child, act)) in job.schedule().iter().zip(acts) {
-        let want = TreeEvent {
-            child: NodeId::new(child),
-            act,
-        };
-        assert_eq!(rt; *event, want);
-    }
+    assert!(rt; job.turns() == 1);
+    assert!(rt; job.schedule() == schedule.as_slice());
     Ok(())
 }

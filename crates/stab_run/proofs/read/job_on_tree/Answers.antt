@@ -1,10 +1,20 @@
--- The parts of a job are right where the numbers of entries and turns are.
-use Rattle.std.proofs.Common.{arith}
+-- Where the numbers of entries are right, there is a script for each link.
+use Rattle.std.proofs.Common.{refl}
 use Rattle.stab_run.specs.LentMembers.{members_lent}
-use Rattle.stab_run.proofs.Counts.{parts_of_job}
+use Rattle.stab_run.proofs.Counts.{script_each}
 use Rattle.stab_run.proofs.read.job_on_tree.Goals as goal
 
-pub from_parts-requires : goal.from_parts-requires
-from_parts-requires c =
-    parts_of_job (members_lent c.args.members) c.args.tree c.args.params c.link_count-links.result c.in_ok-starts.starts c.in_ok-scripts.scripts
-    c.in_ok-schedule.schedule c.in_ok-check_counts.ensures.counted c.link_count-links.ensures.value c.in_ok-starts.ensures c.in_ok-scripts.ensures (omega arith) (omega arith)
+pub job_of_scripts-requires-clause-counted : goal.job_of_scripts-requires-clause-counted
+job_of_scripts-requires-clause-counted c =
+    let counted = rw c.link_count-links.ensures.value at c.in_ok-check_counts.ensures.counted in
+    record {
+      few_items = counted.few_items;
+      few_events = counted.few_events;
+      one_start_each = counted.one_start_each;
+      one_script_each = rw c.take.ensures.after refl;
+    }
+
+pub job_of_scripts-requires-clause-one_script_each : goal.job_of_scripts-requires-clause-one_script_each
+job_of_scripts-requires-clause-one_script_each c =
+    script_each (members_lent c.args.members) c.args.tree c.link_count-links.result c.in_ok-scripts.scripts
+    c.in_ok-check_counts.ensures.counted c.link_count-links.ensures.value (rw c.take.ensures.value at c.in_ok-scripts.ensures)

@@ -8,4 +8,4 @@ returns-in-Err-clause-fault c =
     let words = map string_bytes c.args.words.now in
     let line = c.in_ok-command.ensures in
     let kinds = c.in-Err.ensures.kinds (ap is_simple_and_free line ∙ free) in
-    refused words c.in-Err.error c.refusal.result (subst (λ app. HasKind (fault_of app words) c.in-Err.error) line kinds) c.refusal.ensures
+    refused words c.in-Err.error c.refusal.result (subst (λ app. HasKind (fault_of app words) c.in-Err.error) line kinds) c.refusal.ensures.fault

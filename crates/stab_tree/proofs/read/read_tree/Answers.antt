@@ -1,7 +1,8 @@
-use Rattle.std.proofs.Common.{◌≡◌, true, false, map, string_bytes, arith}
+use Rattle.std.proofs.Common.{◌≡◌, true, length, map, string_bytes, arith}
+use Rattle.std.proofs.lemmas.Bool.{ltb-false}
 use Rattle.std.proofs.lemmas.Grind.{common_steps}
 use Rattle.stab_tree.specs.Entry.{names_of}
-use Rattle.stab_tree.specs.Name.{has_same_name}
+use Rattle.stab_tree.specs.Nodes.{most_nodes}
 use Rattle.stab_tree.specs.Parents.{have_depths}
 use Rattle.stab_tree.proofs.Checked.{Passed, few_parents, known_parents, IsTree-from_checks}
 use Rattle.stab_tree.proofs.read.read_tree.Goals as goal
@@ -11,14 +12,14 @@ use Rattle.stab_tree.proofs.read.read_tree.Goals.{After-as_slice-3}
 passed : (c : After-as_slice-3) → Passed c.as_slice-entries.result.now c.in-Some-3.parents.items
 passed c =
     let entries = c.as_slice-entries.result.now in
-    let own : has_same_name (names_of entries) ≡ false = grind (arith, common_steps) in
-    let names : map string_bytes c.in_ok-names.names.keys ≡ names_of entries = c.in_ok-names.ensures own in
+    let named = c.in_ok-check_names.ensures in
+    let names : map string_bytes c.in_ok-names.names.keys ≡ names_of entries = c.in_ok-names.ensures named.own in
     record {
-      few = omega arith;
-      lawful = grind (arith, common_steps);
-      own = own;
+      few = ltb-false most_nodes (length entries) named.few;
+      lawful = named.lawful;
+      own = named.own;
       found = rw (← names) (grind (arith, common_steps));
-      one = rw (← c.as_slice-2.ensures.value, ← c.root_count-roots.ensures) (omega arith);
+      one = rw c.as_slice-2.ensures.value at c.in_ok-check_roots.ensures;
     }
 
 pub first_root-root-requires : goal.first_root-root-requires
