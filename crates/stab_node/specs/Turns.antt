@@ -11,7 +11,8 @@ HavePassed has_passed last = (turn : ℕ) → 1 ≤ turn → turn ≤ last → h
 -- a worker whose turns are over made them all, and any other made at least one
 abbrev pub IsOver : (ℕ → Type 0) → ℕ → Ended → Type 0
 IsOver has_passed turns Turns = HavePassed has_passed turns
-IsOver has_passed turns Upstream = (last : ℕ) × (1 ≤ last) × (last ≤ turns) × HavePassed has_passed last
+IsOver has_passed turns Upstream =
+    (last : ℕ) × (1 ≤ last) × (last ≤ turns) × HavePassed has_passed last
 
 -- each turn before this one was let begin
 abbrev pub HavePassedBefore : (ℕ → Type 0) → ℕ → Type 0

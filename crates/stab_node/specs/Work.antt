@@ -1,9 +1,7 @@
 -- What a worker leaves at a node: what the node received, and what it handed on.
 -- Source: this project's profile.
-use Rattle.std.specs.Prelude.{◌≡◌, ℕ, Bool, true, false, List, [], ◌∷◌, ◌++◌, length, All, Option, Some, None, IfSome}
+use Rattle.std.specs.Prelude.{◌≡◌, ℕ, true, List, length, All, Option, Some, None, IfSome}
 use Rattle.stab_lock.specs.Accounts.{Sender, Receiver, new_sender, new_receiver}
-use Rattle.stab_lock.specs.declared.seen.FrameSeen.{FrameSeen}
-use Rattle.stab_lock.specs.declared.seen.FrameSeen.TheVariants as seen
 use Rattle.stab_node.specs.declared.account.Ended.{Ended}
 use Rattle.stab_node.specs.declared.account.Ended.TheVariants.{Upstream}
 use mathlib.Core.List.{IsPrefix}
@@ -19,7 +17,7 @@ abbrev pub received_by : Option Receiver → List ℕ → List ℕ
 received_by None published = published
 received_by (Some up) published = up.delivered
 
--- a lower end offered a front of what the node received, and is closed
+-- a lower end offered a prefix of what the node received, and is closed
 pub record IsServed (received : List ℕ) (down : Sender) : Type 0 where
   pub offered : IsPrefix down.offered received
   pub closed : down.closed ≡ true
@@ -41,46 +39,3 @@ pub record IsWork (published received : List ℕ) (up : Option Receiver) (downs 
   pub received_is : received ≡ received_by up published
   pub served : All (IsServed received) downs
   pub handed_on : ended ≡ Upstream → IsHandedOn received up downs
-
--- what a lower end offered is a front of what the node received
-pub record OffersFront (received : List ℕ) (down : Sender) : Type 0 where
-  pub offered : IsPrefix down.offered received
-
--- an upstream that counts as ended is closed
-pub record EndedIsClosed (ended : Bool) (up : Option Receiver) : Type 0 where
-  pub upstream : ended ≡ true → IfSome up (λ r. r.closed ≡ true)
-
--- what holds between two turns
-pub record IsUnderWay (published received : List ℕ) (ended : Bool) (up : Option Receiver)
-    (downs : List Sender) : Type 0 where
-  pub received_is : received ≡ received_by up published
-  pub upstream : EndedIsClosed ended up
-  pub lower : All (OffersFront received) downs
-
--- a lower end has offered this many items, and all of them are acknowledged
-pub record IsThrough (count : ℕ) (down : Sender) : Type 0 where
-  pub offered : length down.offered ≡ count
-  pub acked : down.acked ≡ count
-
--- an account but for its close
-abbrev pub but_for_the_close : Sender → Sender
-but_for_the_close s = record s { closed = false }
-
--- what holds once no further turn is made, and before the lower ends are closed
-pub record IsOut (published received : List ℕ) (up : Option Receiver) (downs : List Sender)
-    (ended : Ended) : Type 0 where
-  pub received_is : received ≡ received_by up published
-  pub lower : All (OffersFront received) downs
-  pub handed_on : ended ≡ Upstream → IsHandedOn received up downs
-
--- a list, and what was seen where it is a fresh item
-abbrev pub with_seen : List ℕ → FrameSeen → List ℕ
-with_seen received seen.Nothing = received
-with_seen received seen.Old = received
-with_seen received (seen.Fresh item) = received ++ item ∷ []
-with_seen received seen.Closed = received
-
--- what a node has before its first turn: the root has the published items
-abbrev pub first_received : Option Receiver → List ℕ → List ℕ
-first_received None published = published
-first_received (Some up) published = []

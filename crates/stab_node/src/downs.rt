@@ -1,8 +1,9 @@
 //! A node's lower ends: what a turn does on each, and how they are closed and finished.
 
-ghost use Rattle.std.specs.Prelude.{◌≡◌, ◌≤◌, [], true, Some, IsTrue, IfSome, OnOk, All, map, length};
+ghost use Rattle.std.specs.Prelude.{◌≡◌, ◌≤◌, [], true, Some, IsTrue, IfSome, OnOk, All, map};
+ghost use Rattle.std.specs.Prelude.{length};
 ghost use Rattle.std.specs.Prelude.{slice_get, vec_capacity};
-ghost use Rattle.stab_node.specs.Work.{IsThrough, OffersFront, but_for_the_close};
+ghost use Rattle.stab_node.specs.UnderWay.{IsThrough, OffersPrefix, but_for_the_close};
 
 use stab_frames::Item;
 use stab_lock::{SendAccount, SendSide};
@@ -10,14 +11,14 @@ use std::alloc::AllocError;
 
 /// Looks for an acknowledgement, offers the next item where the end is idle and there is one, and
 /// sends.
-#[tactic(auto, using(crate::proofs::Fronts::offers_no_more))]
+#[tactic(auto, using(crate::proofs::Prefixes::offers_no_more))]
 pub(crate) fn serve_down<D: SendSide>(
     pass: &D::Pass,
     down: &mut D,
     received: &[Item],
 ) -> Result<(), AllocError>
-    ensures offered { OffersFront received.now (D.sent down.old)
-        → OffersFront received.now (D.sent down.new) }
+    ensures offered { OffersPrefix received.now (D.sent down.old)
+        → OffersPrefix received.now (D.sent down.new) }
     ensures link { D.link down.new ≡ D.link down.old }
 {
     down.poll_ack(pass)?;
@@ -27,14 +28,14 @@ pub(crate) fn serve_down<D: SendSide>(
 }
 
 /// Offers the next item, where the end is idle and there is one.
-#[tactic(auto, using(crate::proofs::Fronts::offers_more))]
+#[tactic(auto, using(crate::proofs::Prefixes::offers_more))]
 fn offer_next<D: SendSide>(
     pass: &D::Pass,
     down: &mut D,
     received: &[Item],
 ) -> Result<(), AllocError>
-    ensures offered { OffersFront received.now (D.sent down.old)
-        → OffersFront received.now (D.sent down.new) }
+    ensures offered { OffersPrefix received.now (D.sent down.old)
+        → OffersPrefix received.now (D.sent down.new) }
     ensures link { D.link down.new ≡ D.link down.old }
 {
     if let Some(item) = next_item(down.account(), received) {
@@ -62,8 +63,8 @@ pub(crate) fn serve_downs<D: SendSide>(
     downs: &mut [D],
     received: &[Item],
 ) -> Result<(), AllocError>
-    ensures offered { All (OffersFront received.now) (map D.sent downs.old)
-        → All (OffersFront received.now) (map D.sent downs.new) }
+    ensures offered { All (OffersPrefix received.now) (map D.sent downs.old)
+        → All (OffersPrefix received.now) (map D.sent downs.new) }
     ensures links { map D.link downs.new ≡ map D.link downs.old }
 {
     'each: for down in downs.iter_mut() {
@@ -99,7 +100,7 @@ pub(crate) fn close_all<D: SendSide>(pass: &D::Pass, downs: &mut [D]) -> Result<
 }
 
 /// Closes a lower end.
-#[tactic(auto, using(crate::proofs::Fronts::closes_only))]
+#[tactic(auto, using(crate::proofs::Prefixes::closes_only))]
 fn close_down<D: SendSide>(pass: &D::Pass, down: &mut D) -> Result<(), AllocError>
     ensures closed { OnOk result ((D.sent down.new).closed ≡ true) }
     ensures account { but_for_the_close (D.sent down.new) ≡ but_for_the_close (D.sent down.old) }

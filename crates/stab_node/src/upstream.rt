@@ -3,8 +3,9 @@
 ghost use Rattle.std.specs.Prelude.{◌≡◌, ◌<◌, ℕ, List, true, IfOk, option_map, vec_len};
 ghost use Rattle.std.specs.Prelude.{vec_capacity};
 ghost use Rattle.stab_lock.specs.Accounts.{Sender};
-ghost use Rattle.stab_node.specs.Work.{EndedIsClosed, IsUnderWay, OffersFront, received_by};
-ghost use Rattle.stab_node.specs.Work.{with_seen};
+ghost use Rattle.stab_node.specs.Work.{received_by};
+ghost use Rattle.stab_node.specs.UnderWay.{EndedIsClosed, IsUnderWay, OffersPrefix};
+ghost use Rattle.stab_node.specs.UnderWay.{with_seen};
 
 use stab_frames::Item;
 use stab_lock::{FrameSeen, RecvSide};
@@ -39,8 +40,8 @@ fn take_from<U: RecvSide>(
     ensures received { (published : List ℕ)
         → received.old.items ≡ received_by (option_map U.received up.old) published
         → received.new.items ≡ received_by (option_map U.received up.new) published }
-    ensures fronts { (down : Sender)
-        → OffersFront received.old.items down → OffersFront received.new.items down }
+    ensures prefixes { (down : Sender)
+        → OffersPrefix received.old.items down → OffersPrefix received.new.items down }
     ensures ended { IfOk result (λ ended. EndedIsClosed ended (option_map U.received up.new)) }
     ensures link { option_map U.link up.new ≡ option_map U.link up.old }
 {
@@ -54,7 +55,7 @@ fn take_from<U: RecvSide>(
 /// an old one is. True where the end was shown the close.
 ///
 /// The place of an item is reserved before the end looks, so that no item that it takes is lost.
-#[tactic(auto, using(crate::proofs::UnderWay::front_with_seen, crate::proofs::UnderWay::delivered_with_seen))]
+#[tactic(auto, using(crate::proofs::UnderWay::prefix_with_seen))]
 fn look<U: RecvSide>(
     pass: &U::Pass,
     up: &mut U,
@@ -62,8 +63,8 @@ fn look<U: RecvSide>(
 ) -> Result<bool, AllocError>
     ensures received { (U.received up.old).delivered ≡ received.old.items
         → (U.received up.new).delivered ≡ received.new.items }
-    ensures fronts { (down : Sender)
-        → OffersFront received.old.items down → OffersFront received.new.items down }
+    ensures prefixes { (down : Sender)
+        → OffersPrefix received.old.items down → OffersPrefix received.new.items down }
     ensures ended { IfOk result (λ ended. ended ≡ true → (U.received up.new).closed ≡ true) }
     ensures link { U.link up.new ≡ U.link up.old }
 {

@@ -1,7 +1,9 @@
-ghost use Rattle.std.specs.Prelude.{◌≡◌, ◌≤◌, ℕ, List, [], true, false, IfOk, IfErr, IfSome, All, map};
+ghost use Rattle.std.specs.Prelude.{◌≡◌, ◌≤◌, ℕ, List, [], true, false, IfOk, IfErr, IfSome, All};
+ghost use Rattle.std.specs.Prelude.{map};
 ghost use Rattle.std.specs.Prelude.{length, option_map, vec_capacity};
-ghost use Rattle.stab_node.specs.Work.{AreNew, IsUnderWay, IsOut, IsThrough, IsWork};
-ghost use Rattle.stab_node.specs.Work.{first_received};
+ghost use Rattle.stab_node.specs.Work.{AreNew, IsWork};
+ghost use Rattle.stab_node.specs.UnderWay.{IsUnderWay, IsOut, IsThrough};
+ghost use Rattle.stab_node.specs.UnderWay.{first_received};
 ghost use Rattle.stab_node.specs.Turns.{IsOver, IsRefused};
 
 use crate::account::{Ended, NodeAccount};
@@ -79,7 +81,6 @@ struct Served<B> {
 }
 
 /// Makes the turns of a node, and closes its lower ends.
-#[tactic(auto, using(crate::proofs::UnderWay::begins, crate::proofs::UnderWay::worked))]
 fn serve<P, U, D, G>(
     pass: &P,
     alloc: Global,
@@ -135,7 +136,6 @@ fn first_items<U: RecvSide>(
 }
 
 /// Makes turns until the worker has handed everything on or its turns are over.
-#[tactic(auto, using(crate::proofs::UnderWay::out_by_upstream, crate::proofs::UnderWay::out_by_turns))]
 fn take_turns<P, U, D, G>(
     pass: &P,
     node: u16,
@@ -175,7 +175,6 @@ where
 }
 
 /// Makes one turn, and answers whether the upstream has ended and everything is handed on.
-#[tactic(auto, using(crate::proofs::UnderWay::lower_served))]
 fn make_turn<P, U, D>(
     pass: &P,
     up: &mut Option<U>,

@@ -1,6 +1,6 @@
 use Rattle.std.proofs.Common.{rules, length}
-use Rattle.stab_node.specs.Work.{IsThrough}
-use Rattle.stab_node.proofs.Fronts.{all_within}
+use Rattle.stab_node.specs.UnderWay.{IsThrough}
+use Rattle.stab_node.proofs.Prefixes.{all_within}
 use Rattle.stab_node.proofs.downs.all_served.Goals as goal
 
 pub returns : goal.returns

@@ -1,6 +1,6 @@
 use Rattle.std.proofs.Common.{length}
 use Rattle.std.specs.List.{AllWithin}
-use Rattle.stab_node.specs.Work.{IsThrough}
+use Rattle.stab_node.specs.UnderWay.{IsThrough}
 use Rattle.stab_node.proofs.downs.all_served.Given as goal
 
 -- the ends so far have everything acknowledged

@@ -1,8 +1,8 @@
 use Rattle.std.proofs.Common.{rules, ◌≡◌, ◌∙◌, true}
 use Rattle.std.proofs.Math.Seq.{map-set_same}
 use Rattle.std.proofs.lemmas.List.Elements.{AllWithin-more_set}
-use Rattle.stab_node.specs.Work.{but_for_the_close}
-use Rattle.stab_node.proofs.Fronts.{all_within}
+use Rattle.stab_node.specs.UnderWay.{but_for_the_close}
+use Rattle.stab_node.proofs.Prefixes.{all_within}
 use Rattle.stab_node.proofs.downs.close_all.Goals as goal
 
 pub returns-in_err-close_down-clause-accounts : goal.returns-in_err-close_down-clause-accounts

@@ -1,6 +1,6 @@
 use Rattle.std.proofs.Common.{◌≡◌, true, map}
 use Rattle.std.specs.List.{AllWithin}
-use Rattle.stab_node.specs.Work.{but_for_the_close}
+use Rattle.stab_node.specs.UnderWay.{but_for_the_close}
 use Rattle.stab_node.proofs.downs.close_all.Given as goal
 
 -- the ends so far are closed, and nothing else has changed

@@ -1,12 +1,12 @@
 use Rattle.std.proofs.Common.{rules, ◌∙◌}
 use Rattle.std.proofs.Math.Seq.{map-set_same}
-use Rattle.stab_node.specs.Work.{OffersFront}
-use Rattle.stab_node.proofs.Fronts.{all_but_one, at_place}
+use Rattle.stab_node.specs.UnderWay.{OffersPrefix}
+use Rattle.stab_node.proofs.Prefixes.{all_but_one, at_place}
 use Rattle.stab_node.proofs.downs.serve_downs.Goals as goal
 
 pub returns-in_err-serve_down-clause-offered : goal.returns-in_err-serve_down-clause-offered
 returns-in_err-serve_down-clause-offered g c = λ all.
-    let P = OffersFront c.args.received.now in
+    let P = OffersPrefix c.args.received.now in
     let before = c.each.invariant.0 all in
     all_but_one P g.D.SendSide.sent c.each.downs c.each.down-index c.serve_down.new.down
     (c.serve_down.ensures.offered
@@ -20,7 +20,7 @@ returns-in_err-serve_down-clause-links g c =
 
 pub each-preserved : goal.each-preserved
 each-preserved g c =
-    let P = OffersFront c.args.received.now in (
+    let P = OffersPrefix c.args.received.now in (
       λ all. let before = c.each.invariant.0 all in
           all_but_one P g.D.SendSide.sent c.each.downs c.each.down-index c.serve_down.new.down
           (c.serve_down.ensures.offered

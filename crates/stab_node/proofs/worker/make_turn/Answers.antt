@@ -1,5 +1,5 @@
 use Rattle.std.proofs.Common.{All, map, option_map, subst}
-use Rattle.stab_node.specs.Work.{OffersFront}
+use Rattle.stab_node.specs.UnderWay.{OffersPrefix}
 use Rattle.stab_node.proofs.UnderWay.{lower_served}
 use Rattle.stab_node.proofs.worker.make_turn.Goals as goal
 
@@ -12,8 +12,8 @@ returns-in_err-serve_downs-clause-under_way g c = λ published way.
     lower_served published c.serve_upstream.new.received.items c.serve_upstream.new.ended
     (option_map g.U.RecvSide.received c.serve_upstream.new.up)
     (map g.D.SendSide.sent c.args.downs.now) (map g.D.SendSide.sent c.serve_downs.new.downs)
-    (subst (λ r. All (OffersFront r) (map g.D.SendSide.sent c.args.downs.now)
-    → All (OffersFront r) (map g.D.SendSide.sent c.serve_downs.new.downs))
+    (subst (λ r. All (OffersPrefix r) (map g.D.SendSide.sent c.args.downs.now)
+    → All (OffersPrefix r) (map g.D.SendSide.sent c.serve_downs.new.downs))
     c.deref.ensures.value c.serve_downs.ensures.offered)
     (c.serve_upstream.ensures.under_way published (map g.D.SendSide.sent c.args.downs.now) way)
 
@@ -22,8 +22,8 @@ returns-then-upstream_ended-clause-under_way g c = λ published way.
     lower_served published c.serve_upstream.new.received.items c.serve_upstream.new.ended
     (option_map g.U.RecvSide.received c.serve_upstream.new.up)
     (map g.D.SendSide.sent c.args.downs.now) (map g.D.SendSide.sent c.serve_downs.new.downs)
-    (subst (λ r. All (OffersFront r) (map g.D.SendSide.sent c.args.downs.now)
-    → All (OffersFront r) (map g.D.SendSide.sent c.serve_downs.new.downs))
+    (subst (λ r. All (OffersPrefix r) (map g.D.SendSide.sent c.args.downs.now)
+    → All (OffersPrefix r) (map g.D.SendSide.sent c.serve_downs.new.downs))
     c.deref.ensures.value c.serve_downs.ensures.offered)
     (c.serve_upstream.ensures.under_way published (map g.D.SendSide.sent c.args.downs.now) way)
 
@@ -32,7 +32,7 @@ returns-else-upstream_ended-clause-under_way g c = λ published way.
     lower_served published c.serve_upstream.new.received.items c.serve_upstream.new.ended
     (option_map g.U.RecvSide.received c.serve_upstream.new.up)
     (map g.D.SendSide.sent c.args.downs.now) (map g.D.SendSide.sent c.serve_downs.new.downs)
-    (subst (λ r. All (OffersFront r) (map g.D.SendSide.sent c.args.downs.now)
-    → All (OffersFront r) (map g.D.SendSide.sent c.serve_downs.new.downs))
+    (subst (λ r. All (OffersPrefix r) (map g.D.SendSide.sent c.args.downs.now)
+    → All (OffersPrefix r) (map g.D.SendSide.sent c.serve_downs.new.downs))
     c.deref.ensures.value c.serve_downs.ensures.offered)
     (c.serve_upstream.ensures.under_way published (map g.D.SendSide.sent c.args.downs.now) way)

@@ -1,6 +1,6 @@
 use Rattle.std.proofs.Common.{false, map, option_map, subst, sym, ◌∙◌}
 use Rattle.std.proofs.lemmas.Simd.{map-map}
-use Rattle.stab_node.specs.Work.{IsUnderWay, but_for_the_close}
+use Rattle.stab_node.specs.UnderWay.{IsUnderWay, but_for_the_close}
 use Rattle.stab_node.proofs.UnderWay.{begins, worked}
 use Rattle.stab_node.proofs.worker.serve.Goals as goal
 

@@ -1,5 +1,5 @@
 use Rattle.std.proofs.Common.{◌≡◌, ℕ, List, false, map, option_map}
-use Rattle.stab_node.specs.Work.{IsUnderWay}
+use Rattle.stab_node.specs.UnderWay.{IsUnderWay}
 use Rattle.stab_node.specs.Turns.{HavePassedBefore}
 use Rattle.stab_node.proofs.worker.take_turns.Given as goal
 

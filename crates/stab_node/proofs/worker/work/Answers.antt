@@ -1,6 +1,6 @@
 use Rattle.std.proofs.Common.{rules, ◌≡◌, map, option_map, subst, sym, ap, ◌∙◌}
 use Rattle.stab_node.specs.Work.{AreNew, IsWork}
-use Rattle.stab_node.proofs.Fronts.{written_back}
+use Rattle.stab_node.proofs.Prefixes.{written_back}
 use Rattle.stab_node.proofs.worker.work.Goals as goal
 
 pub returns-clause-work : goal.returns-clause-work

@@ -1,5 +1,7 @@
--- Fronts of a list, and lists in which one entry is replaced by one that looks alike.
-use Rattle.std.proofs.Common.{◌≡◌, ◌<◌, ◌≤◌, ℕ, zero, suc, arith, sym, subst, ◌∙◌, append_assoc, take, drop, slice_set, slice_index_or, List, [], ◌∷◌, ◌++◌, length, map, slice_get, Some, rules, refl, ap}
+-- Prefixes of a list, and lists in which one entry is replaced by one that looks alike.
+use Rattle.std.proofs.Common.{◌≡◌, ◌<◌, ◌≤◌, ℕ, zero, suc, arith, sym, subst, ◌∙◌, append_assoc}
+use Rattle.std.proofs.Common.{take, drop, slice_set, slice_index_or, List, [], ◌∷◌, ◌++◌, length}
+use Rattle.std.proofs.Common.{map, slice_get, Some, rules, refl, ap}
 use Rattle.std.proofs.Common.{Result, Ok, Err, Bool, true, false}
 use Rattle.std.specs.declared.alloc.AllocError.{AllocError}
 use Rattle.stab_core.specs.declared.event.Effect.{Effect}
@@ -11,46 +13,47 @@ use Rattle.std.proofs.Math.Seq.{take-append_seam}
 use Rattle.std.proofs.lemmas.List.{map-set}
 use Rattle.std.specs.List.{AllWithin}
 use Rattle.std.proofs.lemmas.List.Elements.{All-set, All-nil, All-cons, All-head, All-tail, All-map}
-use Rattle.stab_node.specs.Work.{OffersFront, IsThrough, HasAll, but_for_the_close}
+use Rattle.stab_node.specs.Work.{HasAll}
+use Rattle.stab_node.specs.UnderWay.{OffersPrefix, IsThrough, but_for_the_close}
 use mathlib.Core.List.{IsPrefix}
 
--- a front, and the entry after it, are a front
+-- a prefix, and the entry after it, are a prefix
 pub one_more_offered : (offered received : List ℕ) (item : ℕ)
     → slice_get received (length offered) ≡ Some item
     → IsPrefix offered received → IsPrefix (offered ++ item ∷ []) received
-one_more_offered [] [] item next front = search rules
-one_more_offered [] (x ∷ received) item next front =
+one_more_offered [] [] item next prefix = search rules
+one_more_offered [] (x ∷ received) item next prefix =
     (received, search rules)
-one_more_offered (o ∷ offered) [] item next front = search rules
-one_more_offered (o ∷ offered) (x ∷ received) item next front =
+one_more_offered (o ∷ offered) [] item next prefix = search rules
+one_more_offered (o ∷ offered) (x ∷ received) item next prefix =
     let same : o ≡ x = search rules in
-    let rest : IsPrefix offered received = (front.0, search rules) in
+    let rest : IsPrefix offered received = (prefix.0, search rules) in
     let more : IsPrefix (offered ++ item ∷ []) received =
     one_more_offered offered received item (search rules) rest in
     (more.0, search (rules, same, more.1))
 
--- an offer of the entry after a front leaves a front
+-- an offer of the entry after a prefix leaves a prefix
 pub offers_more : (received : List ℕ) (s : Sender) (item : ℕ) (taken : Result Bool AllocError)
     → slice_get received (length s.offered) ≡ Some item
-    → OffersFront received s → OffersFront received (after_offer s item taken)
-offers_more received s item (Ok true) next front =
-    record { offered = one_more_offered s.offered received item next front.offered }
-offers_more received s item (Ok false) next front = front
-offers_more received s item (Err refused) next front = front
+    → OffersPrefix received s → OffersPrefix received (after_offer s item taken)
+offers_more received s item (Ok true) next prefix =
+    record { offered = one_more_offered s.offered received item next prefix.offered }
+offers_more received s item (Ok false) next prefix = prefix
+offers_more received s item (Err refused) next prefix = prefix
 
 -- a look for an acknowledgement offers nothing
 pub offers_no_more : (received : List ℕ) (s : Sender) (effect : Result Effect AllocError)
-    → OffersFront received s → OffersFront received (after_poll_ack s effect)
-offers_no_more received s (Ok Nothing) front = front
-offers_no_more received s (Ok Held) front = front
-offers_no_more received s (Ok Sent) front = front
-offers_no_more received s (Ok (Fresh item)) front = front
-offers_no_more received s (Ok Old) front = front
-offers_no_more received s (Ok Acked) front = record { offered = front.offered }
-offers_no_more received s (Ok Ignored) front = front
-offers_no_more received s (Ok Lost) front = front
-offers_no_more received s (Ok Closed) front = front
-offers_no_more received s (Err refused) front = front
+    → OffersPrefix received s → OffersPrefix received (after_poll_ack s effect)
+offers_no_more received s (Ok Nothing) prefix = prefix
+offers_no_more received s (Ok Held) prefix = prefix
+offers_no_more received s (Ok Sent) prefix = prefix
+offers_no_more received s (Ok (Fresh item)) prefix = prefix
+offers_no_more received s (Ok Old) prefix = prefix
+offers_no_more received s (Ok Acked) prefix = record { offered = prefix.offered }
+offers_no_more received s (Ok Ignored) prefix = prefix
+offers_no_more received s (Ok Lost) prefix = prefix
+offers_no_more received s (Ok Closed) prefix = prefix
+offers_no_more received s (Err refused) prefix = prefix
 
 -- a close changes nothing else
 pub closes_only : (s : Sender) (effect : Result Effect AllocError)
@@ -58,15 +61,15 @@ pub closes_only : (s : Sender) (effect : Result Effect AllocError)
 closes_only s (Ok effect) = refl
 closes_only s (Err refused) = refl
 
--- a front of a list is a front of a longer one
-pub front_of_more : (received : List ℕ) (item : ℕ) (s : Sender) → OffersFront received s
-    → OffersFront (received ++ item ∷ []) s
-front_of_more received item s front =
-    let tail = front.offered.0 in
+-- a prefix of a list is a prefix of a longer one
+pub prefix_of_more : (received : List ℕ) (item : ℕ) (s : Sender) → OffersPrefix received s
+    → OffersPrefix (received ++ item ∷ []) s
+prefix_of_more received item s prefix =
+    let tail = prefix.offered.0 in
     record {
       offered = (
         tail ++ item ∷ [],
-        sym (append_assoc s.offered tail (item ∷ [])) ∙ ap (λ xs. xs ++ item ∷ []) front.offered.1,
+        sym (append_assoc s.offered tail (item ∷ [])) ∙ ap (λ xs. xs ++ item ∷ []) prefix.offered.1,
       );
     }
 
@@ -84,28 +87,28 @@ at_place P f (x ∷ xs) zero d inside all = All-head P (f x) (map f xs) all
 at_place P f (x ∷ xs) (suc place) d inside all =
     at_place P f xs place d (omega arith) (All-tail P (f x) (map f xs) all)
 
--- a front as long as the whole list is the whole list
-whole_front : (offered received : List ℕ) → IsPrefix offered received
+-- a prefix as long as the whole list is the whole list
+whole_prefix : (offered received : List ℕ) → IsPrefix offered received
     → length offered ≡ length received → offered ≡ received
-whole_front [] [] front long = refl
-whole_front [] (x ∷ received) front long = search rules
-whole_front (o ∷ offered) [] front long = search rules
-whole_front (o ∷ offered) (x ∷ received) front long =
+whole_prefix [] [] prefix long = refl
+whole_prefix [] (x ∷ received) prefix long = search rules
+whole_prefix (o ∷ offered) [] prefix long = search rules
+whole_prefix (o ∷ offered) (x ∷ received) prefix long =
     let same : o ≡ x = search rules in
-    let rest : IsPrefix offered received = (front.0, search rules) in
-    let more : offered ≡ received = whole_front offered received rest (omega arith) in
+    let rest : IsPrefix offered received = (prefix.0, search rules) in
+    let more : offered ≡ received = whole_prefix offered received rest (omega arith) in
     search (rules, same, more)
 
--- ends that offered fronts, and are through, have offered everything
-pub through_has_all : (received : List ℕ) (downs : List Sender) → All (OffersFront received) downs
+-- ends that offered prefixes, and are through, have offered everything
+pub through_has_all : (received : List ℕ) (downs : List Sender) → All (OffersPrefix received) downs
     → All (IsThrough (length received)) downs → All (HasAll received) downs
-through_has_all received [] fronts through = All-nil (HasAll received)
-through_has_all received (s ∷ downs) fronts through =
-    let front = All-head (OffersFront received) s downs fronts in
+through_has_all received [] prefixes through = All-nil (HasAll received)
+through_has_all received (s ∷ downs) prefixes through =
+    let prefix = All-head (OffersPrefix received) s downs prefixes in
     let is = All-head (IsThrough (length received)) s downs through in
     All-cons (HasAll received) s downs
-    (record { offered = whole_front s.offered received front.offered is.offered; acked = is.acked })
-    (through_has_all received downs (All-tail (OffersFront received) s downs fronts)
+    (record { offered = whole_prefix s.offered received prefix.offered is.offered; acked = is.acked })
+    (through_has_all received downs (All-tail (OffersPrefix received) s downs prefixes)
     (All-tail (IsThrough (length received)) s downs through))
 
 -- what holds of the entries up to the end holds of all
