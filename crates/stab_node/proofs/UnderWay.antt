@@ -1,0 +1,145 @@
+-- From the ends that a worker is given to its answer: what holds at the beginning, between two turns,
+-- once no further turn is made, and once the lower ends are closed.
+use Rattle.std.proofs.Common.{◌≡◌, ℕ, List, [], ◌∷◌, length, map, Bool, true, false, All, rules}
+use Rattle.std.proofs.Common.{refl, sym, subst}
+use Rattle.std.proofs.Common.{Option, Some, None}
+use Rattle.std.proofs.lemmas.List.Elements.{All-nil, All-cons, All-head, All-tail, All-weaker}
+use Rattle.stab_lock.specs.Accounts.{Sender, Receiver, new_sender, after_seen}
+use Rattle.stab_lock.specs.declared.seen.FrameSeen.{FrameSeen}
+use Rattle.stab_lock.specs.declared.seen.FrameSeen.TheVariants as seen
+use Rattle.stab_node.specs.declared.account.Ended.{Ended}
+use Rattle.stab_node.specs.declared.account.Ended.TheVariants.{Upstream, Turns}
+use Rattle.stab_node.specs.Work.{AreNew, HasAll, IsServed}
+use Rattle.stab_node.specs.UnderWay.{EndedIsClosed, IsOut, IsThrough, IsUnderWay}
+use Rattle.stab_node.specs.Work.{IsWork, received_by}
+use Rattle.stab_node.specs.UnderWay.{OffersPrefix, but_for_the_close, first_received, with_seen}
+use Rattle.stab_node.proofs.Prefixes.{prefix_of_more, through_has_all}
+
+-- a prefix is a prefix still, once what was seen is added
+pub prefix_with_seen : (received : List ℕ) (s : FrameSeen) (down : Sender)
+    → OffersPrefix received down → OffersPrefix (with_seen received s) down
+prefix_with_seen received seen.Nothing down prefix = prefix
+prefix_with_seen received seen.Old down prefix = prefix
+prefix_with_seen received (seen.Fresh item) down prefix = prefix_of_more received item down prefix
+prefix_with_seen received seen.Closed down prefix = prefix
+
+-- what is added is what the upper end delivers
+pub delivered_with_seen : (r : Receiver) (s : FrameSeen)
+    → (after_seen r s).delivered ≡ with_seen r.delivered s
+delivered_with_seen r seen.Nothing = refl
+delivered_with_seen r seen.Old = refl
+delivered_with_seen r (seen.Fresh item) = refl
+delivered_with_seen r seen.Closed = refl
+
+-- the work goes on once the upper end was served
+pub upper_served : (published before after : List ℕ) (ended ends : Bool) (up now : Option Receiver) (downs : List Sender)
+    → (before ≡ received_by up published → after ≡ received_by now published)
+    → ((down : Sender) → OffersPrefix before down → OffersPrefix after down)
+    → EndedIsClosed ends now
+    → IsUnderWay published before ended up downs → IsUnderWay published after ends now downs
+upper_served published before after ended ends up now downs received prefixes closed way =
+    record {
+      received_is = received way.received_is;
+      upstream = closed;
+      lower = All-weaker (OffersPrefix before) (OffersPrefix after) prefixes downs way.lower;
+    }
+
+-- the work goes on once the lower ends were served
+pub lower_served : (published received : List ℕ) (ended : Bool) (up : Option Receiver) (downs served : List Sender)
+    → (All (OffersPrefix received) downs → All (OffersPrefix received) served)
+    → IsUnderWay published received ended up downs → IsUnderWay published received ended up served
+lower_served published received ended up downs served prefixes way =
+    record { received_is = way.received_is; upstream = way.upstream; lower = prefixes way.lower }
+
+-- an upstream that has ended, and ends that are through, end the work
+pub out_by_upstream : (published received : List ℕ) (ended : Bool) (up : Option Receiver) (downs : List Sender)
+    → ended ≡ true → All (IsThrough (length received)) downs
+    → IsUnderWay published received ended up downs → IsOut published received up downs Upstream
+out_by_upstream published received ended up downs is through way =
+    record {
+      received_is = way.received_is;
+      lower = way.lower;
+      handed_on = λ _. record {
+        upstream = way.upstream.upstream is;
+        lower = through_has_all received downs way.lower through;
+      };
+    }
+
+-- so do turns that are over
+pub out_by_turns : (published received : List ℕ) (ended : Bool) (up : Option Receiver) (downs : List Sender)
+    → IsUnderWay published received ended up downs → IsOut published received up downs Turns
+out_by_turns published received ended up downs way =
+    record { received_is = way.received_is; lower = way.lower; handed_on = search rules }
+
+-- ends that have made no call offered a prefix of any list
+prefixes_of_new : (received : List ℕ) (downs : List Sender) → All (λ s. s ≡ new_sender) downs
+    → All (OffersPrefix received) downs
+prefixes_of_new received downs new =
+    All-weaker (λ s. s ≡ new_sender) (OffersPrefix received)
+    (λ s is. subst (OffersPrefix received) (sym is) (record { offered = (received, refl) })) downs new
+
+-- new ends, and the first items of the node, begin the work
+pub begins : (published : List ℕ) (up : Option Receiver) (downs : List Sender) → AreNew up downs
+    → IsUnderWay published (first_received up published) false up downs
+begins published None downs new =
+    record {
+      received_is = refl;
+      upstream = record { upstream = search rules };
+      lower = prefixes_of_new published downs new.lower;
+    }
+begins published (Some r) downs new =
+    record {
+      received_is = search (rules, new.upper);
+      upstream = record { upstream = search rules };
+      lower = prefixes_of_new [] downs new.lower;
+    }
+
+-- ends that are closed, and changed in nothing else, are served
+served : (received : List ℕ) (downs closed : List Sender)
+    → map but_for_the_close closed ≡ map but_for_the_close downs
+    → All (λ s. s.closed ≡ true) closed → All (OffersPrefix received) downs → All (IsServed received) closed
+served received [] [] alike shut prefixes = All-nil (IsServed received)
+served received [] (s ∷ closed) alike shut prefixes = search rules
+served received (d ∷ downs) [] alike shut prefixes = search rules
+served received (d ∷ downs) (s ∷ closed) alike shut prefixes =
+    let same : s.offered ≡ d.offered = search rules in
+    let rest : map but_for_the_close closed ≡ map but_for_the_close downs = search rules in
+    let prefix = All-head (OffersPrefix received) d downs prefixes in
+    All-cons (IsServed received) s closed
+    (record {
+      offered = search (same, prefix.offered);
+      closed = All-head (λ x. x.closed ≡ true) s closed shut;
+    })
+    (served received downs closed rest (All-tail (λ x. x.closed ≡ true) s closed shut)
+    (All-tail (OffersPrefix received) d downs prefixes))
+
+-- and have all that they had
+having : (received : List ℕ) (downs closed : List Sender)
+    → map but_for_the_close closed ≡ map but_for_the_close downs
+    → All (HasAll received) downs → All (HasAll received) closed
+having received [] [] alike all = All-nil (HasAll received)
+having received [] (s ∷ closed) alike all = search rules
+having received (d ∷ downs) [] alike all = search rules
+having received (d ∷ downs) (s ∷ closed) alike all =
+    let same_offered : s.offered ≡ d.offered = search rules in
+    let same_acked : s.acked ≡ d.acked = search rules in
+    let rest : map but_for_the_close closed ≡ map but_for_the_close downs = search rules in
+    let has = All-head (HasAll received) d downs all in
+    All-cons (HasAll received) s closed
+    (record { offered = search (same_offered, has.offered); acked = search (same_acked, has.acked) })
+    (having received downs closed rest (All-tail (HasAll received) d downs all))
+
+-- closed ends are a worker's answer
+pub worked : (published received : List ℕ) (up : Option Receiver) (downs closed : List Sender) (ended : Ended)
+    → map but_for_the_close closed ≡ map but_for_the_close downs
+    → All (λ s. s.closed ≡ true) closed
+    → IsOut published received up downs ended → IsWork published received up closed ended
+worked published received up downs closed ended alike shut out =
+    record {
+      received_is = out.received_is;
+      served = served received downs closed alike shut out.lower;
+      handed_on = λ is. record {
+        upstream = (out.handed_on is).upstream;
+        lower = having received downs closed alike (out.handed_on is).lower;
+      };
+    }

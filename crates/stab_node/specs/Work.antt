@@ -1,0 +1,41 @@
+-- What a worker leaves at a node: what the node received, and what it handed on.
+-- Source: this project's profile.
+use Rattle.std.specs.Prelude.{◌≡◌, ℕ, true, List, length, All, Option, Some, None, IfSome}
+use Rattle.stab_lock.specs.Accounts.{Sender, Receiver, new_sender, new_receiver}
+use Rattle.stab_node.specs.declared.account.Ended.{Ended}
+use Rattle.stab_node.specs.declared.account.Ended.TheVariants.{Upstream}
+use mathlib.Core.List.{IsPrefix}
+
+-- ends that have made no call
+pub record AreNew (up : Option Receiver) (downs : List Sender) : Type 0 where
+  pub upper : IfSome up (λ r. r ≡ new_receiver)
+  pub lower : All (λ s. s ≡ new_sender) downs
+
+-- what a node has: what its upper end delivered, or what is published at the root, which has no
+-- upper end
+abbrev pub received_by : Option Receiver → List ℕ → List ℕ
+received_by None published = published
+received_by (Some up) published = up.delivered
+
+-- a lower end offered a prefix of what the node received, and is closed
+pub record IsServed (received : List ℕ) (down : Sender) : Type 0 where
+  pub offered : IsPrefix down.offered received
+  pub closed : down.closed ≡ true
+
+-- a lower end offered all that the node received, and all of it is acknowledged
+pub record HasAll (received : List ℕ) (down : Sender) : Type 0 where
+  pub offered : down.offered ≡ received
+  pub acked : down.acked ≡ length received
+
+-- the upstream has ended, and everything is handed on
+pub record IsHandedOn (received : List ℕ) (up : Option Receiver) (downs : List Sender)
+    : Type 0 where
+  pub upstream : IfSome up (λ r. r.closed ≡ true)
+  pub lower : All (HasAll received) downs
+
+-- a worker's answer, by the accounts of its finished ends
+pub record IsWork (published received : List ℕ) (up : Option Receiver) (downs : List Sender)
+    (ended : Ended) : Type 0 where
+  pub received_is : received ≡ received_by up published
+  pub served : All (IsServed received) downs
+  pub handed_on : ended ≡ Upstream → IsHandedOn received up downs
