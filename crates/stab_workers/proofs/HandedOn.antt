@@ -1,0 +1,109 @@
+-- From the accounts of the nodes to what each node received and each link handed on.
+use Rattle.std.proofs.Common.{◌≡◌, ◌<◌, ◌≤◌, ℕ, zero, suc, true, List, [], ◌∷◌, length, map, get_or, Option, Some, None, option_map, IfSome, All, refl, ap, sym, ◌∙◌, subst, arith}
+use Rattle.std.proofs.lemmas.List.{length-map}
+use Rattle.std.proofs.lemmas.List.Elements.{All-head, All-nil, All-tail}
+use Rattle.std.proofs.lemmas.Option.{none-some}
+use Rattle.stab_lock.specs.Accounts.{Receiver, Sender}
+use Rattle.stab_node.specs.declared.account.Ended.{Ended}
+use Rattle.stab_node.specs.declared.account.Ended.TheVariants.{Turns, Upstream}
+use Rattle.stab_node.specs.Work.{HasAll, IsServed, IsWork, received_by}
+use Rattle.stab_tree.specs.Nodes.{parent_at, root_of}
+use Rattle.stab_treecore.specs.ByChild.{by_child}
+use Rattle.stab_workers.proofs.ForCallers.{holds_of_child, length-by_child}
+use Rattle.stab_workers.proofs.Worked.{all_of_map}
+use Rattle.stab_workers.specs.ByNode.{ended_at, entry_into, received_at}
+use Rattle.stab_workers.specs.Dealing.{by_parent}
+
+-- a node without a parent is dealt nothing by child
+none_by_child : {A : Type 0} (parents : List (Option ℕ)) (xs : List A) (node : ℕ) → parent_at parents node ≡ None
+    → get_or (by_child parents xs) node None ≡ None
+none_by_child [] xs node none = refl
+none_by_child (None ∷ parents) xs zero none = refl
+none_by_child (None ∷ parents) xs (suc node) none = none_by_child parents xs node none
+none_by_child (Some p ∷ parents) xs zero none = absurd (none-some p (sym none))
+none_by_child (Some p ∷ parents) [] (suc node) none = none_by_child parents [] node none
+none_by_child (Some p ∷ parents) (x ∷ xs) (suc node) none = none_by_child parents xs node none
+
+-- what each account gives holds of the parts of the account at each place
+module _ {A X Y : Type 0} (P : A → Type 0) (received : A → List ℕ) (up : A → Option X) (downs : A → List Y) (ended : A → Ended)
+    (T : List ℕ → Option X → List Y → Ended → Type 0) (each : (a : A) → P a → T (received a) (up a) (downs a) (ended a)) where
+  at_place : (accounts : List A) (k : ℕ) → (length accounts ≤ k → T [] None [] Turns) → All P accounts
+      → T (get_or (map received accounts) k []) (get_or (map up accounts) k None) (get_or (map downs accounts) k []) (get_or (map ended accounts) k Turns)
+  at_place [] k outside all = outside (omega arith)
+  at_place (a ∷ accounts) zero outside all = each a (All-head P a accounts all)
+  at_place (a ∷ accounts) (suc k) outside all = at_place accounts k (λ past. outside (omega (arith, past))) (All-tail P a accounts all)
+
+module _ {A X Y : Type 0} (published : List ℕ) (parents : List (Option ℕ)) (done_received : X → Receiver) (done_sent : Y → Sender)
+    (received_of : A → List ℕ) (up_of : A → Option X) (downs_of : A → List Y) (ended_of : A → Ended) (accounts : List A)
+    (received : List (List ℕ)) (ended : List Ended) (recvs : List X) (sends : List Y)
+    (received_is : received ≡ map received_of accounts) (ended_is : ended ≡ map ended_of accounts)
+    (recvs_are : by_child parents recvs ≡ map up_of accounts) (sends_are : by_parent parents sends ≡ map downs_of accounts)
+    (work : All (λ a. IsWork published (received_of a) (option_map done_received (up_of a)) (map done_sent (downs_of a)) (ended_of a)) accounts) where
+  -- the same for what was gathered
+  at_node : (T : List ℕ → Option X → List Y → Ended → Type 0) (node : ℕ)
+      → ((a : A) → IsWork published (received_of a) (option_map done_received (up_of a)) (map done_sent (downs_of a)) (ended_of a)
+      → T (received_of a) (up_of a) (downs_of a) (ended_of a))
+      → (length accounts ≤ node → T [] None [] Turns)
+      → T (received_at received node) (entry_into parents recvs node) (get_or (map downs_of accounts) node []) (ended_at ended node)
+  at_node T node each outside =
+      subst (λ xs. T (get_or xs node []) (entry_into parents recvs node) (get_or (map downs_of accounts) node []) (ended_at ended node)) (sym received_is)
+      (subst (λ xs. T (get_or (map received_of accounts) node []) (get_or xs node None) (get_or (map downs_of accounts) node []) (ended_at ended node)) (sym recvs_are)
+      (subst (λ xs. T (get_or (map received_of accounts) node []) (get_or (map up_of accounts) node None) (get_or (map downs_of accounts) node []) (get_or xs node Turns)) (sym ended_is)
+      (at_place _ received_of up_of downs_of ended_of T each accounts node outside work)))
+
+  -- what a child received is what the link into it delivered
+  pub delivered_at : (child : ℕ) (done : X) → entry_into parents recvs child ≡ Some done → received_at received child ≡ (done_received done).delivered
+  delivered_at child done =
+      at_node (λ r u ds e. u ≡ Some done → r ≡ (done_received done).delivered) child
+      (λ a worked is. worked.received_is ∙ ap (λ u. received_by (option_map done_received u) published) is)
+      (λ past is. absurd (none-some done is))
+
+  -- the link into a node that ended with its upstream is closed
+  pub upstream_at : (child : ℕ) (done : X) → entry_into parents recvs child ≡ Some done → ended_at ended child ≡ Upstream
+      → (done_received done).closed ≡ true
+  upstream_at child done =
+      at_node (λ r u ds e. u ≡ Some done → e ≡ Upstream → (done_received done).closed ≡ true) child
+      (λ a worked is upstream.
+      subst (λ u. IfSome (option_map done_received u) (λ r. r.closed ≡ true)) is (worked.handed_on upstream).upstream)
+      (λ past is. absurd (none-some done is))
+
+  module _ (known : (child parent : ℕ) → parent_at parents child ≡ Some parent → parent < length parents) where
+    -- what a node offered on the link to its child is a prefix of what it received, and is closed
+    pub served_at : (child parent : ℕ) (done : Y) → parent_at parents child ≡ Some parent → entry_into parents sends child ≡ Some done
+        → IsServed (received_at received parent) (done_sent done)
+    served_at child parent done is_child is =
+        holds_of_child (λ node d. IsServed (received_at received node) (done_sent d)) parents sends (map downs_of accounts) sends_are
+        (λ node within.
+        at_node (λ r u ds e. All (λ d. IsServed r (done_sent d)) ds) node
+        (λ a worked. all_of_map (IsServed (received_of a)) done_sent (downs_of a) worked.served) (λ past. All-nil _))
+        child parent done is_child (known child parent is_child) is
+
+    -- a node that ended with its upstream handed all that it received on, and all of it is acknowledged
+    pub handed_on_at : (child parent : ℕ) (done : Y) → parent_at parents child ≡ Some parent → entry_into parents sends child ≡ Some done
+        → ended_at ended parent ≡ Upstream → HasAll (received_at received parent) (done_sent done)
+    handed_on_at child parent done is_child is =
+        holds_of_child (λ node d. ended_at ended node ≡ Upstream → HasAll (received_at received node) (done_sent d)) parents sends (map downs_of accounts) sends_are
+        (λ node within.
+        at_node (λ r u ds e. All (λ d. e ≡ Upstream → HasAll r (done_sent d)) ds) node
+        (λ a worked k d inside upstream.
+        all_of_map (HasAll (received_of a)) done_sent (downs_of a) (worked.handed_on upstream).lower k d inside) (λ past. All-nil _))
+        child parent done is_child (known child parent is_child) is
+
+  -- the root has what is published
+  pub root_at : parent_at parents (root_of parents) ≡ None → root_of parents < length parents → received_at received (root_of parents) ≡ published
+  root_at none within =
+      at_node (λ r u ds e. u ≡ None → r ≡ published) (root_of parents)
+      (λ a worked is. worked.received_is ∙ ap (λ u. received_by (option_map done_received u) published) is)
+      (λ past. absurd (omega (arith, past, within, length-map accounts up_of, ap length recvs_are, length-by_child parents recvs)))
+      (none_by_child parents recvs (root_of parents) none)
+
+  -- there is a list for each node, and a reason
+  pub length_received : length received ≡ length parents
+  length_received =
+      ap length received_is
+      ∙ (length-map accounts received_of ∙ (sym (length-map accounts up_of) ∙ (sym (ap length recvs_are) ∙ length-by_child parents recvs)))
+
+  pub length_ended : length ended ≡ length parents
+  length_ended =
+      ap length ended_is
+      ∙ (length-map accounts ended_of ∙ (sym (length-map accounts up_of) ∙ (sym (ap length recvs_are) ∙ length-by_child parents recvs)))

@@ -1,0 +1,7 @@
+pub mod Dealt
+pub mod Seated
+pub mod Gathering
+pub mod ForCallers
+pub mod Worked
+pub mod HandedOn
+pub mod Three

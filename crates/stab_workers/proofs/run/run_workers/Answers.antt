@@ -1,0 +1,58 @@
+use Rattle.stab_workers.proofs.ForCallers.{column_can_be_gathered, column_gathered_alike, rows_can_be_gathered, rows_gathered_alike}
+use Rattle.stab_workers.proofs.HandedOn.{delivered_at, handed_on_at, length_ended, length_received, root_at, served_at, upstream_at}
+use Rattle.stab_workers.proofs.run.run_workers.Goals as goal
+
+-- the accounts have an upper end wherever one was dealt out
+pub gather_accounts-requires-clause-ups : goal.gather_accounts-requires-clause-ups
+gather_accounts-requires-clause-ups g c = column_can_be_gathered _ _ _ _ c.requires.receivers _ c.in_ok-accounts.ensures.up_links
+
+-- and as many lower ends as were dealt out
+pub gather_accounts-requires-clause-downs : goal.gather_accounts-requires-clause-downs
+gather_accounts-requires-clause-downs g c = rows_can_be_gathered _ _ _ _ c.requires.senders _ c.in_ok-accounts.ensures.down_links
+
+pub returns-clause-received : goal.returns-clause-received
+returns-clause-received g c =
+    length_received _ _ g.U.RecvSide.done_received g.D.SendSide.done_sent _ _ _ _ _ _ _ _ _
+    c.in_ok-gathered.ensures.received c.in_ok-gathered.ensures.ended c.in_ok-gathered.ensures.recvs c.in_ok-gathered.ensures.sends c.in_ok-accounts.ensures.work
+
+pub returns-clause-ended : goal.returns-clause-ended
+returns-clause-ended g c =
+    length_ended _ _ g.U.RecvSide.done_received g.D.SendSide.done_sent _ _ _ _ _ _ _ _ _
+    c.in_ok-gathered.ensures.received c.in_ok-gathered.ensures.ended c.in_ok-gathered.ensures.recvs c.in_ok-gathered.ensures.sends c.in_ok-accounts.ensures.work
+
+-- what is gathered belongs, link by link, to the links that were dealt out
+pub returns-clause-sender_links : goal.returns-clause-sender_links
+returns-clause-sender_links g c =
+    rows_gathered_alike _ _ _ _ c.requires.senders c.root-root.ensures.tree.known_parents _ _ c.in_ok-accounts.ensures.down_links c.in_ok-gathered.ensures.senders c.in_ok-gathered.ensures.sends
+
+pub returns-clause-receiver_links : goal.returns-clause-receiver_links
+returns-clause-receiver_links g c =
+    column_gathered_alike _ _ _ _ c.requires.receivers _ _ c.in_ok-accounts.ensures.up_links c.in_ok-gathered.ensures.receivers c.in_ok-gathered.ensures.recvs
+
+pub returns-clause-root : goal.returns-clause-root
+returns-clause-root g c =
+    root_at _ _ g.U.RecvSide.done_received g.D.SendSide.done_sent _ _ _ _ _ _ _ _ _
+    c.in_ok-gathered.ensures.received c.in_ok-gathered.ensures.ended c.in_ok-gathered.ensures.recvs c.in_ok-gathered.ensures.sends c.in_ok-accounts.ensures.work
+    c.root-root.ensures.tree.root_has_none c.root-root.ensures.tree.root_is_node
+
+pub returns-clause-delivered : goal.returns-clause-delivered
+returns-clause-delivered g c =
+    delivered_at _ _ g.U.RecvSide.done_received g.D.SendSide.done_sent _ _ _ _ _ _ _ _ _
+    c.in_ok-gathered.ensures.received c.in_ok-gathered.ensures.ended c.in_ok-gathered.ensures.recvs c.in_ok-gathered.ensures.sends c.in_ok-accounts.ensures.work
+
+pub returns-clause-served : goal.returns-clause-served
+returns-clause-served g c =
+    served_at _ _ g.U.RecvSide.done_received g.D.SendSide.done_sent _ _ _ _ _ _ _ _ _
+    c.in_ok-gathered.ensures.received c.in_ok-gathered.ensures.ended c.in_ok-gathered.ensures.recvs c.in_ok-gathered.ensures.sends c.in_ok-accounts.ensures.work
+    c.root-root.ensures.tree.known_parents
+
+pub returns-clause-upstream : goal.returns-clause-upstream
+returns-clause-upstream g c =
+    upstream_at _ _ g.U.RecvSide.done_received g.D.SendSide.done_sent _ _ _ _ _ _ _ _ _
+    c.in_ok-gathered.ensures.received c.in_ok-gathered.ensures.ended c.in_ok-gathered.ensures.recvs c.in_ok-gathered.ensures.sends c.in_ok-accounts.ensures.work
+
+pub returns-clause-handed_on : goal.returns-clause-handed_on
+returns-clause-handed_on g c =
+    handed_on_at _ _ g.U.RecvSide.done_received g.D.SendSide.done_sent _ _ _ _ _ _ _ _ _
+    c.in_ok-gathered.ensures.received c.in_ok-gathered.ensures.ended c.in_ok-gathered.ensures.recvs c.in_ok-gathered.ensures.sends c.in_ok-accounts.ensures.work
+    c.root-root.ensures.tree.known_parents

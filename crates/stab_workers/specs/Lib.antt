@@ -1,0 +1,4 @@
+pub mod Answers
+pub mod ByNode
+pub mod Dealing
+pub mod FirstFault

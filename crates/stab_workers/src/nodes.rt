@@ -1,0 +1,81 @@
+ghost use Rattle.std.specs.Prelude.{◌≡◌, ◌≤◌, ◌<◌, ℕ, IfOk, IfErr, All, length, map, option_map};
+ghost use Rattle.stab_lock.specs.Accounts.{new_sender, new_receiver};
+ghost use Rattle.stab_node.specs.Turns.{IsOver, IsRefused};
+ghost use Rattle.stab_node.specs.Work.{IsWork};
+ghost use Rattle.stab_treecore.specs.ByChild.{by_child};
+ghost use Rattle.stab_workers.specs.ByNode.{ended_at};
+ghost use Rattle.stab_workers.specs.Dealing.{by_parent};
+
+use crate::accounts::take_accounts;
+use crate::deal::deal;
+use crate::fault::WorkersFault;
+use crate::workers::run_seats;
+use stab_frames::Item;
+use stab_lock::{RecvSide, SendSide};
+use stab_node::{Gate, NodeAccount, NodeFault};
+use stab_tree::Tree;
+use std::alloc::Global;
+use std::collections::VecDeque;
+use std::sync::Wait;
+use std::thread::Threads;
+
+/// Runs one worker per node of a tree, and takes the accounts of all nodes, in file order.
+pub(crate) fn run_nodes<'e, R: Threads + Wait + Sync, P: Sync, U, D, G>(
+    rt: &'e R,
+    pass: &'e P,
+    alloc: Global,
+    tree: &Tree,
+    sends: Vec<D>,
+    recvs: Vec<U>,
+    published: &'e [Item],
+    turns: u32,
+    gate: &'e G,
+) -> Result<Vec<NodeAccount<U::Done, D::Done>>, WorkersFault>
+where
+    U: RecvSide<Pass = P> + Send,
+    D: SendSide<Pass = P> + Send,
+    G: Gate + Sync,
+    U::Done: Send,
+    D::Done: Send,
+    requires turns { 1 ≤ turns }
+    requires new_senders { All (λ d. D.sent d ≡ new_sender) sends.items }
+    requires new_receivers { All (λ u. U.received u ≡ new_receiver) recvs.items }
+    ensures up_links { IfOk result (λ accounts.
+        map (option_map U.done_link) (map (λ a. a.up) accounts.items)
+        ≡ map (option_map U.link) (by_child tree.now.parents recvs.items)) }
+    ensures down_links { IfOk result (λ accounts.
+        map (map D.done_link) (map (λ a. a.downs.items) accounts.items)
+        ≡ map (map D.link) (by_parent tree.now.parents sends.items)) }
+    ensures work { IfOk result (λ accounts. All (λ a. IsWork published.now a.received.items
+        (option_map U.done_received a.up) (map D.done_sent a.downs.items) a.ended)
+        accounts.items) }
+    ensures turns { IfOk result (λ accounts. (node : ℕ) → node < length tree.now.parents
+        → IsOver (G.has_passed gate.now node) turns
+        (ended_at (map (λ a. a.ended) accounts.items) node)) }
+    ensures done { IfOk result (λ accounts. (node : ℕ) → node < length tree.now.parents
+        → G.is_done gate.now node) }
+    ensures refused { IfErr result (λ fault. (node : ℕ)
+        → fault ≡ WorkersFault.Node node NodeFault.Gate
+        → IsRefused (G.has_passed gate.now node) (G.may_refuse gate.now node) turns) }
+{
+    let _count = tree.len();
+    let seats = deal(alloc, tree, sends, recvs)?;
+    let room = Vec::with_capacity(alloc, seats.len())?;
+    let room_for_answers = VecDeque::with_capacity(alloc, seats.len())?;
+    let seats = VecDeque::from(seats);
+    let answers = match run_seats(
+        rt,
+        pass,
+        alloc,
+        seats,
+        published,
+        turns,
+        gate,
+        room_for_answers,
+    ) {
+        Ok(answers) => Vec::from(answers),
+        Err(node) => return Err(WorkersFault::Thread(node)),
+    };
+    let accounts = take_accounts(answers, room)?;
+    Ok(accounts)
+}

@@ -1,0 +1,148 @@
+ghost use Rattle.std.specs.List.{AllZip};
+ghost use Rattle.std.specs.Thread.{IsSend, IsSync};
+ghost use Rattle.std.specs.Prelude.{◌≡◌, ◌≤◌, ◌+◌, [], ◌∷◌, IfOk, MatchResult, ℕ};
+ghost use Rattle.std.specs.VecDeque.{deque_capacity, deque_len};
+ghost use Rattle.stab_node.specs.Turns.{IsRefused};
+ghost use Rattle.stab_workers.specs.Answers.{HasWorked, node_ends};
+
+use crate::seat::Seat;
+use stab_frames::Item;
+use stab_lock::{RecvSide, SendSide};
+use stab_node::{Gate, NodeAccount, NodeFault, work};
+use std::alloc::Global;
+use std::collections::VecDeque;
+use std::snapshot::Snapshot;
+use std::sync::Wait;
+use std::thread;
+use std::thread::{Promise, Threads};
+
+/// What a worker answers.
+pub(crate) type Answer<U, D> = Result<
+    NodeAccount<<U as RecvSide>::Done, <D as SendSide>::Done>,
+    NodeFault,
+>;
+
+/// The promise of a worker: it answers for the seat that it took what `work` answers.
+#[derive(Drop)]
+struct WorkPromise<'e, U: RecvSide, D: SendSide, G: Gate> {
+    seat: Snapshot<Seat<U, D>>,
+    published: &'e [Item],
+    turns: u32,
+    gate: &'e G,
+}
+
+impl<'e, U: RecvSide, D: SendSide, G: Gate> Promise<
+    Result<NodeAccount<U::Done, D::Done>, NodeFault>,
+> for WorkPromise<'e, U, D, G> {
+    ghost use Rattle.std.specs.Prelude.{◌≡◌, MatchResult};
+    ghost use Rattle.stab_node.specs.Turns.{IsRefused};
+    ghost use Rattle.stab_node.specs.declared.fault.NodeFault.TheVariants.{Gate as Refused};
+    ghost use Rattle.stab_workers.specs.Answers.{HasWorked, node_ends};
+
+    ghost kept_by = { λ p r. MatchResult r
+        (λ a. HasWorked (G.has_passed p.gate.now p.seat.value.node) p.turns p.published.now
+        (node_ends U.received U.link D.sent D.link p.seat.value.up p.seat.value.downs.items)
+        (node_ends U.done_received U.done_link D.done_sent D.done_link a.up a.downs.items)
+        a.received.items a.ended)
+        (λ fault. fault ≡ Refused → IsRefused (G.has_passed p.gate.now p.seat.value.node)
+        (G.may_refuse p.gate.now p.seat.value.node) p.turns)
+        × G.is_done p.gate.now p.seat.value.node };
+}
+
+/// Starts a worker for each seat, in their order, and waits for all. An error is the node whose
+/// worker could not be started; those of the seats after it are not started.
+pub(crate) fn run_seats<'e, R: Threads + Wait + Sync, P: Sync, U, D, G>(
+    rt: &'e R,
+    pass: &'e P,
+    alloc: Global,
+    mut seats: VecDeque<Seat<U, D>>,
+    published: &'e [Item],
+    turns: u32,
+    gate: &'e G,
+    answers: VecDeque<Answer<U, D>>,
+) -> Result<VecDeque<Answer<U, D>>, u16>
+where
+    U: RecvSide<Pass = P> + Send,
+    D: SendSide<Pass = P> + Send,
+    G: Gate + Sync,
+    U::Done: Send,
+    D::Done: Send,
+    requires turns { 1 ≤ turns }
+    requires none { answers.items ≡ [] }
+    requires room { deque_len seats ≤ deque_capacity answers }
+    requires kinds { IsSync R.row × IsSync P.row × IsSend U.row × IsSend D.row × IsSync G.row
+        × IsSend U.Done.row × IsSend D.Done.row }
+    ensures answers { IfOk result (λ answers. AllZip (λ s r. MatchResult r
+        (λ a. HasWorked (G.has_passed gate.now s.node) turns published.now
+        (node_ends U.received U.link D.sent D.link s.up s.downs.items)
+        (node_ends U.done_received U.done_link D.done_sent D.done_link a.up a.downs.items)
+        a.received.items a.ended)
+        (λ fault. fault ≡ NodeFault.Gate → IsRefused (G.has_passed gate.now s.node)
+        (G.may_refuse gate.now s.node) turns)
+        × G.is_done gate.now s.node) seats.items answers.items) }
+    ensures len { IfOk result (λ answers. deque_len answers ≡ deque_len seats) }
+    ensures room { IfOk result (λ new. deque_capacity new ≡ deque_capacity answers) }
+{
+    let Some(seat) = seats.pop_front() else {
+        return Ok(answers);
+    };
+    thread::scope(
+        thread::scope_env(),
+        rt,
+        move |scope| -> Result<VecDeque<Answer<U, D>>, u16>
+            requires turns { 1 ≤ turns }
+            requires none { answers.items ≡ [] }
+            requires room { deque_len seats + 1 ≤ deque_capacity answers }
+            requires kinds { IsSync R.row × IsSync P.row × IsSend U.row × IsSend D.row
+                × IsSync G.row × IsSend U.Done.row × IsSend D.Done.row }
+            ensures answers { IfOk result (λ answers. AllZip (λ s r. MatchResult r
+                (λ a. HasWorked (G.has_passed gate.entry.now s.node) turns published.entry.now
+                (node_ends U.received U.link D.sent D.link s.up s.downs.items)
+                (node_ends U.done_received U.done_link D.done_sent D.done_link
+                a.up a.downs.items)
+                a.received.items a.ended)
+                (λ fault. fault ≡ NodeFault.Gate
+                → IsRefused (G.has_passed gate.entry.now s.node)
+                (G.may_refuse gate.entry.now s.node) turns)
+                × G.is_done gate.entry.now s.node) (seat ∷ seats.items) answers.items) }
+            ensures len { IfOk result (λ answers. deque_len answers ≡ deque_len seats + 1) }
+            ensures room { IfOk result (λ new. deque_capacity new ≡ deque_capacity answers) }
+        {
+            let node = seat.node;
+            let promise = WorkPromise {
+                seat: Snapshot::of(&seat),
+                published,
+                turns,
+                gate,
+            };
+            let worker = match scope.spawn_with(
+                promise,
+                move || -> Answer<U, D>
+                    requires turns { 1 ≤ turns }
+                    ensures work { MatchResult result
+                        (λ a. HasWorked (G.has_passed gate.entry.now seat.node) turns
+                        published.entry.now
+                        (node_ends U.received U.link D.sent D.link seat.up seat.downs.items)
+                        (node_ends U.done_received U.done_link D.done_sent D.done_link
+                        a.up a.downs.items)
+                        a.received.items a.ended)
+                        (λ fault. fault ≡ NodeFault.Gate
+                        → IsRefused (G.has_passed gate.entry.now seat.node)
+                        (G.may_refuse gate.entry.now seat.node) turns) }
+                    ensures done { G.is_done gate.entry.now seat.node }
+                {
+                    let Seat { node, up, downs } = seat;
+                    work(pass, alloc, node, up, downs, published, turns, gate)
+                },
+            ) {
+                Ok(worker) => worker,
+                Err(_) => return Err(node),
+            };
+            let rest = run_seats(rt, pass, alloc, seats, published, turns, gate, answers);
+            let answer = worker.join(rt);
+            let mut answers = rest?;
+            answers.push_front_reserved(answer);
+            Ok(answers)
+        },
+    )
+}
