@@ -1,4 +1,6 @@
--- For the crates above: facts on what there is one of per link, dealt out by child, and dealt out to the children of each node.
+-- For the crates above: facts on what there is one of per link, dealt out by child, and dealt out to
+-- the children of each node; and on texts that have one part per node.
+pub use Rattle.stab_treecore.proofs.Lines.{next_place}
 use Rattle.std.proofs.Common.{◌≡◌, ◌==◌, ◌<◌, ℕ, zero, suc, Bool, true, false, if◌then◌else◌, List, [], ◌∷◌, length, map, get_or, Option, Some, None, option_map, All, refl, ap, sym, ◌∙◌, subst, eq-eqb, arith}
 use Rattle.std.proofs.lemmas.List.Elements.{All-head, All-tail}
 use Rattle.std.proofs.lemmas.Option.{none-some, same_Some}

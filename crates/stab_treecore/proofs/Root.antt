@@ -44,6 +44,11 @@ all_items (x ∷ xs) = ap (λ rest. x ∷ rest) (sym (items_after (x ∷ []) xs 
 pub all_picked : (items : List ℕ) → Picks items (all_places items) items
 all_picked items = record { rising = all_rise items; in_list = all_below items; the_items = sym (all_items items) }
 
+-- every place of a list is there
+pub all_there : (items : List ℕ) (i : ℕ) → i < length items → Contains (all_places items) i
+all_there items i within =
+    stands_is_member (all_places items) i i (record { within = omega (arith, length_all items); is_there = all_at items i within })
+
 -- below a place of a list, every place is a place of it
 pub all_lower : (items : List ℕ) (i q : ℕ) → i < q → Contains (all_places items) q → Contains (all_places items) i
 all_lower items i q before last =

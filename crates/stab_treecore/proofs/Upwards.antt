@@ -5,11 +5,11 @@ use mathlib.Core.List.{IsPrefix}
 use Rattle.std.proofs.lemmas.List.{length-append}
 use Rattle.std.proofs.lemmas.List.Elements.{Contains-get_or}
 use Rattle.stab_core.specs.Picks.{RisesFrom, AllBelow, Picks}
-use Rattle.stab_core.specs.LinkLaw.{HalfLawAt, NoneMissing, HalfLaw, LinkLaw}
+use Rattle.stab_core.specs.LinkLaw.{HalfLawAt, NoneMissing, NoneMissingFrom, HalfLaw, LinkLaw}
 use Rattle.stab_core.proofs.ForCallers.{below_bound, few_picked, at_places, picks_chosen, picks_of_prefix, length_picked, raised, picks_joined, Parted, parted, items_parted, member_stands, stands_is_member, lower_is_earlier, member_is_raised, member_is_chosen, chosen_is_member, raised_is_member, member_is_below}
-use Rattle.stab_treecore.specs.TreeLaw.{HalfTreeLawAt, NoneMissingBefore, HalfTreeLaw, TreeLaw}
-use Rattle.stab_treecore.proofs.Members.{enough_before}
-use Rattle.stab_treecore.proofs.Root.{all_places, all_picked, all_lower}
+use Rattle.stab_treecore.specs.TreeLaw.{HalfTreeLawAt, NoneMissingBefore, HalfTreeLaw, TreeLaw, CompleteLaw}
+use Rattle.stab_treecore.proofs.Members.{enough_before, enough_up_to}
+use Rattle.stab_treecore.proofs.Root.{all_places, all_picked, all_lower, all_there}
 
 module _ (capacity most_strays acked : ℕ) (start_items garbage published received offered delivered : List ℕ)
     (begins : IsPrefix offered received) where
@@ -86,6 +86,26 @@ module _ (capacity most_strays acked : ℕ) (start_items garbage published recei
         member_is_raised strays m low high parts.low_below (subst (λ ps. Contains ps (strays + m)) parts.both taken_here) in
         subst (λ x. Contains (at_places above high) x) there.is_there (chosen_is_member above high m chosen)
 
+    -- where no published item is missing at the parent, and the link has all of the parent's list acknowledged, none is missing
+    -- at the child
+    child_has_all : (most_missing : ℕ) → acked ≡ length received → NoneMissingFrom most_missing (length published) above
+        → NoneMissing capacity acked places
+        → NoneMissingFrom (most_missing + (2 * capacity + 1)) (length published) (at_places above parts.high)
+    child_has_all most_missing all_acked at_parent on_link i enough before =
+        let low = parts.low in
+        let high = parts.high in
+        let strays = length up.strays in
+        let (m, there) = member_stands above i (at_parent i (omega arith) before) in
+        let far_enough : 2 * capacity + 1 ≤ m =
+        enough_up_to most_missing (2 * capacity + 1) (length published) i m above at_parent up.taken_picked.rising enough before there in
+        let as_many : length up.taken ≡ length above = length_picked published above up.taken up.taken_picked in
+        let in_all : length received ≡ strays + length up.taken = ap (λ xs. length xs) up.parts ∙ length-append up.strays up.taken in
+        let acked_before : strays + m < acked = omega (arith, there.within) in
+        let taken_here : Contains places (strays + m) = on_link (strays + m) (omega arith) acked_before in
+        let chosen : Contains high m =
+        member_is_raised strays m low high parts.low_below (subst (λ ps. Contains ps (strays + m)) parts.both taken_here) in
+        subst (λ x. Contains (at_places above high) x) there.is_there (chosen_is_member above high m chosen)
+
   -- the half tree law of the child
   pub half_below : HalfTreeLaw most_strays garbage published received → HalfLaw capacity start_items offered acked delivered
       → HalfTreeLaw (most_strays + capacity) (start_items ++ garbage) published delivered
@@ -99,6 +119,16 @@ module _ (capacity most_strays acked : ℕ) (start_items garbage published recei
     at_places above (parts above places up link).high,
     child_half above places up link,
     child_misses_none above places up link most_missing at_parent on_link,
+  )
+
+  -- the complete law of the child
+  pub complete_below : (most_missing : ℕ) → acked ≡ length received → CompleteLaw most_strays most_missing garbage published received
+      → LinkLaw capacity start_items offered acked delivered
+      → CompleteLaw (most_strays + capacity) (most_missing + (2 * capacity + 1)) (start_items ++ garbage) published delivered
+  complete_below most_missing all_acked (above, up, at_parent) (places, link, on_link) = (
+    at_places above (parts above places up link).high,
+    child_half above places up link,
+    child_has_all above places up link most_missing all_acked at_parent on_link,
   )
 
 -- ---- a list that begins with an opening
@@ -130,20 +160,24 @@ module _ (most_strays : ℕ) (opening garbage published delivered : List ℕ) wh
 -- ---- the root, and larger bounds
 
 -- the root has every published item and no stray
+root_half : (published : List ℕ) → HalfTreeLawAt 0 [] published published (all_places published)
+root_half published = record {
+  strays = [];
+  stray_places = [];
+  taken = published;
+  parts = refl;
+  few_strays = omega arith;
+  strays_picked = record { rising = tt; in_list = tt; the_items = refl };
+  taken_picked = all_picked published;
+}
+
 pub root_law : (published : List ℕ) → TreeLaw 0 0 [] published published
-root_law published = (
-  all_places published,
-  record {
-    strays = [];
-    stray_places = [];
-    taken = published;
-    parts = refl;
-    few_strays = omega arith;
-    strays_picked = record { rising = tt; in_list = tt; the_items = refl };
-    taken_picked = all_picked published;
-  },
-  λ i q enough before last. all_lower published i q before last,
-)
+root_law published =
+    (all_places published, root_half published, λ i q enough before last. all_lower published i q before last)
+
+-- no published item is missing at the root
+pub root_has_all : (published : List ℕ) → CompleteLaw 0 0 [] published published
+root_has_all published = (all_places published, root_half published, λ i enough before. all_there published i before)
 
 -- larger bounds hold where smaller ones do
 pub larger_bounds : (few most_strays first most_missing : ℕ) (garbage published received : List ℕ)

@@ -3,6 +3,7 @@
 -- missing.
 -- Source: this project's own; no number here is ascribed to the book.
 use Rattle.std.specs.Prelude.{◌≡◌, ℕ, ◌<◌, ◌≤◌, List, ◌++◌, length, Contains}
+use Rattle.stab_core.specs.LinkLaw.{NoneMissingFrom}
 use Rattle.stab_core.specs.Picks.{Picks}
 
 -- With these places in the published list: the received list is few strays, picked from the garbage
@@ -32,3 +33,10 @@ abbrev pub TreeLaw : ℕ → ℕ → List ℕ → List ℕ → List ℕ → Type
 TreeLaw most_strays most_missing garbage published received =
     (places : List ℕ) × HalfTreeLawAt most_strays garbage published received places
     × NoneMissingBefore most_missing places
+
+-- the complete law: the half tree law, and for the same places no published item is missing, except
+-- among the first ones
+abbrev pub CompleteLaw : ℕ → ℕ → List ℕ → List ℕ → List ℕ → Type 0
+CompleteLaw most_strays most_missing garbage published received =
+    (places : List ℕ) × HalfTreeLawAt most_strays garbage published received places
+    × NoneMissingFrom most_missing (length published) places

@@ -19,7 +19,7 @@ ghost use Rattle.stab_treecore.specs.NodeLaws.{strays_bound, opened_strays_bound
 ghost use Rattle.stab_treecore.specs.NodeLaws.{LinkLawBetween, LinkLawPastOpening};
 ghost use Rattle.stab_treecore.specs.NodeLaws.{HalfTreeLawOfNodes, TreeLawOfNodes, TreeLawAtNodes};
 ghost use Rattle.stab_treecore.specs.Refusals.{OnePerLink};
-ghost use Rattle.stab_treecore.specs.TreeLaw.{HalfTreeLaw, TreeLaw};
+ghost use Rattle.stab_treecore.specs.TreeLaw.{HalfTreeLaw, TreeLaw, CompleteLaw};
 ghost use Rattle.stab_treecore.specs.TreeReplay.{tree_opening, tree_replay};
 ghost use Rattle.stab_treecore.specs.WholeTree.{received};
 
@@ -48,6 +48,24 @@ pub fn tree_law_of_the_child()
         → TreeLaw most_strays most_missing garbage published received
         → LinkLaw capacity start_items offered acked delivered
         → TreeLaw (most_strays + capacity) (most_missing + (2 * capacity + 1))
+        (start_items ++ garbage) published delivered }
+{}
+
+/// The root has each published item, so none is missing.
+pub fn root_obeys_the_complete_law()
+    ensures { (published : List ℕ) → CompleteLaw 0 0 [] published published }
+{}
+
+/// From the link law on a link and the complete law at the parent to the complete law at the child,
+/// where as many items are acknowledged as the parent received.
+pub fn complete_law_of_the_child()
+    ensures { (capacity most_strays most_missing acked : ℕ)
+        (start_items garbage published received offered delivered : List ℕ)
+        → IsPrefix offered received
+        → acked ≡ length received
+        → CompleteLaw most_strays most_missing garbage published received
+        → LinkLaw capacity start_items offered acked delivered
+        → CompleteLaw (most_strays + capacity) (most_missing + (2 * capacity + 1))
         (start_items ++ garbage) published delivered }
 {}
 
