@@ -4,3 +4,7 @@ pub mod Linked
 pub mod OptionalMembers
 pub mod Refused
 pub mod Schedules
+pub mod Unlawful
+pub mod Settlements
+pub mod Explained
+pub mod Complete

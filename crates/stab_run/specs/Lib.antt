@@ -5,3 +5,7 @@ pub mod JobValues
 pub mod JobMembers
 pub mod LentMembers
 pub mod Jobs
+pub mod Reports
+pub mod RunFaults
+pub mod LockedRuns
+pub mod Runs

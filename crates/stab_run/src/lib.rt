@@ -1,21 +1,32 @@
-//! What a run goes by: the job of a whole tree, and its reader.
+//! The job of a whole tree with its reader, and the run of a job by one worker per node.
 //!
 //! Contracts see a [`Job`] as its parts, and its type keeps one start and one script for each link
 //! of its tree. The reader's contract goes from bytes to that value by small definitions in
-//! `specs/`. The layer above uses one fact: the answer of [`read_job`] is the job that the bytes
-//! mean, or the first check that they fail, unless memory is refused.
+//! `specs/`. The layer above uses two facts: the answer of [`read_job`] is the job that the bytes
+//! mean, or the first check that they fail, unless memory is refused; and the tree law holds at
+//! every node of the report that [`run_locked`] answers, which [`report_text`] prints.
 #![tactic(auto)]
 
 mod fault;
 mod job;
+pub mod laws;
 mod links;
+mod locked;
 mod members;
 mod read;
+mod report;
+mod run_fault;
 mod schedule;
+mod settle;
+mod split;
+mod starts;
 
 pub use fault::JobFault;
 pub use job::Job;
+pub use locked::run_locked;
 pub use read::read_job;
+pub use report::{Report, report_text};
+pub use run_fault::RunFault;
 
 #[cfg(test)]
 mod tests;

@@ -1,0 +1,162 @@
+-- What the workers left and what settling showed, joined: each link of the report is explained.
+use Rattle.std.proofs.Common.{◌≡◌, ℕ, zero, suc, List, [], ◌∷◌, length, map, get_or, Option, Some, None, refl, ap, sym, ◌∙◌, subst, arith, All}
+use Rattle.std.proofs.lemmas.Option.{none-some}
+use mathlib.Core.List.{IsPrefix}
+use Rattle.stab_core.specs.declared.start.Start.{Start}
+use Rattle.stab_core.specs.Replay.{IsLawful, opening, replay}
+use Rattle.stab_frames.specs.Parameters.{AreLawful, Parameters}
+use Rattle.stab_lock.specs.Accounts.{Sender, Receiver}
+use Rattle.stab_node.specs.declared.account.Ended.{Ended}
+use Rattle.stab_tree.specs.Links.{links_from, links_of}
+use Rattle.stab_tree.specs.Nodes.{parent_at, root_of}
+use Rattle.stab_treecore.specs.ByChild.{by_child}
+use Rattle.stab_treecore.specs.EdgeLaw.{EdgeLaw, EdgeInto}
+use Rattle.stab_treecore.proofs.ForCallers.{holds_by_child}
+use Rattle.stab_workers.specs.ByNode.{received_at}
+use Rattle.stab_run.specs.LockedRuns.{AreSettled, IsRun, IsSettled, acked_of, given}
+use Rattle.stab_run.specs.Reports.{OnePerNode, Reported}
+use Rattle.stab_run.specs.Runs.{AreExplained, HandsOn, RootHas}
+
+-- the edge law of each link of a report, as the laws of the layer below take it
+pub edge_into : (p : Parameters) → AreLawful p → (parents : List (Option ℕ)) (starts : List Start) (report : Reported)
+    → AreExplained p parents starts report
+    → (child parent : ℕ) → parent_at parents child ≡ Some parent
+    → EdgeInto p parents starts child (received_at report.received parent) (received_at report.received child)
+edge_into p lawful parents starts report explained child parent is_child =
+    let link = explained child parent is_child in
+    record {
+      start = link.start;
+      begins = link.begins;
+      lawful_params = lawful;
+      lawful_start = link.lawful;
+      acked = link.acked;
+      edge = link.edge;
+    }
+
+-- what is settled of the link into a child
+pub record SettledInto (p : Parameters) (parents : List (Option ℕ)) (starts : List Start) (sends : List Sender) (recvs : List Receiver)
+    (child : ℕ) : Type 0 where
+  pub start : Start
+  pub send : Sender
+  pub recv : Receiver
+  pub begins : get_or (by_child parents starts) child None ≡ Some start
+  pub sent : get_or (by_child parents sends) child None ≡ Some send
+  pub delivered : get_or (by_child parents recvs) child None ≡ Some recv
+  pub counted : get_or (by_child parents (map acked_of sends)) child None ≡ Some send.acked
+  pub settled : IsSettled (given p start) send recv
+
+-- the link into each child is settled
+settled_into : (p : Parameters) (w : ℕ) (parents : List (Option ℕ)) (starts : List Start) (sends : List Sender) (recvs : List Receiver)
+    → length starts ≡ length (links_from w parents) → AreSettled (map (given p) starts) sends recvs
+    → (child parent : ℕ) → parent_at parents child ≡ Some parent → SettledInto p parents starts sends recvs child
+settled_into p w [] starts sends recvs counted all child parent is_child = absurd (none-some parent is_child)
+settled_into p w (None ∷ parents) starts sends recvs counted all zero parent is_child = absurd (none-some parent is_child)
+settled_into p w (None ∷ parents) starts sends recvs counted all (suc child) parent is_child =
+    let below = settled_into p (suc w) parents starts sends recvs counted all child parent is_child in
+    record {
+      start = below.start;
+      send = below.send;
+      recv = below.recv;
+      begins = below.begins;
+      sent = below.sent;
+      delivered = below.delivered;
+      counted = below.counted;
+      settled = below.settled;
+    }
+settled_into p w (Some q ∷ parents) [] sends recvs counted all child parent is_child = absurd (omega arith)
+settled_into p w (Some q ∷ parents) (start ∷ starts) [] recvs counted all child parent is_child = absurd all
+settled_into p w (Some q ∷ parents) (start ∷ starts) (send ∷ sends) [] counted all child parent is_child = absurd all
+settled_into p w (Some q ∷ parents) (start ∷ starts) (send ∷ sends) (recv ∷ recvs) counted all zero parent is_child =
+    record {
+      start = start;
+      send = send;
+      recv = recv;
+      begins = refl;
+      sent = refl;
+      delivered = refl;
+      counted = refl;
+      settled = all.0;
+    }
+settled_into p w (Some q ∷ parents) (start ∷ starts) (send ∷ sends) (recv ∷ recvs) counted all (suc child) parent is_child =
+    let below = settled_into p (suc w) parents starts sends recvs (omega arith) all.1 child parent is_child in
+    record {
+      start = below.start;
+      send = below.send;
+      recv = below.recv;
+      begins = below.begins;
+      sent = below.sent;
+      delivered = below.delivered;
+      counted = below.counted;
+      settled = below.settled;
+    }
+
+-- there is no link into a node without a parent
+no_link_into : {A : Type 0} (parents : List (Option ℕ)) (xs : List A) (node : ℕ) → parent_at parents node ≡ None
+    → get_or (by_child parents xs) node None ≡ None
+no_link_into [] xs node none = refl
+no_link_into (None ∷ parents) xs zero none = refl
+no_link_into (None ∷ parents) xs (suc node) none = no_link_into parents xs node none
+no_link_into (Some q ∷ parents) xs zero none = absurd (none-some q (sym none))
+no_link_into (Some q ∷ parents) [] (suc node) none = no_link_into parents [] node none
+no_link_into (Some q ∷ parents) (x ∷ xs) (suc node) none = no_link_into parents xs node none
+
+-- there is one entry for each node
+as_many_nodes : {A : Type 0} (parents : List (Option ℕ)) (xs : List A) → length (by_child parents xs) ≡ length parents
+as_many_nodes [] xs = refl
+as_many_nodes (None ∷ parents) xs = ap suc (as_many_nodes parents xs)
+as_many_nodes (Some q ∷ parents) [] = ap suc (as_many_nodes parents [])
+as_many_nodes (Some q ∷ parents) (x ∷ xs) = ap suc (as_many_nodes parents xs)
+
+-- the report of what the workers left
+abbrev pub report_of : List (Option ℕ) → List (List ℕ) → List Ended → List Sender → Reported
+report_of parents received ended sends =
+    record { received = received; acked = by_child parents (map acked_of sends); ended = ended }
+
+module _ (p : Parameters) (parents : List (Option ℕ)) (starts : List Start) (published : List ℕ) (received : List (List ℕ)) (ended : List Ended)
+    (sends : List Sender) (recvs : List Receiver) (run : IsRun parents published received ended sends recvs) where
+  -- there is one entry per node
+  pub one_per_node : OnePerNode parents (report_of parents received ended sends)
+  one_per_node = record {
+    received = run.all_received;
+    acked = as_many_nodes parents (map acked_of sends);
+    ended = run.all_ended;
+  }
+
+  -- the root has the published items
+  pub root_has : parent_at parents (root_of parents) ≡ None → RootHas parents published (report_of parents received ended sends)
+  root_has none = record {
+    received = run.at_root;
+    acked = no_link_into parents (map acked_of sends) (root_of parents) none;
+  }
+
+  -- each link is explained
+  pub are_explained : length starts ≡ length (links_of parents) → All (IsLawful p) starts → AreSettled (map (given p) starts) sends recvs
+      → AreExplained p parents starts (report_of parents received ended sends)
+  are_explained counted lawful all child parent is_child =
+      let link = settled_into p 0 parents starts sends recvs counted all child parent is_child in
+      let s = replay p (opening link.start) link.settled.events in
+      let agree = link.settled.agree in
+      let served = run.served child parent link.send is_child link.sent in
+      let edge : EdgeLaw p link.start (received_at received parent) link.send.acked (received_at received child) =
+      record {
+        events = link.settled.events;
+        closed = sym agree.closed.by_sender ∙ served.closed;
+        delivers = sym agree.delivered ∙ sym (run.delivered child link.recv link.delivered);
+        counts = sym agree.acked;
+        offers = subst (λ xs. IsPrefix xs (received_at received parent)) agree.offered served.offered;
+      } in
+      record {
+        start = link.start;
+        begins = link.begins;
+        lawful = holds_by_child (IsLawful p) parents starts child link.start lawful link.begins;
+        acked = link.send.acked;
+        counted = link.counted;
+        edge = edge;
+      }
+
+  -- what a node received whose worker ended with its upstream is acknowledged
+  pub hands_on : length starts ≡ length (links_of parents) → AreSettled (map (given p) starts) sends recvs
+      → HandsOn parents (report_of parents received ended sends)
+  hands_on counted all child parent is_child over =
+      let link = settled_into p 0 parents starts sends recvs counted all child parent is_child in
+      link.counted ∙ ap Some (run.handed_on child parent link.send is_child link.sent over).acked
