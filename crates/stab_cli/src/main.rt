@@ -5,6 +5,7 @@ use stab_task::{CliFault, parse, perform, words};
 use std::process::ExitCode;
 use std::rt::{Env, Files};
 use std::sync::Wait;
+use std::thread::Threads;
 
 /// Runs the program, and prints a fault in one line on the standard error.
 fn main(rt: HostRuntime) -> ExitCode {
@@ -18,7 +19,9 @@ fn main(rt: HostRuntime) -> ExitCode {
 }
 
 /// Does the task that the command line names.
-fn run<R: Env + Files + Input + Print + Wait + AllocGlobal>(rt: &R) -> Result<(), CliFault> {
+fn run<R: Env + Files + Input + Print + Threads + Wait + Send + Sync + AllocGlobal>(
+    rt: &R,
+) -> Result<(), CliFault> {
     let words = words(rt, rt.alloc())?;
     let (task, path) = parse(rt.alloc(), &words)?;
     perform(rt, task, path)

@@ -4,6 +4,7 @@ use crate::listing::file_or_none;
 use stab_task::{CliFault, act, parse};
 use std::rt::Files;
 use std::sync::Wait;
+use std::thread::Threads;
 use std::{fs, io};
 
 /// What is given for an example: a text, and the ending of the file that expects such a text.
@@ -15,7 +16,10 @@ pub struct Given {
 
 /// What the program writes for an example: the text of its answer, or the line of its fault and its
 /// status.
-pub fn answer<R: Files + Wait + AllocGlobal>(rt: &R, name: &str) -> io::Result<Given> {
+pub fn answer<R: Files + Threads + Wait + Send + Sync + AllocGlobal>(
+    rt: &R,
+    name: &str,
+) -> io::Result<Given> {
     let words = words_of(rt, name)?;
     let job = fs_bytes(rt, name)?;
     let mut written = Vec::new(rt.alloc());
@@ -73,7 +77,7 @@ fn fs_bytes<R: Files + AllocGlobal>(rt: &R, name: &str) -> io::Result<Vec<u8>> {
 }
 
 /// Does what the words ask for, with the named file or else with the bytes of the job.
-fn perform<R: Files + Wait + AllocGlobal>(
+fn perform<R: Files + Threads + Wait + Send + Sync + AllocGlobal>(
     rt: &R,
     words: &[String],
     job: &[u8],

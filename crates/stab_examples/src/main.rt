@@ -17,6 +17,7 @@ use std::io;
 use std::process::ExitCode;
 use std::rt::Files;
 use std::sync::Wait;
+use std::thread::Threads;
 
 /// Compares all examples. The status is 0 if there are some and none is other than expected.
 fn main(rt: HostRuntime) -> ExitCode {
@@ -32,9 +33,9 @@ fn main(rt: HostRuntime) -> ExitCode {
 
 /// Compares the listed files and looks for files that are not listed; says whether all is as
 /// expected.
-fn compare_all<R: Files + Input + Print + Wait + AllocGlobal + Clone + Drop>(
-    rt: &R,
-) -> io::Result<bool> {
+fn compare_all<
+    R: Files + Input + Print + Threads + Wait + Send + Sync + AllocGlobal + Clone + Drop,
+>(rt: &R) -> io::Result<bool> {
     let listed = listed_files(rt)?;
     let mut same = 0u64;
     let mut other = 0u64;
@@ -57,7 +58,10 @@ fn compare_all<R: Files + Input + Print + Wait + AllocGlobal + Clone + Drop>(
 
 /// Compares one file with what is given for it, prints a line and any difference, and says whether
 /// both are the same.
-fn compare<R: Files + Print + Wait + AllocGlobal>(rt: &R, file: &str) -> io::Result<bool> {
+fn compare<R: Files + Print + Threads + Wait + Send + Sync + AllocGlobal>(
+    rt: &R,
+    file: &str,
+) -> io::Result<bool> {
     let Some(expected) = file_or_none(rt, file)? else {
         println!(rt; "OTHER  {file}\nThere is no such file.")?;
         return Ok(false);

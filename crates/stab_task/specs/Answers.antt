@@ -15,16 +15,23 @@ use Rattle.stab_run.specs.declared.fault.JobFault.{JobFault}
 use Rattle.stab_run.specs.declared.fault.JobFault.TheVariants.{Memory as no_memory}
 use Rattle.stab_run.specs.JobValues.{JobValue}
 use Rattle.stab_run.specs.Jobs.{job as whole_job}
+use Rattle.stab_run.specs.Reports.{OnePerNode, Reported, report_text}
+use Rattle.stab_run.specs.Runs.{AreExplained, IsFirstUnlawful, RootHas}
+use Rattle.stab_run.specs.declared.run_fault.RunFault.{RunFault}
+use Rattle.stab_run.specs.declared.run_fault.RunFault.TheVariants as run
+use Rattle.stab_node.specs.declared.fault.NodeFault.TheVariants.{Gate}
+use Rattle.stab_treecore.specs.NodeLaws.{HalfTreeLawAtNodes, TreeLawAtNodes}
+use Rattle.stab_workers.specs.ByNode.{received_at}
 use Rattle.stab_treecore.specs.Refusals.{NamesLink, IsScheduleReason}
 use Rattle.stab_treecore.specs.Texts.{schedule_text}
 use Rattle.stab_treecore.specs.TreeReplay.{tree_opening, tree_replay}
 use Rattle.stab_script.specs.LinkJobs.{link_job}
 use Rattle.stab_task.specs.declared.command.Task.{Task}
-use Rattle.stab_task.specs.declared.command.Task.TheVariants.{Link, Tree as WholeTreeTask}
+use Rattle.stab_task.specs.declared.command.Task.TheVariants.{Link, Tree as WholeTreeTask, Run as RunTask}
 use Rattle.stab_task.specs.declared.fault.CliFault.{CliFault}
 use Rattle.stab_task.specs.declared.fault.CliFault.TheVariants.{CommandLine, Open, Read}
 use Rattle.stab_task.specs.declared.fault.CliFault.TheVariants.{TooLong, LinkJob, Job, Start}
-use Rattle.stab_task.specs.declared.fault.CliFault.TheVariants.{Tree, Write, Memory}
+use Rattle.stab_task.specs.declared.fault.CliFault.TheVariants.{Tree, Run, Write, Memory}
 use Rattle.stab_task.specs.Loading.{most_bytes}
 
 -- the text of a link job: the link after its replay, and with a trace the origins of what it
@@ -55,32 +62,71 @@ pub record IsTreeAnswer (input text : List ℕ) : Type 0 where
   pub named : All (NamesLink job.tree.parents) job.schedule
   pub the_text : text ≡ tree_answer job
 
+-- These bytes are a job with lawful starts, and this is the text of some report of a run of it: the
+-- root has the published items, some events explain each link, and the half tree law and the tree
+-- law hold at every node.
+pub record IsRunAnswer (input text : List ℕ) : Type 0 where
+  pub job : JobValue
+  pub read : whole_job input ≡ Ok job
+  pub report : Reported
+  pub nodes : OnePerNode job.tree.parents report
+  pub lawful : All (IsLawful job.params) job.starts
+  pub root : RootHas job.tree.parents job.items report
+  pub edges : AreExplained job.params job.tree.parents job.starts report
+  pub half_tree_law : HalfTreeLawAtNodes job.params.capacity job.tree.parents job.starts
+      job.items (received_at report.received)
+  pub tree_law : TreeLawAtNodes job.params.capacity job.tree.parents job.starts
+      job.items (received_at report.received)
+  pub the_text : text ≡ report_text job.tree report
+
 -- the text of a task for these bytes
 abbrev pub IsAnswer : Task → List ℕ → List ℕ → Type 0
 IsAnswer (Link trace) input text = IsLinkAnswer trace input text
 IsAnswer WholeTreeTask input text = IsTreeAnswer input text
+IsAnswer RunTask input text = IsRunAnswer input text
 
 -- a link task has no answer where the bytes are no link job; out of memory comes with any bytes
 abbrev pub IsLinkJobFault : Task → List ℕ → LinkJobFault → Type 0
 IsLinkJobFault (Link trace) input refusal = refusal ≢ out_of_memory → link_job input ≡ Err refusal
 IsLinkJobFault WholeTreeTask input refusal = ⊥
+IsLinkJobFault RunTask input refusal = ⊥
 
 -- a link task has no answer where the bytes are a link job whose start is refused
 abbrev pub IsStartFault : Task → List ℕ → StartFault → Type 0
 IsStartFault (Link trace) input refusal =
     (job : OneLink) × (link_job input ≡ Ok job) × IsReason job.params job.start refusal
 IsStartFault WholeTreeTask input refusal = ⊥
+IsStartFault RunTask input refusal = ⊥
 
--- a tree task has no answer where the bytes are no job; out of memory comes with any bytes
+-- the other tasks have no answer where the bytes are no job; out of memory comes with any bytes
 abbrev pub IsJobFault : Task → List ℕ → JobFault → Type 0
 IsJobFault (Link trace) input refusal = ⊥
 IsJobFault WholeTreeTask input refusal = refusal ≢ no_memory → whole_job input ≡ Err refusal
+IsJobFault RunTask input refusal = refusal ≢ no_memory → whole_job input ≡ Err refusal
 
 -- a tree task has no answer where the bytes are a job of which a start or an event is refused
 abbrev pub IsTreeFault : Task → List ℕ → TreeStartFault → Type 0
 IsTreeFault (Link trace) input refusal = ⊥
 IsTreeFault WholeTreeTask input refusal = (job : JobValue) × (whole_job input ≡ Ok job)
     × IsScheduleReason job.params job.tree.parents job.items job.starts job.schedule refusal
+IsTreeFault RunTask input refusal = ⊥
+
+-- Why a run of a job gives no report. A start is the first that is not lawful; no turn was refused.
+-- Of a thread, of accounts that differ and of memory nothing is said.
+abbrev pub IsRunReason : JobValue → RunFault → Type 0
+IsRunReason job (run.Start child reason) =
+    IsFirstUnlawful job.params job.tree.parents job.starts child reason
+IsRunReason job (run.Thread node) = Unit {0}
+IsRunReason job (run.Node node refusal) = refusal ≢ Gate
+IsRunReason job (run.Settle node refusal) = Unit {0}
+IsRunReason job run.Memory = Unit {0}
+
+-- a run has no answer where the bytes are a job of which the run is refused
+abbrev pub IsRunFault : Task → List ℕ → RunFault → Type 0
+IsRunFault (Link trace) input refusal = ⊥
+IsRunFault WholeTreeTask input refusal = ⊥
+IsRunFault RunTask input refusal =
+    (job : JobValue) × (whole_job input ≡ Ok job) × IsRunReason job refusal
 
 -- why a task has no answer for these bytes, or why its text was not written; a reader may fail, and
 -- memory may be refused, at any bytes
@@ -93,5 +139,6 @@ IsFault task input (LinkJob refusal) = IsLinkJobFault task input refusal
 IsFault task input (Job refusal) = IsJobFault task input refusal
 IsFault task input (Start refusal) = IsStartFault task input refusal
 IsFault task input (Tree refusal) = IsTreeFault task input refusal
+IsFault task input (Run refusal) = IsRunFault task input refusal
 IsFault task input Write = (text : List ℕ) × IsAnswer task input text
 IsFault task input Memory = Unit {0}

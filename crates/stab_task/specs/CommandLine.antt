@@ -10,7 +10,7 @@ use Rattle.clap.specs.declared.builder.action.ArgAction.TheVariants.{SetTrue}
 use Rattle.clap.specs.declared.parser.matches.ValueSource.{ValueSource}
 use Rattle.clap.specs.declared.parser.matches.ValueSource.TheVariants as source
 use Rattle.stab_task.specs.declared.command.Task.{Task}
-use Rattle.stab_task.specs.declared.command.Task.TheVariants.{Link, Tree}
+use Rattle.stab_task.specs.declared.command.Task.TheVariants.{Link, Tree, Run}
 use Rattle.stab_task.specs.declared.fault.CliFault.{CliFault}
 use Rattle.stab_task.specs.declared.fault.CliFault.TheVariants.{CommandLine, Memory}
 
@@ -33,13 +33,18 @@ link_line = with_rule (with_rule (new_app (codes "link")) trace_flag) file_argum
 abbrev pub tree_line : App
 tree_line = with_rule (new_app (codes "tree")) file_argument
 
+-- `run [FILE]`
+abbrev pub run_line : App
+run_line = with_rule (new_app (codes "run")) file_argument
+
 -- `stab` without its subcommands; it has no subcommand `help`
 abbrev pub bare_line : App
 bare_line = on_top (λ s. record s { disable_help_subcommand = true }) (new_app (codes "stab"))
 
--- `stab link [--trace] [FILE]` and `stab tree [FILE]`
+-- `stab link [--trace] [FILE]`, `stab tree [FILE]` and `stab run [FILE]`
 abbrev pub stab_line : App
-stab_line = with_subcommand (with_subcommand bare_line link_line.top) tree_line.top
+stab_line = with_subcommand
+    (with_subcommand (with_subcommand bare_line link_line.top) tree_line.top) run_line.top
 
 -- where the value of an argument came from
 abbrev pub source_of : Text → List Row → Option ValueSource
@@ -57,7 +62,8 @@ has_trace rows = is_from_words (source_of (codes "trace") rows)
 
 -- the task of a command word
 abbrev pub task_of : Text → List Row → Task
-task_of word rows = if bytes_eq word (codes "link") then Link (has_trace rows) else Tree
+task_of word rows = if bytes_eq word (codes "link") then Link (has_trace rows)
+    else (if bytes_eq word (codes "tree") then Tree else Run)
 
 -- the task and the file of a command word and what follows it; with no command word, those of
 -- `stab link`

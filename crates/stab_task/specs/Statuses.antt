@@ -12,7 +12,7 @@ use Rattle.stab_run.specs.declared.fault.JobFault.TheVariants as whole
 use Rattle.stab_task.specs.declared.fault.CliFault.{CliFault}
 use Rattle.stab_task.specs.declared.fault.CliFault.TheVariants.{CommandLine, Open, Read}
 use Rattle.stab_task.specs.declared.fault.CliFault.TheVariants.{TooLong, LinkJob, Job, Start}
-use Rattle.stab_task.specs.declared.fault.CliFault.TheVariants.{Tree, Write, Memory}
+use Rattle.stab_task.specs.declared.fault.CliFault.TheVariants.{Tree, Run, Write, Memory}
 
 -- a link job that is refused, and one for which memory was refused
 abbrev pub link_job_status : LinkJobFault → ℕ
@@ -58,7 +58,7 @@ job_status whole.Event = 1
 job_status whole.UnknownNode = 1
 job_status whole.Memory = 3
 
--- 1 for a file or a job, 2 for the command line, 3 for a start, a step, a write or memory
+-- 1 for a file or a job, 2 for the command line, 3 for a start, a step, a run, a write or memory
 abbrev pub status_of : CliFault → ℕ
 status_of CommandLine = 2
 status_of Open = 1
@@ -68,5 +68,6 @@ status_of (LinkJob refusal) = link_job_status refusal
 status_of (Job refusal) = job_status refusal
 status_of (Start refusal) = 3
 status_of (Tree refusal) = 3
+status_of (Run refusal) = 3
 status_of Write = 3
 status_of Memory = 3

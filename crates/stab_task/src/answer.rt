@@ -5,24 +5,27 @@ ghost use Rattle.stab_core.specs.Link.{IsReason, link_at};
 ghost use Rattle.stab_core.specs.Replay.{IsLawful, opening, replay};
 ghost use Rattle.stab_treecore.specs.Refusals.{IsScheduleReason, NamesLink};
 ghost use Rattle.stab_treecore.specs.TreeReplay.{tree_opening, tree_replay};
-ghost use Rattle.stab_task.specs.Answers.{IsLinkAnswer, IsTreeAnswer, IsAnswer, IsFault};
+ghost use Rattle.stab_task.specs.Answers.{IsLinkAnswer, IsTreeAnswer, IsRunAnswer};
+ghost use Rattle.stab_task.specs.Answers.{IsAnswer, IsFault};
 
 use crate::command::Task;
 use crate::fault::CliFault;
 use crate::file::load;
 use stab_core::{Link, StartFault, link_text, push_origins_text, run_link, run_traced};
-use stab_run::{Job, read_job};
+use stab_node::Free;
+use stab_run::{Job, read_job, report_text, run_locked};
 use stab_script::{LinkJob, read_link_job};
 use stab_treecore::{TreeStartFault, TreeState, run_schedule, schedule_text};
 use std::alloc::Global;
 use std::io::{Read, Write};
 use std::sync::Wait;
+use std::thread::Threads;
 
 /// Reads a job, does the task, and writes the whole text; or writes nothing where the fault is
 /// another than `Write`.
 ///
-/// No task so far waits for anybody.
-pub fn act<T: Wait, R: Read, W: Write>(
+/// A run waits for its workers. The functions of the other tasks are not handed the runtime.
+pub fn act<T: Threads + Wait + Send + Sync, R: Read, W: Write>(
     rt: &T,
     alloc: Global,
     task: Task,
@@ -37,32 +40,18 @@ pub fn act<T: Wait, R: Read, W: Write>(
     ensures nothing { IfErr result (λ fault.
         fault ≢ CliFault.Write → Keeps (W.contents writer.old) (W.contents writer.new)) }
 {
-    let _ = rt;
-    answer(alloc, task, reader, writer)
-}
-
-/// What `act` does, by a function that returns: it is not handed the runtime, so it cannot wait.
-fn answer<R: Read, W: Write>(
-    alloc: Global,
-    task: Task,
-    reader: &mut R,
-    writer: &mut W,
-) -> Result<(), CliFault>
-    ensures answer { OnOk result (IfSome (R.remaining reader.old) (λ input.
-        (text : List ℕ) × IsAnswer task input text
-        × Appends (W.contents writer.old) (W.contents writer.new) text)) }
-    ensures fault { IfErr result (λ fault.
-        IfSome (R.remaining reader.old) (λ input. IsFault task input fault)) }
-    ensures nothing { IfErr result (λ fault.
-        fault ≢ CliFault.Write → Keeps (W.contents writer.old) (W.contents writer.new)) }
-{
-    let text = text_of(alloc, task, reader)?;
+    let text = text_of(rt, alloc, task, reader)?;
     write_text(writer, &text)?;
     Ok(())
 }
 
 /// The text of a task for what the reader gives.
-fn text_of<R: Read>(alloc: Global, task: Task, reader: &mut R) -> Result<String, CliFault>
+fn text_of<T: Threads + Wait + Send + Sync, R: Read>(
+    rt: &T,
+    alloc: Global,
+    task: Task,
+    reader: &mut R,
+) -> Result<String, CliFault>
     ensures answer { IfOk result (λ text.
         IfSome (R.remaining reader.old) (λ input. IsAnswer task input (string_bytes text))) }
     ensures fault { IfErr result (λ fault.
@@ -70,12 +59,17 @@ fn text_of<R: Read>(alloc: Global, task: Task, reader: &mut R) -> Result<String,
     ensures no_write { IfErr result (λ fault. fault ≢ CliFault.Write) }
 {
     let bytes = load(alloc, reader)?;
-    let text = answer_bytes(alloc, task, &bytes)?;
+    let text = answer_bytes(rt, alloc, task, &bytes)?;
     Ok(text)
 }
 
-/// The text of a task for these bytes.
-fn answer_bytes(alloc: Global, task: Task, bytes: &[u8]) -> Result<String, CliFault>
+/// The text of a task for these bytes. A run alone is handed the runtime.
+fn answer_bytes<T: Threads + Wait + Send + Sync>(
+    rt: &T,
+    alloc: Global,
+    task: Task,
+    bytes: &[u8],
+) -> Result<String, CliFault>
     ensures answer { IfOk result (λ text. IsAnswer task bytes.now (string_bytes text)) }
     ensures fault { IfErr result (IsFault task bytes.now) }
     ensures no_write { IfErr result (λ fault. fault ≢ CliFault.Write) }
@@ -83,6 +77,7 @@ fn answer_bytes(alloc: Global, task: Task, bytes: &[u8]) -> Result<String, CliFa
     match task {
         Task::Link { trace } => answer_link(alloc, trace, bytes),
         Task::Tree => answer_tree(alloc, bytes),
+        Task::Run => answer_run(rt, alloc, bytes),
     }
 }
 
@@ -143,6 +138,22 @@ fn replay_tree(alloc: Global, job: &Job) -> Result<TreeState, TreeStartFault>
         job.starts(),
         job.schedule(),
     )
+}
+
+/// The text of the report of a run, by one worker per node.
+fn answer_run<T: Threads + Wait + Send + Sync>(
+    rt: &T,
+    alloc: Global,
+    bytes: &[u8],
+) -> Result<String, CliFault>
+    ensures answer { IfOk result (λ text. IsRunAnswer bytes.now (string_bytes text)) }
+    ensures fault { IfErr result (IsFault Task.Run bytes.now) }
+    ensures no_write { IfErr result (λ fault. fault ≢ CliFault.Write) }
+{
+    let job = read_job(alloc, bytes)?;
+    let gate = Free::for_nodes(job.tree().len());
+    let report = run_locked(rt, alloc, &job, &gate)?;
+    Ok(report_text(alloc, job.tree(), &report)?)
 }
 
 /// Writes a whole text, and asks the writer for a flush.

@@ -5,7 +5,7 @@ ghost use Rattle.clap.specs.Words.{subcommand_of, subcommand_rows_of};
 ghost use Rattle.clap.specs.declared.builder.command.Command.TheViews.{out-Command as fields_of};
 ghost use Rattle.stab_task.specs.CommandLine.{has_trace, is_from_words, link_line, named_by};
 ghost use Rattle.stab_task.specs.CommandLine.{stab_line, task_of, trace_flag, tree_line};
-ghost use Rattle.stab_task.specs.CommandLine.{IsTaken, IsWordsFault};
+ghost use Rattle.stab_task.specs.CommandLine.{IsTaken, IsWordsFault, run_line};
 
 use crate::fault::CliFault;
 use clap::error::ErrorKind;
@@ -20,6 +20,8 @@ pub enum Task {
     Link { trace: bool },
     /// Run a job's schedule over its whole tree.
     Tree,
+    /// Run a job by one worker per node.
+    Run,
 }
 
 /// The task that these words name, the program's name first, and its file where there is one.
@@ -58,16 +60,18 @@ fn matches_of<'a>(alloc: Global, words: &'a [String]) -> Result<ArgMatches<'a>, 
     }
 }
 
-/// The command `stab` with its two subcommands. It has no subcommand `help`.
+/// The command `stab` with its three subcommands. It has no subcommand `help`.
 fn stab<'a>(alloc: Global) -> Result<Command<'a>, AllocError>
     ensures { IfOk result (λ command. app_of command ≡ stab_line) }
 {
     let link = link(alloc)?;
     let tree = tree(alloc)?;
+    let run = run(alloc)?;
     let stab = Command::new(alloc, "stab")
         .disable_help_subcommand(true)
         .subcommand(link)?
-        .subcommand(tree)?;
+        .subcommand(tree)?
+        .subcommand(run)?;
     Ok(stab)
 }
 
@@ -101,15 +105,26 @@ fn tree<'a>(alloc: Global) -> Result<Command<'a>, AllocError>
     Ok(tree)
 }
 
-/// The task of a command word, which is `link` or `tree`.
+/// The subcommand `run [FILE]`.
+fn run<'a>(alloc: Global) -> Result<Command<'a>, AllocError>
+    ensures line { IfOk result (λ command. app_of command ≡ run_line) }
+    ensures local { IfOk result (λ command. (fields_of command).has_globals ≡ false) }
+{
+    let run = Command::new(alloc, "run").arg(Arg::new(alloc, "FILE"))?;
+    Ok(run)
+}
+
+/// The task of a command word, which is `link`, `tree` or `run`.
 fn named_task(word: &str, matches: &ArgMatches<'_>) -> Task
     ensures { result ≡ task_of word.now (rows_of (found_of matches.now)) }
 {
     if word == "link" {
         let trace = is_traced(matches);
         Task::Link { trace }
-    } else {
+    } else if word == "tree" {
         Task::Tree
+    } else {
+        Task::Run
     }
 }
 

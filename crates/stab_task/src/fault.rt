@@ -1,6 +1,6 @@
 use crate::file::LoadFault;
 use stab_core::StartFault;
-use stab_run::JobFault;
+use stab_run::{JobFault, RunFault};
 use stab_script::{LinkJobFault, ScriptFault};
 use stab_tree::TreeFault;
 use stab_treecore::TreeStartFault;
@@ -34,6 +34,9 @@ pub enum CliFault {
     /// A start or an event of a job's schedule is refused.
     #[error("{0}")]
     Tree(TreeStartFault),
+    /// The run of a job's workers is refused.
+    #[error("{0}")]
+    Run(RunFault),
     /// Writing failed; a part of the text may be written.
     #[error("output: cannot be written")]
     Write,
@@ -47,8 +50,8 @@ impl CliFault {
     ghost use Rattle.stab_task.specs.Statuses.{status_of};
 
     /// The status that the program ends with: 1 for a file or job that is refused, 2 for a command
-    /// line that is refused, 3 for a start, a step or a write that fails, and for memory that is
-    /// refused anywhere.
+    /// line that is refused, 3 for a start, a step, a run or a write that fails, and for memory that
+    /// is refused anywhere.
     pub fn status(&self) -> u8
         ensures { result ≡ status_of self.now }
     {
@@ -62,6 +65,7 @@ impl CliFault {
             )
             | CliFault::Start(_)
             | CliFault::Tree(_)
+            | CliFault::Run(_)
             | CliFault::Write
             | CliFault::Memory => 3,
             CliFault::Open
@@ -151,5 +155,16 @@ impl From<TreeStartFault> for CliFault {
 
     fn from(refusal: TreeStartFault) -> CliFault {
         CliFault::Tree(refusal)
+    }
+}
+
+impl From<RunFault> for CliFault {
+    ghost use Rattle.std.specs.Prelude.{◌≡◌};
+    ghost use Rattle.stab_task.specs.declared.fault.CliFault.TheVariants.{Run};
+
+    ghost from_gives = { λ refusal fault. fault ≡ Run refusal };
+
+    fn from(refusal: RunFault) -> CliFault {
+        CliFault::Run(refusal)
     }
 }

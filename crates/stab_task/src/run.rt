@@ -9,6 +9,7 @@ use std::fs;
 use std::io::{self, ErrorKind};
 use std::rt::{Env, Files};
 use std::sync::Wait;
+use std::thread::Threads;
 
 /// The words of the command line, the program's name first. A word that is no text is a refused
 /// command line.
@@ -28,7 +29,7 @@ pub fn words<R: Env + AllocGlobal>(rt: &R, alloc: Global) -> Result<Vec<String>,
 }
 
 /// Does a task with its file, or with the standard input where it has none.
-pub fn perform<R: Files + Input + Print + Wait + AllocGlobal>(
+pub fn perform<R: Files + Input + Print + Threads + Wait + Send + Sync + AllocGlobal>(
     rt: &R,
     task: Task,
     path: Option<String>,

@@ -3,18 +3,22 @@
 
 mod files;
 mod links;
+mod runs;
 mod trees;
 mod words;
 
 use super::*;
 use stab_core::StartFault;
-use stab_run::JobFault;
+use stab_node::NodeFault;
+use stab_run::{JobFault, RunFault};
 use stab_script::LinkJobFault;
+use stab_tree::NodeId;
 use stab_treecore::{TreeStartFault, TreeStepFault};
 use std::alloc::{AllocError, Global};
 use std::process::Abort;
 use std::sync::Wait;
 use std::test::Fail;
+use std::thread::Threads;
 
 const PLAIN: Task = Task::Link { trace: false };
 
@@ -26,8 +30,10 @@ const WORST_START: &str =
 const WORST_TEXT: &str =
     "delivered: 99 13\noffered: 10 11 12 13\nacked: 3\nsend label: 3\nrecv label: 3\nframes:\nacks:\nclosed: no\n";
 
+const LONE_ROOT: &str = r#"{"capacity":1,"labels":4,"tree":[{"name":"r"}],"items":[7,8]}"#;
+
 /// What a task writes for a job, and how it ends.
-fn outcome<T: Wait>(
+fn outcome<T: Threads + Wait + Send + Sync>(
     rt: &T,
     alloc: Global,
     task: Task,
@@ -40,29 +46,34 @@ fn outcome<T: Wait>(
 }
 
 /// Fails the test where the task does not write this text for the job.
-fn assert_answer<T: Wait + Abort + Alloc<A = Global>>(rt: &T, task: Task, job: &str, text: &str) {
+fn assert_answer<T: Threads + Wait + Send + Sync + Abort + Alloc<A = Global>>(
+    rt: &T,
+    task: Task,
+    job: &str,
+    text: &str,
+) {
     let (ended, written) = outcome(rt, rt.alloc(), task, job.as_bytes());
     assert_eq!(rt; ended, Ok(()), "{job}");
     assert!(rt; written.as_slice() == text.as_bytes(), "{job}");
 }
 
 /// Fails the test where the task does not refuse the bytes with this fault, or writes anything.
-fn assert_refused<T: Wait + Abort + Alloc<A = Global>>(
+fn assert_refused<T: Threads + Wait + Send + Sync + Abort + Alloc<A = Global>>(
     rt: &T,
     task: Task,
     job: &[u8],
-    fault: CliFault,
+    fault: &CliFault,
 ) {
     let (ended, written) = outcome(rt, rt.alloc(), task, job);
     let text = str::from_utf8(job).unwrap_or("a job that is not UTF-8");
-    assert_eq!(rt; ended, Err(fault), "{text}");
+    assert_eq!(rt; ended, Err(*fault), "{text}");
     assert!(rt; written.is_empty(), "{text}");
 }
 
 /// Fails the test where the fault has another status or another text.
 fn assert_fault<T: Abort + Alloc<A = Global>>(
     rt: &T,
-    fault: CliFault,
+    fault: &CliFault,
     status: u8,
     text: &str,
 ) -> Result<(), AllocError> {
@@ -80,9 +91,12 @@ fn prints_out_of_memory_with_no_prefix(rt: HostRuntime) -> Result<(), Fail> {
         CliFault::Start(StartFault::Memory),
         CliFault::Tree(TreeStartFault::Start(StartFault::Memory)),
         CliFault::Tree(TreeStartFault::Step(TreeStepFault::Memory)),
+        CliFault::Run(RunFault::Memory),
+        CliFault::Run(RunFault::Start(NodeId::new(1), StartFault::Memory)),
+        CliFault::Run(RunFault::Node(NodeId::new(0), NodeFault::Memory)),
     ];
     for fault in faults {
-        assert_fault(&rt, fault, 3, "out of memory")?;
+        assert_fault(&rt, &fault, 3, "out of memory")?;
     }
     Ok(())
 }

@@ -67,7 +67,11 @@ impl Write for Unflushed {
 }
 
 /// How the worst start ends, and what it writes, where its reader is interrupted `times` times.
-fn ended_after<T: Wait>(rt: &T, alloc: Global, times: usize) -> (Result<(), CliFault>, Vec<u8>) {
+fn ended_after<T: Threads + Wait + Send + Sync>(
+    rt: &T,
+    alloc: Global,
+    times: usize,
+) -> (Result<(), CliFault>, Vec<u8>) {
     let mut reader = Interrupted {
         times,
         bytes: WORST_START.as_bytes(),
@@ -81,7 +85,7 @@ fn ended_after<T: Wait>(rt: &T, alloc: Global, times: usize) -> (Result<(), CliF
 fn refuses_a_file_that_is_not_there(rt: HostRuntime) -> Result<(), Fail> {
     let path = String::from_str(rt.alloc(), "there/is/no/such/file.json")?;
     assert_eq!(rt; perform(&rt, PLAIN, Some(path)), Err(CliFault::Open));
-    assert_fault(&rt, CliFault::Open, 1, "file: cannot be opened")?;
+    assert_fault(&rt, &CliFault::Open, 1, "file: cannot be opened")?;
     Ok(())
 }
 
@@ -106,7 +110,7 @@ fn reports_a_failing_reader_and_writes_nothing(rt: HostRuntime) -> Result<(), Fa
         Err(CliFault::Read)
     );
     assert!(rt; written.is_empty());
-    assert_fault(&rt, CliFault::Read, 1, "file: cannot be read")?;
+    assert_fault(&rt, &CliFault::Read, 1, "file: cannot be read")?;
     Ok(())
 }
 
@@ -117,7 +121,7 @@ fn reports_a_writer_that_fails_to_write(rt: HostRuntime) -> Result<(), Fail> {
         act(&rt, rt.alloc(), PLAIN, &mut job, &mut Refusing),
         Err(CliFault::Write)
     );
-    assert_fault(&rt, CliFault::Write, 3, "output: cannot be written")?;
+    assert_fault(&rt, &CliFault::Write, 3, "output: cannot be written")?;
     Ok(())
 }
 
@@ -134,9 +138,9 @@ fn reports_a_writer_that_fails_to_flush(rt: HostRuntime) {
 fn reads_16777216_bytes_and_no_more(rt: HostRuntime) -> Result<(), Fail> {
     let mut spaces = blanks(rt.alloc(), 16_777_216)?;
     assert_eq!(rt; load(rt.alloc(), &mut spaces.as_slice())?.len(), 16_777_216);
-    assert_refused(&rt, PLAIN, &spaces, CliFault::LinkJob(LinkJobFault::Json));
+    assert_refused(&rt, PLAIN, &spaces, &CliFault::LinkJob(LinkJobFault::Json));
     spaces.push(b' ')?;
-    assert_refused(&rt, PLAIN, &spaces, CliFault::TooLong);
-    assert_fault(&rt, CliFault::TooLong, 1, "file: too long")?;
+    assert_refused(&rt, PLAIN, &spaces, &CliFault::TooLong);
+    assert_fault(&rt, &CliFault::TooLong, 1, "file: too long")?;
     Ok(())
 }

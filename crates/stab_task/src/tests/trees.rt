@@ -2,8 +2,6 @@ use super::*;
 use stab_script::ScriptFault;
 use stab_tree::TreeFault;
 
-const LONE_ROOT: &str = r#"{"capacity":1,"labels":4,"tree":[{"name":"r"}],"items":[7,8]}"#;
-
 /// The acts on the link into this node that begin at the worst start: one round that meets what the
 /// start holds, and then `rounds` more.
 fn push_steps(schedule: &mut String, child: &str, rounds: usize) -> Result<(), AllocError> {
@@ -90,9 +88,10 @@ fn refuses_every_job_cut_short(rt: HostRuntime) -> Result<(), Fail> {
     let whole = LONE_ROOT.as_bytes();
     let fault = CliFault::Job(JobFault::Json);
     for len in 0..whole.len() {
-        assert_refused(&rt, Task::Tree, &whole[..len], fault);
+        assert_refused(&rt, Task::Tree, &whole[..len], &fault);
+        assert_refused(&rt, Task::Run, &whole[..len], &fault);
     }
-    assert_fault(&rt, fault, 1, "job: not JSON")?;
+    assert_fault(&rt, &fault, 1, "job: not JSON")?;
     Ok(())
 }
 
@@ -138,8 +137,8 @@ fn refuses_trees_and_schedules_by_name(rt: HostRuntime) -> Result<(), Fail> {
         ),
     ];
     for (job, fault, status, text) in rows {
-        assert_refused(&rt, Task::Tree, job.as_bytes(), fault);
-        assert_fault(&rt, fault, status, text)?;
+        assert_refused(&rt, Task::Tree, job.as_bytes(), &fault);
+        assert_fault(&rt, &fault, status, text)?;
     }
     Ok(())
 }

@@ -47,6 +47,12 @@ fn takes_a_command_word_a_flag_and_a_file(rt: HostRuntime) -> Result<(), Fail> {
             Task::Tree,
             Some("job.json"),
         ),
+        (["stab", "run"].as_slice(), Task::Run, None),
+        (
+            ["stab", "run", "job.json"].as_slice(),
+            Task::Run,
+            Some("job.json"),
+        ),
     ];
     for (line, task, path) in rows {
         let (its_task, its_path) = parsed(rt.alloc(), line)??;
@@ -60,6 +66,8 @@ fn takes_a_command_word_a_flag_and_a_file(rt: HostRuntime) -> Result<(), Fail> {
 fn refuses_other_words_and_help(rt: HostRuntime) -> Result<(), Fail> {
     let lines = [
         ["stab", "run", "--fast"].as_slice(),
+        ["stab", "run", "--words"].as_slice(),
+        ["stab", "run", "--trace"].as_slice(),
         ["stab", "link", "--fast"].as_slice(),
         ["stab", "tree", "--trace"].as_slice(),
         ["stab", "--trace"].as_slice(),
@@ -80,6 +88,6 @@ fn refuses_other_words_and_help(rt: HostRuntime) -> Result<(), Fail> {
             "{line:?}"
         );
     }
-    assert_fault(&rt, CliFault::CommandLine, 2, "command line refused")?;
+    assert_fault(&rt, &CliFault::CommandLine, 2, "command line refused")?;
     Ok(())
 }
