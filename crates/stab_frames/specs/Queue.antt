@@ -1,6 +1,6 @@
 -- A queue of bounded capacity: its entries, the front first, and how many it may hold.
 -- Source: the bounded FIFO queue of one direction of a link in this project's profile.
-use Rattle.std.specs.Prelude.{ℕ, zero, suc, List, [], ◌∷◌, refl}
+use Rattle.std.specs.Prelude.{ℕ, zero, suc, List, [], ◌∷◌, ◌++◌, take, drop, refl}
 use Rattle.std.specs.Coded.{Coded, code_by, coded×, coded_list, coded_ℕ}
 
 pub record Queue (X : Type 0) : Type 0 where
@@ -17,6 +17,10 @@ module _ {X : Type 0} where
   queue_code c =
       code_by (List X × ℕ) (coded× (coded_list c) coded_ℕ)
       (λ q. (q.entries, q.capacity)) (λ p. queue p.0 p.1) (λ _. refl)
+
+  -- the entries with the first n at the back, in their order
+  abbrev pub turned : ℕ → List X → List X
+  turned n xs = drop n xs ++ take n xs
 
   -- the entries without the one at place i, where there is one; the order of the others stays
   abbrev pub without : ℕ → List X → List X

@@ -18,4 +18,6 @@ pub use queue::FrameQueue;
 pub use sequence::Sequence;
 
 #[cfg(test)]
+mod plain;
+#[cfg(test)]
 mod tests;

@@ -1,4 +1,7 @@
+ghost use Rattle.std.specs.Prelude.{◌≤◌};
+
 use super::*;
+use crate::plain::PlainQueue;
 use std::alloc::{AllocError, Global};
 use std::test::Fail;
 
@@ -65,6 +68,96 @@ fn an_entry_is_lost_or_taken_once(rt: HostRuntime) -> Result<(), Fail> {
     assert!(rt; queue.take() == Some(6));
     assert!(rt; queue.take().is_none());
     assert!(rt; !queue.lose(0));
+    Ok(())
+}
+
+#[test]
+fn the_ring_goes_round(rt: HostRuntime) -> Result<(), Fail> {
+    let mut queue: FrameQueue<u32> = FrameQueue::new(rt.alloc(), 3)?;
+    for entry in [1, 2, 3] {
+        assert!(rt; queue.put(entry));
+    }
+    assert!(rt; queue.take() == Some(1));
+    assert!(rt; queue.put(4));
+    assert!(rt; queue.lose(1));
+    assert!(rt; queue.len() == 2);
+    for (place, want) in [(0, Some(2)), (1, Some(4)), (2, None)] {
+        assert!(rt; queue.get(place) == want, "place {place}");
+    }
+    Ok(())
+}
+
+/// A call that changes a queue. A put adds the number of its step.
+#[derive(Clone, Copy)]
+enum Call {
+    Put,
+    Take,
+    Lose(u16),
+}
+
+const CALLS: [Call; 5] = [
+    Call::Put,
+    Call::Take,
+    Call::Lose(0),
+    Call::Lose(1),
+    Call::Lose(2),
+];
+
+/// How many calls a sequence has: enough for a ring of three to go round and then lose an entry.
+const STEPS: u32 = 6;
+
+/// Whether both queues answer a call alike.
+fn answer_alike(
+    ring: &mut FrameQueue<u32>,
+    plain: &mut PlainQueue,
+    call: Call,
+    step: u32,
+) -> Result<bool, AllocError> {
+    Ok(match call {
+        Call::Put => ring.put(step) == plain.put(step)?,
+        Call::Take => ring.take() == plain.take(),
+        Call::Lose(place) => ring.lose(place) == plain.lose(place),
+    })
+}
+
+/// Whether both queues have the same entries, up to a place after their last.
+fn look_alike(ring: &FrameQueue<u32>, plain: &PlainQueue) -> bool {
+    for place in 0..=ring.len() {
+        if ring.get(place) != plain.get(place) {
+            return false;
+        }
+    }
+    usize::from(ring.len()) == plain.len()
+        && ring.is_empty() == plain.is_empty()
+        && ring.is_full() == plain.is_full()
+        && ring.front() == plain.front()
+}
+
+/// Whether both queues go alike through the calls that the digits of a number name.
+fn run_alike(alloc: Global, capacity: u16, number: usize) -> Result<bool, AllocError>
+    requires { 1 ≤ capacity }
+{
+    let mut ring = FrameQueue::new(alloc, capacity)?;
+    let mut plain = PlainQueue::new(alloc, capacity);
+    let mut digits = number;
+    for step in 0..STEPS {
+        let call = CALLS[digits % CALLS.len()];
+        digits /= CALLS.len();
+        if !answer_alike(&mut ring, &mut plain, call, step)? || !look_alike(&ring, &plain) {
+            return Ok(false);
+        }
+    }
+    Ok(true)
+}
+
+#[test]
+fn every_sequence_of_calls_is_answered_as_by_the_plain_queue(rt: HostRuntime) -> Result<(), Fail> {
+    for capacity in 1..=3 {
+        for number in 0..CALLS.len().pow(STEPS) {
+            let alike = run_alike(rt.alloc(), capacity, number)?;
+            assert!(rt; alike, "capacity {capacity}, sequence {number}");
+        }
+    }
     Ok(())
 }
 
