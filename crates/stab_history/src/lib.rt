@@ -1,0 +1,18 @@
+//! The history of a link: its events in their order, kept as runs of equal events.
+//!
+//! Contracts see a [`History`] as a plain list of events, and as the number of further events for
+//! which it surely has room. An event that repeats the last one changes one number, so it takes no
+//! memory; a run that is over takes 8 bytes while it has at most 65,535 events, and 32 bytes at
+//! most. The layer above uses one fact: once there is room for an event, pushing it adds exactly
+//! that event at the end of the list, and cannot fail.
+#![tactic(auto)]
+
+mod digits;
+mod entry;
+mod history;
+mod packed;
+
+pub use history::History;
+
+#[cfg(test)]
+mod tests;

@@ -1,0 +1,159 @@
+//! A history beside the plain list that it stands for: whatever happens is pushed to both, and they
+//! are compared place by place.
+
+use super::*;
+use crate::digits::{DIGITS, pack_run};
+use crate::entry::Entry;
+use crate::packed::PackedRuns;
+use stab_core::Event;
+use std::alloc::{AllocError, Global};
+use std::process::Abort;
+use std::test::Fail;
+
+/// One of each kind, with the largest item and the largest place.
+const ONE_OF_EACH: [(Event, u32); 10] = [
+    (Event::Offer(4_294_967_295), 1),
+    (Event::SendFrame, 1),
+    (Event::RecvFrame { keep: false }, 1),
+    (Event::RecvFrame { keep: true }, 1),
+    (Event::SendAck, 1),
+    (Event::RecvAck { keep: false }, 1),
+    (Event::RecvAck { keep: true }, 1),
+    (Event::LoseFrame(65_535), 1),
+    (Event::LoseAck(256), 1),
+    (Event::Close, 1),
+];
+
+/// Runs on both sides of the border at which a count has a second digit; two neighbours differ in
+/// their items alone.
+const DIGIT_BORDERS: [(Event, u32); 6] = [
+    (Event::Offer(7), 65_535),
+    (Event::Offer(8), 65_536),
+    (Event::SendAck, 65_537),
+    (Event::Close, 1),
+    (Event::SendAck, 131_073),
+    (Event::SendFrame, 2),
+];
+
+/// Runs that are given in parts: neighbours with one event are one run.
+const IN_PARTS: [(Event, u32); 5] = [
+    (Event::SendAck, 2),
+    (Event::SendAck, 3),
+    (Event::LoseAck(0), 1),
+    (Event::LoseAck(0), 1),
+    (Event::SendAck, 1),
+];
+
+/// Adds an event to both.
+fn push(history: &mut History, plain: &mut Vec<Event>, event: Event) -> Result<(), AllocError> {
+    plain.push(event)?;
+    history.reserve_for(event)?;
+    history.push_reserved(event);
+    Ok(())
+}
+
+/// Adds runs to both.
+fn push_runs(
+    history: &mut History,
+    plain: &mut Vec<Event>,
+    runs: &[(Event, u32)],
+) -> Result<(), AllocError> {
+    for (event, count) in runs {
+        for _ in 0..*count {
+            push(history, plain, *event)?;
+        }
+    }
+    Ok(())
+}
+
+/// Fails the test where the two differ, at a place or just past the end.
+fn assert_same<R: Abort>(rt: &R, history: &History, plain: &[Event]) {
+    assert!(rt; history.len() == plain.len() as u64, "the length");
+    for place in 0..plain.len() {
+        assert!(rt;
+            history.get(place as u64) == Some(plain[place]),
+            "place {place}"
+        );
+    }
+    assert!(rt; history.get(plain.len() as u64).is_none(), "past the end");
+    assert!(rt; history.get(u64::MAX).is_none(), "far past the end");
+}
+
+/// Compares both after these runs.
+fn compare<R: Abort>(rt: &R, alloc: Global, runs: &[(Event, u32)]) -> Result<(), AllocError> {
+    let mut history = History::new(alloc);
+    let mut plain = Vec::new(alloc);
+    push_runs(&mut history, &mut plain, runs)?;
+    assert_same(rt, &history, plain.as_slice());
+    Ok(())
+}
+
+#[test]
+fn keeps_no_event(rt: HostRuntime) -> Result<(), Fail> {
+    compare(&rt, rt.alloc(), &[])?;
+    Ok(())
+}
+
+#[test]
+fn keeps_one_of_each(rt: HostRuntime) -> Result<(), Fail> {
+    compare(&rt, rt.alloc(), &ONE_OF_EACH)?;
+    Ok(())
+}
+
+#[test]
+fn keeps_runs_past_the_digit_borders(rt: HostRuntime) -> Result<(), Fail> {
+    compare(&rt, rt.alloc(), &DIGIT_BORDERS)?;
+    Ok(())
+}
+
+#[test]
+fn keeps_runs_that_come_in_parts(rt: HostRuntime) -> Result<(), Fail> {
+    compare(&rt, rt.alloc(), &IN_PARTS)?;
+    Ok(())
+}
+
+/// The rounds of `keeps_many_runs`: with ten runs in each, their entries fill many blocks.
+const ROUNDS: u32 = 100;
+
+#[test]
+fn keeps_many_runs(rt: HostRuntime) -> Result<(), Fail> {
+    let alloc = rt.alloc();
+    let mut history = History::new(alloc);
+    let mut plain = Vec::new(alloc);
+    for _ in 0..ROUNDS {
+        push_runs(&mut history, &mut plain, &ONE_OF_EACH)?;
+    }
+    assert_same(&rt, &history, plain.as_slice());
+    Ok(())
+}
+
+#[test]
+fn keeps_two_events_in_room_for_two(rt: HostRuntime) -> Result<(), Fail> {
+    let mut history = History::new(rt.alloc());
+    history.reserve(2)?;
+    history.push_reserved(Event::LoseFrame(0));
+    history.push_reserved(Event::SendFrame);
+    let plain = [Event::LoseFrame(0), Event::SendFrame];
+    assert_same(&rt, &history, &plain);
+    Ok(())
+}
+
+/// A count with four digits, the second of which is zero.
+const LONG: u64 = 0x0003_0000_0002_0001;
+
+#[test]
+fn keeps_a_run_of_four_digits(rt: HostRuntime) -> Result<(), Fail> {
+    let mut packed = PackedRuns::new(rt.alloc());
+    packed.reserve(DIGITS)?;
+    pack_run(&mut packed, Event::SendAck, LONG);
+    assert!(rt; packed.count() == LONG, "the count");
+    assert!(rt; packed.get(0) == Some(Event::SendAck), "the first");
+    assert!(rt; packed.get(LONG - 1) == Some(Event::SendAck), "the last");
+    assert!(rt; packed.get(LONG).is_none(), "past the end");
+    Ok(())
+}
+
+#[test]
+fn an_entry_takes_8_bytes(rt: HostRuntime) {
+    assert!(rt; size_of::<Entry>() == 8);
+}
