@@ -1,13 +1,15 @@
 -- A link with its history: the events that happened to it since its start, which explain all that
 -- it is.
 -- Source: this project's profile.
-use Rattle.std.specs.Prelude.{List, ◌++◌}
+use Rattle.std.specs.Prelude.{◌≡◌, ◌⊎◌, List, [], ◌∷◌, ◌++◌, length}
 use Rattle.stab_frames.specs.Parameters.{Parameters}
 use Rattle.stab_core.specs.declared.event.Event.{Event}
 use Rattle.stab_core.specs.declared.start.Start.{Start}
-use Rattle.stab_core.specs.Link.{LinkValue, link_at}
+use Rattle.stab_core.specs.Link.{LinkValue, link_at, Grows}
 use Rattle.stab_core.specs.LinkState.{LinkState}
 use Rattle.stab_core.specs.Replay.{opening, replay}
+use Rattle.stab_core.specs.Step.{effect}
+use Rattle.stab_history.specs.History.{IsLast, most_events}
 
 pub record Book : Type 0 where
   pub params : Parameters
@@ -34,3 +36,16 @@ link_of b = link_at b.params (state_of b)
 -- the book after these events, in their order
 abbrev pub book_after : Book → List Event → Book
 book_after b events = record b { history = b.history ++ events }
+
+-- when a book may refuse to note an event: where the event is not the last one of the history, a
+-- list of the link grows, or the history is full
+abbrev pub MayRefuse : Book → Event → Type 0
+MayRefuse b e =
+    ¬ IsLast e b.history
+    ⊎ (Grows (effect b.params (state_of b) e) ⊎ (length b.history ≡ most_events))
+
+-- the same of all events that a call notes: nothing is never refused, and two may always be
+abbrev pub MayRefuseAll : Book → List Event → Type 0
+MayRefuseAll b [] = ⊥
+MayRefuseAll b (e ∷ []) = MayRefuse b e
+MayRefuseAll b (e ∷ f ∷ rest) = Unit {0}

@@ -15,7 +15,7 @@ use Rattle.stab_core.specs.Step.{effect, step}
 use Rattle.stab_lock.specs.declared.put.Put.{Put}
 use Rattle.stab_lock.specs.declared.seen.FrameSeen.{FrameSeen}
 use Rattle.stab_lock.specs.declared.seen.FrameSeen.TheVariants as seen
-use Rattle.stab_lock.specs.Book.{Book, state_of, book_after}
+use Rattle.stab_lock.specs.Book.{Book, state_of, book_after, MayRefuseAll}
 use Rattle.stab_script.specs.declared.act.OutAct.{OutAct}
 use Rattle.stab_script.specs.declared.act.OutAct.TheVariants.{Pass, Drop, Evict}
 use Rattle.stab_script.specs.declared.act.InAct.{InAct}
@@ -117,6 +117,10 @@ answer_of call b acts = (noted call b.params (state_of b) acts).answer
 
 abbrev pub acts_after : Call → Book → ActsRemaining → ActsRemaining
 acts_after call b acts = (noted call b.params (state_of b) acts).acts
+
+-- when a book may refuse a call
+abbrev pub MayRefuseCall : Call → Book → ActsRemaining → Type 0
+MayRefuseCall call b acts = MayRefuseAll b (noted call b.params (state_of b) acts).events
 
 -- the acts of a call that looks at none
 abbrev pub no_acts : ActsRemaining

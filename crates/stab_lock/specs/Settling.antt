@@ -1,8 +1,12 @@
 -- When two accounts agree with the state of one link, and the first thing in which they differ from
 -- it.
 -- Source: this project's profile.
-use Rattle.std.specs.Prelude.{◌≡◌, ◌≢◌, true, false}
+use Rattle.std.specs.Prelude.{◌≡◌, ◌≢◌, true, false, List}
+use Rattle.stab_frames.specs.Parameters.{Parameters}
+use Rattle.stab_core.specs.declared.event.Event.{Event}
+use Rattle.stab_core.specs.declared.start.Start.{Start}
 use Rattle.stab_core.specs.LinkState.{LinkState}
+use Rattle.stab_core.specs.Replay.{opening, replay}
 use Rattle.stab_lock.specs.Accounts.{Sender, Receiver}
 use Rattle.stab_lock.specs.declared.settle.SettleFault.{SettleFault}
 use Rattle.stab_lock.specs.declared.settle.SettleFault.TheVariants.{OfferedDiffer, AckedDiffer}
@@ -29,3 +33,18 @@ FirstDiffer s sender receiver DeliveredDiffer =
 FirstDiffer s sender receiver ClosedDiffer =
     (sender.offered ≡ s.offered) × (sender.acked ≡ s.acked) × (receiver.delivered ≡ s.delivered)
     × ¬ ClosesAgree s sender receiver
+
+-- this is the first thing in which the accounts differ from a replay from this start. OfferedDiffer
+-- is also the answer where the lock kept the book of other parameters or of another start, so there
+-- nothing is said.
+abbrev pub DifferFromReplay : Parameters → Start → Sender → Receiver → SettleFault → Type 0
+DifferFromReplay p start sender receiver OfferedDiffer = Unit {0}
+DifferFromReplay p start sender receiver AckedDiffer =
+    (events : List Event)
+    × FirstDiffer (replay p (opening start) events) sender receiver AckedDiffer
+DifferFromReplay p start sender receiver DeliveredDiffer =
+    (events : List Event)
+    × FirstDiffer (replay p (opening start) events) sender receiver DeliveredDiffer
+DifferFromReplay p start sender receiver ClosedDiffer =
+    (events : List Event)
+    × FirstDiffer (replay p (opening start) events) sender receiver ClosedDiffer

@@ -1,25 +1,30 @@
-ghost use Rattle.std.specs.Prelude.{◌≡◌, ◌≢◌, ◌<◌, [], ◌∷◌, ◌++◌, length, slice_get, false, true, IsTrue, IfOk, IfErr, OnOk, OnErr, MatchResult};
+ghost use Rattle.std.specs.Prelude.{◌≡◌, ◌≢◌, ◌+◌, ◌<◌, ◌≤◌, [], ◌∷◌, ◌++◌, length, slice_get, false, true, IsTrue, IfOk, IfErr, OnOk, OnErr, MatchResult};
 ghost use Rattle.stab_frames.specs.Parameters.{AreLawful};
 ghost use Rattle.stab_core.specs.Link.{IsReason, Grows};
 ghost use Rattle.stab_core.specs.LinkLaw.{LinkLaw};
 ghost use Rattle.stab_core.specs.LinkState.{LinkState};
 ghost use Rattle.stab_core.specs.Replay.{IsLawful, start_items};
 ghost use Rattle.stab_core.specs.Step.{effect, step};
-ghost use Rattle.stab_lock.specs.Book.{Book, book_of, state_of, link_of, book_after};
+ghost use Rattle.stab_history.specs.History.{most_events};
+ghost use Rattle.stab_lock.specs.Book.{Book, book_of, state_of, link_of, book_after, MayRefuse};
 
 use stab_core::{Effect, Event, Link, Start, StartFault};
 use stab_frames::{Item, Params};
+use stab_history::History;
 use std::alloc::{AllocError, Global};
 use std::marker::Model;
 
 /// A link with the history of the events that happened to it. Contracts see its parameters, its
 /// start and its history; its type keeps that the link is the replay of that history from that
 /// start.
+///
+/// A history has at most 18,446,744,073,709,551,615 events. Where an event, or one of two that are
+/// noted together, would pass that, the call answers `AllocError` and changes nothing.
 #[derive(Debug, Drop)]
 pub struct LinkBook {
     params: Params,
     start: Start,
-    history: Vec<Event>,
+    history: History,
     link: Link,
 }
 
@@ -30,10 +35,11 @@ impl Model for LinkBook {
 
     ghost Value = { Book };
 
-    ghost view = { λ b. book_of b.params b.start b.history.items };
+    ghost view = { λ b. book_of b.params b.start b.history.events };
 
     ghost invariant = { λ b.
-        (b.link ≡ link_of (book_of b.params b.start b.history.items)) × IsLawful b.params b.start };
+        (b.link ≡ link_of (book_of b.params b.start b.history.events))
+        × IsLawful b.params b.start };
 }
 
 impl LinkBook {
@@ -50,21 +56,25 @@ impl LinkBook {
         Ok(LinkBook {
             params,
             start,
-            history: Vec::new(alloc),
+            history: History::new(alloc),
             link,
         })
     }
 
     /// Lets an event happen to the link and notes it, also where its effect is Nothing. Where
     /// memory is refused, the book is as it was.
+    ///
+    /// An event that repeats the last one takes no memory, unless its effect is Held or Fresh.
     pub fn note(&mut self, event: Event) -> Result<Effect, AllocError>
         ensures noted { OnOk result (self.new ≡ book_after self.old (event ∷ [])) }
         ensures effect { IfOk result (λ its_effect.
             its_effect ≡ effect self.old.params (state_of self.old) event) }
         ensures unchanged { OnErr result (self.new ≡ self.old) }
+        ensures limit { OnOk result (length self.old.history < most_events) }
+        ensures memory { OnErr result (MayRefuse self.old event) }
     {
         stab_core::laws::replays_join();
-        self.history.reserve(1)?;
+        self.history.reserve_for(event)?;
         let effect = self.link.apply(event)?;
         self.history.push_reserved(event);
         Ok(effect)
@@ -80,6 +90,7 @@ impl LinkBook {
         ensures effect { let between = step self.old.params (state_of self.old) first in
             IfOk result (λ its_effect. its_effect ≡ effect self.old.params between second) }
         ensures unchanged { OnErr result (self.new ≡ self.old) }
+        ensures limit { OnOk result (length self.old.history + 2 ≤ most_events) }
     {
         stab_core::laws::replays_join();
         self.history.reserve(2)?;
@@ -98,14 +109,14 @@ impl LinkBook {
     pub fn history_len(&self) -> u64
         ensures { result ≡ length self.now.history }
     {
-        self.history.len() as u64
+        self.history.len()
     }
 
     /// The event at a place of the history, 0 being the first.
     pub fn event_at(&self, place: u64) -> Option<Event>
         ensures { result ≡ slice_get self.now.history place }
     {
-        self.history.get(place as usize).copied()
+        self.history.get(place)
     }
 
     /// What the link began from.

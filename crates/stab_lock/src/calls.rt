@@ -1,10 +1,10 @@
 //! The six calls of a book that the ends of a link make.
 
 ghost use Rattle.std.specs.Prelude.{◌≡◌, IfOk, OnOk, OnErr};
-ghost use Rattle.stab_lock.specs.Book.{book_after};
+ghost use Rattle.stab_lock.specs.Book.{book_after, MayRefuseAll};
 ghost use Rattle.stab_lock.specs.Calls.{offering, sending, polling_ack, closing, polling_frame};
 ghost use Rattle.stab_lock.specs.Calls.{sending_ack, book_noting, answer_of, acts_after, no_acts};
-ghost use Rattle.stab_lock.specs.Calls.{put_noted, IsSent, is_held, seen_by};
+ghost use Rattle.stab_lock.specs.Calls.{put_noted, IsSent, is_held, seen_by, MayRefuseCall};
 
 use crate::book::LinkBook;
 use crate::put::Put;
@@ -22,6 +22,7 @@ impl LinkBook {
         ensures answer { IfOk result (λ taken.
             taken ≡ is_held (answer_of (offering item) self.old no_acts)) }
         ensures unchanged { OnErr result (self.new ≡ self.old) }
+        ensures memory { OnErr result (MayRefuseCall (offering item) self.old no_acts) }
     {
         if self.link().is_closed() || !self.link().is_idle() {
             return Ok(false);
@@ -37,6 +38,7 @@ impl LinkBook {
         ensures answer { IfOk result (λ effect. effect ≡ answer_of sending self.old acts.old) }
         ensures acts { OnOk result (acts.new ≡ acts_after sending self.old acts.old) }
         ensures unchanged { OnErr result (self.new ≡ self.old) }
+        ensures memory { OnErr result (MayRefuseCall sending self.old acts.old) }
         ensures acts_unchanged { OnErr result (acts.new ≡ acts.old) }
     {
         if self.link().is_closed() || self.link().is_idle() {
@@ -58,6 +60,7 @@ impl LinkBook {
         ensures answer { IfOk result (λ effect. effect ≡ answer_of polling_ack self.old acts.old) }
         ensures acts { OnOk result (acts.new ≡ acts_after polling_ack self.old acts.old) }
         ensures unchanged { OnErr result (self.new ≡ self.old) }
+        ensures memory { OnErr result (MayRefuseCall polling_ack self.old acts.old) }
         ensures acts_unchanged { OnErr result (acts.new ≡ acts.old) }
     {
         if self.link().is_closed() || self.link().ack_count() == 0 {
@@ -74,6 +77,7 @@ impl LinkBook {
         ensures book { OnOk result (self.new ≡ book_noting closing self.old no_acts) }
         ensures answer { IfOk result (λ effect. effect ≡ answer_of closing self.old no_acts) }
         ensures unchanged { OnErr result (self.new ≡ self.old) }
+        ensures memory { OnErr result (MayRefuseCall closing self.old no_acts) }
     {
         if self.link().is_closed() {
             return Ok(Effect::Nothing);
@@ -89,6 +93,7 @@ impl LinkBook {
             seen ≡ seen_by (answer_of polling_frame self.old acts.old)) }
         ensures acts { OnOk result (acts.new ≡ acts_after polling_frame self.old acts.old) }
         ensures unchanged { OnErr result (self.new ≡ self.old) }
+        ensures memory { OnErr result (MayRefuseCall polling_frame self.old acts.old) }
         ensures acts_unchanged { OnErr result (acts.new ≡ acts.old) }
     {
         if self.link().is_closed() {
@@ -110,6 +115,7 @@ impl LinkBook {
         ensures answer { IfOk result (λ effect. effect ≡ answer_of sending_ack self.old acts.old) }
         ensures acts { OnOk result (acts.new ≡ acts_after sending_ack self.old acts.old) }
         ensures unchanged { OnErr result (self.new ≡ self.old) }
+        ensures memory { OnErr result (MayRefuseCall sending_ack self.old acts.old) }
         ensures acts_unchanged { OnErr result (acts.new ≡ acts.old) }
     {
         if self.link().is_closed() {
@@ -131,6 +137,8 @@ impl LinkBook {
         ensures answer { IfOk result (λ effect. effect ≡ (put_noted self.old way acts.old).answer) }
         ensures acts { OnOk result (acts.new ≡ (put_noted self.old way acts.old).acts) }
         ensures unchanged { OnErr result (self.new ≡ self.old) }
+        ensures memory { OnErr result
+            (MayRefuseAll self.old (put_noted self.old way acts.old).events) }
         ensures acts_unchanged { OnErr result (acts.new ≡ acts.old) }
     {
         let effect = match acts.peek_out() {

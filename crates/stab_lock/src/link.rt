@@ -7,7 +7,7 @@ ghost use Rattle.stab_script.specs.Scripts.{sender_half, receiver_half};
 ghost use Rattle.stab_lock.specs.Accounts.{new_sender, new_receiver};
 ghost use Rattle.stab_lock.specs.Book.{Given};
 ghost use Rattle.stab_lock.specs.Ends.{send_end, recv_end};
-ghost use Rattle.stab_lock.specs.Settling.{Agree};
+ghost use Rattle.stab_lock.specs.Settling.{Agree, DifferFromReplay};
 
 use crate::account::{RecvAccount, SendAccount};
 use crate::book::LinkBook;
@@ -92,7 +92,8 @@ impl LockLink {
     }
 
     /// Compares the accounts of both ends with the book, and hands both back where they agree. Then
-    /// one list of events explains both.
+    /// one list of events explains both. Where they do not agree, it answers the first thing in
+    /// which they differ from the book.
     pub fn settle(self, send: SendAccount, recv: RecvAccount) -> Result<Settled, SettleFault>
         ensures send { IfOk result (λ settled. settled.send ≡ send) }
         ensures recv { IfOk result (λ settled. settled.recv ≡ recv) }
@@ -100,6 +101,7 @@ impl LockLink {
             × Agree (replay self.params (opening self.start) events) send recv) }
         ensures law { OnOk result (LinkLaw self.params.capacity (start_items self.start)
             send.offered send.acked recv.delivered) }
+        ensures differ { IfErr result (DifferFromReplay self.params self.start send recv) }
     {
         let LockLink {
             params,
@@ -108,11 +110,7 @@ impl LockLink {
             book,
         } = self;
         let book = book.into_inner();
-        if !book.is_of(params, &start) {
-            return Err(SettleFault::OfferedDiffer);
-        }
-        let _law = book.link();
-        book.check(&send, &recv)?;
+        book.check_of(params, &start, &send, &recv)?;
         Ok(Settled { send, recv })
     }
 }

@@ -270,6 +270,38 @@ fn a_noted_event_without_effect(rt: HostRuntime) -> Result<(), Fail> {
     Ok(())
 }
 
+/// Notes an event so many times, and compares the effect of each.
+fn note_repeated<R: Abort>(
+    rt: &R,
+    book: &mut LinkBook,
+    event: Event,
+    effect: Effect,
+    times: u32,
+) -> Result<(), AllocError> {
+    for _ in 0..times {
+        assert!(rt; book.note(event)? == effect, "{event:?}");
+    }
+    Ok(())
+}
+
+/// Fails the test where the event at a place is another one.
+fn assert_event<R: Abort>(rt: &R, book: &LinkBook, place: u64, event: Option<Event>) {
+    assert!(rt; book.event_at(place) == event, "event {place}");
+}
+
+#[test]
+fn a_thousand_equal_events(rt: HostRuntime) -> Result<(), Fail> {
+    let mut book = book_at_three(rt.alloc())?;
+    note_repeated(&rt, &mut book, Event::SendAck, Effect::Sent, 1)?;
+    note_repeated(&rt, &mut book, Event::SendAck, Effect::Lost, 999)?;
+    assert!(rt; book.history_len() == 1000);
+    note_repeated(&rt, &mut book, Event::Offer(7), Effect::Held, 1)?;
+    assert_event(&rt, &book, 999, Some(Event::SendAck));
+    assert_event(&rt, &book, 1000, Some(Event::Offer(7)));
+    assert_event(&rt, &book, 1001, None);
+    Ok(())
+}
+
 /// Accounts of a round with 7 that is closed, changed as the flags say.
 fn changed_accounts(
     alloc: Global,
