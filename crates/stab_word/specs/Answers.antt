@@ -1,0 +1,82 @@
+-- What a call of an end answers, and what it leaves of the end's script and label. What is put into
+-- a word goes by the account of the end and the next act of its script. What a load shows is the
+-- other end's doing, so there the answer is free, and the rest goes by it.
+-- Source: this project's profile.
+use Rattle.std.specs.Prelude.{◌≡◌, ◌≢◌, ℕ, ◌+◌, ◌==◌, ◌&&◌, not, Bool, length, if◌then◌else◌}
+use Rattle.stab_core.specs.declared.event.Effect.{Effect}
+use Rattle.stab_core.specs.declared.event.Effect.TheVariants.{Nothing, Held, Sent, Fresh, Old}
+use Rattle.stab_core.specs.declared.event.Effect.TheVariants.{Acked, Ignored, Lost, Closed}
+use Rattle.stab_frames.specs.Parameters.{Parameters, next}
+use Rattle.stab_lock.specs.Accounts.{Sender}
+use Rattle.stab_lock.specs.declared.seen.FrameSeen.{FrameSeen}
+use Rattle.stab_lock.specs.declared.seen.FrameSeen.TheVariants as seen
+use Rattle.stab_script.specs.declared.act.OutAct.{OutAct}
+use Rattle.stab_script.specs.declared.act.OutAct.TheVariants.{Pass, Drop, Evict}
+use Rattle.stab_script.specs.Scripts.{ActsRemaining, out_act, after_out, after_in}
+
+-- what is put into a word takes the place of what was there; a drop puts nothing
+abbrev pub put_under : OutAct → Effect
+put_under Pass = Sent
+put_under Drop = Lost
+put_under Evict = Sent
+
+-- the answer of an end that puts something where this test holds, and the acts that remain
+abbrev pub put_where : Bool → ActsRemaining → Effect
+put_where test acts = if test then put_under (out_act acts.outs) else Nothing
+
+abbrev pub acts_put_where : Bool → ActsRemaining → ActsRemaining
+acts_put_where test acts = if test then after_out acts else acts
+
+-- the end did not close the link, and its last item waits for an acknowledgement
+abbrev pub has_frame : Sender → Bool
+has_frame s = not s.closed && (length s.offered == s.acked + 1)
+
+-- the answers of a look for an acknowledgement
+abbrev pub IsAckAnswer : Effect → Type 0
+IsAckAnswer Nothing = Unit {0}
+IsAckAnswer Held = ⊥
+IsAckAnswer Sent = ⊥
+IsAckAnswer (Fresh item) = ⊥
+IsAckAnswer Old = ⊥
+IsAckAnswer Acked = Unit {0}
+IsAckAnswer Ignored = Unit {0}
+IsAckAnswer Lost = ⊥
+IsAckAnswer Closed = ⊥
+
+-- the sender goes on to the next label where its item is acknowledged
+abbrev pub label_after_effect : Parameters → ℕ → Effect → ℕ
+label_after_effect p label Nothing = label
+label_after_effect p label Held = label
+label_after_effect p label Sent = label
+label_after_effect p label (Fresh item) = label
+label_after_effect p label Old = label
+label_after_effect p label Acked = next p label
+label_after_effect p label Ignored = label
+label_after_effect p label Lost = label
+label_after_effect p label Closed = label
+
+-- an acknowledgement that is shown takes an act; an empty word takes none
+abbrev pub acts_after_effect : ActsRemaining → Effect → ActsRemaining
+acts_after_effect acts Nothing = acts
+acts_after_effect acts Held = acts
+acts_after_effect acts Sent = acts
+acts_after_effect acts (Fresh item) = acts
+acts_after_effect acts Old = acts
+acts_after_effect acts Acked = after_in acts
+acts_after_effect acts Ignored = after_in acts
+acts_after_effect acts Lost = acts
+acts_after_effect acts Closed = acts
+
+-- the receiver takes another label with a fresh item, and keeps its own otherwise
+abbrev pub LabelAfterSeen : ℕ → ℕ → FrameSeen → Type 0
+LabelAfterSeen old new seen.Nothing = new ≡ old
+LabelAfterSeen old new seen.Old = new ≡ old
+LabelAfterSeen old new (seen.Fresh item) = new ≢ old
+LabelAfterSeen old new seen.Closed = new ≡ old
+
+-- a frame that is shown takes an act; an empty word and the close take none
+abbrev pub acts_after_seen : ActsRemaining → FrameSeen → ActsRemaining
+acts_after_seen acts seen.Nothing = acts
+acts_after_seen acts seen.Old = after_in acts
+acts_after_seen acts (seen.Fresh item) = after_in acts
+acts_after_seen acts seen.Closed = acts

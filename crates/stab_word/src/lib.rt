@@ -1,0 +1,27 @@
+//! A link of capacity one without a lock, for two ends on any two threads.
+//!
+//! One atomic word carries the frame that is on its way, another the acknowledgement. The ends load
+//! and store them, one at a time, and wait for nothing. Between any two of these steps, however the
+//! ends' steps interleave, the words and what the ends know show a state that the link can reach
+//! from its start. Contracts see a link as what names it: its table of words, and the parameters
+//! and the start that it was given. The layer above uses one fact: [`WordLink::settle`] always
+//! answers, without a comparison, and one event list explains the accounts of both ends.
+#![tactic(auto)]
+
+mod fault;
+mod link;
+mod recv;
+mod rule;
+mod seats;
+mod send;
+mod steps;
+mod view;
+mod words;
+
+pub use fault::WordFault;
+pub use link::{WordLink, WordOpening};
+pub use recv::{RecvDone, WordRecv};
+pub use send::{SendDone, WordSend};
+
+#[cfg(test)]
+mod tests;
