@@ -2,6 +2,7 @@
 pub use Rattle.stab_treecore.proofs.ForCallers.{holds_by_child, map-by_child, map-to_children, dealt_alike, holds_at_child}
 pub use Rattle.stab_workers.proofs.Seated.{length-by_child, length-by_parent}
 pub use Rattle.stab_workers.proofs.Gathering.{by_parent_at, as_many_to_children}
+pub use Rattle.stab_workers.proofs.Worked.{at_error}
 use Rattle.std.proofs.Common.{◌≡◌, ◌<◌, ℕ, zero, suc, true, false, List, [], ◌∷◌, length, map, get_or, drop, is_some, Option, Some, None, option_map, All, refl, ap, sym, ◌∙◌, subst, arith}
 use Rattle.std.proofs.lemmas.List.{length-map}
 use Rattle.std.proofs.lemmas.Option.{none-some, same_Some}

@@ -1,5 +1,6 @@
 -- From the answers of the workers, seat by seat, to the accounts of the nodes.
-use Rattle.std.proofs.Common.{◌≡◌, ◌==◌, ◌<◌, ◌+◌, ℕ, zero, suc, Bool, true, false, if◌then◌else◌, List, [], ◌∷◌, length, map, get_or, drop, Option, Some, None, option_map, Result, Ok, Err, IfErr, IfSome, IsErrAnd, All, refl, ap, sym, ◌∙◌, subst, arith}
+use Rattle.std.proofs.Common.{◌≡◌, ◌≢◌, ◌==◌, ◌<◌, ◌≤◌, ◌+◌, inl, inr, ℕ, zero, suc, Bool, true, false, if◌then◌else◌, List, [], ◌∷◌, length, map, get_or, drop, Option, Some, None, option_map, Result, Ok, Err, IfErr, IfSome, IsErrAnd, All, refl, ap, sym, ◌∙◌, subst, arith}
+use Rattle.std.proofs.lemmas.Bool.{cases_lt}
 use Rattle.std.proofs.lemmas.List.{get_or-map, length-map}
 use Rattle.std.proofs.lemmas.List.Elements.{All-cons, All-head, All-map, All-nil, All-tail}
 use Rattle.std.proofs.lemmas.Simd.{map-map}
@@ -9,9 +10,9 @@ use Rattle.stab_lock.specs.Accounts.{Receiver, Sender, new_receiver, new_sender}
 use Rattle.stab_node.specs.declared.fault.NodeFault.{NodeFault}
 use Rattle.stab_node.specs.Work.{AreNew}
 use Rattle.stab_treecore.specs.ByChild.{by_child, to_children}
-use Rattle.stab_workers.specs.declared.fault.WorkersFault.TheVariants.{Node}
+use Rattle.stab_workers.specs.declared.fault.WorkersFault.TheVariants.{Node, Thread}
 use Rattle.stab_workers.specs.Dealing.{by_parent}
-use Rattle.stab_workers.specs.FirstFault.{first_fault}
+use Rattle.stab_workers.specs.FirstFault.{StopsAt, first_fault}
 
 -- ---- what is dealt out
 
@@ -154,3 +155,70 @@ refused_at R number T (s ∷ seats) (Err f ∷ answers) start (suc n) node fault
     let same_fault : f ≡ fault = cc in
     let same : number s ≡ node = is_first ∙ here in
     subst (λ k. T k fault) same (subst (T (number s)) same_fault (each s f zipped.0))
+
+-- a fault that is found among the answers is that of a node
+pub never_unstarted : {A : Type 0} (answers : List (Result A NodeFault)) (start node : ℕ) → first_fault start answers ≢ Some (Thread node)
+never_unstarted [] start node = λ found. cc
+never_unstarted (Ok a ∷ answers) start node = never_unstarted answers (start + 1) node
+never_unstarted (Err f ∷ answers) start node = λ found. cc
+
+module _ {S A : Type 0} (R : S → Result A NodeFault → Type 0) (number : S → ℕ) where
+  -- where each answer says that its node is done, all are
+  pub all_done : (is_done : ℕ → Type 0) (seats : List S) (answers : List (Result A NodeFault)) (start n node place : ℕ)
+      → ((s : S) (r : Result A NodeFault) → R s r → is_done (number s)) → AllZip R seats answers
+      → map number seats ≡ range_with_len start n → node < n → place ≡ start + node → is_done place
+  all_done is_done seats answers start zero node place each zipped numbers inside is = absurd (omega (arith, inside))
+  all_done is_done [] answers start (suc n) node place each zipped numbers inside is = absurd (omega (arith, ap length numbers))
+  all_done is_done (s ∷ seats) [] start (suc n) node place each zipped numbers inside is = absurd zipped
+  all_done is_done (s ∷ seats) (r ∷ answers) start (suc n) zero place each zipped numbers inside is =
+      let first : number s ≡ start = ap (λ xs. get_or xs 0 0) numbers in
+      let same : number s ≡ place = omega (arith, first, is) in
+      subst is_done same (each s r zipped.0)
+  all_done is_done (s ∷ seats) (r ∷ answers) start (suc n) (suc node) place each zipped numbers inside is =
+      all_done is_done seats answers (start + 1) n node place each zipped.1 (ap (λ xs. drop 1 xs) numbers) (omega (arith, inside)) (omega (arith, is))
+
+  -- the node of the first fault is one of the nodes, and each before it answered with an account
+  pub answered_before : (T : ℕ → Type 0) (seats : List S) (answers : List (Result A NodeFault)) (start n node : ℕ) (fault : NodeFault)
+      → ((s : S) (a : A) → R s (Ok a) → T (number s)) → AllZip R seats answers → map number seats ≡ range_with_len start n
+      → first_fault start answers ≡ Some (Node node fault)
+      → (node < start + n) × ((earlier : ℕ) → start ≤ earlier → earlier < node → T earlier)
+  answered_before T [] [] start n node fault each zipped numbers first = cc
+  answered_before T [] (r ∷ answers) start n node fault each zipped numbers first = absurd zipped
+  answered_before T (s ∷ seats) [] start n node fault each zipped numbers first = absurd zipped
+  answered_before T (s ∷ seats) (r ∷ answers) start zero node fault each zipped numbers first = absurd (omega (arith, ap length numbers))
+  answered_before T (s ∷ seats) (Err f ∷ answers) start (suc n) node fault each zipped numbers first =
+      let here : start ≡ node = cc in
+      (omega (arith, here), λ earlier above below. absurd (omega (arith, here, above, below)))
+  answered_before T (s ∷ seats) (Ok a ∷ answers) start (suc n) node fault each zipped numbers first =
+      let is_first : number s ≡ start = ap (λ xs. get_or xs 0 0) numbers in
+      let rest = answered_before T seats answers (start + 1) n node fault each zipped.1 (ap (λ xs. drop 1 xs) numbers) first in (
+        omega (arith, rest.0),
+        λ earlier above below.
+            elim (cases_lt start earlier) [
+              | inl later ↦ rest.1 earlier (omega (arith, later)) below
+              | inr not_later ↦
+                  let same : number s ≡ earlier = omega (arith, is_first, above, not_later) in
+                  subst T same (each s a zipped.0)
+            ],
+      )
+
+-- the node whose worker was not started is one of the nodes, and those before it are done
+pub started_before : (is_done : ℕ → Type 0) (numbers : List ℕ) (start n node : ℕ) → numbers ≡ range_with_len start n → StopsAt is_done numbers node
+    → (node < start + n) × ((earlier : ℕ) → start ≤ earlier → earlier < node → is_done earlier)
+started_before is_done [] start n node are stops = absurd stops
+started_before is_done (x ∷ xs) start zero node are stops = absurd (omega (arith, ap length are))
+started_before is_done (x ∷ xs) start (suc n) node are (inl here) =
+    let is_first : x ≡ start = ap (λ ks. get_or ks 0 0) are in
+    (omega (arith, here, is_first), λ earlier above below. absurd (omega (arith, here, is_first, above, below)))
+started_before is_done (x ∷ xs) start (suc n) node are (inr later) =
+    let is_first : x ≡ start = ap (λ ks. get_or ks 0 0) are in
+    let rest = started_before is_done xs (start + 1) n node (ap (λ ks. drop 1 ks) are) later.1 in (
+      omega (arith, rest.0),
+      λ earlier above below.
+          elim (cases_lt start earlier) [
+            | inl after ↦ rest.1 earlier (omega (arith, after)) below
+            | inr not_after ↦
+                let same : x ≡ earlier = omega (arith, is_first, above, not_after) in
+                subst is_done same later.0
+          ],
+    )

@@ -1,10 +1,12 @@
 ghost use Rattle.std.specs.Prelude.{◌≡◌, ◌≤◌, ◌<◌, ℕ, IfOk, IfErr, All, length, map, option_map};
 ghost use Rattle.stab_lock.specs.Accounts.{new_sender, new_receiver};
+ghost use Rattle.stab_node.specs.declared.fault.NodeFault.{NodeFault};
 ghost use Rattle.stab_node.specs.Turns.{IsOver, IsRefused};
 ghost use Rattle.stab_node.specs.Work.{IsWork};
 ghost use Rattle.stab_treecore.specs.ByChild.{by_child};
 ghost use Rattle.stab_workers.specs.ByNode.{ended_at};
 ghost use Rattle.stab_workers.specs.Dealing.{by_parent};
+ghost use Rattle.stab_workers.specs.FirstFault.{IsFirstToGiveUp, IsFirstUnstarted};
 
 use crate::accounts::take_accounts;
 use crate::deal::deal;
@@ -54,6 +56,12 @@ where
         (ended_at (map (λ a. a.ended) accounts.items) node)) }
     ensures done { IfOk result (λ accounts. (node : ℕ) → node < length tree.now.parents
         → G.is_done gate.now node) }
+    ensures unstarted { IfErr result (λ fault. (node : ℕ) → fault ≡ WorkersFault.Thread node
+        → IsFirstUnstarted (length tree.now.parents) (G.is_done gate.now) node) }
+    ensures gave_up { IfErr result (λ fault. (node : ℕ) (why : NodeFault)
+        → fault ≡ WorkersFault.Node node why
+        → IsFirstToGiveUp (length tree.now.parents) (G.has_passed gate.now) (G.is_done gate.now)
+        turns node) }
     ensures refused { IfErr result (λ fault. (node : ℕ)
         → fault ≡ WorkersFault.Node node NodeFault.Gate
         → IsRefused (G.has_passed gate.now node) (G.may_refuse gate.now node) turns) }

@@ -1,10 +1,12 @@
 ghost use Rattle.std.specs.Prelude.{◌≡◌, ◌≤◌, ◌<◌, ℕ, Some, true, IfOk, IfErr, All, length, map};
 ghost use Rattle.stab_lock.specs.Accounts.{new_sender, new_receiver};
+ghost use Rattle.stab_node.specs.declared.fault.NodeFault.{NodeFault};
 ghost use Rattle.stab_node.specs.Turns.{IsOver, IsRefused};
 ghost use Rattle.stab_node.specs.Work.{HasAll, IsServed};
 ghost use Rattle.stab_tree.specs.Links.{links_of};
 ghost use Rattle.stab_tree.specs.Nodes.{parent_at, root_of};
 ghost use Rattle.stab_workers.specs.ByNode.{ended_at, entry_into, received_at};
+ghost use Rattle.stab_workers.specs.FirstFault.{IsFirstToGiveUp, IsFirstUnstarted};
 
 use crate::fault::WorkersFault;
 use crate::gathered::{Gathered, gather_accounts};
@@ -70,6 +72,12 @@ where
         → IsOver (G.has_passed gate.now node) turns (ended_at g.ended.items node)) }
     ensures done { IfOk result (λ g. (node : ℕ) → node < length tree.now.parents
         → G.is_done gate.now node) }
+    ensures unstarted { IfErr result (λ fault. (node : ℕ) → fault ≡ WorkersFault.Thread node
+        → IsFirstUnstarted (length tree.now.parents) (G.is_done gate.now) node) }
+    ensures gave_up { IfErr result (λ fault. (node : ℕ) (why : NodeFault)
+        → fault ≡ WorkersFault.Node node why
+        → IsFirstToGiveUp (length tree.now.parents) (G.has_passed gate.now) (G.is_done gate.now)
+        turns node) }
     ensures refused { IfErr result (λ fault. (node : ℕ)
         → fault ≡ WorkersFault.Node node NodeFault.Gate
         → IsRefused (G.has_passed gate.now node) (G.may_refuse gate.now node) turns) }

@@ -1,9 +1,10 @@
 ghost use Rattle.std.specs.List.{AllZip};
 ghost use Rattle.std.specs.Thread.{IsSend, IsSync};
-ghost use Rattle.std.specs.Prelude.{◌≡◌, ◌≤◌, ◌+◌, [], ◌∷◌, IfOk, MatchResult, ℕ};
+ghost use Rattle.std.specs.Prelude.{◌≡◌, ◌≤◌, ◌+◌, [], ◌∷◌, IfErr, IfOk, MatchResult, map, ℕ};
 ghost use Rattle.std.specs.VecDeque.{deque_capacity, deque_len};
 ghost use Rattle.stab_node.specs.Turns.{IsRefused};
 ghost use Rattle.stab_workers.specs.Answers.{HasWorked, node_ends};
+ghost use Rattle.stab_workers.specs.FirstFault.{StopsAt};
 
 use crate::seat::Seat;
 use stab_frames::Item;
@@ -82,6 +83,8 @@ where
         × G.is_done gate.now s.node) seats.items answers.items) }
     ensures len { IfOk result (λ answers. deque_len answers ≡ deque_len seats) }
     ensures room { IfOk result (λ new. deque_capacity new ≡ deque_capacity answers) }
+    ensures unstarted { IfErr result
+        (StopsAt (G.is_done gate.now) (map (λ s. s.node) seats.items)) }
 {
     let Some(seat) = seats.pop_front() else {
         return Ok(answers);
@@ -107,6 +110,8 @@ where
                 × G.is_done gate.entry.now s.node) (seat ∷ seats.items) answers.items) }
             ensures len { IfOk result (λ answers. deque_len answers ≡ deque_len seats + 1) }
             ensures room { IfOk result (λ new. deque_capacity new ≡ deque_capacity answers) }
+            ensures unstarted { IfErr result (StopsAt (G.is_done gate.entry.now)
+                (seat.node ∷ map (λ s. s.node) seats.items)) }
         {
             let node = seat.node;
             let promise = WorkPromise {

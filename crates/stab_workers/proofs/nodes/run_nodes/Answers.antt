@@ -1,10 +1,12 @@
-use Rattle.std.proofs.Common.{Some, sym, ◌≡◌, ℕ, length, ap, ◌∙◌, refl, arith}
+use Rattle.std.proofs.Common.{Some, sym, ◌≡◌, ◌<◌, ℕ, length, map, ap, ◌∙◌, refl, arith}
+use Rattle.stab_node.specs.declared.account.Ended.{Ended}
 use Rattle.stab_node.specs.declared.account.Ended.TheVariants.{Turns}
+use Rattle.stab_node.specs.declared.fault.NodeFault.{NodeFault}
 use Rattle.stab_node.specs.declared.fault.NodeFault.TheVariants.{Gate}
 use Rattle.stab_node.specs.Turns.{IsOver, IsRefused}
-use Rattle.stab_workers.proofs.Worked.{as_many, at_error, as_many_numbered, at_numbers, new_at_seats, of_accounts, of_seats, read_alike, refused_at, worked}
-use Rattle.stab_workers.specs.declared.fault.WorkersFault.TheVariants.{Node}
-use Rattle.stab_workers.specs.FirstFault.{first_fault}
+use Rattle.stab_workers.proofs.Worked.{all_done, answered_before, as_many, at_error, as_many_numbered, at_numbers, never_unstarted, new_at_seats, of_accounts, of_seats, read_alike, refused_at, started_before, worked}
+use Rattle.stab_workers.specs.declared.fault.WorkersFault.TheVariants.{Node, Thread}
+use Rattle.stab_workers.specs.FirstFault.{IsFirstToGiveUp, IsFirstUnstarted, first_fault}
 use Rattle.stab_workers.proofs.nodes.run_nodes.Goals as goal
 
 -- there are as many answers as nodes
@@ -52,3 +54,42 @@ returns-in_err-accounts-clause-refused g c =
     refused_at _ _ (λ k f. f ≡ Gate → IsRefused (g.G.Gate.has_passed c.args.gate.now k) (g.G.Gate.may_refuse c.args.gate.now k) c.args.turns) _ _ 0 _ node Gate
     (λ s f kept. kept.0) (of_seats _ _ _ _ c.in-Ok.ensures.answers c.from-seats.ensures.0) c.in_ok-seats.ensures.nodes
     (ap (λ answers. first_fault 0 answers) (sym c.from-answers.ensures.0) ∙ (c.in_err-accounts.ensures.fault ∙ ap Some is)) refl)
+
+-- a worker that was not started is found before any answer is looked at
+pub returns-in_err-accounts-clause-unstarted : goal.returns-in_err-accounts-clause-unstarted
+returns-in_err-accounts-clause-unstarted g c =
+    at_error _ _ (λ fault. (node : ℕ) → fault ≡ Thread node → IsFirstUnstarted (length c.args.tree.now.parents) (g.G.Gate.is_done c.args.gate.now) node)
+    c.from_residual-in_err-accounts.ensures.1
+    (λ node is. absurd (never_unstarted c.from-answers.result.items 0 node (c.in_err-accounts.ensures.fault ∙ ap Some is)))
+
+-- the nodes before the one that gave up answered with an account, and all are done
+pub returns-in_err-accounts-clause-gave_up : goal.returns-in_err-accounts-clause-gave_up
+returns-in_err-accounts-clause-gave_up g c =
+    let count = length c.args.tree.now.parents in
+    let zipped = of_seats _ _ _ _ c.in-Ok.ensures.answers c.from-seats.ensures.0 in
+    at_error _ _
+    (λ fault. (node : ℕ) (why : NodeFault) → fault ≡ Node node why
+    → IsFirstToGiveUp count (g.G.Gate.has_passed c.args.gate.now) (g.G.Gate.is_done c.args.gate.now) c.args.turns node)
+    c.from_residual-in_err-accounts.ensures.1
+    (λ node why is.
+    let found = ap (λ answers. first_fault 0 answers) (sym c.from-answers.ensures.0) ∙ (c.in_err-accounts.ensures.fault ∙ ap Some is) in
+    let before =
+    answered_before _ _ (λ k. (ended : Ended) × IsOver (g.G.Gate.has_passed c.args.gate.now k) c.args.turns ended) _ _ 0 count node why
+    (λ s a kept. (a.ended, kept.0.over)) zipped c.in_ok-seats.ensures.nodes found in
+    record {
+      known = omega (arith, before.0);
+      before = λ earlier below. before.1 earlier (omega arith) below;
+      done = λ each within. all_done _ _ (g.G.Gate.is_done c.args.gate.now) _ _ 0 count each each (λ s r kept. kept.1) zipped c.in_ok-seats.ensures.nodes within (omega arith);
+    })
+
+-- the node whose worker was not started, and those before it
+pub returns-in-Err-clause-unstarted : goal.returns-in-Err-clause-unstarted
+returns-in-Err-clause-unstarted g c = λ node is.
+    let count = length c.args.tree.now.parents in
+    let same : c.in-Err.node ≡ node = cc in
+    let numbers = ap (λ seats. map (λ s. s.node) seats) c.from-seats.ensures.0 ∙ c.in_ok-seats.ensures.nodes in
+    let before = started_before (g.G.Gate.is_done c.args.gate.now) _ 0 count c.in-Err.node numbers c.in-Err.ensures.unstarted in
+    record {
+      known = omega (arith, same, before.0);
+      before = λ earlier below. before.1 earlier (omega arith) (omega (arith, same, below));
+    }

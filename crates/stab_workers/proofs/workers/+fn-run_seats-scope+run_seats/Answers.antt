@@ -13,6 +13,7 @@ scope-returns g t c = record {
       (rw c.of.ensures at (rw c.in-Ok.ensures.ok at c.join-answer.ensures), c.in_ok-answers.ensures.answers);
   len = search rules;
   room = search rules;
+  unstarted = tt;
 }
 
 -- the closure may be called as it is: what it asks is what this asks
