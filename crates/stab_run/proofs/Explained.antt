@@ -11,11 +11,12 @@ use Rattle.stab_tree.specs.Links.{links_from, links_of}
 use Rattle.stab_tree.specs.Nodes.{parent_at, root_of}
 use Rattle.stab_treecore.specs.ByChild.{by_child}
 use Rattle.stab_treecore.specs.EdgeLaw.{EdgeLaw, EdgeInto}
-use Rattle.stab_treecore.proofs.ForCallers.{holds_by_child}
+use Rattle.stab_workers.proofs.ForCallers.{holds_by_child, length-by_child}
 use Rattle.stab_workers.specs.ByNode.{received_at}
-use Rattle.stab_run.specs.LockedRuns.{AreSettled, IsRun, IsSettled, acked_of, given}
+use Rattle.stab_run.specs.LinkRuns.{AreSettled, IsRun, IsSettled, acked_of, given}
 use Rattle.stab_run.specs.Reports.{OnePerNode, Reported}
 use Rattle.stab_run.specs.Runs.{AreExplained, HandsOn, RootHas}
+use Rattle.stab_run.proofs.Settlements.{no_link_into}
 
 -- the edge law of each link of a report, as the laws of the layer below take it
 pub edge_into : (p : Parameters) → AreLawful p → (parents : List (Option ℕ)) (starts : List Start) (report : Reported)
@@ -90,23 +91,6 @@ settled_into p w (Some q ∷ parents) (start ∷ starts) (send ∷ sends) (recv 
       settled = below.settled;
     }
 
--- there is no link into a node without a parent
-no_link_into : {A : Type 0} (parents : List (Option ℕ)) (xs : List A) (node : ℕ) → parent_at parents node ≡ None
-    → get_or (by_child parents xs) node None ≡ None
-no_link_into [] xs node none = refl
-no_link_into (None ∷ parents) xs zero none = refl
-no_link_into (None ∷ parents) xs (suc node) none = no_link_into parents xs node none
-no_link_into (Some q ∷ parents) xs zero none = absurd (none-some q (sym none))
-no_link_into (Some q ∷ parents) [] (suc node) none = no_link_into parents [] node none
-no_link_into (Some q ∷ parents) (x ∷ xs) (suc node) none = no_link_into parents xs node none
-
--- there is one entry for each node
-as_many_nodes : {A : Type 0} (parents : List (Option ℕ)) (xs : List A) → length (by_child parents xs) ≡ length parents
-as_many_nodes [] xs = refl
-as_many_nodes (None ∷ parents) xs = ap suc (as_many_nodes parents xs)
-as_many_nodes (Some q ∷ parents) [] = ap suc (as_many_nodes parents [])
-as_many_nodes (Some q ∷ parents) (x ∷ xs) = ap suc (as_many_nodes parents xs)
-
 -- the report of what the workers left
 abbrev pub report_of : List (Option ℕ) → List (List ℕ) → List Ended → List Sender → Reported
 report_of parents received ended sends =
@@ -118,7 +102,7 @@ module _ (p : Parameters) (parents : List (Option ℕ)) (starts : List Start) (p
   pub one_per_node : OnePerNode parents (report_of parents received ended sends)
   one_per_node = record {
     received = run.all_received;
-    acked = as_many_nodes parents (map acked_of sends);
+    acked = length-by_child parents (map acked_of sends);
     ended = run.all_ended;
   }
 

@@ -1,3 +1,4 @@
+pub mod Paired
 pub mod Counts
 pub mod Entries
 pub mod Linked

@@ -1,6 +1,6 @@
 -- Starts and scripts, link by link.
-use Rattle.std.proofs.Common.{◌≡◌, ℕ, ◌+◌, List, [], ◌∷◌, ◌++◌, replicate, Result, Ok, Err, refl, sym, ap, ◌∙◌, append_assoc}
-use Rattle.std.proofs.lemmas.List.{replicate-append-replicate, append-nil}
+use Rattle.std.proofs.Common.{◌≡◌, ◌<◌, ℕ, ◌+◌, List, [], ◌∷◌, ◌++◌, length, map, take, drop, get_or, replicate, Result, Ok, Err, refl, sym, ap, ◌∙◌, append_assoc}
+use Rattle.std.proofs.lemmas.List.{replicate-append-replicate, append-nil, drop_more, length-map, map-append, map_more}
 use Rattle.stab_json.specs.Checks.{◌>>=◌}
 use Rattle.stab_script.specs.declared.fault.ScriptFault.{ScriptFault}
 use Rattle.stab_script.specs.declared.script_entry.ScriptEntry.{ScriptEntry}
@@ -39,3 +39,30 @@ module _ (whole : Result (List Acts) ScriptFault) (scripts : List Acts) (entry :
 -- at the end all are made
 pub made_at_end : (scripts : List Acts) → made_after scripts (all_made []) ≡ Ok scripts
 made_at_end scripts = ap Ok (append-nil scripts)
+
+-- where the ends so far are made of the entries so far, one more end is made of the next entry
+pub one_more_end : {E F X : Type 0} (view : E → F) (made_of : X → F) (ends : List E) (end : E) (xs : List X) (place : ℕ) (x copy : X)
+    → place < length xs → x ≡ get_or xs place x → copy ≡ x → view end ≡ made_of copy → map view ends ≡ map made_of (take place xs)
+    → map view (ends ++ end ∷ []) ≡ map made_of (take (place + 1) xs)
+one_more_end view made_of ends end xs place x copy within read same shows so_far =
+    let next : view end ≡ made_of (get_or xs place x) = shows ∙ (ap made_of same ∙ ap made_of read) in
+    map-append view ends (end ∷ [])
+    ∙ (ap (λ front. front ++ view end ∷ []) so_far
+    ∙ (ap (λ y. map made_of (take place xs) ++ y ∷ []) next ∙ sym (map_more made_of xs place x within)))
+
+-- where the ends so far, and then those of the entries that are left, are all ends, so it is with one more
+pub one_more_of : {E F X : Type 0} (view : E → F) (made_of : X → F) (ends : List E) (end : E) (xs : List X) (i : ℕ) (x : X)
+    → i < length xs → x ≡ get_or xs i x → view end ≡ made_of x → map view ends ++ map made_of (drop i xs) ≡ map made_of xs
+    → map view (ends ++ end ∷ []) ++ map made_of (drop (i + 1) xs) ≡ map made_of xs
+one_more_of view made_of ends end xs i x within read shows so_far =
+    let after = map made_of (drop (i + 1) xs) in
+    let left : map made_of (drop i xs) ≡ made_of x ∷ after =
+    ap (λ ys. map made_of ys) (drop_more xs i x within) ∙ ap (λ y. made_of y ∷ after) (sym read) in
+    ap (λ front. front ++ after) (map-append view ends (end ∷ []))
+    ∙ (append_assoc (map view ends) (view end ∷ []) after
+    ∙ (ap (λ y. map view ends ++ y ∷ after) shows ∙ (ap (λ rest. map view ends ++ rest) (sym left) ∙ so_far)))
+
+-- there are as many ends as entries that they are made of
+pub as_many_made : {E F X : Type 0} (view : E → F) (made_of : X → F) (ends : List E) (xs : List X)
+    → map view ends ≡ map made_of xs → length ends ≡ length xs
+as_many_made view made_of ends xs same = sym (length-map ends view) ∙ (ap length same ∙ length-map xs made_of)

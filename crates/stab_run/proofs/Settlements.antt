@@ -1,18 +1,75 @@
 -- Settling link by link: what is settled so far, and what it shows of each link by its child.
-use Rattle.std.proofs.Common.{◌≡◌, ◌<◌, ◌+◌, ℕ, suc, List, [], ◌∷◌, ◌++◌, length, map, drop, Option, Some, None, refl, ap, sym, ◌∙◌, arith, append_assoc}
+use Rattle.std.proofs.Common.{◌≡◌, ◌<◌, ◌+◌, ℕ, zero, suc, inl, inr, List, [], ◌∷◌, ◌++◌, length, map, drop, get_or, Option, Some, None, refl, ap, sym, ◌∙◌, subst, arith, append_assoc}
+use Rattle.std.proofs.lemmas.Bool.{cases_lt}
 use Rattle.std.proofs.lemmas.List.{append-nil, drop_more, drop_all}
+use Rattle.std.proofs.lemmas.Option.{none-some, same_Some}
 use Rattle.stab_lock.specs.Accounts.{Sender, Receiver}
 use Rattle.stab_lock.specs.Book.{Given}
 use Rattle.stab_tree.specs.Links.{links_from, links_of}
 use Rattle.stab_tree.specs.Nodes.{parent_at}
 use Rattle.stab_treecore.specs.ByChild.{by_child}
-use Rattle.stab_run.specs.LockedRuns.{AreSettled, IsSettled, acked_of}
+use Rattle.stab_workers.specs.ByNode.{entry_into}
+use Rattle.stab_run.specs.LinkRuns.{AreSettled, AreSettledBefore, IsSettled, acked_of}
+
+-- there is no link into a node without a parent
+pub no_link_into : {A : Type 0} (parents : List (Option ℕ)) (xs : List A) (node : ℕ) → parent_at parents node ≡ None
+    → get_or (by_child parents xs) node None ≡ None
+no_link_into [] xs node none = refl
+no_link_into (None ∷ parents) xs zero none = refl
+no_link_into (None ∷ parents) xs (suc node) none = no_link_into parents xs node none
+no_link_into (Some q ∷ parents) xs zero none = absurd (none-some q (sym none))
+no_link_into (Some q ∷ parents) [] (suc node) none = no_link_into parents [] node none
+no_link_into (Some q ∷ parents) (x ∷ xs) (suc node) none = no_link_into parents xs node none
 
 -- how many links there are does not depend on the number of the first node
 same_number : (v w : ℕ) (parents : List (Option ℕ)) → length (links_from v parents) ≡ length (links_from w parents)
 same_number v w [] = refl
 same_number v w (None ∷ parents) = same_number (suc v) (suc w) parents
 same_number v w (Some p ∷ parents) = ap suc (same_number (suc v) (suc w) parents)
+
+-- what is left of one list with an entry for each link is what it has from this node on
+pub record IsLeftOf {A : Type 0} (parents : List (Option ℕ)) (all left : List A) (node : ℕ) : Type 0 where
+  pub at : (i : ℕ) → entry_into parents all (node + i) ≡ entry_into (drop node parents) left i
+
+module _ {A : Type 0} (parents : List (Option ℕ)) (all : List A) (node : ℕ) (within : node < length parents) where
+  left_past_root : (left : List A) → parent_at parents node ≡ None → IsLeftOf parents all left node → IsLeftOf parents all left (node + 1)
+  left_past_root left is before = record {
+    at = λ i.
+        let rest : drop node parents ≡ None ∷ drop (node + 1) parents =
+        drop_more parents node None within ∙ ap (λ x. x ∷ drop (node + 1) parents) is in
+        let place : node + 1 + i ≡ node + suc i = omega arith in
+        ap (λ k. entry_into parents all k) place ∙ (before.at (suc i) ∙ ap (λ ps. entry_into ps left (suc i)) rest);
+  }
+
+  module _ (parent : ℕ) (is : parent_at parents node ≡ Some parent) (old : List A) (x : A) (left : List A) (first : old ≡ x ∷ left)
+      (before : IsLeftOf parents all old node) where
+    rest_of_child : drop node parents ≡ Some parent ∷ drop (node + 1) parents
+    rest_of_child = drop_more parents node None within ∙ ap (λ o. o ∷ drop (node + 1) parents) is
+
+    left_past_child : IsLeftOf parents all left (node + 1)
+    left_past_child = record {
+      at = λ i.
+          let place : node + 1 + i ≡ node + suc i = omega arith in
+          ap (λ k. entry_into parents all k) place
+          ∙ (before.at (suc i) ∙ (ap (λ ps. entry_into ps old (suc i)) rest_of_child
+          ∙ ap (λ xs. entry_into (Some parent ∷ drop (node + 1) parents) xs (suc i)) first));
+    }
+
+    -- what the next node's link has is the first that is left
+    first_is_left : (y : A) → entry_into parents all node ≡ Some y → x ≡ y
+    first_is_left y found =
+        let place : node + 0 ≡ node = omega arith in
+        same_Some x y
+        (sym (ap (λ xs. entry_into (Some parent ∷ drop (node + 1) parents) xs 0) first)
+        ∙ (sym (ap (λ ps. entry_into ps old 0) rest_of_child)
+        ∙ (sym (before.at 0) ∙ (ap (λ k. entry_into parents all k) place ∙ found))))
+
+-- the accounts of the links into the nodes before this one are settled
+abbrev pub SettledBefore : List (Option ℕ) → List Given → List Sender → List Receiver → ℕ → Type 0
+SettledBefore parents links sends recvs node =
+    (earlier : ℕ) (link : Given) (send : Sender) (recv : Receiver) → earlier < node
+    → entry_into parents links earlier ≡ Some link → entry_into parents sends earlier ≡ Some send
+    → entry_into parents recvs earlier ≡ Some recv → IsSettled link send recv
 
 -- The counts so far, and then those of the nodes that are left, are all counts; where the links that are left are settled, all are;
 -- and there is what is needed for each link that is left.
@@ -23,6 +80,10 @@ pub record SettledSoFar (parents : List (Option ℕ)) (links : List Given) (send
   pub links_enough : length links_left ≡ length (links_of (drop node parents))
   pub sends_enough : length sends_left ≡ length (links_of (drop node parents))
   pub recvs_enough : length recvs_left ≡ length (links_of (drop node parents))
+  pub before : SettledBefore parents links sends recvs node
+  pub links_from_here : IsLeftOf parents links links_left node
+  pub sends_from_here : IsLeftOf parents sends sends_left node
+  pub recvs_from_here : IsLeftOf parents recvs recvs_left node
 
 -- before the first node nothing is settled
 pub none_settled : (parents : List (Option ℕ)) (links : List Given) (sends : List Sender) (recvs : List Receiver)
@@ -34,6 +95,10 @@ none_settled parents links sends recvs counted_links counted_sends counted_recvs
   links_enough = counted_links;
   sends_enough = counted_sends;
   recvs_enough = counted_recvs;
+  before = λ earlier link send recv sooner. absurd (omega (arith, sooner));
+  links_from_here = record { at = λ i. let place : 0 + i ≡ i = omega arith in ap (λ k. entry_into parents links k) place };
+  sends_from_here = record { at = λ i. let place : 0 + i ≡ i = omega arith in ap (λ k. entry_into parents sends k) place };
+  recvs_from_here = record { at = λ i. let place : 0 + i ≡ i = omega arith in ap (λ k. entry_into parents recvs k) place };
 }
 
 module _ (parents : List (Option ℕ)) (links : List Given) (sends : List Sender) (recvs : List Receiver) (acked : List (Option ℕ))
@@ -59,6 +124,17 @@ module _ (parents : List (Option ℕ)) (links : List Given) (sends : List Sender
         links_enough = so_far.links_enough ∙ same;
         sends_enough = so_far.sends_enough ∙ same;
         recvs_enough = so_far.recvs_enough ∙ same;
+        before =
+            λ earlier link send recv sooner the_link the_send the_recv.
+            elim (cases_lt earlier node) [
+              | inl still_sooner ↦ so_far.before earlier link send recv still_sooner the_link the_send the_recv
+              | inr here ↦
+                  let place : earlier ≡ node = omega (arith, sooner, here) in
+                  absurd (none-some link (sym (no_link_into parents links node is) ∙ (ap (λ k. entry_into parents links k) (sym place) ∙ the_link)))
+            ];
+        links_from_here = left_past_root parents links node within links_left is so_far.links_from_here;
+        sends_from_here = left_past_root parents sends node within sends_left is so_far.sends_from_here;
+        recvs_from_here = left_past_root parents recvs node within recvs_left is so_far.recvs_from_here;
       }
 
   -- where the next node has a parent, there is a link to settle
@@ -119,4 +195,32 @@ child_settled parents links sends recvs acked node parent link send recv links_b
       links_enough = omega (arith, before.links_enough, ap (λ xs. length xs) first_link, number);
       sends_enough = omega (arith, before.sends_enough, ap (λ xs. length xs) first_send, number);
       recvs_enough = omega (arith, before.recvs_enough, ap (λ xs. length xs) first_recv, number);
+      before =
+          λ earlier l s r sooner the_link the_send the_recv.
+          elim (cases_lt earlier node) [
+            | inl still_sooner ↦ before.before earlier l s r still_sooner the_link the_send the_recv
+            | inr at_last ↦
+                let place : earlier ≡ node = omega (arith, sooner, at_last) in
+                let same_link : link ≡ l =
+                first_is_left parents links node within parent is links_before link links_left first_link before.links_from_here l
+                (ap (λ k. entry_into parents links k) (sym place) ∙ the_link) in
+                let same_send : send ≡ s =
+                first_is_left parents sends node within parent is sends_before send sends_left first_send before.sends_from_here s
+                (ap (λ k. entry_into parents sends k) (sym place) ∙ the_send) in
+                let same_recv : recv ≡ r =
+                first_is_left parents recvs node within parent is recvs_before recv recvs_left first_recv before.recvs_from_here r
+                (ap (λ k. entry_into parents recvs k) (sym place) ∙ the_recv) in
+                subst (λ x. IsSettled x s r) same_link (subst (λ x. IsSettled link x r) same_send (subst (λ x. IsSettled link send x) same_recv here))
+          ];
+      links_from_here = left_past_child parents links node within parent is links_before link links_left first_link before.links_from_here;
+      sends_from_here = left_past_child parents sends node within parent is sends_before send sends_left first_send before.sends_from_here;
+      recvs_from_here = left_past_child parents recvs node within parent is recvs_before recv recvs_left first_recv before.recvs_from_here;
     }
+
+-- at a child the links before it are settled
+pub settled_before : (parents : List (Option ℕ)) (links : List Given) (sends : List Sender) (recvs : List Receiver) (acked : List (Option ℕ))
+    (node parent : ℕ) (links_left : List Given) (sends_left : List Sender) (recvs_left : List Receiver)
+    → SettledSoFar parents links sends recvs acked links_left sends_left recvs_left node → parent_at parents node ≡ Some parent
+    → AreSettledBefore parents links sends recvs node
+settled_before parents links sends recvs acked node parent links_left sends_left recvs_left so_far is =
+    record { parent = parent; is_child = is; before = so_far.before }

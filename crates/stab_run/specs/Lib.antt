@@ -7,5 +7,5 @@ pub mod LentMembers
 pub mod Jobs
 pub mod Reports
 pub mod RunFaults
-pub mod LockedRuns
+pub mod LinkRuns
 pub mod Runs

@@ -4,22 +4,26 @@
 //! of its tree. The reader's contract goes from bytes to that value by small definitions in
 //! `specs/`. The layer above uses two facts: the answer of [`read_job`] is the job that the bytes
 //! mean, or the first check that they fail, unless memory is refused; and the tree law holds at
-//! every node of the report that [`run_locked`] answers, which [`report_text`] prints.
+//! every node of the report that [`run_locked`] answers, over links behind locks, and [`run_words`],
+//! over links of two words; [`report_text`] prints it.
 #![tactic(auto)]
 
+mod ends;
 mod fault;
 mod job;
 pub mod laws;
+mod link;
 mod links;
 mod locked;
 mod members;
 mod read;
 mod report;
+mod run;
 mod run_fault;
 mod schedule;
 mod settle;
-mod split;
 mod starts;
+mod words;
 
 pub use fault::JobFault;
 pub use job::Job;
@@ -27,6 +31,7 @@ pub use locked::run_locked;
 pub use read::read_job;
 pub use report::{Report, report_text};
 pub use run_fault::RunFault;
+pub use words::run_words;
 
 #[cfg(test)]
 mod tests;

@@ -1,31 +1,102 @@
 //! The run of a job by one worker per node, over links behind locks.
 
-ghost use Rattle.std.specs.Prelude.{◌≡◌, ℕ, ◌<◌, false, IfOk, IfErr, OnOk, All, length};
+ghost use Rattle.std.specs.Prelude.{◌≡◌, ◌≢◌, ℕ, ◌<◌, true, IfOk, IfErr, OnOk, All, length};
 ghost use Rattle.stab_core.specs.Replay.{IsLawful};
 ghost use Rattle.stab_core.specs.declared.start.StartFault.{StartFault};
+ghost use Rattle.stab_lock.specs.declared.settle.SettleFault.{SettleFault};
+ghost use Rattle.stab_node.specs.declared.fault.NodeFault.{NodeFault};
 ghost use Rattle.stab_node.specs.Turns.{IsOver, IsRefused};
-ghost use Rattle.stab_run.specs.LockedRuns.{IsRun};
+ghost use Rattle.stab_run.specs.LinkRuns.{IsFirstUnsettled};
 ghost use Rattle.stab_run.specs.Reports.{OnePerNode};
-ghost use Rattle.stab_run.specs.RunFaults.{is_of_start};
+ghost use Rattle.stab_run.specs.RunFaults.{AllAreOver, comes_after_starts};
 ghost use Rattle.stab_run.specs.Runs.{RootHas, AreExplained, HandsOn, IsFirstUnlawful};
 ghost use Rattle.stab_run.specs.Runs.{CompleteBelowEnded};
-ghost use Rattle.stab_tree.specs.Links.{links_of};
 ghost use Rattle.stab_treecore.specs.NodeLaws.{HalfTreeLawAtNodes, TreeLawAtNodes};
 ghost use Rattle.stab_workers.specs.ByNode.{ended_at, received_at};
+ghost use Rattle.stab_workers.specs.FirstFault.{IsFirstToGiveUp, IsFirstUnstarted};
 
+use crate::ends::{run_ends, split_all};
 use crate::job::Job;
-use crate::laws;
+use crate::link::{RunLink, SplitLink};
 use crate::report::Report;
+use crate::run::report_of;
 use crate::run_fault::RunFault;
-use crate::settle::settle_all;
-use crate::split::split_all;
 use crate::starts::{check_starts, make_links};
-use stab_lock::{LockLink, RecvAccount, SendAccount};
+use stab_core::Start;
+use stab_frames::Params;
+use stab_lock::{LockLink, LockRecv, LockSend, RecvAccount, SendAccount, SettleFault, Settled};
 use stab_node::{Gate, NodeFault};
-use stab_workers::{Gathered, run_workers};
-use std::alloc::Global;
+use stab_script::Script;
+use std::alloc::{AllocError, Global};
 use std::sync::Wait;
 use std::thread::Threads;
+
+impl RunLink for LockLink {
+    ghost use Rattle.std.specs.Prelude.{⊤};
+
+    type Opening = ();
+
+    type SendDone = SendAccount;
+
+    type RecvDone = RecvAccount;
+
+    ghost given = { λ link. link };
+
+    ghost opens = { λ link opening. ⊤ };
+
+    ghost has_sent = { λ link done. ⊤ };
+
+    ghost has_received = { λ link done. ⊤ };
+
+    ghost sent = { λ done. done };
+
+    ghost received = { λ done. done };
+
+    ghost can_have = { λ p. ⊤ };
+
+    ghost may_differ = { ⊤ };
+
+    fn make(alloc: Global, params: Params, start: &Start) -> Result<(LockLink, ()), AllocError> {
+        match LockLink::new(alloc, params, start.copy(alloc)?) {
+            Ok(link) => Ok((link, ())),
+            Err(_) => Err(AllocError),
+        }
+    }
+
+    fn settle(self, send: SendAccount, recv: RecvAccount) -> Result<Settled, SettleFault> {
+        LockLink::settle(self, send, recv)
+    }
+}
+
+impl<'a, R> SplitLink<'a, R> for LockLink {
+    ghost use Rattle.std.specs.Prelude.{⊤};
+    ghost use Rattle.stab_lock.specs.Ends.{recv_end, send_end};
+
+    type SendEnd = LockSend<'a, R>;
+
+    type RecvEnd = LockRecv<'a, R>;
+
+    ghost sends = { λ link end. ⊤ };
+
+    ghost receives = { λ link end. ⊤ };
+
+    ghost send_account = { λ end. (send_end end).account };
+
+    ghost send_acts = { λ end. (send_end end).acts };
+
+    ghost recv_account = { λ end. (recv_end end).account };
+
+    ghost recv_acts = { λ end. (recv_end end).acts };
+
+    fn split(
+        &'a self,
+        _alloc: Global,
+        _opening: (),
+        script: Script,
+    ) -> Result<(LockSend<'a, R>, LockRecv<'a, R>), AllocError> {
+        Ok(LockLink::split(self, script))
+    }
+}
 
 /// Runs a job: one worker per node, each on a thread of its own, over links behind locks.
 ///
@@ -70,96 +141,33 @@ pub fn run_locked<R: Threads + Wait + Send + Sync, G: Gate + Sync>(
         → G.is_done gate.now node) }
 
     // Why it is refused.
+    ensures any_capacity { IfErr result (λ fault. fault ≢ RunFault.CapacityNotOne) }
     ensures unlawful { IfErr result (λ fault. (child : ℕ) (reason : StartFault)
         → fault ≡ RunFault.Start child reason
         → IsFirstUnlawful job.now.params job.now.tree.parents job.now.starts child reason) }
+    ensures starts_first { IfErr result (λ fault. comes_after_starts fault ≡ true
+        → All (IsLawful job.now.params) job.now.starts) }
+    ensures unstarted { IfErr result (λ fault. (node : ℕ) → fault ≡ RunFault.Thread node
+        → IsFirstUnstarted (length job.now.tree.parents) (G.is_done gate.now) node) }
+    ensures gave_up { IfErr result (λ fault. (node : ℕ) (why : NodeFault)
+        → fault ≡ RunFault.Node node why
+        → IsFirstToGiveUp (length job.now.tree.parents) (G.has_passed gate.now)
+        (G.is_done gate.now) job.now.turns node) }
+    ensures unsettled { IfErr result (λ fault. (child : ℕ) (why : SettleFault)
+        → fault ≡ RunFault.Settle child why
+        → IsFirstUnsettled job.now.params job.now.tree.parents job.now.starts job.now.items child) }
+    ensures settled_last { IfErr result (λ fault. (child : ℕ) (why : SettleFault)
+        → fault ≡ RunFault.Settle child why
+        → AllAreOver (length job.now.tree.parents) (G.has_passed gate.now) (G.is_done gate.now)
+        job.now.turns) }
     ensures refused { IfErr result (λ fault. (node : ℕ)
         → fault ≡ RunFault.Node node NodeFault.Gate
         → IsRefused (G.has_passed gate.now node) (G.may_refuse gate.now node) job.now.turns) }
 {
-    let report = report_of_run(rt, alloc, job, gate)?;
-    let _lawful = job.params().capacity();
-    let _tree = job.tree().root();
-    laws::explained_reports_obey_the_tree_law();
-    laws::nothing_is_missing_below_ended_nodes();
+    check_starts(job.params(), job.tree(), job.starts())?;
+    let (links, openings) = make_links::<LockLink>(alloc, job.params(), job.starts())?;
+    let (sends, recvs) = split_all::<R, LockLink>(alloc, &links, openings, job.scripts())?;
+    let gathered = run_ends(rt, rt, alloc, job, sends, recvs, gate)?;
+    let report = report_of::<LockLink>(alloc, job, links, gathered)?;
     Ok(report)
-}
-
-/// The report of a run.
-fn report_of_run<R: Threads + Wait + Send + Sync, G: Gate + Sync>(
-    rt: &R,
-    alloc: Global,
-    job: &Job,
-    gate: &G,
-) -> Result<Report, RunFault>
-    ensures nodes { IfOk result (λ report. OnePerNode job.now.tree.parents report) }
-    ensures lawful { OnOk result (All (IsLawful job.now.params) job.now.starts) }
-    ensures root { IfOk result (λ report.
-        RootHas job.now.tree.parents job.now.items report) }
-    ensures edges { IfOk result (λ report.
-        AreExplained job.now.params job.now.tree.parents job.now.starts report) }
-    ensures handed_on { IfOk result (λ report. HandsOn job.now.tree.parents report) }
-    ensures turns { IfOk result (λ report. (node : ℕ) → node < length job.now.tree.parents
-        → IsOver (G.has_passed gate.now node) job.now.turns (ended_at report.ended node)) }
-    ensures done { OnOk result ((node : ℕ) → node < length job.now.tree.parents
-        → G.is_done gate.now node) }
-    ensures unlawful { IfErr result (λ fault. (child : ℕ) (reason : StartFault)
-        → fault ≡ RunFault.Start child reason
-        → IsFirstUnlawful job.now.params job.now.tree.parents job.now.starts child reason) }
-    ensures refused { IfErr result (λ fault. (node : ℕ)
-        → fault ≡ RunFault.Node node NodeFault.Gate
-        → IsRefused (G.has_passed gate.now node) (G.may_refuse gate.now node) job.now.turns) }
-{
-    let tree = job.tree();
-    check_starts(job.params(), tree, job.starts())?;
-    let links = make_links(alloc, job.params(), job.starts())?;
-    let gathered = run_links(rt, alloc, job, &links, gate)?;
-    let Gathered {
-        received,
-        ended,
-        sends,
-        recvs,
-    } = gathered;
-    let acked = settle_all(alloc, tree, links, sends, recvs)?;
-    let _root = tree.root();
-    Ok(Report {
-        received,
-        acked,
-        ended,
-    })
-}
-
-/// Runs the workers of a job over its links.
-fn run_links<'e, R: Threads + Wait + Send + Sync, G: Gate + Sync>(
-    rt: &'e R,
-    alloc: Global,
-    job: &'e Job,
-    links: &'e [LockLink],
-    gate: &'e G,
-) -> Result<Gathered<RecvAccount, SendAccount>, RunFault>
-    requires { length links.now ≡ length (links_of job.now.tree.parents) }
-    ensures run { IfOk result (λ g. IsRun job.now.tree.parents job.now.items
-        g.received.items g.ended.items g.sends.items g.recvs.items) }
-    ensures turns { IfOk result (λ g. (node : ℕ) → node < length job.now.tree.parents
-        → IsOver (G.has_passed gate.now node) job.now.turns (ended_at g.ended.items node)) }
-    ensures done { OnOk result ((node : ℕ) → node < length job.now.tree.parents
-        → G.is_done gate.now node) }
-    ensures no_start { IfErr result (λ fault. is_of_start fault ≡ false) }
-    ensures refused { IfErr result (λ fault. (node : ℕ)
-        → fault ≡ RunFault.Node node NodeFault.Gate
-        → IsRefused (G.has_passed gate.now node) (G.may_refuse gate.now node) job.now.turns) }
-{
-    let (sends, recvs) = split_all(alloc, links, job.scripts())?;
-    let gathered = run_workers(
-        rt,
-        rt,
-        alloc,
-        job.tree(),
-        sends,
-        recvs,
-        job.items(),
-        job.turns(),
-        gate,
-    )?;
-    Ok(gathered)
 }

@@ -10,6 +10,9 @@ use thiserror::Error;
 /// answered, and of like faults the one of the first node in file order.
 #[derive(Clone, Copy, Debug, PartialEq, Eq, Error)]
 pub enum RunFault {
+    /// The links are to be words, and the capacity is not one.
+    #[error("run: capacity is not one")]
+    CapacityNotOne,
     /// The link into this node cannot begin from its start.
     #[error("{1}")]
     Start(NodeId, StartFault),

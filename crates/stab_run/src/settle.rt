@@ -1,32 +1,38 @@
-//! The links of a run, settled: the accounts of both ends of each are compared with its history.
+//! The links of a run, settled: one list of events explains what both finished ends of each say.
 
-ghost use Rattle.std.specs.Prelude.{◌≡◌, ◌<◌, ◌∷◌, false, IfErr, IfOk, OnOk, length, map};
-ghost use Rattle.stab_lock.specs.Book.{Given};
-ghost use Rattle.stab_run.specs.LockedRuns.{AreSettled, IsSettled, acked_of};
-ghost use Rattle.stab_run.specs.RunFaults.{is_of_start, is_of_worker};
+ghost use Rattle.std.specs.List.{AllZip};
+ghost use Rattle.std.specs.Prelude.{◌≡◌, ℕ, ◌<◌, ◌∷◌, true, IfErr, IfOk, OnOk, length, map};
+ghost use Rattle.stab_lock.specs.declared.settle.SettleFault.{SettleFault};
+ghost use Rattle.stab_run.specs.LinkRuns.{AreSettled, AreSettledBefore, IsFirstSettled};
+ghost use Rattle.stab_run.specs.LinkRuns.{acked_of};
+ghost use Rattle.stab_run.specs.RunFaults.{comes_of_settling};
 ghost use Rattle.stab_tree.specs.Links.{links_of};
 ghost use Rattle.stab_treecore.specs.ByChild.{by_child};
 
+use crate::link::RunLink;
 use crate::run_fault::RunFault;
-use stab_lock::{LockLink, RecvAccount, SendAccount, SettleFault, Settled};
+use stab_lock::{SettleFault, Settled};
 use stab_tree::{NodeId, Tree};
 use std::alloc::Global;
 use std::collections::VecDeque;
 
-/// Settles the first link with the first account of each end. It takes no memory.
-fn settle_first(
-    links: &mut VecDeque<LockLink>,
-    sends: &mut VecDeque<SendAccount>,
-    recvs: &mut VecDeque<RecvAccount>,
+/// Settles the first link with the first finished end of each side.
+fn settle_first<L: RunLink>(
+    links: &mut VecDeque<L>,
+    sends: &mut VecDeque<L::SendDone>,
+    recvs: &mut VecDeque<L::RecvDone>,
 ) -> Result<Settled, SettleFault>
     requires links { 0 < length links.old.items }
-    requires sends { 0 < length sends.old.items }
-    requires recvs { 0 < length recvs.old.items }
-    ensures link { IfOk result (λ settled. (link : Given)
-        × (links.old.items ≡ link ∷ links.new.items)
-        × IsSettled link settled.send settled.recv) }
-    ensures send { IfOk result (λ settled. sends.old.items ≡ settled.send ∷ sends.new.items) }
-    ensures recv { IfOk result (λ settled. recvs.old.items ≡ settled.recv ∷ recvs.new.items) }
+    requires sends { AllZip L.has_sent links.old.items sends.old.items }
+    requires recvs { AllZip L.has_received links.old.items recvs.old.items }
+    ensures senders { AllZip L.has_sent links.new.items sends.new.items }
+    ensures receivers { AllZip L.has_received links.new.items recvs.new.items }
+    ensures settled { IfOk result (λ settled. IsFirstSettled settled.send.acked
+        (map L.given links.old.items) (map L.sent sends.old.items)
+        (map L.received recvs.old.items)
+        (map L.given links.new.items) (map L.sent sends.new.items)
+        (map L.received recvs.new.items)) }
+    ensures refused { IfErr result (λ fault. L.may_differ) }
 {
     let link = links.pop_front().unwrap();
     let send = sends.pop_front().unwrap();
@@ -41,23 +47,29 @@ fn acked_by(settled: &Settled) -> u64
     settled.send.acked
 }
 
-/// Settles each link with its two accounts, in file order of the children, and answers by node how
-/// many items are acknowledged on the link into it.
-pub(crate) fn settle_all(
+/// Settles each link with its two finished ends, in file order of the children, and answers by node
+/// how many items are acknowledged on the link into it.
+pub(crate) fn settle_all<L: RunLink>(
     alloc: Global,
     tree: &Tree,
-    links: Vec<LockLink>,
-    sends: Vec<SendAccount>,
-    recvs: Vec<RecvAccount>,
+    links: Vec<L>,
+    sends: Vec<L::SendDone>,
+    recvs: Vec<L::RecvDone>,
 ) -> Result<Vec<Option<u64>>, RunFault>
     requires links { length links.items ≡ length (links_of tree.now.parents) }
-    requires sends { length sends.items ≡ length (links_of tree.now.parents) }
-    requires recvs { length recvs.items ≡ length (links_of tree.now.parents) }
+    requires sends { AllZip L.has_sent links.items sends.items }
+    requires recvs { AllZip L.has_received links.items recvs.items }
     ensures acked { IfOk result (λ acked.
-        acked.items ≡ by_child tree.now.parents (map acked_of sends.items)) }
-    ensures settled { OnOk result (AreSettled links.items sends.items recvs.items) }
-    ensures no_start { IfErr result (λ fault. is_of_start fault ≡ false) }
-    ensures no_worker { IfErr result (λ fault. is_of_worker fault ≡ false) }
+        acked.items ≡ by_child tree.now.parents (map acked_of (map L.sent sends.items))) }
+    ensures settled { OnOk result (AreSettled (map L.given links.items)
+        (map L.sent sends.items) (map L.received recvs.items)) }
+    ensures settled_before { IfErr result (λ fault. (child : ℕ) (why : SettleFault)
+        → fault ≡ RunFault.Settle child why
+        → AreSettledBefore tree.now.parents (map L.given links.items)
+        (map L.sent sends.items) (map L.received recvs.items) child) }
+    ensures refused { IfErr result (λ fault. (child : ℕ) (why : SettleFault)
+        → fault ≡ RunFault.Settle child why → L.may_differ) }
+    ensures of_settling { IfErr result (λ fault. comes_of_settling fault ≡ true) }
 {
     let mut acked = Vec::with_capacity(alloc, usize::from(tree.len()))?;
     let mut links = VecDeque::from(links);
@@ -67,7 +79,7 @@ pub(crate) fn settle_all(
         let node = NodeId::new(place);
         match tree.parent(node) {
             None => acked.push_reserved(None),
-            Some(_) => match settle_first(&mut links, &mut sends, &mut recvs) {
+            Some(_) => match settle_first::<L>(&mut links, &mut sends, &mut recvs) {
                 Ok(settled) => acked.push_reserved(Some(acked_by(&settled))),
                 Err(fault) => return Err(RunFault::Settle(node, fault)),
             },

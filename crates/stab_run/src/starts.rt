@@ -1,18 +1,19 @@
 //! The links of a job at their starts.
 
-ghost use Rattle.std.specs.Prelude.{◌≡◌, ℕ, false, All, IfNone, IfOk, IfErr, IfSome, OnOk, length, map};
+ghost use Rattle.std.specs.Prelude.{◌≡◌, ℕ, true, All, IfNone, IfOk, IfErr, IfSome, OnOk, length, map};
+ghost use Rattle.std.specs.List.{AllZip};
 ghost use Rattle.stab_core.specs.declared.start.StartFault.{StartFault};
 ghost use Rattle.stab_core.specs.Link.{IsReason};
 ghost use Rattle.stab_core.specs.Replay.{IsLawful};
-ghost use Rattle.stab_run.specs.LockedRuns.{given};
-ghost use Rattle.stab_run.specs.RunFaults.{is_of_worker};
+ghost use Rattle.stab_run.specs.LinkRuns.{given};
+ghost use Rattle.stab_run.specs.RunFaults.{is_of_start};
 ghost use Rattle.stab_run.specs.Runs.{IsFirstUnlawful};
 ghost use Rattle.stab_tree.specs.Links.{links_of};
 
+use crate::link::RunLink;
 use crate::run_fault::RunFault;
 use stab_core::{Start, StartFault};
 use stab_frames::Params;
-use stab_lock::LockLink;
 use stab_tree::Tree;
 use std::alloc::{AllocError, Global};
 
@@ -40,7 +41,7 @@ pub(crate) fn check_starts(params: Params, tree: &Tree, starts: &[Start]) -> Res
     ensures unlawful { IfErr result (λ fault. (child : ℕ) (reason : StartFault)
         → fault ≡ RunFault.Start child reason
         → IsFirstUnlawful params tree.now.parents starts.now child reason) }
-    ensures no_worker { IfErr result (λ fault. is_of_worker fault ≡ false) }
+    ensures of_start { IfErr result (λ fault. is_of_start fault ≡ true) }
 {
     for place in 0..tree.link_count() {
         match unlawful(params, &starts[usize::from(place)]) {
@@ -51,29 +52,23 @@ pub(crate) fn check_starts(params: Params, tree: &Tree, starts: &[Start]) -> Res
     Ok(())
 }
 
-/// A link at a start, which is lawful, so that memory alone can be refused.
-fn make_link(alloc: Global, params: Params, start: &Start) -> Result<LockLink, AllocError>
-    requires { IsLawful params start.now }
-    ensures { IfOk result (λ link. link ≡ given params start.now) }
-{
-    match LockLink::new(alloc, params, start.copy(alloc)?) {
-        Ok(link) => Ok(link),
-        Err(_) => Err(AllocError),
-    }
-}
-
-/// Each link at its start.
-pub(crate) fn make_links(
+/// Each link at its start, and what splits it.
+pub(crate) fn make_links<L: RunLink>(
     alloc: Global,
     params: Params,
     starts: &[Start],
-) -> Result<Vec<LockLink>, AllocError>
-    requires { All (IsLawful params) starts.now }
-    ensures { IfOk result (λ links. links.items ≡ map (given params) starts.now) }
+) -> Result<(Vec<L>, Vec<L::Opening>), AllocError>
+    requires params { L.can_have params }
+    requires lawful { All (IsLawful params) starts.now }
+    ensures links { IfOk result (λ made. map L.given made.0.items ≡ map (given params) starts.now) }
+    ensures openings { IfOk result (λ made. AllZip L.opens made.0.items made.1.items) }
 {
     let mut links = Vec::with_capacity(alloc, starts.len())?;
+    let mut openings = Vec::with_capacity(alloc, starts.len())?;
     for start in starts {
-        links.push_reserved(make_link(alloc, params, start)?);
+        let (link, opening) = L::make(alloc, params, start)?;
+        links.push_reserved(link);
+        openings.push_reserved(opening);
     }
-    Ok(links)
+    Ok((links, openings))
 }

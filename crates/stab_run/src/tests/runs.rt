@@ -1,9 +1,10 @@
 //! Whole runs by worker threads. No test rests on how the threads are scheduled: where the outcome
 //! depends on the order of turns, a gate makes that order.
 
-ghost use Rattle.std.specs.Prelude.{⊤};
+ghost use Rattle.std.specs.Prelude.{⊤, IfOk};
+ghost use Rattle.stab_run.specs.Reports.{OnePerNode};
 
-use crate::{Job, Report, RunFault, read_job, report_text, run_locked};
+use crate::{Job, Report, RunFault, read_job, report_text, run_locked, run_words};
 use stab_core::StartFault;
 use stab_node::{Ended, Gate};
 use stab_tree::NodeId;
@@ -149,14 +150,43 @@ impl Gate for OrderedGate {
     }
 }
 
-/// The text of the report of a job under a gate.
+/// Which links a run makes.
+#[derive(Clone, Copy, Debug, PartialEq, Eq)]
+enum Links {
+    /// Links behind locks.
+    Locked,
+    /// Links of two words.
+    Words,
+}
+
+/// Both runs.
+const BOTH: [Links; 2] = [Links::Locked, Links::Words];
+
+/// The report of a job over such links, under a gate.
+fn run_over<R: Threads + Wait + Send + Sync>(
+    rt: &R,
+    alloc: Global,
+    links: Links,
+    job: &Job,
+    gate: &OrderedGate,
+) -> Result<Report, RunFault>
+    ensures { IfOk result (λ report. OnePerNode job.now.tree.parents report) }
+{
+    match links {
+        Links::Locked => run_locked(rt, alloc, job, gate),
+        Links::Words => run_words(rt, alloc, job, gate),
+    }
+}
+
+/// The text of the report of a job over such links, under a gate.
 fn text_of_run<R: Threads + Wait + Send + Sync>(
     rt: &R,
     alloc: Global,
+    links: Links,
     job: &Job,
     gate: &OrderedGate,
 ) -> Result<String, Fail> {
-    let report = run_locked(rt, alloc, job, gate)?;
+    let report = run_over(rt, alloc, links, job, gate)?;
     Ok(report_text(alloc, job.tree(), &report)?)
 }
 
@@ -164,10 +194,28 @@ fn text_of_run<R: Threads + Wait + Send + Sync>(
 fn a_lone_root_runs(rt: HostRuntime) -> Result<(), Fail> {
     let text = r#"{"capacity":1,"labels":4,"tree":[{"name":"r"}],"items":[7,8]}"#;
     let job = read_job(rt.alloc(), text.as_bytes())?;
-    let gate = OrderedGate::for_nodes(Order::Paced, 1);
-    let printed = text_of_run(&rt, rt.alloc(), &job, &gate)?;
     let expected = "r depth 0 received 2 acked - ended upstream\nitems: 7 8\n";
-    assert!(rt; printed.as_str() == expected, "{printed}");
+    for links in BOTH {
+        let gate = OrderedGate::for_nodes(Order::Paced, 1);
+        let printed = text_of_run(&rt, rt.alloc(), links, &job, &gate)?;
+        assert!(rt; printed.as_str() == expected, "{links:?}: {printed}");
+    }
+    Ok(())
+}
+
+/// How a run of this job of two nodes is refused, whose gate is never asked.
+fn assert_refused<R: Threads + Wait + Send + Sync + Abort>(
+    rt: &R,
+    alloc: Global,
+    links: Links,
+    text: &str,
+    refused: RunFault,
+) -> Result<(), Fail> {
+    let job = read_job(alloc, text.as_bytes())?;
+    let gate = OrderedGate::for_nodes(Order::Paced, 2);
+    let answer = run_over(rt, alloc, links, &job, &gate).map(|_| ());
+    assert!(rt; answer == Err(refused), "{links:?}: {answer:?}");
+    assert_eq!(rt; (gate.asked(0), gate.asked(1)), (0, 0));
     Ok(())
 }
 
@@ -175,33 +223,62 @@ fn a_lone_root_runs(rt: HostRuntime) -> Result<(), Fail> {
 fn an_unlawful_start_is_refused_before_any_turn(rt: HostRuntime) -> Result<(), Fail> {
     let text = r#"{"capacity":1,"labels":4,"tree":[{"name":"r"},{"name":"a","parent":"r"}],
         "items":[7],"starts":[{"frames":[[2,99],[3,98]],"acks":[],"send":0,"recv":1}]}"#;
-    let job = read_job(rt.alloc(), text.as_bytes())?;
-    let gate = OrderedGate::for_nodes(Order::Paced, 2);
-    let answer = run_locked(&rt, rt.alloc(), &job, &gate).map(|_| ());
-    let refused = RunFault::Start(NodeId::new(1), StartFault::TooManyFrames);
-    assert!(rt; answer == Err(refused), "{answer:?}");
-    assert_eq!(rt; (gate.asked(0), gate.asked(1)), (0, 0));
+    for links in BOTH {
+        assert_refused(
+            &rt,
+            rt.alloc(),
+            links,
+            text,
+            RunFault::Start(NodeId::new(1), StartFault::TooManyFrames),
+        )?;
+    }
     Ok(())
 }
 
+#[test]
+fn words_need_capacity_one(rt: HostRuntime) -> Result<(), Fail> {
+    let lawful = r#"{"capacity":2,"labels":6,"tree":[{"name":"r"},{"name":"a","parent":"r"}],
+        "items":[7]}"#;
+    let unlawful = r#"{"capacity":2,"labels":6,"tree":[{"name":"r"},{"name":"a","parent":"r"}],
+        "items":[7],"starts":[{"frames":[[2,99],[3,98],[1,97]],"send":0,"recv":1}]}"#;
+    for text in [lawful, unlawful] {
+        assert_refused(
+            &rt,
+            rt.alloc(),
+            Links::Words,
+            text,
+            RunFault::CapacityNotOne,
+        )?;
+    }
+    Ok(())
+}
+
+/// Over locked links alone: a sender's first frame would take the place of a stray in a word.
 #[test]
 fn a_stray_of_the_start_comes_first(rt: HostRuntime) -> Result<(), Fail> {
     let text = r#"{"capacity":1,"labels":4,"tree":[{"name":"r"},{"name":"a","parent":"r"}],
         "items":[7,8,9],"turns":1000000,
         "starts":[{"frames":[[2,99]],"acks":[],"send":0,"recv":65535}]}"#;
     let job = read_job(rt.alloc(), text.as_bytes())?;
-    let gate = OrderedGate::for_nodes(Order::Paced, 2);
-    let printed = text_of_run(&rt, rt.alloc(), &job, &gate)?;
     let expected = "r depth 0 received 3 acked - ended upstream\nitems: 7 8 9\n\
         a depth 1 received 4 acked 3 ended upstream\nitems: 99 7 8 9\n";
+    let gate = OrderedGate::for_nodes(Order::Paced, 2);
+    let printed = text_of_run(&rt, rt.alloc(), Links::Locked, &job, &gate)?;
     assert!(rt; printed.as_str() == expected, "{printed}");
     Ok(())
 }
 
-/// The beginnings of jobs: the parameters.
-const PARAMETERS: [&str; 2] = [
-    r#"{"capacity":1,"labels":4,"turns":1000000,"#,
-    r#"{"capacity":3,"labels":8,"turns":1000000,"#,
+/// The links of paced runs, and the beginnings of their jobs: the parameters.
+const RUNS: [(Links, &str); 3] = [
+    (
+        Links::Locked,
+        r#"{"capacity":1,"labels":4,"turns":1000000,"#,
+    ),
+    (
+        Links::Locked,
+        r#"{"capacity":3,"labels":8,"turns":1000000,"#,
+    ),
+    (Links::Words, r#"{"capacity":1,"labels":4,"turns":1000000,"#),
 ];
 
 /// The items 1 to 100.
@@ -265,6 +342,7 @@ fn assert_delivered<R: Abort>(rt: &R, job: &Job, report: &Report) {
 fn run_paced<R: Threads + Wait + Send + Sync + Abort>(
     rt: &R,
     alloc: Global,
+    links: Links,
     parameters: &str,
     tree: &str,
     count: u16,
@@ -272,7 +350,7 @@ fn run_paced<R: Threads + Wait + Send + Sync + Abort>(
     let text = job_of_hundred(alloc, parameters, tree)?;
     let job = read_job(alloc, text.as_bytes())?;
     let gate = OrderedGate::for_nodes(Order::Paced, count);
-    let report = run_locked(rt, alloc, &job, &gate)?;
+    let report = run_over(rt, alloc, links, &job, &gate)?;
     assert_eq!(rt; report.received.len(), count as usize);
     assert_delivered(rt, &job, &report);
     Ok(())
@@ -280,9 +358,9 @@ fn run_paced<R: Threads + Wait + Send + Sync + Abort>(
 
 #[test]
 fn paced_runs_deliver_everything(rt: HostRuntime) -> Result<(), Fail> {
-    for parameters in PARAMETERS {
+    for (links, parameters) in RUNS {
         for (count, tree) in TREES {
-            run_paced(&rt, rt.alloc(), parameters, tree, count)?;
+            run_paced(&rt, rt.alloc(), links, parameters, tree, count)?;
         }
     }
     Ok(())
@@ -292,35 +370,68 @@ fn paced_runs_deliver_everything(rt: HostRuntime) -> Result<(), Fail> {
 const TWO_TURNS: &str = r#"{"capacity":1,"labels":4,"turns":2,"items":[7],
     "tree":[{"name":"r"},{"name":"a","parent":"r"}]}"#;
 
+/// Runs a job of two nodes, of which each begins its first turn once the other asks for its own.
+fn run_together<R: Threads + Wait + Send + Sync + Abort>(
+    rt: &R,
+    alloc: Global,
+    links: Links,
+    job: &Job,
+) {
+    let gate = OrderedGate::for_nodes(Order::Together, 2);
+    let answer = run_over(rt, alloc, links, job, &gate).map(|_| ());
+    assert!(rt; answer == Ok(()), "{links:?}: {answer:?}");
+    assert!(rt; gate.begun(0) > 0 && gate.begun(1) > 0);
+}
+
 #[test]
 fn workers_run_together(rt: HostRuntime) -> Result<(), Fail> {
     let job = read_job(rt.alloc(), TWO_TURNS.as_bytes())?;
-    let gate = OrderedGate::for_nodes(Order::Together, 2);
-    let answer = run_locked(&rt, rt.alloc(), &job, &gate).map(|_| ());
-    assert!(rt; answer == Ok(()), "{answer:?}");
-    assert!(rt; gate.begun(0) > 0 && gate.begun(1) > 0);
+    for links in BOTH {
+        run_together(&rt, rt.alloc(), links, &job);
+    }
+    Ok(())
+}
+
+/// What a run of two turns prints where the other node begins once the root is done, and where they
+/// take turns.
+const BY_ORDER: [(Order, &str); 2] = [
+    (
+        Order::RootFirst,
+        "r depth 0 received 1 acked - ended turns\nitems: 7\n\
+        a depth 1 received 0 acked 0 ended upstream\nitems:\n",
+    ),
+    (
+        Order::InTurns,
+        "r depth 0 received 1 acked - ended upstream\nitems: 7\n\
+        a depth 1 received 1 acked 1 ended upstream\nitems: 7\n",
+    ),
+];
+
+/// Runs a job of two nodes whose turns begin in this order.
+fn run_in_order<R: Threads + Wait + Send + Sync + Abort>(
+    rt: &R,
+    alloc: Global,
+    links: Links,
+    job: &Job,
+    order: Order,
+    expected: &str,
+) -> Result<(), Fail> {
+    let gate = OrderedGate::for_nodes(order, 2);
+    let printed = text_of_run(rt, alloc, links, job, &gate)?;
+    assert!(rt;
+        printed.as_str() == expected,
+        "{links:?}, {order:?}: {printed}"
+    );
     Ok(())
 }
 
 #[test]
 fn the_order_of_turns_decides_what_arrives(rt: HostRuntime) -> Result<(), Fail> {
     let job = read_job(rt.alloc(), TWO_TURNS.as_bytes())?;
-    let cases = [
-        (
-            Order::RootFirst,
-            "r depth 0 received 1 acked - ended turns\nitems: 7\n\
-            a depth 1 received 0 acked 0 ended upstream\nitems:\n",
-        ),
-        (
-            Order::InTurns,
-            "r depth 0 received 1 acked - ended upstream\nitems: 7\n\
-            a depth 1 received 1 acked 1 ended upstream\nitems: 7\n",
-        ),
-    ];
-    for (order, expected) in cases {
-        let gate = OrderedGate::for_nodes(order, 2);
-        let printed = text_of_run(&rt, rt.alloc(), &job, &gate)?;
-        assert!(rt; printed.as_str() == expected, "{order:?}: {printed}");
+    for links in BOTH {
+        for (order, expected) in BY_ORDER {
+            run_in_order(&rt, rt.alloc(), links, &job, order, expected)?;
+        }
     }
     Ok(())
 }

@@ -1,14 +1,41 @@
-use Rattle.std.proofs.Common.{rules, ◌≡◌, ◌<◌, ◌+◌, length, Some, None, ap, sym, ◌∙◌}
+use Rattle.std.proofs.Common.{rules, ◌≡◌, ◌<◌, ◌+◌, length, map, Some, None, ap, sym, ◌∙◌, subst}
+use Rattle.std.proofs.lemmas.List.{length-map}
 use Rattle.stab_tree.specs.Nodes.{parent_at}
-use Rattle.stab_run.proofs.Settlements.{root_settled, child_settled}
+use Rattle.stab_run.specs.LinkRuns.{AreSettledBefore}
+use Rattle.stab_run.proofs.Settlements.{none_settled, root_settled, child_settled, settled_before}
+use Rattle.stab_run.proofs.Paired.{as_many_paired}
 use Rattle.stab_run.proofs.settle.settle_all.Goals as goal
 use Rattle.stab_run.proofs.settle.settle_all.Goals.{in-None, in-Some+in-Ok}
 
+pub nodes-init : goal.nodes-init
+nodes-init g c =
+    let given = g.L.RunLink.given in
+    let sent = g.L.RunLink.sent in
+    let received = g.L.RunLink.received in
+    let links = c.args.links.items in
+    let sends = c.args.sends.items in
+    let recvs = c.args.recvs.items in
+    record {
+      room = search rules;
+      number = search rules;
+      so_far =
+          rw (c.in_ok-acked.ensures.items, c.from-links.ensures.0, c.from-sends.ensures.0, c.from-recvs.ensures.0)
+          (none_settled c.args.tree.now.parents (map given links) (map sent sends) (map received recvs)
+          (length-map links given ∙ c.requires.links)
+          (length-map sends sent ∙ (as_many_paired g.L.RunLink.has_sent links sends c.requires.sends ∙ c.requires.links))
+          (length-map recvs received ∙ (as_many_paired g.L.RunLink.has_received links recvs c.requires.recvs ∙ c.requires.links)));
+      senders = rw (c.from-links.ensures.0, c.from-sends.ensures.0) c.requires.sends;
+      receivers = rw (c.from-links.ensures.0, c.from-recvs.ensures.0) c.requires.recvs;
+    }
+
 pub nodes-preserved : goal.nodes-preserved
-nodes-preserved c =
+nodes-preserved g c =
     let parents = c.args.tree.now.parents in
     let place = c.nodes.place in
     let within : place < length parents = search rules in
+    let given = map g.L.RunLink.given in
+    let sent = map g.L.RunLink.sent in
+    let received = map g.L.RunLink.received in
     elim c.match-parent.branch [
       | in-None w ↦
           let no_parent : parent_at parents place ≡ None =
@@ -18,22 +45,41 @@ nodes-preserved c =
             number = rw w.acked-is (w.push_reserved.ensures.len ∙ ap (λ n. n + 1) c.nodes.invariant.number);
             so_far =
                 rw (w.acked-is, w.links-is, w.sends-is, w.recvs-is, w.push_reserved.ensures.items)
-                (root_settled parents c.args.links.items c.args.sends.items c.args.recvs.items c.nodes.acked.items c.nodes.links.items
-                c.nodes.sends.items c.nodes.recvs.items place c.nodes.invariant.so_far within no_parent);
+                (root_settled parents (given c.args.links.items) (sent c.args.sends.items) (received c.args.recvs.items) c.nodes.acked.items
+                (given c.nodes.links.items) (sent c.nodes.sends.items) (received c.nodes.recvs.items) place c.nodes.invariant.so_far within no_parent);
+            senders = rw (w.links-is, w.sends-is) c.nodes.invariant.senders;
+            receivers = rw (w.links-is, w.recvs-is) c.nodes.invariant.receivers;
           }
       | in-Some+in-Ok w ↦
           let is_child : parent_at parents place ≡ Some w.in-Some.field-0 =
           ap (λ n. parent_at parents n) (sym c.new-node.ensures) ∙ (sym c.parent.ensures.value ∙ w.in-Some.is) in
-          let settled = w.in-Ok.settled in
-          let link = w.in-Ok.ensures.link in
+          let first = w.in-Ok.ensures.settled in
           record {
             room = rw w.acked-is (w.push_reserved-in-Ok.ensures.capacity ∙ c.nodes.invariant.room);
             number = rw w.acked-is (w.push_reserved-in-Ok.ensures.len ∙ ap (λ n. n + 1) c.nodes.invariant.number);
             so_far =
-                rw (w.acked-is, w.links-is, w.sends-is, w.recvs-is, w.push_reserved-in-Ok.ensures.items, w.acked_by.ensures)
-                (child_settled parents c.args.links.items c.args.sends.items c.args.recvs.items c.nodes.acked.items
-                place w.in-Some.field-0 link.0 settled.send settled.recv c.nodes.links.items w.settle_first.new.links.items
-                c.nodes.sends.items w.settle_first.new.sends.items c.nodes.recvs.items w.settle_first.new.recvs.items
-                c.nodes.invariant.so_far within is_child link.2 link.1 w.in-Ok.ensures.send w.in-Ok.ensures.recv);
+                rw (w.acked-is, w.links-is, w.sends-is, w.recvs-is, w.push_reserved-in-Ok.ensures.items, w.acked_by.ensures, first.counts)
+                (child_settled parents (given c.args.links.items) (sent c.args.sends.items) (received c.args.recvs.items) c.nodes.acked.items
+                place w.in-Some.field-0 first.link first.send first.recv (given c.nodes.links.items) (given w.settle_first.new.links.items)
+                (sent c.nodes.sends.items) (sent w.settle_first.new.sends.items) (received c.nodes.recvs.items)
+                (received w.settle_first.new.recvs.items) c.nodes.invariant.so_far within is_child first.settled first.the_link first.the_send
+                first.the_recv);
+            senders = rw (w.links-is, w.sends-is) w.in-Ok.ensures.senders;
+            receivers = rw (w.links-is, w.recvs-is) w.in-Ok.ensures.receivers;
           }
     ]
+
+-- the links into the nodes before this child are settled
+pub returns-in-Err-clause-settled_before : goal.returns-in-Err-clause-settled_before
+returns-in-Err-clause-settled_before g c = λ child why is.
+    let parents = c.args.tree.now.parents in
+    let given = map g.L.RunLink.given in
+    let sent = map g.L.RunLink.sent in
+    let received = map g.L.RunLink.received in
+    let same : c.new-node.result ≡ child = cc in
+    let is_child : parent_at parents c.nodes.place ≡ Some c.in-Some.field-0 =
+    ap (λ n. parent_at parents n) (sym c.new-node.ensures) ∙ (sym c.parent.ensures.value ∙ c.in-Some.is) in
+    subst (AreSettledBefore parents (given c.args.links.items) (sent c.args.sends.items) (received c.args.recvs.items))
+    (sym c.new-node.ensures ∙ same)
+    (settled_before parents (given c.args.links.items) (sent c.args.sends.items) (received c.args.recvs.items) c.nodes.acked.items c.nodes.place
+    c.in-Some.field-0 (given c.nodes.links.items) (sent c.nodes.sends.items) (received c.nodes.recvs.items) c.nodes.invariant.so_far is_child)

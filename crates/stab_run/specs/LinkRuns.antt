@@ -1,17 +1,19 @@
 -- A run of workers over links behind locks: what the workers leave, and what settling the links
 -- shows.
 -- Source: this project's own.
-use Rattle.std.specs.Prelude.{◌≡◌, ℕ, List, [], ◌∷◌, length, Option, Some}
+use Rattle.std.specs.Prelude.{◌≡◌, ◌<◌, ℕ, List, [], ◌∷◌, length, map, Option, Some}
 use Rattle.stab_core.specs.declared.event.Event.{Event}
 use Rattle.stab_core.specs.declared.start.Start.{Start}
 use Rattle.stab_core.specs.Replay.{opening, replay}
 use Rattle.stab_frames.specs.Parameters.{Parameters}
-use Rattle.stab_lock.specs.Accounts.{Sender, Receiver}
+use Rattle.stab_lock.specs.Accounts.{Sender, Receiver, new_sender, new_receiver}
 use Rattle.stab_lock.specs.Book.{Given}
+use Rattle.stab_lock.specs.Ends.{SendEnd, RecvEnd}
 use Rattle.stab_lock.specs.Settling.{Agree}
 use Rattle.stab_node.specs.declared.account.Ended.{Ended}
 use Rattle.stab_node.specs.declared.account.Ended.TheVariants.{Upstream}
 use Rattle.stab_node.specs.Work.{HasAll, IsServed}
+use Rattle.stab_script.specs.Scripts.{Acts, sender_half, receiver_half}
 use Rattle.stab_tree.specs.Links.{links_of}
 use Rattle.stab_tree.specs.Nodes.{parent_at, root_of}
 use Rattle.stab_workers.specs.ByNode.{ended_at, entry_into, received_at}
@@ -19,6 +21,13 @@ use Rattle.stab_workers.specs.ByNode.{ended_at, entry_into, received_at}
 -- a link of these parameters at a start
 abbrev pub given : Parameters → Start → Given
 given p start = record { params = p; start = start }
+
+-- the ends of a link that have made no call, each with its half of the link's script
+abbrev pub new_send_end : Acts → SendEnd
+new_send_end script = record { account = new_sender; acts = sender_half script }
+
+abbrev pub new_recv_end : Acts → RecvEnd
+new_recv_end script = record { account = new_receiver; acts = receiver_half script }
 
 -- one list of events explains the accounts of both ends of a link
 pub record IsSettled (link : Given) (send : Sender) (recv : Receiver) : Type 0 where
@@ -34,6 +43,15 @@ AreSettled (link ∷ links) [] recvs = ⊥
 AreSettled (link ∷ links) (send ∷ sends) [] = ⊥
 AreSettled (link ∷ links) (send ∷ sends) (recv ∷ recvs) =
     IsSettled link send recv × AreSettled links sends recvs
+
+-- A link leads into this node, and the accounts of each link into a node before it are settled.
+pub record AreSettledBefore (parents : List (Option ℕ)) (links : List Given) (sends : List Sender)
+    (recvs : List Receiver) (child : ℕ) : Type 0 where
+  pub parent : ℕ
+  pub is_child : parent_at parents child ≡ Some parent
+  pub before : (earlier : ℕ) (link : Given) (send : Sender) (recv : Receiver) → earlier < child
+      → entry_into parents links earlier ≡ Some link → entry_into parents sends earlier ≡ Some send
+      → entry_into parents recvs earlier ≡ Some recv → IsSettled link send recv
 
 -- How many items are acknowledged on each link.
 abbrev pub acked_of : Sender → ℕ
@@ -55,3 +73,28 @@ pub record IsRun (parents : List (Option ℕ)) (published : List ℕ) (received 
   pub handed_on : (child parent : ℕ) (send : Sender) → parent_at parents child ≡ Some parent
       → entry_into parents sends child ≡ Some send → ended_at ended parent ≡ Upstream
       → HasAll (received_at received parent) send
+
+-- What the workers left, where it is not settled: all of them answered, a link leads into this
+-- node, and the links into the nodes before it are settled.
+pub record IsFirstUnsettled (p : Parameters) (parents : List (Option ℕ)) (starts : List Start)
+    (published : List ℕ) (child : ℕ) : Type 0 where
+  pub received : List (List ℕ)
+  pub ended : List Ended
+  pub sends : List Sender
+  pub recvs : List Receiver
+  pub run : IsRun parents published received ended sends recvs
+  pub before : AreSettledBefore parents (map (given p) starts) sends recvs child
+
+-- The first of these links is settled with the first account of each side, and so many items are
+-- acknowledged on it; the others are left.
+pub record IsFirstSettled (acked : ℕ) (links : List Given) (sends : List Sender)
+    (recvs : List Receiver) (links_left : List Given) (sends_left : List Sender)
+    (recvs_left : List Receiver) : Type 0 where
+  pub link : Given
+  pub send : Sender
+  pub recv : Receiver
+  pub the_link : links ≡ link ∷ links_left
+  pub the_send : sends ≡ send ∷ sends_left
+  pub the_recv : recvs ≡ recv ∷ recvs_left
+  pub settled : IsSettled link send recv
+  pub counts : acked ≡ send.acked

@@ -1,0 +1,48 @@
+use Rattle.std.proofs.Common.{rules, ◌≡◌, length, ap, map, sym, ◌∙◌, subst}
+use Rattle.std.proofs.lemmas.List.{length-map}
+use Rattle.stab_node.specs.Work.{HasAll, IsServed}
+use Rattle.stab_tree.specs.Links.{links_of}
+use Rattle.stab_tree.specs.Nodes.{root_of}
+use Rattle.stab_workers.specs.ByNode.{received_at}
+use Rattle.stab_run.proofs.Paired.{entry_read}
+use Rattle.stab_run.proofs.ends.run_ends.Goals as goal
+
+pub returns-clause-run : goal.returns-clause-run
+returns-clause-run g c =
+    let ran = c.in_ok-gathered.ensures in
+    let left = c.in_ok-gathered.gathered in
+    let parents = c.tree.result.now.parents in
+    let sent = g.D.SendSide.done_sent in
+    let delivered = g.U.RecvSide.done_received in
+    let trees : length (links_of c.args.job.now.tree.parents) ≡ length (links_of parents) =
+    ap (λ t. length (links_of t.parents)) (sym c.tree.ensures.tree) in
+    let root : received_at left.received.items (root_of parents) ≡ c.args.job.now.items = search rules in
+    rw (← c.tree.ensures.tree)
+    (record {
+      all_received = ran.received;
+      all_ended = ran.ended;
+      all_sent =
+          length-map left.sends.items sent
+          ∙ (sym (length-map left.sends.items _)
+          ∙ (ap (λ xs. length xs) ran.sender_links ∙ (length-map c.args.sends.items _ ∙ (c.requires.senders ∙ trees))));
+      all_delivered =
+          length-map left.recvs.items delivered
+          ∙ (sym (length-map left.recvs.items _)
+          ∙ (ap (λ xs. length xs) ran.receiver_links ∙ (length-map c.args.recvs.items _ ∙ (c.requires.receivers ∙ trees))));
+      at_root = root;
+      delivered =
+          λ child recv is.
+          let (done, there, read) = entry_read delivered parents left.recvs.items child recv is in
+          ran.delivered child done there ∙ ap (λ r. r.delivered) read;
+      served =
+          λ child parent send is_child is.
+          let (done, there, read) = entry_read sent parents left.sends.items child send is in
+          subst (IsServed (received_at left.received.items parent)) read (ran.served child parent done is_child there);
+      handed_on =
+          λ child parent send is_child is over.
+          let (done, there, read) = entry_read sent parents left.sends.items child send is in
+          subst (HasAll (received_at left.received.items parent)) read (ran.handed_on child parent done is_child there over);
+    })
+
+pub returns-clause-turns : goal.returns-clause-turns
+returns-clause-turns g c = rw (← c.turns.ensures.turns, ← c.tree.ensures.tree) c.in_ok-gathered.ensures.turns

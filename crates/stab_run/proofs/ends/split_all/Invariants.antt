@@ -1,0 +1,22 @@
+use Rattle.std.proofs.Common.{◌≡◌, All, drop, length, map, take, vec_len, vec_capacity}
+use Rattle.std.specs.List.{AllZip}
+use Rattle.stab_lock.specs.Accounts.{new_receiver, new_sender}
+use Rattle.stab_script.specs.Scripts.{receiver_half, sender_half}
+use Rattle.stab_run.proofs.ends.split_all.Given as goal
+
+-- the ends so far are those of the links so far and take the acts of their scripts, each link that is left has its opening, and there is
+-- room for all
+abbrev pub invariant-links : goal.invariant-links
+invariant-links g l = record {
+  send_room : vec_capacity l.sends ≡ length l.links;
+  recv_room : vec_capacity l.recvs ≡ length l.links;
+  send_count : vec_len l.sends ≡ l.place;
+  recv_count : vec_len l.recvs ≡ l.place;
+  senders : AllZip g.L.SplitLink.sends (take l.place l.links) l.sends.items;
+  receivers : AllZip g.L.SplitLink.receives (take l.place l.links) l.recvs.items;
+  send_acts : map g.L.SplitLink.send_acts l.sends.items ≡ map sender_half (take l.place l.scripts);
+  recv_acts : map g.L.SplitLink.recv_acts l.recvs.items ≡ map receiver_half (take l.place l.scripts);
+  new_senders : All (λ end. g.L.SplitLink.send_account end ≡ new_sender) l.sends.items;
+  new_receivers : All (λ end. g.L.SplitLink.recv_account end ≡ new_receiver) l.recvs.items;
+  openings : AllZip g.L.RunLink.opens (drop l.place l.links) l.openings.items;
+}

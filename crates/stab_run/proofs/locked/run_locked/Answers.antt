@@ -1,0 +1,31 @@
+use Rattle.std.proofs.Common.{◌≡◌, ℕ, length}
+use Rattle.stab_lock.specs.declared.settle.SettleFault.{SettleFault}
+use Rattle.stab_workers.proofs.ForCallers.{at_error}
+use Rattle.stab_workers.specs.ByNode.{ended_at}
+use Rattle.stab_run.specs.declared.run_fault.RunFault.TheVariants.{Settle}
+use Rattle.stab_run.specs.RunFaults.{AllAreOver}
+use Rattle.stab_run.proofs.Paired.{as_many_alike}
+use Rattle.stab_run.proofs.locked.run_locked.Goals as goal
+
+-- each link has a finished end of each side
+pub report_of-requires-clause-sends : goal.report_of-requires-clause-sends
+report_of-requires-clause-sends g c =
+    as_many_alike _ _ _ _ _ _ (rw c.deref.ensures.value at c.in_ok-sends.ensures.senders) c.in_ok-gathered.ensures.sender_links
+
+pub report_of-requires-clause-recvs : goal.report_of-requires-clause-recvs
+report_of-requires-clause-recvs g c =
+    as_many_alike _ _ _ _ _ _ (rw c.deref.ensures.value at c.in_ok-sends.ensures.receivers) c.in_ok-gathered.ensures.receiver_links
+
+-- all workers have answered once the links are settled
+pub returns-in_err-report-clause-settled_last : goal.returns-in_err-report-clause-settled_last
+returns-in_err-report-clause-settled_last g c =
+    let job = c.args.job.now in
+    let left = c.in_ok-gathered in
+    at_error _ _
+    (λ fault. (child : ℕ) (why : SettleFault) → fault ≡ Settle child why
+    → AllAreOver (length job.tree.parents) (g.G.Gate.has_passed c.args.gate.now) (g.G.Gate.is_done c.args.gate.now) job.turns)
+    c.from_residual-in_err-report.ensures.1
+    (λ child why is. record {
+      over = λ node within. (ended_at left.gathered.ended.items node, left.ensures.turns node within);
+      done = left.ensures.done;
+    })
