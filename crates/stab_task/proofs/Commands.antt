@@ -12,7 +12,7 @@ use Rattle.clap.specs.declared.parser.matches.MatchedArg.{MatchedArg}
 use Rattle.clap.specs.declared.parser.matches.ValueSource.{ValueSource}
 use Rattle.clap.proofs.OnLiterals.{clap_on_literals}
 use Rattle.clap.proofs.WalkLemmas.{find_row, first_value-rows}
-use Rattle.stab_task.specs.CommandLine.{IsWordsFault, has_trace, is_from_words, source_of, stab_line}
+use Rattle.stab_task.specs.CommandLine.{IsWordsFault, has_trace, has_words_flag, is_from_words, source_of, stab_line}
 use Rattle.stab_task.specs.declared.fault.CliFault.{CliFault}
 use Rattle.stab_task.specs.declared.fault.CliFault.TheVariants.{CommandLine, Memory}
 
@@ -44,6 +44,10 @@ source_by_rows f id =
 pub trace_by_rows : (f : Found) (source : Option ValueSource) → source ≡ option_and_then (λ (a : MatchedArg). a.source) (matched_of f (codes "trace"))
     → is_from_words source ≡ has_trace (rows_of f)
 trace_by_rows f source is = ap is_from_words (is ∙ source_by_rows f (codes "trace"))
+
+pub words_by_rows : (f : Found) (source : Option ValueSource) → source ≡ option_and_then (λ (a : MatchedArg). a.source) (matched_of f (codes "words"))
+    → is_from_words source ≡ has_words_flag (rows_of f)
+words_by_rows f source is = ap is_from_words (is ∙ source_by_rows f (codes "words"))
 
 -- no word after the program's name is taken
 pub few_words_taken : (words : List Text) → length words ≤ 1 → fault_of stab_line words ≡ []

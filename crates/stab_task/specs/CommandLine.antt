@@ -21,6 +21,13 @@ trace_flag = record (new_rule (codes "trace")) {
   action = Some SetTrue;
 }
 
+-- the flag `--words`
+abbrev pub words_flag : Rule
+words_flag = record (new_rule (codes "words")) {
+  long = Some (codes "words");
+  action = Some SetTrue;
+}
+
 -- a file, which may be left out
 abbrev pub file_argument : Rule
 file_argument = new_rule (codes "FILE")
@@ -33,15 +40,15 @@ link_line = with_rule (with_rule (new_app (codes "link")) trace_flag) file_argum
 abbrev pub tree_line : App
 tree_line = with_rule (new_app (codes "tree")) file_argument
 
--- `run [FILE]`
+-- `run [--words] [FILE]`
 abbrev pub run_line : App
-run_line = with_rule (new_app (codes "run")) file_argument
+run_line = with_rule (with_rule (new_app (codes "run")) words_flag) file_argument
 
 -- `stab` without its subcommands; it has no subcommand `help`
 abbrev pub bare_line : App
 bare_line = on_top (λ s. record s { disable_help_subcommand = true }) (new_app (codes "stab"))
 
--- `stab link [--trace] [FILE]`, `stab tree [FILE]` and `stab run [FILE]`
+-- `stab link [--trace] [FILE]`, `stab tree [FILE]` and `stab run [--words] [FILE]`
 abbrev pub stab_line : App
 stab_line = with_subcommand
     (with_subcommand (with_subcommand bare_line link_line.top) tree_line.top) run_line.top
@@ -60,10 +67,14 @@ is_from_words (Some source.CommandLine) = true
 abbrev pub has_trace : List Row → Bool
 has_trace rows = is_from_words (source_of (codes "trace") rows)
 
+-- `--words` is among the words after the command word
+abbrev pub has_words_flag : List Row → Bool
+has_words_flag rows = is_from_words (source_of (codes "words") rows)
+
 -- the task of a command word
 abbrev pub task_of : Text → List Row → Task
 task_of word rows = if bytes_eq word (codes "link") then Link (has_trace rows)
-    else (if bytes_eq word (codes "tree") then Tree else Run)
+    else (if bytes_eq word (codes "tree") then Tree else Run (has_words_flag rows))
 
 -- the task and the file of a command word and what follows it; with no command word, those of
 -- `stab link`

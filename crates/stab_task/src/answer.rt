@@ -6,14 +6,15 @@ ghost use Rattle.stab_core.specs.Replay.{IsLawful, opening, replay};
 ghost use Rattle.stab_treecore.specs.Refusals.{IsScheduleReason, NamesLink};
 ghost use Rattle.stab_treecore.specs.TreeReplay.{tree_opening, tree_replay};
 ghost use Rattle.stab_task.specs.Answers.{IsLinkAnswer, IsTreeAnswer, IsRunAnswer};
-ghost use Rattle.stab_task.specs.Answers.{IsAnswer, IsFault};
+ghost use Rattle.stab_task.specs.Answers.{HasOnePlace, IsAnswer, IsFault, IsReport};
+ghost use Rattle.stab_task.specs.Answers.{IsRunReason};
 
 use crate::command::Task;
 use crate::fault::CliFault;
 use crate::file::load;
 use stab_core::{Link, StartFault, link_text, push_origins_text, run_link, run_traced};
 use stab_node::Free;
-use stab_run::{Job, read_job, report_text, run_locked};
+use stab_run::{Job, Report, RunFault, read_job, report_text, run_locked, run_words};
 use stab_script::{LinkJob, read_link_job};
 use stab_treecore::{TreeStartFault, TreeState, run_schedule, schedule_text};
 use std::alloc::Global;
@@ -77,7 +78,7 @@ fn answer_bytes<T: Threads + Wait + Send + Sync>(
     match task {
         Task::Link { trace } => answer_link(alloc, trace, bytes),
         Task::Tree => answer_tree(alloc, bytes),
-        Task::Run => answer_run(rt, alloc, bytes),
+        Task::Run { words } => answer_run(rt, alloc, words, bytes),
     }
 }
 
@@ -144,16 +145,35 @@ fn replay_tree(alloc: Global, job: &Job) -> Result<TreeState, TreeStartFault>
 fn answer_run<T: Threads + Wait + Send + Sync>(
     rt: &T,
     alloc: Global,
+    words: bool,
     bytes: &[u8],
 ) -> Result<String, CliFault>
-    ensures answer { IfOk result (λ text. IsRunAnswer bytes.now (string_bytes text)) }
-    ensures fault { IfErr result (IsFault Task.Run bytes.now) }
+    ensures answer { IfOk result (λ text. IsRunAnswer words bytes.now (string_bytes text)) }
+    ensures fault { IfErr result (IsFault (Task.Run words) bytes.now) }
     ensures no_write { IfErr result (λ fault. fault ≢ CliFault.Write) }
 {
     let job = read_job(alloc, bytes)?;
-    let gate = Free::for_nodes(job.tree().len());
-    let report = run_locked(rt, alloc, &job, &gate)?;
+    let report = run_job(rt, alloc, words, &job)?;
     Ok(report_text(alloc, job.tree(), &report)?)
+}
+
+/// The report of a run of a job, under a gate that refuses no turn.
+fn run_job<T: Threads + Wait + Send + Sync>(
+    rt: &T,
+    alloc: Global,
+    words: bool,
+    job: &Job,
+) -> Result<Report, RunFault>
+    ensures report { IfOk result (IsReport job.now) }
+    ensures one_place { OnOk result (HasOnePlace words job.now) }
+    ensures reason { IfErr result (IsRunReason words job.now) }
+{
+    let gate = Free::for_nodes(job.tree().len());
+    if words {
+        run_words(rt, alloc, job, &gate)
+    } else {
+        run_locked(rt, alloc, job, &gate)
+    }
 }
 
 /// Writes a whole text, and asks the writer for a flush.

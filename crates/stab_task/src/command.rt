@@ -5,7 +5,8 @@ ghost use Rattle.clap.specs.Words.{subcommand_of, subcommand_rows_of};
 ghost use Rattle.clap.specs.declared.builder.command.Command.TheViews.{out-Command as fields_of};
 ghost use Rattle.stab_task.specs.CommandLine.{has_trace, is_from_words, link_line, named_by};
 ghost use Rattle.stab_task.specs.CommandLine.{stab_line, task_of, trace_flag, tree_line};
-ghost use Rattle.stab_task.specs.CommandLine.{IsTaken, IsWordsFault, run_line};
+ghost use Rattle.stab_task.specs.CommandLine.{has_words_flag, run_line, words_flag};
+ghost use Rattle.stab_task.specs.CommandLine.{IsTaken, IsWordsFault};
 
 use crate::fault::CliFault;
 use clap::error::ErrorKind;
@@ -20,8 +21,9 @@ pub enum Task {
     Link { trace: bool },
     /// Run a job's schedule over its whole tree.
     Tree,
-    /// Run a job by one worker per node.
-    Run,
+    /// Run a job by one worker per node, over links behind locks, or with `words` over links of two
+    /// words.
+    Run { words: bool },
 }
 
 /// The task that these words name, the program's name first, and its file where there is one.
@@ -105,13 +107,25 @@ fn tree<'a>(alloc: Global) -> Result<Command<'a>, AllocError>
     Ok(tree)
 }
 
-/// The subcommand `run [FILE]`.
+/// The subcommand `run [--words] [FILE]`.
 fn run<'a>(alloc: Global) -> Result<Command<'a>, AllocError>
     ensures line { IfOk result (λ command. app_of command ≡ run_line) }
     ensures local { IfOk result (λ command. (fields_of command).has_globals ≡ false) }
 {
-    let run = Command::new(alloc, "run").arg(Arg::new(alloc, "FILE"))?;
+    let run = Command::new(alloc, "run")
+        .arg(words_argument(alloc))?
+        .arg(Arg::new(alloc, "FILE"))?;
     Ok(run)
+}
+
+/// The flag `--words` of `run`.
+fn words_argument<'a>(alloc: Global) -> Arg<'a>
+    ensures rule { rule_of result ≡ words_flag }
+    ensures local { result.global ≡ false }
+{
+    Arg::new(alloc, "words")
+        .long("words")
+        .action(ArgAction::SetTrue)
 }
 
 /// The task of a command word, which is `link`, `tree` or `run`.
@@ -124,7 +138,8 @@ fn named_task(word: &str, matches: &ArgMatches<'_>) -> Task
     } else if word == "tree" {
         Task::Tree
     } else {
-        Task::Run
+        let words = has_words(matches);
+        Task::Run { words }
     }
 }
 
@@ -133,6 +148,13 @@ fn is_traced(matches: &ArgMatches<'_>) -> bool
     ensures { result ≡ has_trace (rows_of (found_of matches.now)) }
 {
     is_written(matches.value_source("trace"))
+}
+
+/// Whether `--words` is among the words of a subcommand.
+fn has_words(matches: &ArgMatches<'_>) -> bool
+    ensures { result ≡ has_words_flag (rows_of (found_of matches.now)) }
+{
+    is_written(matches.value_source("words"))
 }
 
 /// Whether a value came from the words, and is no default.

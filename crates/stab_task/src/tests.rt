@@ -24,6 +24,10 @@ const PLAIN: Task = Task::Link { trace: false };
 
 const TRACED: Task = Task::Link { trace: true };
 
+const LOCKED: Task = Task::Run { words: false };
+
+const WORDS: Task = Task::Run { words: true };
+
 const WORST_START: &str =
     r#"{"capacity":1,"labels":4,"start":{"frames":[[2,99]],"acks":[0],"send":0,"recv":1},"events":[["offer",10],"recv_ack","send_ack",["offer",11],"recv_ack","recv_frame","send_ack",["offer",12],"recv_ack",["offer",13],"send_frame","recv_frame"]}"#;
 

@@ -1,25 +1,46 @@
 use super::*;
+use stab_tree::TreeFault;
 
 #[test]
 fn prints_the_report_of_a_lone_root(rt: HostRuntime) {
-    assert_answer(
-        &rt,
-        Task::Run,
-        LONE_ROOT,
-        "r depth 0 received 2 acked - ended upstream\nitems: 7 8\n",
-    );
+    let text = "r depth 0 received 2 acked - ended upstream\nitems: 7 8\n";
+    for task in [LOCKED, WORDS] {
+        assert_answer(&rt, task, LONE_ROOT, text);
+    }
 }
 
 #[test]
 fn refuses_a_start_that_is_not_lawful(rt: HostRuntime) -> Result<(), Fail> {
+    let job =
+        br#"{"capacity":1,"labels":4,"tree":[{"name":"r"},{"name":"a","parent":"r"}],"items":[7],"starts":[{"frames":[[0,1],[1,2]],"send":0,"recv":1}]}"#;
     let fault = CliFault::Run(RunFault::Start(NodeId::new(1), StartFault::TooManyFrames));
-    assert_refused(
-        &rt,
-        Task::Run,
-        br#"{"capacity":1,"labels":4,"tree":[{"name":"r"},{"name":"a","parent":"r"}],"items":[7],"starts":[{"frames":[[0,1],[1,2]],"send":0,"recv":1}]}"#,
-        &fault,
-    );
+    for task in [LOCKED, WORDS] {
+        assert_refused(&rt, task, job, &fault);
+    }
     assert_fault(&rt, &fault, 3, "start: too many frames")?;
+    Ok(())
+}
+
+#[test]
+fn words_need_capacity_one(rt: HostRuntime) -> Result<(), Fail> {
+    let job = r#"{"capacity":2,"labels":6,"tree":[{"name":"r"}],"items":[7,8]}"#;
+    let fault = CliFault::Run(RunFault::CapacityNotOne);
+    assert_refused(&rt, WORDS, job.as_bytes(), &fault);
+    assert_fault(&rt, &fault, 3, "run: capacity is not one")?;
+    let text = "r depth 0 received 2 acked - ended upstream\nitems: 7 8\n";
+    assert_answer(&rt, LOCKED, job, text);
+    Ok(())
+}
+
+#[test]
+fn refuses_a_cycle_beside_the_root(rt: HostRuntime) -> Result<(), Fail> {
+    let job =
+        br#"{"capacity":1,"labels":4,"tree":[{"name":"r"},{"name":"a","parent":"b"},{"name":"b","parent":"a"}],"items":[7]}"#;
+    let fault = CliFault::Job(JobFault::Tree(TreeFault::Cycle));
+    for task in [LOCKED, WORDS] {
+        assert_refused(&rt, task, job, &fault);
+    }
+    assert_fault(&rt, &fault, 1, "tree: cycle")?;
     Ok(())
 }
 

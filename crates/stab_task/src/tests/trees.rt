@@ -89,7 +89,7 @@ fn refuses_every_job_cut_short(rt: HostRuntime) -> Result<(), Fail> {
     let fault = CliFault::Job(JobFault::Json);
     for len in 0..whole.len() {
         assert_refused(&rt, Task::Tree, &whole[..len], &fault);
-        assert_refused(&rt, Task::Run, &whole[..len], &fault);
+        assert_refused(&rt, LOCKED, &whole[..len], &fault);
     }
     assert_fault(&rt, &fault, 1, "job: not JSON")?;
     Ok(())

@@ -47,11 +47,22 @@ fn takes_a_command_word_a_flag_and_a_file(rt: HostRuntime) -> Result<(), Fail> {
             Task::Tree,
             Some("job.json"),
         ),
-        (["stab", "run"].as_slice(), Task::Run, None),
+        (["stab", "run"].as_slice(), LOCKED, None),
         (
             ["stab", "run", "job.json"].as_slice(),
-            Task::Run,
+            LOCKED,
             Some("job.json"),
+        ),
+        (["stab", "run", "--words"].as_slice(), WORDS, None),
+        (
+            ["stab", "run", "job.json", "--words"].as_slice(),
+            WORDS,
+            Some("job.json"),
+        ),
+        (
+            ["stab", "run", "--", "--words"].as_slice(),
+            LOCKED,
+            Some("--words"),
         ),
     ];
     for (line, task, path) in rows {
@@ -66,8 +77,12 @@ fn takes_a_command_word_a_flag_and_a_file(rt: HostRuntime) -> Result<(), Fail> {
 fn refuses_other_words_and_help(rt: HostRuntime) -> Result<(), Fail> {
     let lines = [
         ["stab", "run", "--fast"].as_slice(),
-        ["stab", "run", "--words"].as_slice(),
+        ["stab", "run", "--words", "--words"].as_slice(),
+        ["stab", "run", "--words=1"].as_slice(),
         ["stab", "run", "--trace"].as_slice(),
+        ["stab", "--words"].as_slice(),
+        ["stab", "link", "--words"].as_slice(),
+        ["stab", "tree", "--words"].as_slice(),
         ["stab", "link", "--fast"].as_slice(),
         ["stab", "tree", "--trace"].as_slice(),
         ["stab", "--trace"].as_slice(),
