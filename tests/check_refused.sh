@@ -1,0 +1,73 @@
+#!/usr/bin/env bash
+# Tests tests/refused/check.py: it passes a small program that is right, and fails each of those
+# with a planted bug.
+#
+# Nothing is proved, and nothing of this repository is touched. The test takes some seconds. It
+# needs the kit, with rt on the path. Its last line is 'N passed, M failed'.
+set -u
+unset CDPATH
+top=$(dirname -- "$(dirname -- "$(readlink -f -- "${BASH_SOURCE[0]}")")")
+work=$(mktemp -d) || exit 1
+trap 'rm -rf -- "$work"' EXIT
+kit=$(dirname -- "$(readlink -f -- "$(type -P rt)")")/../toolchain
+passed=0
+failed=0
+mkdir -p "$work/crate/out"
+printf 'List::push: 2 entries\n' >"$work/crate/stdout"
+printf '# calls\nList::new\nList::push\n' >"$work/calls"
+
+# Builds the program with a planted bug.
+build() {
+    local flags='-O2 -Wall -Wextra -ffreestanding -fPIE -pie -nostdlib -fuse-ld=lld'
+    # shellcheck disable=SC2086
+    "$kit/bin/clang" $flags -Wl,--dynamic-linker=/lib64/ld-linux-x86-64.so.2 "-DBUG=$1" \
+        "$kit/lib/Scrt1.o" "$kit/lib/crti.o" "$top/tests/refused/planted.c" "$kit/lib/libc.so.6" \
+        "$kit/lib/libc_nonshared.a" "$kit/lib/crtn.o" -o "$work/crate/out/planted" || exit 1
+}
+
+# Checks the program as stab, or as stab_refused, and says whether the check ends as it should: its
+# name, the number of the bug, which cases, the last line, and a text that is in what it writes.
+holds() {
+    local planted=$work/crate/out/planted
+    build "$2"
+    "$top/tests/refused/check.py" --stab "$planted" --refused "$planted" --calls "$work/calls" \
+        --seconds 3 --only "$3" >"$work/out" 2>&1
+    status=$?
+    if [ "$(tail -n 1 "$work/out")" = "$4" ] && grep -qF -- "$5" "$work/out" &&
+        [ "$status" -eq "$([[ $4 == [1-9]*' 0 failed' ]]; echo $?)" ]; then
+        passed=$((passed + 1))
+        printf 'same   %s\n' "$1"
+    else
+        failed=$((failed + 1))
+        printf 'OTHER  %s\n' "$1"
+        sed 's/^/       /' "$work/out"
+    fi
+}
+
+root=runs/a_lone_root
+thread='run of a chain of 1'
+calls=stab_refused
+holds 'a right stab passes' 0 "$root" '2 passed, 0 failed' '4 of 4 refusals end it'
+holds 'so do its threads' 0 "$thread" '1 passed, 0 failed' 'each thread refused'
+holds 'a right stab_refused passes' 0 "$calls" '3 passed, 0 failed' '2 refusals'
+holds 'a text that is begun fails' 1 "$root" '0 passed, 2 failed' 'allocation 1: status 3'
+holds 'an abort fails' 2 "$root" '0 passed, 2 failed' 'allocation 1: status -6'
+holds 'a wrong text with status 0 fails' 3 "$root" '0 passed, 2 failed' 'allocation 1: status 0'
+holds 'a wrong status fails' 4 "$root" '0 passed, 2 failed' 'allocation 1: status 1'
+holds 'another fault fails' 5 "$root" '0 passed, 2 failed' 'not JSON'
+holds 'a second line fails' 6 "$root" '0 passed, 2 failed' 'no memory'
+holds 'a program that allocates nothing fails' 7 "$root" '0 passed, 1 failed' 'counted no alloc'
+holds 'a program that hangs fails' 8 "$thread" '0 passed, 1 failed' 'had not ended after 3 seconds'
+holds 'a thread that is missing fails' 9 "$thread" '0 passed, 1 failed' 'thread 1 of 1: status 0'
+holds 'a changed object fails' 10 "$calls" '2 passed, 1 failed' "is b'List::push: 3 entries'"
+holds 'a call that is never refused fails' 11 "$calls" '2 passed, 1 failed' \
+    'OTHER  stab_refused, List::new'
+holds 'a call that is not in the list fails' 12 "$calls" '1 passed, 2 failed' \
+    'OTHER  stab_refused, refused once'
+holds 'no such case fails' 0 'no such case' '0 passed, 0 failed' '0 runs'
+rm "$work/crate/out/planted"
+build() { :; }
+holds 'a program that was not built fails' 0 "$root" '0 passed, 2 failed' 'the program is not built'
+
+printf '%s passed, %s failed\n' "$passed" "$failed"
+[ "$failed" -eq 0 ]

@@ -1,0 +1,405 @@
+#!/usr/bin/env python3
+"""Refuses memory and threads to the built programs, one after the other: tests/refused/check.py
+
+It builds refuse.c, an object for LD_PRELOAD, by the kit's own clang, and runs under it
+
+  (a) stab_refused, once for every N with its Nth allocation refused: it must print what its file
+      `stdout` has, end with status 0, and name on standard error only calls of the file `calls`;
+      each of these must have been refused at least once;
+  (b) stab on some examples and two runs, once for every N with the Nth allocation refused, and once
+      with every allocation from the Nth on: it must give the whole text with status 0, or the line
+      `stab: out of memory` with status 3 and nothing else;
+  (c) stab on runs, with the start of the Nth thread refused, and under limits of the system: it
+      must say in one line that a worker could not be started.
+
+The programs are those that rt ci, or rt run, left in out/ of their crates. Nothing of the
+repository is touched. Each (program, job, way of refusing) is one case, and the last line is
+'N passed, M failed'. It needs Python 3.8, which rt needs as well, and glibc.
+"""
+import argparse
+import concurrent.futures
+import itertools
+import json
+import os
+import re
+import resource
+import shutil
+import subprocess
+import sys
+import tempfile
+
+HERE = os.path.dirname(os.path.realpath(__file__))
+TOP = os.path.dirname(os.path.dirname(HERE))
+EXAMPLES = f"{TOP}/crates/stab_examples/data"
+
+# A program that has not ended after so many seconds hangs.
+SECONDS = 60.0
+# So many runs one after the other must be whole before a program counts as never refused again.
+ROW = 32
+MOST_ALLOCATIONS = 20_000
+# A user that owns no process, for the limit on threads where this script is run as root.
+NOBODY_ELSE = 54321
+
+OUT_OF_MEMORY = (3, b"", b"stab: out of memory\n")
+NOT_STARTED = (3, b"", b"stab: run: a worker could not be started\n")
+
+# Each command, its flags, a job given by name and one on standard input; and faults of each status.
+JOBS = """
+    worst_start
+    links/worst_start_with_origins
+    links/file_after_dashes
+    trees/every_member
+    trees/two_links_under_one_schedule
+    runs/a_lone_root
+    runs/words_a_lone_root
+    refused/no_such_file
+    refused/bad_event
+    refused/flag_twice
+    refused_trees/unknown_node
+    runs/two_frames_for_one_place
+    runs/words_two_frames_for_one_place
+""".split()
+
+RUNS = ("run", ["run"]), ("run --words", ["run", "--words"])
+
+
+def chain(nodes, items, turns):
+    """The job of a chain of so many nodes, with clean starts."""
+    tree = [{"name": "r"}]
+    for i in range(1, nodes):
+        tree.append({"name": f"n{i}", "parent": tree[-1]["name"]})
+    items = list(range(1, items + 1))
+    return {"capacity": 1, "labels": 4, "tree": tree, "items": items, "turns": turns}
+
+
+class Ended:
+    """How a program ended. What the object reported is None where it reported nothing."""
+
+    def __init__(self, status, out, err, report):
+        self.seen = (status, out, err)
+        self.status, self.out, self.err = self.seen
+        words = report.split()
+        whole = len(words) == 6 and words[::2] == [b"allocations", b"threads", b"refused"]
+        counts = map(int, words[1::2]) if whole else [None] * 3
+        self.allocations, self.threads, self.refused = counts
+
+    def __str__(self):
+        out, err = (text.decode(errors="replace")[-300:] for text in (self.out, self.err))
+        return f"status {self.status}, standard output {out!r}, standard error {err!r}"
+
+
+class Room:
+    """A folder for the object, the jobs and the programs of one check."""
+
+    def __init__(self, folder, seconds):
+        self.folder, self.seconds = folder, seconds
+        os.chmod(folder, 0o711)
+        self.object = f"{folder}/refuse.so"
+
+    def build_object(self):
+        """Builds the object by the clang of the kit whose rt is on the path."""
+        rt = shutil.which("rt")
+        if rt is None:
+            sys.exit("check.py: the command rt of the Rattle kit is needed, for its clang")
+        clang = f"{os.path.dirname(os.path.realpath(rt))}/../toolchain/bin/clang"
+        flags = "-O2 -Wall -Wextra -Werror -ffreestanding -fPIC -shared -nostdlib -fuse-ld=lld"
+        subprocess.run([clang, *flags.split(), f"{HERE}/refuse.c", "-o", self.object], check=True)
+
+    def copy(self, program):
+        """A copy of a program that any user may run, and that no later build changes."""
+        to = f"{self.folder}/{os.path.basename(program)}"
+        shutil.copyfile(program, to)
+        os.chmod(to, 0o755)
+        return to
+
+    def write(self, name, job):
+        path = f"{self.folder}/{name}.json"
+        with open(path, "w") as it:
+            json.dump(job, it)
+        return path
+
+    def run(self, command, input=os.devnull, refuse=None, limit=None):
+        """Runs a program to its end: words, the file of its standard input, what is refused."""
+        report, to = os.pipe()
+        with open(report, "rb") as report:
+            try:
+                with open(input, "rb") as given:
+                    started = subprocess.Popen(
+                        command, stdin=given, stdout=subprocess.PIPE, stderr=subprocess.PIPE,
+                        env={"LD_PRELOAD": self.object, "REFUSE_REPORT": str(to), **(refuse or {})},
+                        cwd=EXAMPLES, pass_fds=[to], preexec_fn=limit)
+            finally:
+                os.close(to)
+            try:
+                out, err = started.communicate(timeout=self.seconds)
+            except subprocess.TimeoutExpired:
+                started.kill()
+                out, err = started.communicate()
+                err += b"(had not ended after %d seconds)" % self.seconds
+            return Ended(started.returncode, out, err, report.read())
+
+
+class Check:
+    """The cases, and how many of them passed."""
+
+    def __init__(self, room, lanes, only):
+        self.room, self.lanes, self.only = room, lanes, only
+        self.passed = self.failed = self.runs = 0
+
+    def tell(self, name, faults, note=""):
+        """Says whether a case holds: it does where there is no fault."""
+        if faults:
+            self.failed += 1
+            print(f"OTHER  {name}")
+            for fault in faults[:3]:
+                print(f"       {fault}")
+            if len(faults) > 3:
+                print(f"       and {len(faults) - 3} more")
+        else:
+            self.passed += 1
+            print(f"same   {name}{note}")
+        sys.stdout.flush()
+
+    def run(self, *given, **named):
+        self.runs += 1
+        return self.room.run(*given, **named)
+
+    def every(self, variable, command, input):
+        """Runs a program for N = 1, 2, .. with what the variable then refuses, until nothing was.
+
+        Gives each N with its end. Where threads allocate, one run makes more allocations than the
+        next, so that a run may be whole and one of a greater N is not: all of a row must be whole.
+        """
+        one = lambda number: self.run(command, input, {variable: str(number)})
+        for first in range(1, MOST_ALLOCATIONS, ROW):
+            row = list(self.lanes.map(one, range(first, first + ROW)))
+            yield from enumerate(row, first)
+            if not any(ended.refused for ended in row):
+                return
+
+    def undisturbed(self, name, command, input, is_right):
+        """Whether a run that is refused nothing is right, and its allocations are counted."""
+        ended = self.run(command, input)
+        if ended.refused != 0 or not ended.allocations:
+            self.tell(name, [f"the object counted no allocations: {ended}"])
+        elif not is_right(ended):
+            self.tell(name, [f"undisturbed: {ended}"])
+        else:
+            return True
+        return False
+
+    def stab(self, name, command, input, is_right, refusals):
+        """Part (b): the text or a refusal, for each N, refused once or from there on."""
+        if self.only not in name:
+            return
+        if not self.undisturbed(name, command, input, is_right):
+            return
+        for variable, way in ("REFUSE_ALLOCATION", "once"), ("REFUSE_FROM", "from there on"):
+            faults, refused, last = [], 0, 0
+            for number, ended in self.every(variable, command, input):
+                is_refusal = ended.refused and ended.seen in refusals
+                refused += bool(is_refusal)
+                if ended.refused is None or not is_refusal and not is_right(ended):
+                    faults.append(f"allocation {number}: {ended}")
+                if ended.refused:
+                    last = number
+            if refused == 0:
+                faults.append("no refusal was answered by out of memory")
+            self.tell(f"{name}, refused {way}", faults, f": {refused} of {last} refusals end it")
+
+    def refused(self, program, calls):
+        """Part (a): the program that makes every call again."""
+        if self.only not in "stab_refused":
+            return
+        with open(f"{os.path.dirname(os.path.dirname(program))}/stdout", "rb") as it:
+            right = (0, it.read())
+        program = self.room.copy(program)
+        with open(calls) as it:
+            wanted = {line.strip() for line in it if line.strip() and not line.startswith("#")}
+        is_right = lambda ended: (ended.status, ended.out) == right
+        if not self.undisturbed("stab_refused", [program], os.devnull, is_right):
+            return
+        faults, seen, last = [], set(), 0
+        for number, ended in self.every("REFUSE_ALLOCATION", [program], os.devnull):
+            names = set()
+            for line in ended.err.decode(errors="replace").splitlines():
+                names.add(line[8:] if line.startswith("refused ") else line)
+            if ended.refused is None or not is_right(ended) or not names <= wanted:
+                faults.append(f"allocation {number}: {first_difference(right[1], ended)}")
+            seen |= names
+            if ended.refused:
+                last = number
+        self.tell("stab_refused, refused once", faults, f": {last} refusals")
+        for name in sorted(wanted):
+            faults = [] if name in seen else ["no allocation of this call was ever refused"]
+            self.tell(f"stab_refused, {name} is refused", faults)
+
+    def threads(self, name, command, input, is_right, nodes):
+        """Part (c): the start of each thread is refused in its turn."""
+        if self.only not in name:
+            return
+        ended = self.run(command, input)
+        faults = []
+        if ended.threads != nodes or not is_right(ended):
+            faults.append(f"undisturbed, {ended.threads} threads: {ended}")
+        one = lambda number: self.run(command, input, {"REFUSE_THREAD": str(number)})
+        for number, ended in enumerate(self.lanes.map(one, range(1, nodes + 1)), 1):
+            if ended.refused != 1 or ended.seen != NOT_STARTED:
+                faults.append(f"thread {number} of {nodes}: {ended}")
+        self.tell(f"{name}, each thread refused", faults)
+
+    def limits(self, name, command, input, is_right, what, limits, must_refuse):
+        """Part (c): the system itself refuses threads, by a limit."""
+        if self.only not in name:
+            return
+        faults, refused = [], 0
+        for limit in limits:
+            ended = self.run(command, input, limit=lambda: what(limit))
+            refused += ended.seen == NOT_STARTED
+            if ended.seen not in (NOT_STARTED, OUT_OF_MEMORY) and not is_right(ended):
+                faults.append(f"limit {limit}: {ended}")
+        if must_refuse and refused == 0:
+            faults.append("under no limit a worker could not be started")
+        self.tell(name, faults, f": {refused} of {len(limits)} limits refuse a worker")
+
+
+def first_difference(right, ended):
+    """Where the standard output of a run is another than it should be."""
+    wanted, wrote = right.splitlines(), ended.out.splitlines()
+    for number, (a, b) in enumerate(itertools.zip_longest(wanted, wrote, fillvalue=b"(none)"), 1):
+        if a != b:
+            end = f"status {ended.status}, {ended.err[-300:]!r}"
+            return f"line {number} is {b!r} and not {a!r}; {end}"
+    return str(ended)
+
+
+def of_example(name):
+    """The words, the file of the standard input and the end of an example, as its files say."""
+    words, input = [], f"{EXAMPLES}/{name}.json"
+    if os.path.exists(f"{EXAMPLES}/{name}.args"):
+        with open(f"{EXAMPLES}/{name}.args") as it:
+            words = it.read().splitlines()
+    if os.path.exists(f"{EXAMPLES}/{name}.out"):
+        with open(f"{EXAMPLES}/{name}.out", "rb") as it:
+            right = (0, it.read(), b"")
+    else:
+        with open(f"{EXAMPLES}/{name}.err", "rb") as it:
+            line, status = it.read().split(b"\nstatus ")
+        right = (int(status), b"", line + b"\n")
+    return words, input if os.path.exists(input) else os.devnull, right
+
+
+def is_report_of(job):
+    """A test for the report of a run of a chain with clean starts, under any schedule.
+
+    Two runs of a job may print different lists. Whatever the schedule, there are two lines for each
+    node; the root has all items, and every other node has some of those of the node above it, in
+    their order and each once.
+    """
+    def is_report(ended):
+        lines = ended.out.decode(errors="replace").split("\n")
+        if ended.status != 0 or ended.err or len(lines) != 2 * len(job["tree"]) + 1 or lines[-1]:
+            return False
+        above = job["items"]
+        for depth, node in enumerate(job["tree"]):
+            first, second = lines[2 * depth : 2 * depth + 2]
+            counts = "received ([0-9]+) acked (-|[0-9]+) ended (upstream|turns)"
+            found = re.fullmatch(f"{node['name']} depth {depth} {counts}", first)
+            if not found or not re.fullmatch("items:( [0-9]+)*", second):
+                return False
+            items = [int(word) for word in second.split()[1:]]
+            if len(items) != int(found[1]) or (found[2] == "-") != (depth == 0):
+                return False
+            if depth == 0 and items != above or depth > 0 and int(found[2]) > len(above):
+                return False
+            rest = iter(above)
+            if not all(item in rest for item in items):
+                return False
+            above = items
+        return True
+
+    return is_report
+
+
+def limit_memory(megabytes):
+    resource.setrlimit(resource.RLIMIT_AS, (megabytes << 20, megabytes << 20))
+
+
+def limit_threads(count):
+    """Limits the threads of a user. Nothing limits root, so it becomes another user."""
+    resource.setrlimit(resource.RLIMIT_NPROC, (count, count))
+    if os.geteuid() == 0:
+        os.setgroups([])
+        os.setgid(NOBODY_ELSE)
+        os.setuid(NOBODY_ELSE)
+
+
+def check_stab(check, room, program, all_examples):
+    """Parts (b) and (c)."""
+    program, names = room.copy(program), JOBS
+    if all_examples:
+        names = sorted(
+            os.path.relpath(os.path.join(at, name), EXAMPLES)[:-4]
+            for at, _, files in os.walk(EXAMPLES)
+            for name in files if name.endswith((".out", ".err")))
+    for name in names:
+        words, input, right = of_example(name)
+        is_right = lambda ended: ended.seen == right
+        # (the C library allocates for a thread, so that refused memory may be a refused thread)
+        refusals = [OUT_OF_MEMORY] + [NOT_STARTED] * ("run" in words)
+        check.stab(name, [program, *words], input, is_right, refusals)
+    job = chain(3, items=5, turns=50)
+    input = room.write("chain_of_3", job)
+    for name, words in RUNS:
+        refusals = [OUT_OF_MEMORY, NOT_STARTED]
+        check.stab(f"{name} of a chain of 3", [program, *words], input, is_report_of(job), refusals)
+    for nodes in 1, 3, 64:
+        job = chain(nodes, items=5, turns=50)
+        input = room.write(f"chain_of_{nodes}", job)
+        for name, words in RUNS:
+            of = f"{name} of a chain of {nodes}"
+            check.threads(of, [program, *words], input, is_report_of(job), nodes)
+    for name, words in RUNS:
+        of, command = f"{name} of a chain of 64, limited", [program, *words]
+        # (megabytes, up to more than the stacks of 64 threads take)
+        memory = [int(12 * 1.4**i) for i in range(21)]
+        threads = [1, 2, 3, 10, 40, 1000]
+        for which, what, limits, must_refuse in (
+            ("memory", limit_memory, memory, True),
+            # (not every system keeps this limit)
+            ("threads", limit_threads, threads, False),
+        ):
+            check.limits(
+                f"{of} in {which}", command, input, is_report_of(job), what, limits, must_refuse)
+
+
+def main():
+    parser = argparse.ArgumentParser(description="refuses memory and threads to the built programs")
+    parser.add_argument("--stab", default=f"{TOP}/crates/stab_cli/out/stab_cli")
+    parser.add_argument("--refused", default=f"{TOP}/crates/stab_refused/out/stab_refused")
+    parser.add_argument("--lanes", type=int, default=4, help="how many programs run at a time")
+    parser.add_argument("--all", action="store_true", help="every example, and not some of them")
+    parser.add_argument("--only", default="", help="the cases that have this in their names")
+    parser.add_argument("--calls", default=f"{HERE}/calls", help="the calls of stab_refused")
+    parser.add_argument("--seconds", type=float, default=SECONDS, help="how long one may run")
+    given = parser.parse_args()
+    with tempfile.TemporaryDirectory(prefix="stab-refused-") as folder:
+        room = Room(folder, given.seconds)
+        room.build_object()
+        with concurrent.futures.ThreadPoolExecutor(given.lanes) as lanes:
+            check = Check(room, lanes, given.only)
+            for program, part in (
+                (given.refused, lambda it: check.refused(it, given.calls)),
+                (given.stab, lambda it: check_stab(check, room, it, given.all)),
+            ):
+                if os.path.isfile(program):
+                    part(program)
+                else:
+                    check.tell(program, ["the program is not built: rt ci, or rt run in its crate"])
+    print(f"{check.runs} runs")
+    print(f"{check.passed} passed, {check.failed} failed")
+    return 1 if check.failed or not check.passed else 0
+
+
+if __name__ == "__main__":
+    sys.exit(main())

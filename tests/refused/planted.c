@@ -1,0 +1,136 @@
+/*
+ * A small program with a planted bug, for tests/check_refused.sh. It includes no header.
+ *
+ * As `stab` it prints the report of a lone root: BUG says what it does wrong where memory, or its
+ * thread, is refused. As stab_refused, it makes two calls, again where one is refused. With BUG 0
+ * it does all of it right.
+ */
+
+#ifndef BUG
+#define BUG 0
+#endif
+
+typedef __SIZE_TYPE__ size_t;
+
+extern void *malloc(size_t);
+extern void *realloc(void *, size_t);
+extern int posix_memalign(void **, size_t, size_t);
+extern void free(void *);
+extern int printf(const char *, ...);
+extern int dprintf(int, const char *, ...);
+extern int fflush(void *);
+extern int pthread_create(unsigned long *, const void *, void *(*)(void *), void *);
+extern int pthread_join(unsigned long, void **);
+extern int pause(void);
+extern long read(int, void *, size_t);
+extern long write(int, const void *, size_t);
+extern char *strstr(const char *, const char *);
+extern size_t strlen(const char *);
+extern void abort(void) __attribute__((noreturn));
+
+static void print(const char *text) {
+    /* (printf would allocate) */
+    write(1, text, strlen(text));
+}
+
+static int fail(const char *line) {
+    write(2, line, strlen(line));
+    return 3;
+}
+
+static int no_memory(void) {
+    if (BUG == 1)
+        print("r depth 0 received 2 acked - ended upstream\n");
+    if (BUG == 2)
+        abort();
+    if (BUG == 3) {
+        print("r depth 0 received 0 acked - ended upstream\nitems:\n");
+        return 0;
+    }
+    if (BUG == 4)
+        return fail("stab: out of memory\n") - 2;
+    if (BUG == 5)
+        return fail("stab: job: not JSON\n");
+    if (BUG == 6)
+        fail("stab: no memory\n");
+    return fail("stab: out of memory\n");
+}
+
+static void *work(void *given) {
+    return given;
+}
+
+/* The report of a lone root whose items are written in its job. */
+static int stab(void) {
+    char job[4096], text[256], items[128], *found, *to = items, *end = text;
+    unsigned long thread;
+    void *first, *second, *third = 0;
+    long count = 0, length = read(0, job, sizeof job - 1);
+    job[length < 0 ? 0 : length] = 0;
+    found = strstr(job, "\"items\"");
+    for (found = found ? found + 8 : "]"; *found != ']'; found++) {
+        if (*found >= '0' && *found <= '9') {
+            if (found[-1] < '0' || found[-1] > '9')
+                *to++ = ' ', count++;
+            *to++ = *found;
+        }
+    }
+    *to = 0;
+    if (BUG == 7) {
+        print("r depth 0 received 2 acked - ended upstream\nitems: 7 8\n");
+        return 0;
+    }
+    first = malloc(16);
+    if (!first)
+        return no_memory();
+    second = realloc(first, 4096);
+    if (!second)
+        return no_memory();
+    if (pthread_create(&thread, 0, work, 0) != 0) {
+        if (BUG == 8)
+            pause();
+        if (BUG != 9)
+            return fail("stab: run: a worker could not be started\n");
+    } else
+        pthread_join(thread, 0);
+    if (posix_memalign(&third, 64, 64) != 0)
+        return no_memory();
+    for (const char *from = "r depth 0 received "; *from;)
+        *end++ = *from++;
+    *end++ = (char)('0' + count);
+    for (const char *from = " acked - ended upstream\nitems:"; *from;)
+        *end++ = *from++;
+    for (const char *from = items; *from;)
+        *end++ = *from++;
+    *end++ = '\n';
+    *end = 0;
+    print(text);
+    return 0;
+}
+
+/* A list that grows, and an answer of it. */
+static int calls(void) {
+    int held = 0;
+    void *list = malloc(8);
+    if (!list) {
+        if (BUG != 11)
+            dprintf(2, "refused List::new\n");
+        list = malloc(8);
+    }
+    held++;
+    void *grown = realloc(list, 1 << 20);
+    if (!grown) {
+        dprintf(2, BUG == 12 ? "refused List::grow\n" : "refused List::push\n");
+        if (BUG == 10)
+            held++;
+        grown = realloc(list, 1 << 20);
+    }
+    held++;
+    print(held == 2 ? "List::push: 2 entries\n" : "List::push: 3 entries\n");
+    return BUG == 13 && !list;
+}
+
+int main(int count, char **words) {
+    (void)words;
+    return count > 1 ? stab() : calls();
+}
