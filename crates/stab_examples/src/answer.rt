@@ -9,14 +9,14 @@ use std::{fs, io};
 
 /// What is given for an example: a text, and the ending of the file that expects such a text.
 #[derive(Drop)]
-pub struct Given {
-    pub kind: &'static str,
-    pub text: String,
+pub(crate) struct Given {
+    pub(crate) kind: &'static str,
+    pub(crate) text: String,
 }
 
 /// What the program writes for an example: the text of its answer, or the line of its fault and its
 /// status.
-pub fn answer<R: Files + Threads + Wait + Send + Sync + AllocGlobal>(
+pub(crate) fn answer<R: Files + Threads + Wait + Send + Sync + AllocGlobal>(
     rt: &R,
     name: &str,
 ) -> io::Result<Given> {

@@ -5,7 +5,7 @@ use std::io::{self, ErrorKind};
 use std::rt::Files;
 
 /// The lines of the standard input, which name the files that say what is expected.
-pub fn listed_files<R: Input + AllocGlobal>(rt: &R) -> io::Result<Vec<String>> {
+pub(crate) fn listed_files<R: Input + AllocGlobal>(rt: &R) -> io::Result<Vec<String>> {
     let mut files = Vec::new(rt.alloc());
     for line in rt.lines(rt.alloc()) {
         files.push(line?)?;
@@ -14,7 +14,9 @@ pub fn listed_files<R: Input + AllocGlobal>(rt: &R) -> io::Result<Vec<String>> {
 }
 
 /// The files that say what is expected, in this folder and in those right below it.
-pub fn expected_files<R: Files + AllocGlobal + Clone + Drop>(rt: &R) -> io::Result<Vec<String>> {
+pub(crate) fn expected_files<R: Files + AllocGlobal + Clone + Drop>(
+    rt: &R,
+) -> io::Result<Vec<String>> {
     let mut files = Vec::new(rt.alloc());
     for entry in fs::read_dir(rt, ".")? {
         let entry = entry?;
@@ -50,7 +52,10 @@ fn says_what_is_expected(name: &str) -> bool {
 }
 
 /// The text of a file, or nothing if there is no such file.
-pub fn file_or_none<R: Files + AllocGlobal>(rt: &R, file: &str) -> io::Result<Option<String>> {
+pub(crate) fn file_or_none<R: Files + AllocGlobal>(
+    rt: &R,
+    file: &str,
+) -> io::Result<Option<String>> {
     match fs::read_to_string(rt, file) {
         Ok(text) => Ok(Some(text)),
         Err(error) => {

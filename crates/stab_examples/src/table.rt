@@ -14,7 +14,7 @@ const HEAD: &str = "event effect label holds acked frames acks remembers deliver
 
 /// The table of a link job: the names of the columns, the link at its start, and a line for each
 /// event.
-pub fn run_table(alloc: Global, bytes: &[u8]) -> Result<String, CliFault>
+pub(crate) fn run_table(alloc: Global, bytes: &[u8]) -> Result<String, CliFault>
     ensures fault { IfErr result (IsRunFault bytes.now) }
 {
     let job = read_link_job(alloc, bytes)?;
@@ -32,7 +32,7 @@ pub fn run_table(alloc: Global, bytes: &[u8]) -> Result<String, CliFault>
 }
 
 /// A table with one space between two words and a newline after each line.
-pub fn squeezed(alloc: Global, table: &str) -> Result<String, AllocError> {
+pub(crate) fn squeezed(alloc: Global, table: &str) -> Result<String, AllocError> {
     let mut text = String::new(alloc);
     for line in table.lines() {
         push_words(&mut text, line)?;

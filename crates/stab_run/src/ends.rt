@@ -87,8 +87,10 @@ where
     ensures run { IfOk result (λ g. IsRun job.now.tree.parents job.now.items
         g.received.items g.ended.items (map D.done_sent g.sends.items)
         (map U.done_received g.recvs.items)) }
-    ensures sender_links { IfOk result (λ g. map D.done_link g.sends.items ≡ map D.link sends.items) }
-    ensures receiver_links { IfOk result (λ g. map U.done_link g.recvs.items ≡ map U.link recvs.items) }
+    ensures sender_links { IfOk result (λ g.
+        map D.done_link g.sends.items ≡ map D.link sends.items) }
+    ensures receiver_links { IfOk result (λ g.
+        map U.done_link g.recvs.items ≡ map U.link recvs.items) }
     ensures turns { IfOk result (λ g. (node : ℕ) → node < length job.now.tree.parents
         → IsOver (G.has_passed gate.now node) job.now.turns (ended_at g.ended.items node)) }
     ensures done { OnOk result ((node : ℕ) → node < length job.now.tree.parents

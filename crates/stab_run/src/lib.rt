@@ -4,8 +4,8 @@
 //! of its tree. The reader's contract goes from bytes to that value by small definitions in
 //! `specs/`. The layer above uses two facts: the answer of [`read_job`] is the job that the bytes
 //! mean, or the first check that they fail, unless memory is refused; and the tree law holds at
-//! every node of the report that [`run_locked`] answers, over links behind locks, and [`run_words`],
-//! over links of two words; [`report_text`] prints it.
+//! every node of the report that [`run_locked`] answers, over links behind locks, and
+//! [`run_words`], over links of two words; [`report_text`] prints it.
 #![tactic(auto)]
 
 mod ends;

@@ -107,8 +107,8 @@ impl<'a, R> SplitLink<'a, R> for LockLink {
 /// Whatever is in the links at the start, whatever is lost or repeated and however the workers'
 /// steps interleave: a node at depth d received at most d times c strays from the links on its
 /// path, then published items in their order, each at most once, none missing before its last one
-/// except among the first d(2c + 1). Where the worker of each node above it ended with its upstream,
-/// none is missing at all except among these.
+/// except among the first d(2c + 1). Where the worker of each node above it ended with its
+/// upstream, none is missing at all except among these.
 pub fn run_locked<R: Threads + Wait + Send + Sync, G: Gate + Sync>(
     rt: &R,
     alloc: Global,

@@ -4,3 +4,4 @@ mod faults;
 mod parts;
 mod refusals;
 mod runs;
+mod stopped;

@@ -1,6 +1,7 @@
 //! The run of a job by one worker per node, over links of two words.
 
-ghost use Rattle.std.specs.Prelude.{◌≡◌, ◌≢◌, ℕ, ◌<◌, true, IfOk, IfErr, IsErrAnd, OnOk, All, length};
+ghost use Rattle.std.specs.Prelude.{◌≡◌, ◌≢◌, ℕ, ◌<◌, true, IfOk, IfErr, IsErrAnd, OnOk, All};
+ghost use Rattle.std.specs.Prelude.{length};
 ghost use Rattle.stab_core.specs.Replay.{IsLawful};
 ghost use Rattle.stab_core.specs.declared.start.StartFault.{StartFault};
 ghost use Rattle.stab_lock.specs.declared.settle.SettleFault.{SettleFault};

@@ -30,7 +30,7 @@ const MOST_AHEAD: u64 = 64;
 
 /// The order in which a gate lets turns begin.
 #[derive(Clone, Copy, Debug, PartialEq, Eq)]
-enum Order {
+pub(super) enum Order {
     /// No node is far ahead of another.
     Paced,
     /// The first turn of each node begins once each other node asks for its first.
@@ -64,7 +64,7 @@ impl Order {
 
 /// A gate that lets turns begin in an order, and sees which are asked for.
 #[derive(Drop)]
-struct OrderedGate {
+pub(super) struct OrderedGate {
     order: Order,
     asked: [AtomicU64; MOST_NODES],
     begun: [AtomicU64; MOST_NODES],
@@ -72,7 +72,7 @@ struct OrderedGate {
 
 impl OrderedGate {
     /// The gate of a run of so many nodes.
-    fn for_nodes(order: Order, count: u16) -> OrderedGate {
+    pub(super) fn for_nodes(order: Order, count: u16) -> OrderedGate {
         OrderedGate {
             order,
             asked: array::from_fn(|node| AtomicU64::new(if node < count as usize {
@@ -152,7 +152,7 @@ impl Gate for OrderedGate {
 
 /// Which links a run makes.
 #[derive(Clone, Copy, Debug, PartialEq, Eq)]
-enum Links {
+pub(super) enum Links {
     /// Links behind locks.
     Locked,
     /// Links of two words.
@@ -160,15 +160,15 @@ enum Links {
 }
 
 /// Both runs.
-const BOTH: [Links; 2] = [Links::Locked, Links::Words];
+pub(super) const BOTH: [Links; 2] = [Links::Locked, Links::Words];
 
 /// The report of a job over such links, under a gate.
-fn run_over<R: Threads + Wait + Send + Sync>(
+pub(super) fn run_over<R: Threads + Wait + Send + Sync, G: Gate + Sync>(
     rt: &R,
     alloc: Global,
     links: Links,
     job: &Job,
-    gate: &OrderedGate,
+    gate: &G,
 ) -> Result<Report, RunFault>
     ensures { IfOk result (λ report. OnePerNode job.now.tree.parents report) }
 {
