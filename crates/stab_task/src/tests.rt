@@ -1,11 +1,15 @@
 //! The tasks at the values of the worked examples: command lines, files, and what each task writes
 //! or refuses.
 
+mod bytes;
 mod files;
+mod limits;
 mod links;
+mod readers;
 mod runs;
 mod trees;
 mod words;
+mod writers;
 
 use super::*;
 use stab_core::StartFault;
@@ -15,6 +19,7 @@ use stab_script::LinkJobFault;
 use stab_tree::NodeId;
 use stab_treecore::{TreeStartFault, TreeStepFault};
 use std::alloc::{AllocError, Global};
+use std::io::Read;
 use std::process::Abort;
 use std::sync::Wait;
 use std::test::Fail;
@@ -36,17 +41,61 @@ const WORST_TEXT: &str =
 
 const LONE_ROOT: &str = r#"{"capacity":1,"labels":4,"tree":[{"name":"r"}],"items":[7,8]}"#;
 
-/// What a task writes for a job, and how it ends.
-fn outcome<T: Threads + Wait + Send + Sync>(
+const LONE_TEXT: &str = "r depth 0 received 2 acked -\nitems: 7 8\n";
+
+const LONE_REPORT: &str = "r depth 0 received 2 acked - ended upstream\nitems: 7 8\n";
+
+/// A task with a job for it and the text that it writes, which no schedule of threads changes.
+#[derive(Clone, Copy)]
+struct Work {
+    task: Task,
+    job: &'static str,
+    text: &'static str,
+}
+
+/// One work for each task.
+const WORKS: [Work; 4] = [
+    Work {
+        task: PLAIN,
+        job: WORST_START,
+        text: WORST_TEXT,
+    },
+    Work {
+        task: Task::Tree,
+        job: LONE_ROOT,
+        text: LONE_TEXT,
+    },
+    Work {
+        task: LOCKED,
+        job: LONE_ROOT,
+        text: LONE_REPORT,
+    },
+    Work {
+        task: WORDS,
+        job: LONE_ROOT,
+        text: LONE_REPORT,
+    },
+];
+
+/// What a task writes for the bytes of a reader, and how it ends.
+fn outcome<T: Threads + Wait + Send + Sync, R: Read + Copy>(
     rt: &T,
     alloc: Global,
     task: Task,
-    job: &[u8],
+    reader: R,
 ) -> (Result<(), CliFault>, Vec<u8>) {
-    let mut reader = job;
+    let mut reader = reader;
     let mut written = Vec::new(alloc);
     let ended = act(rt, alloc, task, &mut reader, &mut written);
     (ended, written)
+}
+
+/// The fault of bytes that are no JSON.
+fn not_json(task: Task) -> CliFault {
+    match task {
+        Task::Link { .. } => CliFault::LinkJob(LinkJobFault::Json),
+        Task::Tree | Task::Run { .. } => CliFault::Job(JobFault::Json),
+    }
 }
 
 /// Fails the test where the task does not write this text for the job.

@@ -64,6 +64,5 @@ fn refuses_link_jobs_by_name(rt: HostRuntime) -> Result<(), Fail> {
         assert_refused(&rt, PLAIN, job.as_bytes(), &fault);
         assert_fault(&rt, &fault, status, text)?;
     }
-    assert_refused(&rt, PLAIN, &[255], &CliFault::LinkJob(LinkJobFault::Json));
     Ok(())
 }

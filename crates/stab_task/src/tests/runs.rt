@@ -3,9 +3,8 @@ use stab_tree::TreeFault;
 
 #[test]
 fn prints_the_report_of_a_lone_root(rt: HostRuntime) {
-    let text = "r depth 0 received 2 acked - ended upstream\nitems: 7 8\n";
     for task in [LOCKED, WORDS] {
-        assert_answer(&rt, task, LONE_ROOT, text);
+        assert_answer(&rt, task, LONE_ROOT, LONE_REPORT);
     }
 }
 
@@ -27,8 +26,7 @@ fn words_need_capacity_one(rt: HostRuntime) -> Result<(), Fail> {
     let fault = CliFault::Run(RunFault::CapacityNotOne);
     assert_refused(&rt, WORDS, job.as_bytes(), &fault);
     assert_fault(&rt, &fault, 3, "run: capacity is not one")?;
-    let text = "r depth 0 received 2 acked - ended upstream\nitems: 7 8\n";
-    assert_answer(&rt, LOCKED, job, text);
+    assert_answer(&rt, LOCKED, job, LONE_REPORT);
     Ok(())
 }
 

@@ -25,9 +25,15 @@ fn push_steps(schedule: &mut String, child: &str, rounds: usize) -> Result<(), A
         push_step(schedule, child, act)?;
     }
     for _ in 0..rounds {
-        for act in ["offer", "send_frame", "recv_frame", "send_ack", "recv_ack"] {
-            push_step(schedule, child, act)?;
-        }
+        push_round(schedule, child)?;
+    }
+    Ok(())
+}
+
+/// Adds one round of an item on the link into this node.
+pub(super) fn push_round(schedule: &mut String, child: &str) -> Result<(), AllocError> {
+    for act in ["offer", "send_frame", "recv_frame", "send_ack", "recv_ack"] {
+        push_step(schedule, child, act)?;
     }
     Ok(())
 }
@@ -65,12 +71,7 @@ fn prints_two_links_under_one_schedule(rt: HostRuntime) -> Result<(), Fail> {
 
 #[test]
 fn prints_a_lone_root_with_its_items(rt: HostRuntime) {
-    assert_answer(
-        &rt,
-        Task::Tree,
-        LONE_ROOT,
-        "r depth 0 received 2 acked -\nitems: 7 8\n",
-    );
+    assert_answer(&rt, Task::Tree, LONE_ROOT, LONE_TEXT);
 }
 
 #[test]
@@ -81,18 +82,6 @@ fn offers_nothing_before_an_item_is_received(rt: HostRuntime) {
         r#"{"capacity":1,"labels":4,"tree":[{"name":"r"},{"name":"a","parent":"r"},{"name":"b","parent":"a"}],"items":[7],"schedule":[["b","offer"],["b","send_frame"],["b","recv_frame"]]}"#,
         "r depth 0 received 1 acked -\nitems: 7\na depth 1 received 0 acked 0\nitems:\nb depth 2 received 0 acked 0\nitems:\n",
     );
-}
-
-#[test]
-fn refuses_every_job_cut_short(rt: HostRuntime) -> Result<(), Fail> {
-    let whole = LONE_ROOT.as_bytes();
-    let fault = CliFault::Job(JobFault::Json);
-    for len in 0..whole.len() {
-        assert_refused(&rt, Task::Tree, &whole[..len], &fault);
-        assert_refused(&rt, LOCKED, &whole[..len], &fault);
-    }
-    assert_fault(&rt, &fault, 1, "job: not JSON")?;
-    Ok(())
 }
 
 #[test]
