@@ -309,7 +309,7 @@ def spoil_encoding(draw, text):
     plain = text.decode("utf-8", "replace")
     how = draw.randrange(6)
     if how == 0:
-        return plain.encode(draw.choice(CODES))
+        return plain.encode(draw.choice(CODES), "replace")
     if how == 1:
         return overlong(draw, text)
     if how == 2:

@@ -37,6 +37,9 @@ SECONDS = 60.0
 # So many runs one after the other must be whole before a program counts as never refused again.
 ROW = 32
 MOST_ALLOCATIONS = 20_000
+# After calls that start threads, N is one call's allocation in one run and another's in the next.
+# So a program that was not refused every call is walked through again, at most so often.
+WALKS = 4
 # A user that owns no process, for the limit on threads where this script is run as root.
 NOBODY_ELSE = 54321
 
@@ -220,7 +223,9 @@ class Check:
         if not self.undisturbed("stab_refused", [program], os.devnull, is_right):
             return
         faults, seen, last = [], set(), 0
-        for number, ended in self.every("REFUSE_ALLOCATION", [program], os.devnull):
+        walk = lambda: self.every("REFUSE_ALLOCATION", [program], os.devnull)
+        walks = (walk() for _ in range(WALKS) if not wanted <= seen)
+        for number, ended in itertools.chain.from_iterable(walks):
             names = set()
             for line in ended.err.decode(errors="replace").splitlines():
                 names.add(line[8:] if line.startswith("refused ") else line)
@@ -228,7 +233,7 @@ class Check:
                 faults.append(f"allocation {number}: {first_difference(right[1], ended)}")
             seen |= names
             if ended.refused:
-                last = number
+                last = max(last, number)
         self.tell("stab_refused, refused once", faults, f": {last} refusals")
         for name in sorted(wanted):
             faults = [] if name in seen else ["no allocation of this call was ever refused"]
