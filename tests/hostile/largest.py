@@ -19,6 +19,7 @@ import statistics
 import subprocess
 import sys
 
+sys.dont_write_bytecode = True
 from fuzz import BUILD, HERE, built_program, faults
 
 RUNS = 3
