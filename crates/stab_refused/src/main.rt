@@ -56,7 +56,7 @@ fn make_all<R: Print + Eprint + Threads + Wait + Send + Sync + AllocGlobal>(
     ends::make_all(rt)?;
     word_ends::make_all(rt)?;
     works::make_all(rt)?;
-    runs::make_all(rt)?;
     commands::make_all(rt)?;
+    runs::make_all(rt)?;
     tasks::make_all(rt)
 }

@@ -54,8 +54,8 @@ pub fn make_all<R: Print + Eprint + Threads + Wait + Send + Sync + AllocGlobal>(
     Ok(())
 }
 
-/// What a task writes for a job, which is done once more if it is refused. If the refused task wrote
-/// something, both states of the writer are printed.
+/// What a task writes for a job, which is done once more if it is refused. If the refused task
+/// wrote something, both states of the writer are printed.
 fn written<R: Print + Eprint + Threads + Wait + Send + Sync + AllocGlobal>(
     rt: &R,
     task: Task,
