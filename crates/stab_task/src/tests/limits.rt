@@ -148,8 +148,8 @@ fn assert_no_script<T: Threads + Wait + Send + Sync + Abort + Alloc<A = Global>>
 fn job_of_64(alloc: Global, is_chain: bool) -> Result<String, AllocError> {
     let mut tree = String::from_str(alloc, r#"{"name":"n0"}"#)?;
     let mut schedule = String::new(alloc);
-    for place in 1..64 {
-        let parent = if is_chain { place - 1 } else { 0 };
+    for place in 1..64_u16 {
+        let parent = if is_chain { place.saturating_sub(1) } else { 0 };
         let node = format!(in alloc; r#",{{"name":"n{place}","parent":"n{parent}"}}"#)?;
         tree.push_str(&node)?;
         push_round(&mut schedule, &format!(in alloc; "n{place}")?)?;

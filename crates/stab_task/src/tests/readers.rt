@@ -135,8 +135,8 @@ fn is_unread<T: Threads + Wait + Send + Sync + Alloc<A = Global>, R: Read + Copy
     work: Work,
     reader: R,
 ) -> bool {
-    let fault = CliFault::Read;
-    loaded(rt.alloc(), reader).err() == Some(fault) && ends(rt, work, reader, Err(fault))
+    loaded(rt.alloc(), reader).err() == Some(CliFault::Read)
+        && ends(rt, work, reader, Err(CliFault::Read))
 }
 
 /// Whether a reader that ends at this place gives a job that is cut short.
