@@ -1,6 +1,6 @@
-ghost use Rattle.std.specs.Prelude.{◌≡◌, true, IfOk};
+ghost use Rattle.std.specs.Prelude.{◌≡◌, true, IfOk, OnErr};
 ghost use Rattle.stab_lock.specs.Ends.{recv_end};
-ghost use Rattle.stab_lock.specs.Accounts.{Receiver, new_receiver, after_poll_frame};
+ghost use Rattle.stab_lock.specs.Accounts.{Receiver, IsOpenFor, new_receiver, after_poll_frame};
 
 use crate::account::RecvAccount;
 use crate::link::LockLink;
@@ -61,7 +61,13 @@ impl<'a, R: Wait> RecvSide for LockRecv<'a, R> {
 
     ghost done_received = { λ done. done };
 
-    fn poll_frame(&mut self, pass: &R) -> Result<FrameSeen, AllocError> {
+    fn poll_frame(&mut self, pass: &R) -> Result<FrameSeen, AllocError>
+        ensures account { (recv_end self.new).account
+            ≡ after_poll_frame (recv_end self.old).account result }
+        ensures open { IfOk result (IsOpenFor (recv_end self.old).account) }
+
+        ensures unchanged { OnErr result (recv_end self.new ≡ recv_end self.old) }
+    {
         self.account.delivered.reserve(1)?;
         let seen = self.link.book().lock(pass).poll_frame(&mut self.acts)?;
         match seen {
@@ -73,7 +79,11 @@ impl<'a, R: Wait> RecvSide for LockRecv<'a, R> {
         Ok(seen)
     }
 
-    fn send_ack(&mut self, pass: &R) -> Result<Effect, AllocError> {
+    fn send_ack(&mut self, pass: &R) -> Result<Effect, AllocError>
+        ensures account { (recv_end self.new).account ≡ (recv_end self.old).account }
+
+        ensures unchanged { OnErr result (recv_end self.new ≡ recv_end self.old) }
+    {
         self.link.book().lock(pass).send_ack(&mut self.acts)
     }
 

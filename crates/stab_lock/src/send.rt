@@ -1,4 +1,4 @@
-ghost use Rattle.std.specs.Prelude.{◌≡◌, true, IfOk};
+ghost use Rattle.std.specs.Prelude.{◌≡◌, true, IfOk, OnErr};
 ghost use Rattle.stab_lock.specs.Ends.{send_end};
 ghost use Rattle.stab_lock.specs.Accounts.{Sender, MayOffer, Waits, new_sender, after_offer};
 ghost use Rattle.stab_lock.specs.Accounts.{after_poll_ack, after_close};
@@ -62,7 +62,14 @@ impl<'a, R: Wait> SendSide for LockSend<'a, R> {
 
     ghost done_sent = { λ done. done };
 
-    fn offer(&mut self, pass: &R, item: Item) -> Result<bool, AllocError> {
+    fn offer(&mut self, pass: &R, item: Item) -> Result<bool, AllocError>
+        ensures account { (send_end self.new).account
+            ≡ after_offer (send_end self.old).account item result }
+        ensures taken { IfOk result (λ taken.
+            taken ≡ true → MayOffer (send_end self.old).account) }
+
+        ensures unchanged { OnErr result (send_end self.new ≡ send_end self.old) }
+    {
         let may_take = !self.account.closed && self.account.is_idle();
         if may_take {
             self.account.offered.reserve(1)?;
@@ -76,11 +83,22 @@ impl<'a, R: Wait> SendSide for LockSend<'a, R> {
         }
     }
 
-    fn send(&mut self, pass: &R) -> Result<Effect, AllocError> {
+    fn send(&mut self, pass: &R) -> Result<Effect, AllocError>
+        ensures account { (send_end self.new).account ≡ (send_end self.old).account }
+
+        ensures unchanged { OnErr result (send_end self.new ≡ send_end self.old) }
+    {
         self.link.book().lock(pass).send(&mut self.acts)
     }
 
-    fn poll_ack(&mut self, pass: &R) -> Result<Effect, AllocError> {
+    fn poll_ack(&mut self, pass: &R) -> Result<Effect, AllocError>
+        ensures account { (send_end self.new).account
+            ≡ after_poll_ack (send_end self.old).account result }
+        ensures acked { IfOk result (λ effect.
+            effect ≡ Effect.Acked → Waits (send_end self.old).account) }
+
+        ensures unchanged { OnErr result (send_end self.new ≡ send_end self.old) }
+    {
         let effect = self.link.book().lock(pass).poll_ack(&mut self.acts)?;
         if effect != Effect::Acked {
             return Ok(effect);
@@ -92,7 +110,12 @@ impl<'a, R: Wait> SendSide for LockSend<'a, R> {
         Ok(Effect::Acked)
     }
 
-    fn close(&mut self, pass: &R) -> Result<Effect, AllocError> {
+    fn close(&mut self, pass: &R) -> Result<Effect, AllocError>
+        ensures account { (send_end self.new).account
+            ≡ after_close (send_end self.old).account result }
+
+        ensures unchanged { OnErr result (send_end self.new ≡ send_end self.old) }
+    {
         let effect = self.link.book().lock(pass).close()?;
         self.account.closed = true;
         Ok(effect)
