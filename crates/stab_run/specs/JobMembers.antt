@@ -9,6 +9,8 @@ use Rattle.stab_json.specs.Values.{◌>>=◌, most_u16, whole, capped, item_numb
 use Rattle.stab_script.specs.declared.script_entry.ScriptEntry.{ScriptEntry}
 use Rattle.stab_script.specs.ScriptEntries.{script_entry}
 use Rattle.stab_script.specs.Starts.{start}
+use Rattle.stab_run.specs.declared.link_entry.LinkEntry.{LinkEntry}
+use Rattle.stab_run.specs.LinkEntries.{link_entry}
 
 pub record Members : Type 0 where
   pub capacity : ℕ
@@ -19,6 +21,7 @@ pub record Members : Type 0 where
   pub scripts : Option (List ScriptEntry)
   pub turns : ℕ
   pub schedule : Items
+  pub links : Option (List LinkEntry)
 
 -- the turns of a job that names none
 abbrev pub default_turns : ℕ
@@ -49,6 +52,7 @@ members d = do
   its_items ← get (codes "items") d >>= list_of item_number
   its_starts ← if_there (list_of start) (get (codes "starts") d)
   its_scripts ← if_there (list_of script_entry) (get (codes "scripts") d)
+  its_links ← if_there (list_of link_entry) (get (codes "links") d)
   Some (record {
     capacity = its_capacity;
     labels = its_labels;
@@ -58,4 +62,5 @@ members d = do
     scripts = its_scripts;
     turns = its_turns;
     schedule = its_schedule;
+    links = its_links;
   })

@@ -1,8 +1,8 @@
--- The value of a job: parameters and a tree, a start and a script for each link, published items, a
--- number of turns and a schedule.
+-- The value of a job: a tree, parameters, a start and a script for each of its links, published
+-- items, a number of turns and a schedule.
 -- Source: this project's profile.
-use Rattle.std.specs.Prelude.{◌≡◌, ℕ, ◌≤◌, List, length}
-use Rattle.stab_frames.specs.Parameters.{Parameters}
+use Rattle.std.specs.Prelude.{◌≡◌, ℕ, ◌≤◌, List, length, All}
+use Rattle.stab_frames.specs.Parameters.{Parameters, AreLawful}
 use Rattle.stab_core.specs.declared.start.Start.{Start}
 use Rattle.stab_script.specs.Scripts.{Acts}
 use Rattle.stab_tree.specs.Links.{links_of}
@@ -10,7 +10,7 @@ use Rattle.stab_tree.specs.Nodes.{Nodes}
 use Rattle.stab_treecore.specs.declared.event.TreeEvent.{TreeEvent}
 
 pub record JobValue : Type 0 where
-  pub params : Parameters
+  pub params : List Parameters
   pub tree : Nodes
   pub items : List ℕ
   pub starts : List Start
@@ -30,8 +30,11 @@ most_turns = 1000000
 abbrev pub links : Nodes → ℕ
 links t = length (links_of t.parents)
 
--- there is one start and one script for each link, and the items and turns are within their limits
+-- each link has lawful parameters, a start and a script, and the items and turns are within their
+-- limits
 pub record IsJob (j : JobValue) : Type 0 where
+  pub one_params_each : length j.params ≡ links j.tree
+  pub lawful_params : All AreLawful j.params
   pub one_start_each : length j.starts ≡ links j.tree
   pub one_script_each : length j.scripts ≡ links j.tree
   pub few_items : length j.items ≤ most_items

@@ -1,12 +1,12 @@
 -- Jobs: what the bytes of a job mean, or the first check, in the stated order, that they fail.
 -- Source: this project's profile. Each line of the lists below is a check beside its fault: `job` has
 -- the first five, `job_on_tree` those that follow once there is a tree, `job_of_scripts` the one
--- after the scripts, `schedule` the last two.
+-- after the scripts, `schedule` the two after that, `link_params` the last two.
 use Rattle.std.specs.Prelude.{ℕ, codes, ◌≡◌, List, length, ◌==◌, ◌||◌, Bool, true, false, not, nat_lt, Option, Some, None, option_map, Result, Ok}
 use Rattle.std.specs.Option.{option_map_or}
 use Rattle.serde_json.specs.Data.{Data, Items}
 use Rattle.serde_json.specs.Find.{get}
-use Rattle.stab_frames.specs.Parameters.{fault_of}
+use Rattle.stab_frames.specs.Parameters.{Parameters, fault_of}
 use Rattle.stab_json.specs.Checks.{◌>>=◌, ◌>>◌, ◌or◌, ◌when◌, ◌refused_as◌}
 use Rattle.stab_json.specs.Values.{value_of, whole, count, entries}
 use Rattle.stab_script.specs.Scripts.{Acts}
@@ -18,6 +18,7 @@ use Rattle.stab_run.specs.declared.fault.JobFault.TheVariants as fault
 use Rattle.stab_run.specs.JobLinks.{are_miscounted, starts_of, scripts_of}
 use Rattle.stab_run.specs.JobMembers.{Members, members}
 use Rattle.stab_run.specs.JobValues.{JobValue, links, most_items, most_turns}
+use Rattle.stab_run.specs.LinkParams.{link_params}
 use Rattle.stab_run.specs.ScheduleEntries.{most_events, named_act, events_of}
 
 -- no version is named, or the whole number 1
@@ -36,13 +37,18 @@ schedule names its_entries = do
 abbrev pub are_out_of_range : ℕ → Bool
 are_out_of_range turns = nat_lt turns 1 || nat_lt most_turns turns
 
+-- the parameters that these members have for every link that says none of its own
+abbrev pub params_of_job : Members → Parameters
+params_of_job m = record { capacity = m.capacity; labels = m.labels }
+
 -- the job of these members on their tree with these scripts
 abbrev pub job_of_scripts : Nodes → Members → List Acts → Result JobValue JobFault
 job_of_scripts t m scripts = do
   fault.TurnsOutOfRange when are_out_of_range m.turns
   events ← schedule t.names m.schedule
+  params ← link_params t (params_of_job m) m.links
   Ok (record {
-    params = record { capacity = m.capacity; labels = m.labels };
+    params = params;
     tree = t;
     items = m.items;
     starts = starts_of (links t) m.starts;

@@ -14,4 +14,5 @@ members_lent m = record {
   scripts = m.scripts;
   turns = m.turns;
   schedule = items_view m.schedule.now;
+  links = m.links;
 }

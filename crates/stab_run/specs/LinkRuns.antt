@@ -1,6 +1,6 @@
--- A run of workers over links behind locks: what the workers leave, and what settling the links
--- shows.
+-- A run of workers over links: what the workers leave, and what settling the links shows.
 -- Source: this project's own.
+use Rattle.std.specs.List.{zip}
 use Rattle.std.specs.Prelude.{◌≡◌, ◌<◌, ℕ, List, [], ◌∷◌, length, map, Option, Some}
 use Rattle.stab_core.specs.declared.event.Event.{Event}
 use Rattle.stab_core.specs.declared.start.Start.{Start}
@@ -21,6 +21,10 @@ use Rattle.stab_workers.specs.ByNode.{ended_at, entry_into, received_at}
 -- a link of these parameters at a start
 abbrev pub given : Parameters → Start → Given
 given p start = record { params = p; start = start }
+
+-- links of these parameters at these starts, one entry of each list for a link
+abbrev pub all_given : List Parameters → List Start → List Given
+all_given params starts = map (λ link. given link.0 link.1) (zip params starts)
 
 -- the ends of a link that have made no call, each with its half of the link's script
 abbrev pub new_send_end : Acts → SendEnd
@@ -53,6 +57,18 @@ pub record AreSettledBefore (parents : List (Option ℕ)) (links : List Given) (
       → entry_into parents links earlier ≡ Some link → entry_into parents sends earlier ≡ Some send
       → entry_into parents recvs earlier ≡ Some recv → IsSettled link send recv
 
+-- A link leads into this node, and this holds of what it was given.
+pub record HoldsInto (P : Given → Type 0) (parents : List (Option ℕ)) (links : List Given)
+    (child : ℕ) : Type 0 where
+  pub link : Given
+  pub leads : entry_into parents links child ≡ Some link
+  pub holds : P link
+
+-- this holds of what the first of these links was given
+abbrev pub HoldsOfFirst : (Given → Type 0) → List Given → Type 0
+HoldsOfFirst P [] = ⊥
+HoldsOfFirst P (link ∷ links) = P link
+
 -- How many items are acknowledged on each link.
 abbrev pub acked_of : Sender → ℕ
 acked_of send = send.acked
@@ -76,14 +92,14 @@ pub record IsRun (parents : List (Option ℕ)) (published : List ℕ) (received 
 
 -- What the workers left, where it is not settled: all of them answered, a link leads into this
 -- node, and the links into the nodes before it are settled.
-pub record IsFirstUnsettled (p : Parameters) (parents : List (Option ℕ)) (starts : List Start)
-    (published : List ℕ) (child : ℕ) : Type 0 where
+pub record IsFirstUnsettled (params : List Parameters) (parents : List (Option ℕ))
+    (starts : List Start) (published : List ℕ) (child : ℕ) : Type 0 where
   pub received : List (List ℕ)
   pub ended : List Ended
   pub sends : List Sender
   pub recvs : List Receiver
   pub run : IsRun parents published received ended sends recvs
-  pub before : AreSettledBefore parents (map (given p) starts) sends recvs child
+  pub before : AreSettledBefore parents (all_given params starts) sends recvs child
 
 -- The first of these links is settled with the first account of each side, and so many items are
 -- acknowledged on it; the others are left.

@@ -1,7 +1,8 @@
 -- What the program writes for what it reads, and why it may not.
 -- Source: this project's own.
-use Rattle.std.specs.Prelude.{◌≡◌, ◌≢◌, ℕ, ◌<◌, Bool, true, false, List, [], ◌++◌, length, All}
+use Rattle.std.specs.Prelude.{◌≡◌, ◌≢◌, ℕ, ◌<◌, Bool, List, [], ◌++◌, length, All}
 use Rattle.std.specs.Prelude.{if◌then◌else◌, Ok, Err}
+use Rattle.std.specs.List.{AllZip}
 use Rattle.stab_core.specs.Replay.{opening, replay, IsLawful}
 use Rattle.stab_core.specs.Trace.{traced_opening, traced_replay}
 use Rattle.stab_core.specs.Link.{IsReason}
@@ -15,7 +16,8 @@ use Rattle.stab_run.specs.declared.fault.JobFault.{JobFault}
 use Rattle.stab_run.specs.declared.fault.JobFault.TheVariants.{Memory as no_memory}
 use Rattle.stab_run.specs.JobValues.{JobValue}
 use Rattle.stab_run.specs.Jobs.{job as whole_job}
-use Rattle.stab_run.specs.LinkRuns.{IsFirstUnsettled}
+use Rattle.stab_run.specs.LinkKinds.{IsLarge}
+use Rattle.stab_run.specs.LinkRuns.{HoldsInto, IsFirstUnsettled, all_given}
 use Rattle.stab_run.specs.Reports.{OnePerNode, Reported, report_text}
 use Rattle.stab_run.specs.Runs.{AreExplained, CompleteBelowEnded, HandsOn, IsFirstUnlawful}
 use Rattle.stab_run.specs.Runs.{RootHas}
@@ -28,6 +30,8 @@ use Rattle.stab_treecore.specs.Refusals.{NamesLink, IsScheduleReason}
 use Rattle.stab_treecore.specs.Texts.{schedule_text}
 use Rattle.stab_treecore.specs.TreeReplay.{tree_opening, tree_replay}
 use Rattle.stab_script.specs.LinkJobs.{link_job}
+use Rattle.stab_task.specs.declared.command.Links.{Links}
+use Rattle.stab_task.specs.declared.command.Links.TheVariants.{Locked, Words, Mixed}
 use Rattle.stab_task.specs.declared.command.Task.{Task}
 use Rattle.stab_task.specs.declared.command.Task.TheVariants.{Link, Tree as WholeTreeTask, Run as RunTask}
 use Rattle.stab_task.specs.declared.fault.CliFault.{CliFault}
@@ -60,7 +64,7 @@ tree_answer job = schedule_text job.tree
 pub record IsTreeAnswer (input text : List ℕ) : Type 0 where
   pub job : JobValue
   pub read : whole_job input ≡ Ok job
-  pub lawful : All (IsLawful job.params) job.starts
+  pub lawful : AllZip IsLawful job.params job.starts
   pub named : All (NamesLink job.tree.parents) job.schedule
   pub the_text : text ≡ tree_answer job
 
@@ -69,26 +73,34 @@ pub record IsTreeAnswer (input text : List ℕ) : Type 0 where
 -- the half tree law, the tree law and, below such nodes, the complete law hold.
 pub record IsReport (job : JobValue) (report : Reported) : Type 0 where
   pub nodes : OnePerNode job.tree.parents report
-  pub lawful : All (IsLawful job.params) job.starts
+  pub lawful : AllZip IsLawful job.params job.starts
   pub root : RootHas job.tree.parents job.items report
   pub edges : AreExplained job.params job.tree.parents job.starts report
   pub handed_on : HandsOn job.tree.parents report
-  pub half_tree_law : HalfTreeLawAtNodes job.params.capacity job.tree.parents job.starts
+  pub half_tree_law : HalfTreeLawAtNodes job.params job.tree.parents job.starts
       job.items (received_at report.received)
-  pub tree_law : TreeLawAtNodes job.params.capacity job.tree.parents job.starts
+  pub tree_law : TreeLawAtNodes job.params job.tree.parents job.starts
       job.items (received_at report.received)
-  pub complete : CompleteBelowEnded job.params.capacity job.tree.parents job.starts
+  pub complete : CompleteBelowEnded job.params job.tree.parents job.starts
       job.items report
 
--- a run over words is of a job whose capacity is one
-abbrev pub HasOnePlace : Bool → JobValue → Type 0
-HasOnePlace words job = words ≡ true → job.params.capacity ≡ 1
+-- a run over words is of a job whose links all have the capacity one
+abbrev pub HasOnePlace : Links → JobValue → Type 0
+HasOnePlace links job = links ≡ Words → All (λ p. p.capacity ≡ 1) job.params
+
+-- the accounts of the link into this child may differ: those of a link of two words never do, and
+-- of a run over both kinds a link of capacity one is one of these
+abbrev pub MayDiffer : Links → JobValue → ℕ → Type 0
+MayDiffer Locked job child = Unit {0}
+MayDiffer Words job child = ⊥
+MayDiffer Mixed job child =
+    HoldsInto IsLarge job.tree.parents (all_given job.params job.starts) child
 
 -- these bytes are a job, and this is the text of some report of a run of it
-pub record IsRunAnswer (words : Bool) (input text : List ℕ) : Type 0 where
+pub record IsRunAnswer (links : Links) (input text : List ℕ) : Type 0 where
   pub job : JobValue
   pub read : whole_job input ≡ Ok job
-  pub one_place : HasOnePlace words job
+  pub one_place : HasOnePlace links job
   pub report : Reported
   pub holds : IsReport job report
   pub the_text : text ≡ report_text job.tree report
@@ -97,57 +109,57 @@ pub record IsRunAnswer (words : Bool) (input text : List ℕ) : Type 0 where
 abbrev pub IsAnswer : Task → List ℕ → List ℕ → Type 0
 IsAnswer (Link trace) input text = IsLinkAnswer trace input text
 IsAnswer WholeTreeTask input text = IsTreeAnswer input text
-IsAnswer (RunTask words) input text = IsRunAnswer words input text
+IsAnswer (RunTask links) input text = IsRunAnswer links input text
 
 -- a link task has no answer where the bytes are no link job; out of memory comes with any bytes
 abbrev pub IsLinkJobFault : Task → List ℕ → LinkJobFault → Type 0
 IsLinkJobFault (Link trace) input refusal = refusal ≢ out_of_memory → link_job input ≡ Err refusal
 IsLinkJobFault WholeTreeTask input refusal = ⊥
-IsLinkJobFault (RunTask words) input refusal = ⊥
+IsLinkJobFault (RunTask links) input refusal = ⊥
 
 -- a link task has no answer where the bytes are a link job whose start is refused
 abbrev pub IsStartFault : Task → List ℕ → StartFault → Type 0
 IsStartFault (Link trace) input refusal =
     (job : OneLink) × (link_job input ≡ Ok job) × IsReason job.params job.start refusal
 IsStartFault WholeTreeTask input refusal = ⊥
-IsStartFault (RunTask words) input refusal = ⊥
+IsStartFault (RunTask links) input refusal = ⊥
 
 -- the other tasks have no answer where the bytes are no job; out of memory comes with any bytes
 abbrev pub IsJobFault : Task → List ℕ → JobFault → Type 0
 IsJobFault (Link trace) input refusal = ⊥
 IsJobFault WholeTreeTask input refusal = refusal ≢ no_memory → whole_job input ≡ Err refusal
-IsJobFault (RunTask words) input refusal = refusal ≢ no_memory → whole_job input ≡ Err refusal
+IsJobFault (RunTask links) input refusal = refusal ≢ no_memory → whole_job input ≡ Err refusal
 
 -- a tree task has no answer where the bytes are a job of which a start or an event is refused
 abbrev pub IsTreeFault : Task → List ℕ → TreeStartFault → Type 0
 IsTreeFault (Link trace) input refusal = ⊥
 IsTreeFault WholeTreeTask input refusal = (job : JobValue) × (whole_job input ≡ Ok job)
     × IsScheduleReason job.params job.tree.parents job.items job.starts job.schedule refusal
-IsTreeFault (RunTask words) input refusal = ⊥
+IsTreeFault (RunTask links) input refusal = ⊥
 
--- Why a run of a job gives no report. The capacity is looked at first, and by a run over words
+-- Why a run of a job gives no report. The capacities are looked at first, and by a run over words
 -- alone. A start is the first that is not lawful, and the faults after it come only where all are. A
--- worker's fault names a node, and no turn was refused. Accounts that differ, which those of a run
--- over words never do, are those of the link into a child, the first that is not settled.
-abbrev pub IsRunReason : Bool → JobValue → RunFault → Type 0
-IsRunReason words job run.CapacityNotOne = (words ≡ true) × (job.params.capacity ≢ 1)
-IsRunReason words job (run.Start child reason) = HasOnePlace words job
+-- worker's fault names a node, and no turn was refused. Accounts that differ are those of the link
+-- into a child, the first that is not settled.
+abbrev pub IsRunReason : Links → JobValue → RunFault → Type 0
+IsRunReason links job run.CapacityNotOne = (links ≡ Words) × ¬ All (λ p. p.capacity ≡ 1) job.params
+IsRunReason links job (run.Start child reason) = HasOnePlace links job
     × IsFirstUnlawful job.params job.tree.parents job.starts child reason
-IsRunReason words job (run.Thread node) = HasOnePlace words job
-    × All (IsLawful job.params) job.starts × (node < length job.tree.parents)
-IsRunReason words job (run.Node node refusal) = HasOnePlace words job
-    × All (IsLawful job.params) job.starts × (node < length job.tree.parents) × (refusal ≢ Gate)
-IsRunReason words job (run.Settle child refusal) = (words ≡ false)
-    × All (IsLawful job.params) job.starts
+IsRunReason links job (run.Thread node) = HasOnePlace links job
+    × AllZip IsLawful job.params job.starts × (node < length job.tree.parents)
+IsRunReason links job (run.Node node refusal) = HasOnePlace links job
+    × AllZip IsLawful job.params job.starts × (node < length job.tree.parents) × (refusal ≢ Gate)
+IsRunReason links job (run.Settle child refusal) = MayDiffer links job child
+    × AllZip IsLawful job.params job.starts
     × IsFirstUnsettled job.params job.tree.parents job.starts job.items child
-IsRunReason words job run.Memory = HasOnePlace words job × All (IsLawful job.params) job.starts
+IsRunReason links job run.Memory = HasOnePlace links job × AllZip IsLawful job.params job.starts
 
 -- a run has no answer where the bytes are a job of which the run is refused
 abbrev pub IsRunFault : Task → List ℕ → RunFault → Type 0
 IsRunFault (Link trace) input refusal = ⊥
 IsRunFault WholeTreeTask input refusal = ⊥
-IsRunFault (RunTask words) input refusal =
-    (job : JobValue) × (whole_job input ≡ Ok job) × IsRunReason words job refusal
+IsRunFault (RunTask links) input refusal =
+    (job : JobValue) × (whole_job input ≡ Ok job) × IsRunReason links job refusal
 
 -- why a task has no answer for these bytes, or why its text was not written; a reader may fail, and
 -- memory may be refused, at any bytes

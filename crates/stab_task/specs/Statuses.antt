@@ -56,6 +56,8 @@ job_status (whole.Script refusal) = script_status refusal
 job_status whole.TurnsOutOfRange = 1
 job_status whole.Event = 1
 job_status whole.UnknownNode = 1
+job_status whole.LinkCount = 1
+job_status (whole.LinkParams child refusal) = 1
 job_status whole.Memory = 3
 
 -- 1 for a file or a job, 2 for the command line, 3 for a start, a step, a run, a write or memory

@@ -7,7 +7,7 @@ use Rattle.stab_frames.specs.Parameters.{Parameters, AreLawful}
 use Rattle.stab_core.specs.declared.event.Event.{Event}
 use Rattle.stab_core.specs.declared.start.Start.{Start}
 use Rattle.stab_core.specs.Replay.{IsLawful, opening, replay}
-use Rattle.stab_treecore.specs.NodeLaws.{start_into}
+use Rattle.stab_treecore.specs.NodeLaws.{params_into, start_into}
 
 -- The replay of some events from the start is closed, has delivered this list, has so many items
 -- acknowledged, and was offered a prefix of the parent's list.
@@ -19,12 +19,15 @@ pub record EdgeLaw (p : Parameters) (start : Start) (above : List ℕ) (acked : 
   pub counts : (replay p (opening start) events).acked ≡ acked
   pub offers : IsPrefix (replay p (opening start) events).offered above
 
--- the link into a node has lawful parameters and a lawful start, and the edge law holds of it
-pub record EdgeInto (p : Parameters) (parents : List (Option ℕ)) (starts : List Start) (child : ℕ)
-    (above delivered : List ℕ) : Type 0 where
+-- the link into a node has lawful parameters of its own and a lawful start, and the edge law holds
+-- of it
+pub record EdgeInto (params : List Parameters) (parents : List (Option ℕ)) (starts : List Start)
+    (child : ℕ) (above delivered : List ℕ) : Type 0 where
+  pub its_params : Parameters
+  pub has_params : params_into parents params child ≡ Some its_params
   pub start : Start
   pub begins : start_into parents starts child ≡ Some start
-  pub lawful_params : AreLawful p
-  pub lawful_start : IsLawful p start
+  pub lawful_params : AreLawful its_params
+  pub lawful_start : IsLawful its_params start
   pub acked : ℕ
-  pub edge : EdgeLaw p start above acked delivered
+  pub edge : EdgeLaw its_params start above acked delivered

@@ -6,11 +6,20 @@ use Rattle.std.specs.Option.{option_map_or}
 use Rattle.stab_core.specs.declared.start.Start.{Start}
 use Rattle.stab_core.specs.LinkLaw.{LinkLaw}
 use Rattle.stab_core.specs.Replay.{start_items}
-use Rattle.stab_tree.specs.Steps.{depth_of}
+use Rattle.stab_frames.specs.Parameters.{Parameters}
 use Rattle.stab_treecore.specs.ByChild.{by_child}
 use Rattle.stab_treecore.specs.Paths.{path_sum, path_lists}
 use mathlib.Core.List.{IsPrefix}
 use Rattle.stab_treecore.specs.TreeLaw.{HalfTreeLaw, TreeLaw}
+
+-- the parameters of the link into a node; the root has none
+abbrev pub params_into : List (Option ℕ) → List Parameters → ℕ → Option Parameters
+params_into parents params node = slice_index_or (by_child parents params) node None
+
+-- the capacity of the link into a node; the root has none
+abbrev pub capacity_into : List (Option ℕ) → List Parameters → ℕ → ℕ
+capacity_into parents params node =
+    option_map_or (λ p. p.capacity) (params_into parents params node) 0
 
 -- the start of the link into a node; the root has none
 abbrev pub start_into : List (Option ℕ) → List Start → ℕ → Option Start
@@ -73,15 +82,17 @@ TreeLawOfNodes most_strays most_missing garbage parents published received =
     (node : ℕ) → node < length parents
     → TreeLaw (most_strays node) (most_missing node) (garbage node) published (received node)
 
--- the half tree law at each node, where all links have one capacity
-abbrev pub HalfTreeLawAtNodes : ℕ → List (Option ℕ) → List Start → List ℕ → (ℕ → List ℕ) → Type 0
-HalfTreeLawAtNodes capacity parents starts published received =
-    HalfTreeLawOfNodes (λ node. depth_of parents node * capacity)
+-- the half tree law at each node: the links have these parameters, one entry for each
+abbrev pub HalfTreeLawAtNodes : List Parameters → List (Option ℕ) → List Start → List ℕ
+    → (ℕ → List ℕ) → Type 0
+HalfTreeLawAtNodes params parents starts published received =
+    HalfTreeLawOfNodes (strays_bound parents (capacity_into parents params))
     (path_garbage parents starts) parents published received
 
--- the tree law at each node, where all links have one capacity
-abbrev pub TreeLawAtNodes : ℕ → List (Option ℕ) → List Start → List ℕ → (ℕ → List ℕ) → Type 0
-TreeLawAtNodes capacity parents starts published received =
-    TreeLawOfNodes (λ node. depth_of parents node * capacity)
-    (λ node. depth_of parents node * (2 * capacity + 1))
+-- the tree law at each node: the links have these parameters, one entry for each
+abbrev pub TreeLawAtNodes : List Parameters → List (Option ℕ) → List Start → List ℕ
+    → (ℕ → List ℕ) → Type 0
+TreeLawAtNodes params parents starts published received =
+    TreeLawOfNodes (strays_bound parents (capacity_into parents params))
+    (missing_bound parents (capacity_into parents params))
     (path_garbage parents starts) parents published received

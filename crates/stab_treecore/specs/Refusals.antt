@@ -1,6 +1,7 @@
 -- Why a whole tree cannot begin or go on: the first check that fails, or memory.
 -- Source: this project's own.
-use Rattle.std.specs.Prelude.{◌≡◌, ◌⊎◌, ℕ, List, [], ◌∷◌, length, Option, IsSome, IsNone, All}
+use Rattle.std.specs.List.{AllZip}
+use Rattle.std.specs.Prelude.{◌≡◌, ◌⊎◌, ℕ, List, [], ◌∷◌, length, Option, IsSome, IsNone}
 use Rattle.stab_frames.specs.Parameters.{Parameters}
 use Rattle.stab_core.specs.declared.start.Start.{Start}
 use Rattle.stab_core.specs.declared.start.StartFault.{StartFault}
@@ -22,29 +23,31 @@ use Rattle.stab_treecore.specs.TreeReplay.{tree_opening}
 use Rattle.stab_treecore.specs.TreeStep.{tree_step, tree_effect}
 use Rattle.stab_treecore.specs.WholeTree.{WholeTree}
 
--- there is one start for each link
-abbrev pub OnePerLink : List (Option ℕ) → List Start → Type 0
-OnePerLink parents starts = length starts ≡ length (links_of parents)
+-- there is one entry for each link
+abbrev pub OnePerLink : {A : Type 0} → List (Option ℕ) → List A → Type 0
+OnePerLink parents xs = length xs ≡ length (links_of parents)
 
--- the first start that is refused is refused for this fault
-abbrev pub IsFirstFault : Parameters → List Start → StartFault → Type 0
-IsFirstFault p [] fault = ⊥
-IsFirstFault p (start ∷ starts) fault =
-    IsReason p start fault ⊎ (IsLawful p start × IsFirstFault p starts fault)
+-- the first start that is refused is refused for this fault, under the parameters of its link
+abbrev pub IsFirstFault : List Parameters → List Start → StartFault → Type 0
+IsFirstFault [] starts fault = ⊥
+IsFirstFault (p ∷ params) [] fault = ⊥
+IsFirstFault (p ∷ params) (start ∷ starts) fault =
+    IsReason p start fault ⊎ (IsLawful p start × IsFirstFault params starts fault)
 
 -- why the links cannot begin: the first fault among their starts, or memory where all starts are
 -- lawful
-abbrev pub IsOpeningReason : Parameters → List Start → StartFault → Type 0
-IsOpeningReason p starts TooManyFrames = IsFirstFault p starts TooManyFrames
-IsOpeningReason p starts TooManyAcks = IsFirstFault p starts TooManyAcks
-IsOpeningReason p starts Memory = All (IsLawful p) starts
+abbrev pub IsOpeningReason : List Parameters → List Start → StartFault → Type 0
+IsOpeningReason params starts TooManyFrames = IsFirstFault params starts TooManyFrames
+IsOpeningReason params starts TooManyAcks = IsFirstFault params starts TooManyAcks
+IsOpeningReason params starts Memory = AllZip IsLawful params starts
 
 -- why a whole tree cannot begin
-abbrev pub IsStartReason : Parameters → List (Option ℕ) → List Start → TreeStartFault → Type 0
-IsStartReason p parents starts StartCount = ¬ OnePerLink parents starts
-IsStartReason p parents starts (StartRefused fault) =
-    OnePerLink parents starts × IsOpeningReason p starts fault
-IsStartReason p parents starts (Step fault) = ⊥
+abbrev pub IsStartReason : List Parameters → List (Option ℕ) → List Start → TreeStartFault → Type 0
+IsStartReason params parents starts StartCount =
+    ¬ (OnePerLink parents params × OnePerLink parents starts)
+IsStartReason params parents starts (StartRefused fault) =
+    OnePerLink parents params × OnePerLink parents starts × IsOpeningReason params starts fault
+IsStartReason params parents starts (Step fault) = ⊥
 
 -- an event names a link by its child; the root and what is no node name none
 abbrev pub NamesLink : List (Option ℕ) → TreeEvent → Type 0
@@ -66,13 +69,13 @@ IsStepReason t events NoSuchLink = ReachesEvent (λ now e. NamesNoLink now.paren
 IsStepReason t events StepMemory = ReachesEvent (λ now e. Grows (tree_effect now e)) t events
 
 -- why a schedule is refused: as a whole tree that cannot begin, or at a step
-abbrev pub IsScheduleReason : Parameters → List (Option ℕ) → List ℕ → List Start → List TreeEvent
-    → TreeStartFault → Type 0
-IsScheduleReason p parents published starts events StartCount =
-    IsStartReason p parents starts StartCount
-IsScheduleReason p parents published starts events (StartRefused fault) =
-    IsStartReason p parents starts (StartRefused fault)
-IsScheduleReason p parents published starts events (Step fault) =
-    OnePerLink parents starts
-    × All (IsLawful p) starts
-    × IsStepReason (tree_opening p parents published starts) events fault
+abbrev pub IsScheduleReason : List Parameters → List (Option ℕ) → List ℕ → List Start
+    → List TreeEvent → TreeStartFault → Type 0
+IsScheduleReason params parents published starts events StartCount =
+    IsStartReason params parents starts StartCount
+IsScheduleReason params parents published starts events (StartRefused fault) =
+    IsStartReason params parents starts (StartRefused fault)
+IsScheduleReason params parents published starts events (Step fault) =
+    OnePerLink parents params × OnePerLink parents starts
+    × AllZip IsLawful params starts
+    × IsStepReason (tree_opening params parents published starts) events fault

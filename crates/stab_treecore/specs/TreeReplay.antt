@@ -1,6 +1,7 @@
 -- The opening of a whole tree, and the replay of a schedule: its steps, one after the other.
 -- Source: this project's profile. The starts are arbitrary, but for the capacity of their queues.
-use Rattle.std.specs.Prelude.{ℕ, List, [], ◌∷◌, map, Option, option_map}
+use Rattle.std.specs.List.{zip}
+use Rattle.std.specs.Prelude.{ℕ, List, [], ◌∷◌, map, Option}
 use Rattle.stab_frames.specs.Parameters.{Parameters}
 use Rattle.stab_core.specs.declared.start.Start.{Start}
 use Rattle.stab_core.specs.Link.{LinkValue, link_at}
@@ -14,13 +15,17 @@ use Rattle.stab_treecore.specs.WholeTree.{WholeTree}
 abbrev pub opened : Parameters → Start → LinkValue
 opened p start = link_at p (opening start)
 
--- each link at its start
-abbrev pub tree_opening : Parameters → List (Option ℕ) → List ℕ → List Start → WholeTree
-tree_opening p parents published starts =
+-- the links at their starts, each with parameters of its own
+abbrev pub opened_links : List Parameters → List Start → List LinkValue
+opened_links params starts = map (λ link. opened link.0 link.1) (zip params starts)
+
+-- the whole tree with each link at its start
+abbrev pub tree_opening : List Parameters → List (Option ℕ) → List ℕ → List Start → WholeTree
+tree_opening params parents published starts =
     record {
       published = published;
       parents = parents;
-      links = map (option_map (opened p)) (by_child parents starts);
+      links = by_child parents (opened_links params starts);
     }
 
 -- the whole tree after these events

@@ -6,3 +6,4 @@ pub mod Seats
 pub mod Ends
 pub mod Answers
 pub mod WordFaults
+pub mod AnyEnds

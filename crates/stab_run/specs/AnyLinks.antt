@@ -1,0 +1,33 @@
+-- What contracts see of a link of either kind: what it was given, what names it, and which kind is
+-- made of which parameters.
+-- Source: this project's own.
+use Rattle.std.specs.Prelude.{◌≡◌, ◌≢◌}
+use Rattle.stab_frames.specs.Parameters.{Parameters}
+use Rattle.stab_lock.specs.Book.{Given}
+use Rattle.stab_word.specs.AnyEnds.{AnyLinkId, locked, of_words}
+use Rattle.stab_run.specs.declared.any_link.AnyLink.{AnyLink}
+use Rattle.stab_run.specs.declared.any_link.AnyLink.TheVariants.{Lock, Word}
+use Rattle.stab_run.specs.declared.any_link.AnyOpening.{AnyOpening}
+use Rattle.stab_run.specs.declared.any_link.AnyOpening.TheVariants as opening
+
+-- its parameters and its start
+abbrev pub given_to : AnyLink → Given
+given_to (Lock link) = link
+given_to (Word link) = link.given
+
+-- what names it
+abbrev pub name_of : AnyLink → AnyLinkId
+name_of (Lock link) = locked
+name_of (Word link) = of_words link
+
+-- this splits it
+abbrev pub IsOpenedBy : AnyLink → AnyOpening → Type 0
+IsOpenedBy (Lock link) opening.Lock = Unit {0}
+IsOpenedBy (Lock link) (opening.Word splits) = ⊥
+IsOpenedBy (Word link) opening.Lock = ⊥
+IsOpenedBy (Word link) (opening.Word splits) = splits ≡ link
+
+-- a link of two words where the capacity is one, and a link with a lock elsewhere
+abbrev pub IsOfKind : Parameters → AnyLink → Type 0
+IsOfKind p (Lock link) = p.capacity ≢ 1
+IsOfKind p (Word link) = p.capacity ≡ 1
