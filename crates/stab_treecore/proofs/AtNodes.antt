@@ -1,15 +1,18 @@
 -- The tree law at each node, from the root down.
-use Rattle.std.proofs.Common.{◌≡◌, ℕ, suc, ◌+◌, ◌*◌, ◌<◌, List, ◌++◌, length, Option, Some, sym, ◌∙◌, ap, arith, append_assoc}
+use Rattle.std.proofs.Common.{◌≡◌, ℕ, suc, ◌+◌, ◌*◌, ◌<◌, List, ◌++◌, length, Option, Some, All, sym, ◌∙◌, ap, arith, append_assoc}
 use Rattle.std.proofs.Math.Nat.{zero-mul, suc-mul}
 use Rattle.std.specs.Option.{option_map_or}
 use Rattle.stab_core.specs.declared.start.Start.{Start}
+use Rattle.stab_frames.specs.Parameters.{Parameters}
 use Rattle.stab_tree.specs.IsTree.{IsTree}
+use Rattle.stab_tree.specs.Links.{links_of}
 use Rattle.stab_tree.specs.Nodes.{Nodes, parent_at, root_of}
 use Rattle.stab_tree.specs.Steps.{depth_of}
 use Rattle.stab_tree.proofs.ForCallers.{holds_at_every_depth}
-use Rattle.stab_treecore.specs.NodeLaws.{garbage_into, path_garbage, opened_path_garbage, strays_bound, opened_strays_bound, missing_bound, LinkLawBetween, LinkLawPastOpening, HalfTreeLawOfNodes, TreeLawOfNodes, TreeLawAtNodes}
+use Rattle.stab_treecore.specs.NodeLaws.{capacity_into, garbage_into, path_garbage, opened_path_garbage, strays_bound, opened_strays_bound, missing_bound, LinkLawBetween, LinkLawPastOpening, HalfTreeLawOfNodes, TreeLawOfNodes, TreeLawAtNodes}
 use Rattle.stab_treecore.specs.Paths.{sum_above, path_sum, lists_above, path_lists}
 use Rattle.stab_treecore.specs.TreeLaw.{TreeLaw}
+use Rattle.stab_treecore.proofs.ForCallers.{holds_by_child, one_by_child}
 use Rattle.stab_treecore.proofs.Upwards.{law_below, law_past_opening, root_law}
 
 module _ (t : Nodes) (tree : IsTree t) (published : List ℕ) (received : ℕ → List ℕ)
@@ -79,22 +82,40 @@ module _ (t : Nodes) (tree : IsTree t) (published : List ℕ) (received : ℕ �
         (law_past_opening (most_strays + capacity) opening (start_items ++ garbage) published delivered (2 * capacity + 1 + most_missing)
         (step_below child most_strays most_missing garbage (received parent) delivered link at_parent)))
 
--- the same number beside each node of a path is added once for each link
-pub path_sum-same : (t : Nodes) → IsTree t → (number node : ℕ) → node < length t.parents
-    → path_sum t.parents (λ _. number) node ≡ depth_of t.parents node * number
-path_sum-same t tree number =
-    holds_at_every_depth t tree (λ depth node. sum_above t.parents (λ _. number) depth node ≡ depth * number)
+-- the same number beside each node with a parent is added once for each link of a path
+pub path_sum-same : (t : Nodes) → IsTree t → (number_into : ℕ → ℕ) (number node : ℕ)
+    → ((child parent : ℕ) → parent_at t.parents child ≡ Some parent → number_into child ≡ number)
+    → node < length t.parents → path_sum t.parents number_into node ≡ depth_of t.parents node * number
+path_sum-same t tree number_into number node same is_node =
+    holds_at_every_depth t tree (λ depth w. sum_above t.parents number_into depth w ≡ depth * number)
     (sym (zero-mul number))
     (λ depth child parent is_child above.
-    ap (λ up. number + option_map_or (sum_above t.parents (λ _. number) depth) up 0) is_child
-    ∙ (ap (λ sum. number + sum) above ∙ omega (arith, suc-mul depth number)))
+    ap (λ up. number_into child + option_map_or (sum_above t.parents number_into depth) up 0) is_child
+    ∙ (ap (λ sum. number_into child + sum) above ∙ omega (arith, same child parent is_child, suc-mul depth number)))
+    node is_node
 
--- so the bounds of links of one capacity are so many times those of one link
-pub one_capacity : (t : Nodes) → IsTree t → (capacity : ℕ) (starts : List Start) (published : List ℕ) (received : ℕ → List ℕ)
-    → TreeLawOfNodes (strays_bound t.parents (λ _. capacity)) (missing_bound t.parents (λ _. capacity)) (path_garbage t.parents starts) t.parents published received
-    → TreeLawAtNodes capacity t.parents starts published received
-one_capacity t tree capacity starts published received law node is_node =
-    rw (← path_sum-same t tree capacity node is_node, ← path_sum-same t tree (2 * capacity + 1) node is_node) (law node is_node)
+-- where each link has this capacity, so has the link into a child
+module _ (t : Nodes) (tree : IsTree t) (params : List Parameters) (capacity : ℕ) (one_each : length params ≡ length (links_of t.parents))
+    (alike : All (λ p. p.capacity ≡ capacity) params) where
+  its_capacity : (child parent : ℕ) → parent_at t.parents child ≡ Some parent → capacity_into t.parents params child ≡ capacity
+  its_capacity child parent is_child =
+      let (p, is) = one_by_child t.parents params 0 child parent one_each is_child in
+      ap (λ o. option_map_or (λ q. q.capacity) o 0) is ∙ holds_by_child (λ q. q.capacity ≡ capacity) t.parents params child p alike is
+
+  -- so the bounds are so many times those of one link
+  pub strays-same : (node : ℕ) → node < length t.parents → strays_bound t.parents (capacity_into t.parents params) node ≡ depth_of t.parents node * capacity
+  strays-same node is_node = path_sum-same t tree (capacity_into t.parents params) capacity node its_capacity is_node
+
+  pub missing-same : (node : ℕ) → node < length t.parents
+      → missing_bound t.parents (capacity_into t.parents params) node ≡ depth_of t.parents node * (2 * capacity + 1)
+  missing-same node is_node =
+      path_sum-same t tree (λ child. 2 * capacity_into t.parents params child + 1) (2 * capacity + 1) node
+      (λ child parent is_child. ap (λ c. 2 * c + 1) (its_capacity child parent is_child)) is_node
+
+  pub one_capacity : (starts : List Start) (published : List ℕ) (received : ℕ → List ℕ) → TreeLawAtNodes params t.parents starts published received
+      → TreeLawOfNodes (λ node. depth_of t.parents node * capacity) (λ node. depth_of t.parents node * (2 * capacity + 1))
+      (path_garbage t.parents starts) t.parents published received
+  one_capacity starts published received law node is_node = rw (← strays-same node is_node, ← missing-same node is_node) (law node is_node)
 
 -- the tree law holds the half tree law
 pub half_of_nodes : (most_strays most_missing : ℕ → ℕ) (garbage : ℕ → List ℕ) (parents : List (Option ℕ)) (published : List ℕ) (received : ℕ → List ℕ)

@@ -8,7 +8,7 @@ use Rattle.stab_core.specs.Replay.{IsLawful, opening, replay, start_items}
 use Rattle.stab_tree.specs.IsTree.{IsTree}
 use Rattle.stab_tree.specs.Nodes.{Nodes, parent_at, root_of}
 use Rattle.stab_treecore.specs.EdgeLaw.{EdgeLaw, EdgeInto}
-use Rattle.stab_treecore.specs.NodeLaws.{garbage_into, path_garbage, strays_bound, missing_bound, LinkLawBetween, TreeLawOfNodes}
+use Rattle.stab_treecore.specs.NodeLaws.{capacity_into, garbage_into, LinkLawBetween, TreeLawAtNodes}
 use Rattle.stab_treecore.proofs.AtNodes.{nodes_obey}
 use Rattle.stab_treecore.proofs.Replayed.{ReplaysObey}
 
@@ -24,16 +24,17 @@ edge_obeys obey p start above acked delivered lawful_params lawful edge =
     )
 
 -- the tree law at each node
-pub edges_obey : ReplaysObey → (nodes : Nodes) (params_into : ℕ → Parameters) (starts : List Start) (published : List ℕ) (received : ℕ → List ℕ)
+pub edges_obey : ReplaysObey → (nodes : Nodes) (params : List Parameters) (starts : List Start) (published : List ℕ) (received : ℕ → List ℕ)
     → IsTree nodes → received (root_of nodes.parents) ≡ published
     → ((child parent : ℕ) → parent_at nodes.parents child ≡ Some parent
-    → EdgeInto (params_into child) nodes.parents starts child (received parent) (received child))
-    → TreeLawOfNodes (strays_bound nodes.parents (λ child. (params_into child).capacity))
-    (missing_bound nodes.parents (λ child. (params_into child).capacity)) (path_garbage nodes.parents starts) nodes.parents published received
-edges_obey obey nodes params_into starts published received tree at_root edges =
-    nodes_obey nodes tree published received at_root (λ child. (params_into child).capacity) starts
+    → EdgeInto params nodes.parents starts child (received parent) (received child))
+    → TreeLawAtNodes params nodes.parents starts published received
+edges_obey obey nodes params starts published received tree at_root edges =
+    nodes_obey nodes tree published received at_root (capacity_into nodes.parents params) starts
     (λ child parent is_child.
     let link = edges child parent is_child in
+    let capacity : capacity_into nodes.parents params child ≡ link.its_params.capacity = ap (λ o. option_map_or (λ p. p.capacity) o 0) link.has_params in
     let garbage : garbage_into nodes.parents starts child ≡ start_items link.start = ap (λ o. option_map_or start_items o []) link.begins in
-    subst (λ items. LinkLawBetween (params_into child).capacity items (received parent) (received child)) (sym garbage)
-    (edge_obeys obey (params_into child) link.start (received parent) link.acked (received child) link.lawful_params link.lawful_start link.edge))
+    subst (λ c. LinkLawBetween c (garbage_into nodes.parents starts child) (received parent) (received child)) (sym capacity)
+    (subst (λ items. LinkLawBetween link.its_params.capacity items (received parent) (received child)) (sym garbage)
+    (edge_obeys obey link.its_params link.start (received parent) link.acked (received child) link.lawful_params link.lawful_start link.edge)))

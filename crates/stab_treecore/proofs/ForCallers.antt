@@ -1,6 +1,7 @@
 -- For the crates above: facts on what there is one of per link, dealt out by child, and dealt out to
 -- the children of each node; and on texts that have one part per node.
 pub use Rattle.stab_treecore.proofs.Lines.{next_place}
+use Rattle.std.specs.List.{AllZip}
 use Rattle.std.proofs.Common.{◌≡◌, ◌==◌, ◌<◌, ℕ, zero, suc, Bool, true, false, if◌then◌else◌, List, [], ◌∷◌, length, map, get_or, Option, Some, None, option_map, All, refl, ap, sym, ◌∙◌, subst, eq-eqb, arith}
 use Rattle.std.proofs.lemmas.List.Elements.{All-head, All-tail}
 use Rattle.std.proofs.lemmas.Option.{none-some, same_Some}
@@ -20,6 +21,44 @@ holds_by_child P (Some parent ∷ parents) [] zero x all is = absurd (none-some 
 holds_by_child P (Some parent ∷ parents) [] (suc node) x all is = holds_by_child P parents [] node x all is
 holds_by_child P (Some parent ∷ parents) (y ∷ ys) zero x all is = subst P (same_Some y x is) (All-head P y ys all)
 holds_by_child P (Some parent ∷ parents) (y ∷ ys) (suc node) x all is = holds_by_child P parents ys node x (All-tail P y ys all) is
+
+-- where there is nothing for any link, there is nothing for the link into a node
+nothing_by_child : {A : Type 0} (parents : List (Option ℕ)) (node : ℕ) → get_or (by_child {A = A} parents []) node None ≡ None
+nothing_by_child [] node = refl
+nothing_by_child (None ∷ parents) zero = refl
+nothing_by_child (None ∷ parents) (suc node) = nothing_by_child parents node
+nothing_by_child (Some parent ∷ parents) zero = refl
+nothing_by_child (Some parent ∷ parents) (suc node) = nothing_by_child parents node
+
+-- so what belongs to the link into a node is no entry of an empty list
+pub not_of_nothing : {A : Type 0} (P : Type 0) (parents : List (Option ℕ)) (node : ℕ) (x : A) → get_or (by_child parents []) node None ≡ Some x → P
+not_of_nothing P parents node x is = absurd (none-some x (sym (nothing_by_child parents node) ∙ is))
+
+-- what holds of the entries of two lists, place by place, holds of the two that belong to the link into a node
+pub holds_by_child_of_both : {A B : Type 0} (R : A → B → Type 0) (parents : List (Option ℕ)) (xs : List A) (ys : List B) (node : ℕ) (x : A) (y : B)
+    → AllZip R xs ys → get_or (by_child parents xs) node None ≡ Some x → get_or (by_child parents ys) node None ≡ Some y → R x y
+holds_by_child_of_both R [] xs ys node x y all is is_too = absurd (none-some x is)
+holds_by_child_of_both R (None ∷ parents) xs ys zero x y all is is_too = absurd (none-some x is)
+holds_by_child_of_both R (None ∷ parents) xs ys (suc node) x y all is is_too = holds_by_child_of_both R parents xs ys node x y all is is_too
+holds_by_child_of_both R (Some parent ∷ parents) [] ys node x y all is is_too =
+    not_of_nothing (R x y) (Some parent ∷ parents) node x is
+holds_by_child_of_both R (Some parent ∷ parents) (z ∷ zs) [] node x y all is is_too =
+    not_of_nothing (R x y) (Some parent ∷ parents) node y is_too
+holds_by_child_of_both R (Some parent ∷ parents) (z ∷ zs) (w ∷ ws) zero x y all is is_too =
+    subst (λ b. R x b) (same_Some w y is_too) (subst (λ a. R a w) (same_Some z x is) all.0)
+holds_by_child_of_both R (Some parent ∷ parents) (z ∷ zs) (w ∷ ws) (suc node) x y all is is_too =
+    holds_by_child_of_both R parents zs ws node x y all.1 is is_too
+
+-- where there is one entry for each link, there is one for the link into each node that has a parent
+pub one_by_child : {A : Type 0} (parents : List (Option ℕ)) (xs : List A) (w child parent : ℕ) → length xs ≡ length (links_from w parents)
+    → parent_at parents child ≡ Some parent → (x : A) × (get_or (by_child parents xs) child None ≡ Some x)
+one_by_child [] xs w child parent same is_child = absurd (none-some parent is_child)
+one_by_child (None ∷ parents) xs w zero parent same is_child = absurd (none-some parent is_child)
+one_by_child (None ∷ parents) xs w (suc child) parent same is_child = one_by_child parents xs (suc w) child parent same is_child
+one_by_child (Some q ∷ parents) [] w child parent same is_child = absurd (omega arith)
+one_by_child (Some q ∷ parents) (x ∷ xs) w zero parent same is_child = (x, refl)
+one_by_child (Some q ∷ parents) (x ∷ xs) w (suc child) parent same is_child =
+    one_by_child parents xs (suc w) child parent (omega arith) is_child
 
 -- to deal out and then to map is to map and then to deal out
 pub map-by_child : {A B : Type 0} (f : A → B) (parents : List (Option ℕ)) (xs : List A)
@@ -46,14 +85,6 @@ map-to_children f node (Some parent ∷ parents) (x ∷ xs) =
     map_chosen f (parent == node) (x ∷ to_children node parents xs) (to_children node parents xs)
     ∙ ap (λ ys. if parent == node then f x ∷ ys else ys) rest
 
--- where there is nothing for any link, there is nothing for the link into a node
-nothing_by_child : {A : Type 0} (parents : List (Option ℕ)) (node : ℕ) → get_or (by_child {A = A} parents []) node None ≡ None
-nothing_by_child [] node = refl
-nothing_by_child (None ∷ parents) zero = refl
-nothing_by_child (None ∷ parents) (suc node) = nothing_by_child parents node
-nothing_by_child (Some parent ∷ parents) zero = refl
-nothing_by_child (Some parent ∷ parents) (suc node) = nothing_by_child parents node
-
 -- what may begin with an element, where it does; and what comes after it
 first_of_chosen : {A : Type 0} (P : A → Type 0) (b : Bool) (x : A) (xs : List A) → b ≡ true → All P (if b then x ∷ xs else xs) → P x
 first_of_chosen P true x xs begins all = All-head P x xs all
@@ -70,7 +101,7 @@ holds_at_child P [] xs child parent x all is_child is = absurd (none-some parent
 holds_at_child P (None ∷ parents) xs zero parent x all is_child is = absurd (none-some parent is_child)
 holds_at_child P (None ∷ parents) xs (suc child) parent x all is_child is = holds_at_child P parents xs child parent x all is_child is
 holds_at_child P (Some q ∷ parents) [] child parent x all is_child is =
-    absurd (none-some x (sym (nothing_by_child (Some q ∷ parents) child) ∙ is))
+    not_of_nothing (P x) (Some q ∷ parents) child x is
 holds_at_child P (Some q ∷ parents) (y ∷ ys) zero parent x all is_child is =
     let begins : (q == parent) ≡ true = eq-eqb q parent (same_Some q parent is_child) in
     subst P (same_Some y x is) (first_of_chosen P (q == parent) y (to_children parent parents ys) begins all)

@@ -1,5 +1,6 @@
 -- What each schedule leaves of a whole tree: links that are replays from their starts, and offered a prefix of the parent's list.
 use Rattle.std.proofs.Common.{◌≡◌, ◌≢◌, ◌⊎◌, ℕ, zero, suc, List, [], ◌∷◌, ◌++◌, length, map, get_or, set, slice_get, option_and_then, Option, Some, None, is_some, option_map, All, refl, ap, sym, ◌∙◌, subst, inl, inr, true, false}
+use Rattle.std.specs.List.{AllZip}
 use Rattle.std.specs.Option.{option_map_or}
 use Rattle.std.proofs.lemmas.Bool.{cases_eq}
 use Rattle.std.proofs.lemmas.List.{get_or-set_other, set-get_or}
@@ -14,19 +15,19 @@ use Rattle.stab_core.specs.Reachable.{IsReachable}
 use Rattle.stab_core.specs.Replay.{IsLawful, opening, replay, start_items}
 use Rattle.stab_core.specs.Step.{step}
 use Rattle.stab_tree.specs.IsTree.{IsTree}
-use Rattle.stab_tree.specs.Links.{links_from, links_of}
+use Rattle.stab_tree.specs.Links.{links_of}
 use Rattle.stab_tree.specs.Nodes.{Nodes, parent_at, root_of}
 use Rattle.stab_treecore.specs.declared.event.TreeEvent.{TreeEvent}
 use Rattle.stab_treecore.specs.ByChild.{by_child}
-use Rattle.stab_treecore.specs.NodeLaws.{start_into, garbage_into, LinkLawBetween, TreeLawAtNodes}
+use Rattle.stab_treecore.specs.NodeLaws.{params_into, capacity_into, start_into, garbage_into, LinkLawBetween, TreeLawAtNodes}
 use mathlib.Core.List.{IsPrefix}
-use Rattle.stab_treecore.specs.TreeReplay.{opened, tree_opening, tree_replay}
+use Rattle.stab_treecore.specs.TreeReplay.{opened, opened_links, tree_opening, tree_replay}
 use Rattle.stab_treecore.specs.TreeStep.{next_item, event_on, link_after, tree_step}
 use Rattle.stab_treecore.specs.WholeTree.{WholeTree, link_into, received, source}
-use Rattle.stab_treecore.proofs.AtNodes.{nodes_obey, one_capacity}
-use Rattle.stab_treecore.proofs.ForCallers.{holds_by_child}
+use Rattle.stab_treecore.proofs.AtNodes.{nodes_obey}
+use Rattle.stab_treecore.proofs.ForCallers.{holds_by_child, holds_by_child_of_both, not_of_nothing}
 use Rattle.stab_treecore.proofs.Linked.{kind-set, same_kind}
-use Rattle.stab_treecore.proofs.Opened.{linked_nodes}
+use Rattle.stab_treecore.proofs.Opened.{as_many_opened, linked_nodes}
 use Rattle.stab_core.proofs.ForCallers.{prefix_of_itself, prefix_of_prefix}
 use Rattle.stab_treecore.proofs.Stepped.{after_delivers, act_offers}
 
@@ -35,14 +36,21 @@ pub record IsReplayOf (p : Parameters) (start : Start) (link : LinkValue) : Type
   pub params : link.params ≡ p
   pub reached : IsReachable p start link.state
 
+-- the link into a node has these parameters and is a replay from this start, its own ones
+pub record IsReplayAt (params : List Parameters) (parents : List (Option ℕ)) (starts : List Start) (node : ℕ) (link : LinkValue) : Type 0 where
+  pub p : Parameters
+  pub has_params : params_into parents params node ≡ Some p
+  pub start : Start
+  pub begins : start_into parents starts node ≡ Some start
+  pub run : IsReplayOf p start link
+
 -- A whole tree with these published items and parents: nodes with a parent have a link, which is a replay from its start and
 -- offered a prefix of the parent's list.
-pub record IsRun (p : Parameters) (parents : List (Option ℕ)) (starts : List Start) (published : List ℕ) (t : WholeTree) : Type 0 where
+pub record IsRun (params : List Parameters) (parents : List (Option ℕ)) (starts : List Start) (published : List ℕ) (t : WholeTree) : Type 0 where
   pub published_stay : t.published ≡ published
   pub parents_stay : t.parents ≡ parents
   pub linked : map is_some t.links ≡ map is_some t.parents
-  pub replays : (node : ℕ) (link : LinkValue) → link_into t node ≡ Some link
-      → (start : Start) × (start_into parents starts node ≡ Some start) × IsReplayOf p start link
+  pub replays : (node : ℕ) (link : LinkValue) → link_into t node ≡ Some link → IsReplayAt params parents starts node link
   pub prefixes : (node parent : ℕ) (link : LinkValue) → parent_at t.parents node ≡ Some parent → link_into t node ≡ Some link
       → IsPrefix link.state.offered (received t parent)
 
@@ -71,8 +79,8 @@ written_same [] i old new there = absurd (none-some old there)
 written_same (x ∷ xs) zero old new there = refl
 written_same (x ∷ xs) (suc i) old new there = written_same xs i old new there
 
-module _ (steps : StepsReach) (p : Parameters) (parents : List (Option ℕ)) (starts : List Start) (published : List ℕ)
-    (t : WholeTree) (e : TreeEvent) (run : IsRun p parents starts published t) where
+module _ (steps : StepsReach) (params : List Parameters) (parents : List (Option ℕ)) (starts : List Start) (published : List ℕ)
+    (t : WholeTree) (e : TreeEvent) (run : IsRun params parents starts published t) where
   -- a step on the link into a node
   module _ (link : LinkValue) (there : link_into t e.child ≡ Some link) where
     -- the whole tree after it
@@ -100,18 +108,20 @@ module _ (steps : StepsReach) (p : Parameters) (parents : List (Option ℕ)) (st
         ]
 
     -- the links are still replays from their starts
-    still_replays : (node : ℕ) (found : LinkValue) → link_into after node ≡ Some found
-        → (start : Start) × (start_into parents starts node ≡ Some start) × IsReplayOf p start found
+    still_replays : (node : ℕ) (found : LinkValue) → link_into after node ≡ Some found → IsReplayAt params parents starts node found
     still_replays node found is =
         elim (cases_eq node e.child) [
           | inl same ↦
-              let (start, begins, was) = run.replays e.child link there in
+              let was = run.replays e.child link there in
               let now : link_after (event_on t e) link ≡ found =
-              same_Some (link_after (event_on t e) link) found (sym stepped_link ∙ (ap (λ w. link_into after w) (sym same) ∙ is)) in (
-                start,
-                ap (λ w. start_into parents starts w) same ∙ begins,
-                subst (IsReplayOf p start) now (after_reaches steps p start (event_on t e) link was),
-              )
+              same_Some (link_after (event_on t e) link) found (sym stepped_link ∙ (ap (λ w. link_into after w) (sym same) ∙ is)) in
+              record {
+                p = was.p;
+                has_params = ap (λ w. params_into parents params w) same ∙ was.has_params;
+                start = was.start;
+                begins = ap (λ w. start_into parents starts w) same ∙ was.begins;
+                run = subst (IsReplayOf was.p was.start) now (after_reaches steps was.p was.start (event_on t e) link was.run);
+              }
           | inr other ↦ run.replays node found (sym (other_link node other) ∙ is)
         ]
 
@@ -139,7 +149,7 @@ module _ (steps : StepsReach) (p : Parameters) (parents : List (Option ℕ)) (st
         ]
 
     -- so it is a whole tree of the same kind
-    still_run : IsRun p parents starts published after
+    still_run : IsRun params parents starts published after
     still_run =
         let kind : is_some (Some (link_after (event_on t e) link)) ≡ is_some (link_into t e.child) = ap is_some (sym there) in
         record {
@@ -151,57 +161,75 @@ module _ (steps : StepsReach) (p : Parameters) (parents : List (Option ℕ)) (st
         }
 
   -- each step keeps it
-  pub step_keeps : IsRun p parents starts published (tree_step t e)
+  pub step_keeps : IsRun params parents starts published (tree_step t e)
   step_keeps =
       elim (none_or_some (link_into t e.child)) [
         | inl none ↦
             let same : set t.links e.child (option_map (link_after (event_on t e)) (link_into t e.child)) ≡ t.links =
             ap (λ o. set t.links e.child (option_map (link_after (event_on t e)) o)) none
             ∙ (ap (λ o. set t.links e.child o) (sym none) ∙ set-get_or t.links e.child None) in
-            subst (λ links. IsRun p parents starts published (record t { links = links })) (sym same) run
+            subst (λ links. IsRun params parents starts published (record t { links = links })) (sym same) run
         | inr some ↦
-            subst (λ o. IsRun p parents starts published (record t { links = set t.links e.child (option_map (link_after (event_on t e)) o) }))
+            subst (λ o. IsRun params parents starts published (record t { links = set t.links e.child (option_map (link_after (event_on t e)) o) }))
             (sym some.1) (still_run some.0 some.1)
       ]
 
 -- each schedule keeps it
-pub replay_keeps : StepsReach → (p : Parameters) (parents : List (Option ℕ)) (starts : List Start) (published : List ℕ) (t : WholeTree) (es : List TreeEvent)
-    → IsRun p parents starts published t → IsRun p parents starts published (tree_replay t es)
-replay_keeps steps p parents starts published t [] run = run
-replay_keeps steps p parents starts published t (e ∷ es) run =
-    replay_keeps steps p parents starts published (tree_step t e) es (step_keeps steps p parents starts published t e run)
+pub replay_keeps : StepsReach → (params : List Parameters) (parents : List (Option ℕ)) (starts : List Start) (published : List ℕ) (t : WholeTree)
+    (es : List TreeEvent) → IsRun params parents starts published t → IsRun params parents starts published (tree_replay t es)
+replay_keeps steps params parents starts published t [] run = run
+replay_keeps steps params parents starts published t (e ∷ es) run =
+    replay_keeps steps params parents starts published (tree_step t e) es (step_keeps steps params parents starts published t e run)
 
--- what is made of something at a place
-mapped_at : {A B : Type 0} (f : A → B) (xs : List (Option A)) (i : ℕ) → get_or (map (option_map f) xs) i None ≡ option_map f (get_or xs i None)
-mapped_at f [] i = refl
-mapped_at f (x ∷ xs) zero = refl
-mapped_at f (x ∷ xs) (suc i) = mapped_at f xs i
+-- the link into a node that has one, at its opening: it begins with parameters and a start of its own
+pub record IsOpenedAt (params : List Parameters) (parents : List (Option ℕ)) (starts : List Start) (node : ℕ) (link : LinkValue) : Type 0 where
+  pub p : Parameters
+  pub has_params : params_into parents params node ≡ Some p
+  pub start : Start
+  pub begins : start_into parents starts node ≡ Some start
+  pub at_start : link ≡ opened p start
 
--- what there is after a map was there before it
-before_map : {A B : Type 0} (f : A → B) (o : Option A) (y : B) → option_map f o ≡ Some y → (x : A) × (o ≡ Some x) × (y ≡ f x)
-before_map f None y is = absurd (none-some y is)
-before_map f (Some x) y is = (x, refl, sym (same_Some (f x) y is))
+opened_into : (params : List Parameters) (parents : List (Option ℕ)) (starts : List Start) (node : ℕ) (link : LinkValue)
+    → get_or (by_child parents (opened_links params starts)) node None ≡ Some link → IsOpenedAt params parents starts node link
+opened_into params [] starts node link is = absurd (none-some link is)
+opened_into params (None ∷ parents) starts zero link is = absurd (none-some link is)
+opened_into params (None ∷ parents) starts (suc node) link is =
+    let found = opened_into params parents starts node link is in
+    record { p = found.p; has_params = found.has_params; start = found.start; begins = found.begins; at_start = found.at_start }
+opened_into [] (Some parent ∷ parents) starts node link is =
+    not_of_nothing (IsOpenedAt [] (Some parent ∷ parents) starts node link) (Some parent ∷ parents) node link is
+opened_into (p ∷ params) (Some parent ∷ parents) [] node link is =
+    not_of_nothing (IsOpenedAt (p ∷ params) (Some parent ∷ parents) [] node link) (Some parent ∷ parents) node link is
+opened_into (p ∷ params) (Some parent ∷ parents) (start ∷ starts) zero link is =
+    record { p = p; has_params = refl; start = start; begins = refl; at_start = sym (same_Some (opened p start) link is) }
+opened_into (p ∷ params) (Some parent ∷ parents) (start ∷ starts) (suc node) link is =
+    let found = opened_into params parents starts node link is in
+    record { p = found.p; has_params = found.has_params; start = found.start; begins = found.begins; at_start = found.at_start }
 
 -- at its opening a whole tree is of this kind
-pub opening_is_run : (p : Parameters) (parents : List (Option ℕ)) (starts : List Start) (published : List ℕ) (w : ℕ)
-    → length starts ≡ length (links_from w parents)
-    → IsRun p parents starts published (tree_opening p parents published starts)
-opening_is_run p parents starts published w one_per_link =
-    let t = tree_opening p parents published starts in
+pub opening_is_run : (params : List Parameters) (parents : List (Option ℕ)) (starts : List Start) (published : List ℕ)
+    → length params ≡ length (links_of parents) → length starts ≡ length (links_of parents)
+    → IsRun params parents starts published (tree_opening params parents published starts)
+opening_is_run params parents starts published params_per_link one_per_link =
+    let t = tree_opening params parents published starts in
     record {
       published_stay = refl;
       parents_stay = refl;
-      linked = linked_nodes p parents starts w one_per_link;
+      linked = linked_nodes parents (opened_links params starts) 0 (as_many_opened params starts (params_per_link ∙ sym one_per_link) ∙ one_per_link);
       replays =
           λ node link is.
-          let (start, begins, at_start) = before_map (opened p) (start_into parents starts node) link
-          (sym (mapped_at (opened p) (by_child parents starts) node) ∙ is) in
-          (start, begins, record { params = ap (λ l. l.params) at_start; reached = ([], ap (λ l. l.state) at_start) });
+          let found = opened_into params parents starts node link is in
+          record {
+            p = found.p;
+            has_params = found.has_params;
+            start = found.start;
+            begins = found.begins;
+            run = record { params = ap (λ l. l.params) found.at_start; reached = ([], ap (λ l. l.state) found.at_start) };
+          };
       prefixes =
           λ node parent link child is.
-          let (start, begins, at_start) = before_map (opened p) (start_into parents starts node) link
-          (sym (mapped_at (opened p) (by_child parents starts) node) ∙ is) in
-          (received t parent, ap (λ l. l.state.offered ++ received t parent) at_start);
+          let found = opened_into params parents starts node link is in
+          (received t parent, ap (λ l. l.state.offered ++ received t parent) found.at_start);
     }
 
 -- the law of one link that the tree law needs: every replay from a lawful start obeys the link law
@@ -211,36 +239,41 @@ ReplaysObey =
     → let s = replay p (opening start) events in LinkLaw p.capacity (start_items start) s.offered s.acked s.delivered
 
 -- so between a parent and its child there is a link that obeys the link law
-pub run_links : ReplaysObey → (p : Parameters) (parents : List (Option ℕ)) (starts : List Start) (published : List ℕ) (t : WholeTree)
-    → IsRun p parents starts published t → AreLawful p → All (IsLawful p) starts
+pub run_links : ReplaysObey → (params : List Parameters) (parents : List (Option ℕ)) (starts : List Start) (published : List ℕ) (t : WholeTree)
+    → IsRun params parents starts published t → All AreLawful params → AllZip IsLawful params starts
     → (child parent : ℕ) → parent_at parents child ≡ Some parent
-    → LinkLawBetween p.capacity (garbage_into parents starts child) (received t parent) (received t child)
-run_links obey p parents starts published t run lawful_params lawful child parent is_child =
+    → LinkLawBetween (capacity_into parents params child) (garbage_into parents starts child) (received t parent) (received t child)
+run_links obey params parents starts published t run lawful_params lawful child parent is_child =
     let child_of : parent_at t.parents child ≡ Some parent = ap (λ ps. parent_at ps child) run.parents_stay ∙ is_child in
     let kind : is_some (link_into t child) ≡ true = same_kind t.links t.parents child run.linked ∙ ap is_some child_of in
     elim (none_or_some (link_into t child)) [
       | inl none ↦ let never : false ≡ true = sym (ap is_some none) ∙ kind in cc
       | inr some ↦
           let link = some.0 in
-          let (start, begins, was) = run.replays child link some.1 in
-          let (events, reached) = was.reached in
+          let was = run.replays child link some.1 in
+          let (events, reached) = was.run.reached in
           let fed : received t child ≡ link.state.delivered = ap (λ o. option_map_or (λ l. l.state.delivered) o t.published) some.1 in
-          let garbage : garbage_into parents starts child ≡ start_items start = ap (λ o. option_map_or start_items o []) begins in
-          let law : LinkLaw p.capacity (start_items start) link.state.offered link.state.acked link.state.delivered =
-          subst (λ s. LinkLaw p.capacity (start_items start) s.offered s.acked s.delivered) (sym reached)
-          (obey p start events lawful_params (holds_by_child (IsLawful p) parents starts child start lawful begins)) in (
+          let garbage : garbage_into parents starts child ≡ start_items was.start = ap (λ o. option_map_or start_items o []) was.begins in
+          let capacity : capacity_into parents params child ≡ was.p.capacity = ap (λ o. option_map_or (λ p. p.capacity) o 0) was.has_params in
+          let its_params : AreLawful was.p = holds_by_child AreLawful parents params child was.p lawful_params was.has_params in
+          let its_start : IsLawful was.p was.start =
+          holds_by_child_of_both IsLawful parents params starts child was.p was.start lawful was.has_params was.begins in
+          let law : LinkLaw was.p.capacity (start_items was.start) link.state.offered link.state.acked link.state.delivered =
+          subst (λ s. LinkLaw was.p.capacity (start_items was.start) s.offered s.acked s.delivered) (sym reached)
+          (obey was.p was.start events its_params its_start) in (
             link.state.offered,
             link.state.acked,
             run.prefixes child parent link child_of some.1,
-            subst (λ xs. LinkLaw p.capacity xs link.state.offered link.state.acked (received t child)) (sym garbage)
-                (subst (λ xs. LinkLaw p.capacity (start_items start) link.state.offered link.state.acked xs) (sym fed) law),
+            subst (λ c. LinkLaw c (garbage_into parents starts child) link.state.offered link.state.acked (received t child)) (sym capacity)
+                (subst (λ xs. LinkLaw was.p.capacity xs link.state.offered link.state.acked (received t child)) (sym garbage)
+                (subst (λ xs. LinkLaw was.p.capacity (start_items was.start) link.state.offered link.state.acked xs) (sym fed) law)),
           )
     ]
 
 -- a node without a parent received each published item
-pub run_root : (p : Parameters) (parents : List (Option ℕ)) (starts : List Start) (published : List ℕ) (t : WholeTree)
-    → IsRun p parents starts published t → (node : ℕ) → parent_at parents node ≡ None → received t node ≡ published
-run_root p parents starts published t run node root =
+pub run_root : (params : List Parameters) (parents : List (Option ℕ)) (starts : List Start) (published : List ℕ) (t : WholeTree)
+    → IsRun params parents starts published t → (node : ℕ) → parent_at parents node ≡ None → received t node ≡ published
+run_root params parents starts published t run node root =
     let kind : is_some (link_into t node) ≡ false =
     same_kind t.links t.parents node run.linked ∙ ap is_some (ap (λ ps. parent_at ps node) run.parents_stay ∙ root) in
     elim (none_or_some (link_into t node)) [
@@ -249,16 +282,16 @@ run_root p parents starts published t run node root =
     ]
 
 -- each node obeys the tree law after each schedule
-pub schedule_obeys : StepsReach → ReplaysObey → (nodes : Nodes) (p : Parameters) (starts : List Start) (published : List ℕ) (events : List TreeEvent)
-    → IsTree nodes → AreLawful p → length starts ≡ length (links_of nodes.parents) → All (IsLawful p) starts
-    → TreeLawAtNodes p.capacity nodes.parents starts published (received (tree_replay (tree_opening p nodes.parents published starts) events))
-schedule_obeys steps obey nodes p starts published events tree lawful_params one_per_link lawful =
-    let t = tree_replay (tree_opening p nodes.parents published starts) events in
-    let run : IsRun p nodes.parents starts published t =
-    replay_keeps steps p nodes.parents starts published (tree_opening p nodes.parents published starts) events
-    (opening_is_run p nodes.parents starts published 0 one_per_link) in
-    one_capacity nodes tree p.capacity starts published (received t)
-    (nodes_obey nodes tree published (received t)
-    (run_root p nodes.parents starts published t run (root_of nodes.parents) tree.root_has_none)
-    (λ _. p.capacity) starts
-    (run_links obey p nodes.parents starts published t run lawful_params lawful))
+pub schedule_obeys : StepsReach → ReplaysObey → (nodes : Nodes) (params : List Parameters) (starts : List Start) (published : List ℕ) (events : List TreeEvent)
+    → IsTree nodes → length params ≡ length (links_of nodes.parents) → length starts ≡ length (links_of nodes.parents)
+    → All AreLawful params → AllZip IsLawful params starts
+    → TreeLawAtNodes params nodes.parents starts published (received (tree_replay (tree_opening params nodes.parents published starts) events))
+schedule_obeys steps obey nodes params starts published events tree params_per_link one_per_link lawful_params lawful =
+    let t = tree_replay (tree_opening params nodes.parents published starts) events in
+    let run : IsRun params nodes.parents starts published t =
+    replay_keeps steps params nodes.parents starts published (tree_opening params nodes.parents published starts) events
+    (opening_is_run params nodes.parents starts published params_per_link one_per_link) in
+    nodes_obey nodes tree published (received t)
+    (run_root params nodes.parents starts published t run (root_of nodes.parents) tree.root_has_none)
+    (capacity_into nodes.parents params) starts
+    (run_links obey params nodes.parents starts published t run lawful_params lawful)

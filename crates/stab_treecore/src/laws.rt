@@ -3,6 +3,7 @@
 //! body; its contract is the law.
 
 ghost use mathlib.Core.List.{IsPrefix};
+ghost use Rattle.std.specs.List.{AllZip};
 ghost use Rattle.std.specs.Prelude.{◌≡◌, ℕ, ◌+◌, ◌*◌, ◌<◌, ◌≤◌, List, [], ◌++◌, length, Option};
 ghost use Rattle.std.specs.Prelude.{Some, All};
 ghost use Rattle.stab_core.specs.declared.start.Start.{Start};
@@ -14,7 +15,8 @@ ghost use Rattle.stab_tree.specs.Nodes.{Nodes, parent_at, root_of};
 ghost use Rattle.stab_tree.specs.Steps.{depth_of};
 ghost use Rattle.stab_treecore.specs.declared.event.TreeEvent.{TreeEvent};
 ghost use Rattle.stab_treecore.specs.EdgeLaw.{EdgeLaw, EdgeInto};
-ghost use Rattle.stab_treecore.specs.NodeLaws.{garbage_into, path_garbage, opened_path_garbage};
+ghost use Rattle.stab_treecore.specs.NodeLaws.{capacity_into, garbage_into};
+ghost use Rattle.stab_treecore.specs.NodeLaws.{path_garbage, opened_path_garbage};
 ghost use Rattle.stab_treecore.specs.NodeLaws.{strays_bound, opened_strays_bound, missing_bound};
 ghost use Rattle.stab_treecore.specs.NodeLaws.{LinkLawBetween, LinkLawPastOpening};
 ghost use Rattle.stab_treecore.specs.NodeLaws.{HalfTreeLawOfNodes, TreeLawOfNodes, TreeLawAtNodes};
@@ -137,16 +139,13 @@ pub fn link_law_of_an_edge()
 /// The tree law at every node, where a run keeps no schedule but tells the edge law of each link.
 /// Each link has parameters of its own.
 pub fn tree_law_of_edges()
-    ensures { (nodes : Nodes) (params_into : ℕ → Parameters) (starts : List Start)
+    ensures { (nodes : Nodes) (params : List Parameters) (starts : List Start)
         (published : List ℕ) (received : ℕ → List ℕ)
         → IsTree nodes
         → received (root_of nodes.parents) ≡ published
         → ((child parent : ℕ) → parent_at nodes.parents child ≡ Some parent
-        → EdgeInto (params_into child) nodes.parents starts child
-        (received parent) (received child))
-        → TreeLawOfNodes (strays_bound nodes.parents (λ child. (params_into child).capacity))
-        (missing_bound nodes.parents (λ child. (params_into child).capacity))
-        (path_garbage nodes.parents starts) nodes.parents published received }
+        → EdgeInto params nodes.parents starts child (received parent) (received child))
+        → TreeLawAtNodes params nodes.parents starts published received }
 {
     stab_core::laws::every_replay_obeys_the_link_law();
 }
@@ -154,20 +153,26 @@ pub fn tree_law_of_edges()
 /// Where all links have one capacity, the bounds of a node at depth d are d times those of one
 /// link.
 pub fn bounds_of_one_capacity()
-    ensures strays { (nodes : Nodes) (capacity node : ℕ) → IsTree nodes
-        → node < length nodes.parents
-        → strays_bound nodes.parents (λ _. capacity) node ≡ depth_of nodes.parents node * capacity }
-    ensures missing { (nodes : Nodes) (capacity node : ℕ) → IsTree nodes
-        → node < length nodes.parents
-        → missing_bound nodes.parents (λ _. capacity) node
-        ≡ depth_of nodes.parents node * (2 * capacity + 1) }
-    ensures law { (nodes : Nodes) (capacity : ℕ) (starts : List Start) (published : List ℕ)
-        (received : ℕ → List ℕ)
+    ensures strays { (nodes : Nodes) (params : List Parameters) (capacity node : ℕ)
         → IsTree nodes
-        → TreeLawOfNodes (strays_bound nodes.parents (λ _. capacity))
-        (missing_bound nodes.parents (λ _. capacity)) (path_garbage nodes.parents starts)
-        nodes.parents published received
-        → TreeLawAtNodes capacity nodes.parents starts published received }
+        → OnePerLink nodes.parents params → All (λ p. p.capacity ≡ capacity) params
+        → node < length nodes.parents
+        → strays_bound nodes.parents (capacity_into nodes.parents params) node
+        ≡ depth_of nodes.parents node * capacity }
+    ensures missing { (nodes : Nodes) (params : List Parameters) (capacity node : ℕ)
+        → IsTree nodes
+        → OnePerLink nodes.parents params → All (λ p. p.capacity ≡ capacity) params
+        → node < length nodes.parents
+        → missing_bound nodes.parents (capacity_into nodes.parents params) node
+        ≡ depth_of nodes.parents node * (2 * capacity + 1) }
+    ensures law { (nodes : Nodes) (params : List Parameters) (capacity : ℕ) (starts : List Start)
+        (published : List ℕ) (received : ℕ → List ℕ)
+        → IsTree nodes
+        → OnePerLink nodes.parents params → All (λ p. p.capacity ≡ capacity) params
+        → TreeLawAtNodes params nodes.parents starts published received
+        → TreeLawOfNodes (λ node. depth_of nodes.parents node * capacity)
+        (λ node. depth_of nodes.parents node * (2 * capacity + 1))
+        (path_garbage nodes.parents starts) nodes.parents published received }
 {}
 
 /// Larger bounds hold where smaller ones do.
@@ -189,11 +194,13 @@ pub fn half_tree_law_at_every_node()
 /// Whatever the links hold at their lawful starts, and whatever the schedule, each node obeys the
 /// tree law.
 pub fn every_schedule_obeys_the_tree_law()
-    ensures { (nodes : Nodes) (p : Parameters) (starts : List Start) (published : List ℕ)
-        (events : List TreeEvent)
-        → IsTree nodes → AreLawful p → OnePerLink nodes.parents starts → All (IsLawful p) starts
-        → TreeLawAtNodes p.capacity nodes.parents starts published
-        (received (tree_replay (tree_opening p nodes.parents published starts) events)) }
+    ensures { (nodes : Nodes) (params : List Parameters) (starts : List Start)
+        (published : List ℕ) (events : List TreeEvent)
+        → IsTree nodes
+        → OnePerLink nodes.parents params → OnePerLink nodes.parents starts
+        → All AreLawful params → AllZip IsLawful params starts
+        → TreeLawAtNodes params nodes.parents starts published
+        (received (tree_replay (tree_opening params nodes.parents published starts) events)) }
 {
     stab_core::laws::reachable_steps();
     stab_core::laws::every_replay_obeys_the_link_law();

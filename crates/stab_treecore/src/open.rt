@@ -1,46 +1,80 @@
 //! What a whole tree begins with.
 
-ghost use Rattle.std.specs.Prelude.{◌≡◌, All, OnOk, IfOk, IfErr, map, option_map};
+ghost use Rattle.std.specs.List.{AllZip};
+ghost use Rattle.std.specs.Prelude.{◌≡◌, ◌≢◌, ◌<◌, All, OnOk, IfOk, IfErr, length, slice_index_or};
+ghost use Rattle.stab_core.specs.Link.{IsReason};
 ghost use Rattle.stab_core.specs.Replay.{IsLawful};
+ghost use Rattle.stab_frames.specs.Parameters.{AreLawful};
 ghost use Rattle.stab_treecore.specs.ByChild.{by_child};
 ghost use Rattle.stab_treecore.specs.Refusals.{OnePerLink, IsOpeningReason};
-ghost use Rattle.stab_treecore.specs.TreeReplay.{opened};
+ghost use Rattle.stab_treecore.specs.TreeReplay.{opened_links};
 
 use stab_core::{Link, Start, StartFault};
 use stab_frames::Params;
 use stab_tree::NodeId;
 use std::alloc::Global;
 
-/// Refuses the first start that no link can begin from. It takes no memory, so that no start is
-/// refused after a list has grown.
-pub(crate) fn check(params: Params, starts: &[Start]) -> Result<(), StartFault>
-    ensures lawful { OnOk result (All (IsLawful params) starts.now) }
-    ensures refused { IfErr result (IsOpeningReason params starts.now) }
+/// Refuses a start that no link of these parameters can begin from.
+fn check_start(params: Params, start: &Start) -> Result<(), StartFault>
+    ensures lawful_params { AreLawful params }
+    ensures lawful { OnOk result (IsLawful params start.now) }
+    ensures reason { IfErr result (IsReason params start.now) }
+    ensures no_memory { IfErr result (λ fault. fault ≢ StartFault.Memory) }
 {
-    let capacity = params.capacity();
-    for start in starts {
-        if start.frames.len() > usize::from(capacity) {
-            return Err(StartFault::TooManyFrames);
-        }
-        if start.acks.len() > usize::from(capacity) {
-            return Err(StartFault::TooManyAcks);
-        }
+    let capacity = usize::from(params.capacity());
+    if start.frames.len() > capacity {
+        return Err(StartFault::TooManyFrames);
+    }
+    if start.acks.len() > capacity {
+        return Err(StartFault::TooManyAcks);
     }
     Ok(())
+}
+
+/// Refuses the first start that its link cannot begin from. It takes no memory, so that no start is
+/// refused after a list has grown.
+pub(crate) fn check(params: &[Params], starts: &[Start]) -> Result<(), StartFault>
+    requires one_each { length params.now ≡ length starts.now }
+    ensures lawful_params { OnOk result (All AreLawful params.now) }
+    ensures lawful { OnOk result (AllZip IsLawful params.now starts.now) }
+    ensures refused { IfErr result (IsOpeningReason params.now starts.now) }
+{
+    'links: for place in 0..starts.len() {
+        check_start(params[place], &starts[place])?;
+    }
+    Ok(())
+}
+
+/// The link at this place of the lists, at its start.
+fn link_at(
+    alloc: Global,
+    params: &[Params],
+    starts: &[Start],
+    place: usize,
+) -> Result<Link, StartFault>
+    requires in_params { place < length params.now }
+    requires in_starts { place < length starts.now }
+    requires lawful { AllZip IsLawful params.now starts.now }
+    ensures link { IfOk result (λ link.
+        link ≡ slice_index_or (opened_links params.now starts.now) place link) }
+    ensures refused { IfErr result (IsOpeningReason params.now starts.now) }
+{
+    Link::new(alloc, params[place], &starts[place])
 }
 
 /// Each link at its start, beside its child.
 pub(crate) fn links(
     alloc: Global,
-    params: Params,
+    params: &[Params],
     parents: &[Option<NodeId>],
     starts: &[Start],
 ) -> Result<Vec<Option<Link>>, StartFault>
+    requires params_per_link { OnePerLink parents.now params.now }
     requires one_per_link { OnePerLink parents.now starts.now }
-    requires lawful { All (IsLawful params) starts.now }
+    requires lawful { AllZip IsLawful params.now starts.now }
     ensures links { IfOk result (λ links.
-        links.items ≡ map (option_map (opened params)) (by_child parents.now starts.now)) }
-    ensures refused { IfErr result (IsOpeningReason params starts.now) }
+        links.items ≡ by_child parents.now (opened_links params.now starts.now)) }
+    ensures refused { IfErr result (IsOpeningReason params.now starts.now) }
 {
     let mut links = Vec::with_capacity(alloc, parents.len())?;
     let mut begun = 0;
@@ -48,7 +82,7 @@ pub(crate) fn links(
         match parent {
             None => links.push_reserved(None),
             Some(_) => {
-                links.push_reserved(Some(Link::new(alloc, params, &starts[begun])?));
+                links.push_reserved(Some(link_at(alloc, params, starts, begun)?));
                 begun += 1;
             }
         }

@@ -1,5 +1,7 @@
+ghost use Rattle.std.specs.List.{AllZip};
 ghost use Rattle.std.specs.Prelude.{◌≡◌, All, IfOk, IfErr, OnOk};
 ghost use Rattle.stab_core.specs.Replay.{IsLawful};
+ghost use Rattle.stab_frames.specs.Parameters.{AreLawful};
 ghost use Rattle.stab_treecore.specs.NodeLaws.{HalfTreeLawAtNodes, TreeLawAtNodes};
 ghost use Rattle.stab_treecore.specs.Refusals.{OnePerLink, NamesLink, IsScheduleReason};
 ghost use Rattle.stab_treecore.specs.TreeReplay.{tree_opening, tree_replay};
@@ -14,15 +16,16 @@ use stab_frames::{Item, Params};
 use stab_tree::Tree;
 use std::alloc::Global;
 
-/// The whole tree after a schedule, from the starts of its links. Where it refuses, no state is
-/// handed out.
+/// The whole tree after a schedule, from the starts of its links; each link has parameters of its
+/// own. Where it refuses, no state is handed out.
 ///
-/// Whatever the links hold at the start and whatever the schedule, a node at depth d received at
-/// most d times c strays from the links on its path, then published items in their order, each at
-/// most once, none missing before its last one except among the first d(2c + 1).
+/// Whatever the links hold at the start and whatever the schedule: with C the sum of the capacities
+/// c of the links on a node's path to the root, and M the sum of their 2c + 1, the node received at
+/// most C strays from these links, then published items in their order, each at most once, none
+/// missing before its last one except among the first M.
 pub fn run_schedule(
     alloc: Global,
-    params: Params,
+    params: &[Params],
     tree: &Tree,
     published: &[Item],
     starts: &[Start],
@@ -30,24 +33,25 @@ pub fn run_schedule(
 ) -> Result<TreeState, TreeStartFault>
     ensures replay { IfOk result (λ state.
         state ≡ tree_replay
-        (tree_opening params tree.now.parents published.now starts.now) events.now) }
+        (tree_opening params.now tree.now.parents published.now starts.now) events.now) }
     ensures same_tree { IfOk result (λ state. state.parents ≡ tree.now.parents) }
+    ensures params_per_link { OnOk result (OnePerLink tree.now.parents params.now) }
     ensures one_per_link { OnOk result (OnePerLink tree.now.parents starts.now) }
-    ensures lawful { OnOk result (All (IsLawful params) starts.now) }
+    ensures lawful_params { OnOk result (All AreLawful params.now) }
+    ensures lawful { OnOk result (AllZip IsLawful params.now starts.now) }
     ensures named { OnOk result (All (NamesLink tree.now.parents) events.now) }
     ensures refused { IfErr result
-        (IsScheduleReason params tree.now.parents published.now starts.now events.now) }
+        (IsScheduleReason params.now tree.now.parents published.now starts.now events.now) }
 
     // The laws of every node.
     ensures half_tree_law { IfOk result (λ state.
-        HalfTreeLawAtNodes params.capacity tree.now.parents starts.now published.now
+        HalfTreeLawAtNodes params.now tree.now.parents starts.now published.now
         (received state)) }
     ensures tree_law { IfOk result (λ state.
-        TreeLawAtNodes params.capacity tree.now.parents starts.now published.now
+        TreeLawAtNodes params.now tree.now.parents starts.now published.now
         (received state)) }
 {
     let state = replayed(alloc, params, tree, published, starts, events)?;
-    let _lawful = params.capacity();
     let _tree = tree.root();
     laws::every_schedule_obeys_the_tree_law();
     laws::half_tree_law_at_every_node();
@@ -57,7 +61,7 @@ pub fn run_schedule(
 /// The replay of a schedule.
 fn replayed(
     alloc: Global,
-    params: Params,
+    params: &[Params],
     tree: &Tree,
     published: &[Item],
     starts: &[Start],
@@ -65,13 +69,15 @@ fn replayed(
 ) -> Result<TreeState, TreeStartFault>
     ensures replay { IfOk result (λ state.
         state ≡ tree_replay
-        (tree_opening params tree.now.parents published.now starts.now) events.now) }
+        (tree_opening params.now tree.now.parents published.now starts.now) events.now) }
     ensures same_tree { IfOk result (λ state. state.parents ≡ tree.now.parents) }
+    ensures params_per_link { OnOk result (OnePerLink tree.now.parents params.now) }
     ensures one_per_link { OnOk result (OnePerLink tree.now.parents starts.now) }
-    ensures lawful { OnOk result (All (IsLawful params) starts.now) }
+    ensures lawful_params { OnOk result (All AreLawful params.now) }
+    ensures lawful { OnOk result (AllZip IsLawful params.now starts.now) }
     ensures named { OnOk result (All (NamesLink tree.now.parents) events.now) }
     ensures refused { IfErr result
-        (IsScheduleReason params tree.now.parents published.now starts.now events.now) }
+        (IsScheduleReason params.now tree.now.parents published.now starts.now events.now) }
 {
     let mut state = TreeState::new(alloc, params, tree, published, starts)?;
     for event in events {

@@ -1,8 +1,10 @@
+ghost use Rattle.std.specs.List.{AllZip};
 ghost use Rattle.std.specs.Prelude.{◌≡◌, ◌↔◌, ◌<◌, length, is_some, option_copied, option_map, All};
 ghost use Rattle.std.specs.Prelude.{IsSome, IsNone, IfOk, IfErr, OnOk, OnErr, IsErrOf};
 ghost use Rattle.std.specs.Option.{option_map_or};
 ghost use Rattle.stab_core.specs.Link.{Grows};
 ghost use Rattle.stab_core.specs.Replay.{IsLawful};
+ghost use Rattle.stab_frames.specs.Parameters.{AreLawful};
 ghost use Rattle.stab_tree.specs.Nodes.{parent_at};
 ghost use Rattle.stab_treecore.specs.WholeTree.{WholeTree, link_into, received, source};
 ghost use Rattle.stab_treecore.specs.Refusals.{OnePerLink, IsStartReason, NamesLink, NamesNoLink};
@@ -49,24 +51,28 @@ impl Model for TreeState {
 }
 
 impl TreeState {
-    /// The whole tree at its opening. The starts are in the file order of the links' children.
+    /// The whole tree at its opening. The parameters and the starts are in the file order of the
+    /// links' children.
     ///
-    /// A list that has not one start for each link is refused, and then the first start that no
-    /// link can begin from; memory can be refused only where a link can begin from each start.
+    /// Lists that have not one entry for each link are refused, and then the first start that its
+    /// link cannot begin from; memory can be refused only where each link can begin from its start.
     pub fn new(
         alloc: Global,
-        params: Params,
+        params: &[Params],
         tree: &Tree,
         published: &[Item],
         starts: &[Start],
     ) -> Result<TreeState, TreeStartFault>
         ensures opening { IfOk result (λ state.
-            state ≡ tree_opening params tree.now.parents published.now starts.now) }
+            state ≡ tree_opening params.now tree.now.parents published.now starts.now) }
+        ensures params_per_link { OnOk result (OnePerLink tree.now.parents params.now) }
         ensures one_per_link { OnOk result (OnePerLink tree.now.parents starts.now) }
-        ensures lawful { OnOk result (All (IsLawful params) starts.now) }
-        ensures refused { IfErr result (IsStartReason params tree.now.parents starts.now) }
+        ensures lawful_params { OnOk result (All AreLawful params.now) }
+        ensures lawful { OnOk result (AllZip IsLawful params.now starts.now) }
+        ensures refused { IfErr result (IsStartReason params.now tree.now.parents starts.now) }
     {
-        if starts.len() != usize::from(tree.link_count()) {
+        let links = usize::from(tree.link_count());
+        if params.len() != links || starts.len() != links {
             return Err(TreeStartFault::StartCount);
         }
         open::check(params, starts)?;

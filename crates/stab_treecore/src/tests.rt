@@ -61,6 +61,16 @@ b depth 2 received 3 acked 5
 items: 98 15 16
 ";
 
+/// What the chain is after two items, where the second link has capacity two.
+const WIDER_SECOND_LINK: &str = "\
+r depth 0 received 2 acked -
+items: 7 8
+a depth 1 received 2 acked 2
+items: 7 8
+b depth 2 received 4 acked 2
+items: 20 21 7 8
+";
+
 /// One item goes from the parent to the child, undisturbed.
 const ROUND: [LinkAct; 5] = [
     LinkAct::Offer,
@@ -122,19 +132,56 @@ fn two_links(alloc: Global) -> Result<Vec<TreeEvent>, AllocError> {
     Ok(schedule)
 }
 
-/// The text of the chain after a schedule from these starts, or why the schedule is refused.
+/// The text of the chain after a schedule from these starts, with two links of capacity one; or why
+/// the schedule is refused.
 fn outcome(
     alloc: Global,
     tree: &Tree,
     links: &[(&[Frame], usize)],
     events: &[TreeEvent],
 ) -> Result<Result<String, TreeStartFault>, Fail> {
-    let params = Params::new(1, 4)?;
+    let params = [Params::new(1, 4)?; 2];
     let starts = starts(alloc, links)?;
-    match run_schedule(alloc, params, tree, &ITEMS, &starts, events) {
+    match run_schedule(alloc, &params, tree, &ITEMS, &starts, events) {
         Ok(state) => Ok(Ok(schedule_text(alloc, tree, &state)?)),
         Err(fault) => Ok(Err(fault)),
     }
+}
+
+/// A clean link into a, and a link into b that holds two frames of nobody's items.
+fn starts_of_a_wider_second_link(alloc: Global) -> Result<[Start; 2], AllocError> {
+    let strays = [Frame { label: 1, item: 20 }, Frame { label: 2, item: 21 }];
+    Ok([
+        Start {
+            frames: Sequence::from_vec(Vec::new(alloc)),
+            acks: Sequence::from_vec(Vec::new(alloc)),
+            send_label: 0,
+            recv_label: 65535,
+        },
+        Start {
+            frames: Sequence::from_vec(Vec::from_slice(alloc, &strays)?),
+            acks: Sequence::from_vec(Vec::new(alloc)),
+            send_label: 0,
+            recv_label: 0,
+        },
+    ])
+}
+
+/// Two items go on undisturbed, after the two strays of the second link.
+fn schedule_of_a_wider_second_link(alloc: Global) -> Result<Vec<TreeEvent>, AllocError> {
+    let recv_frame = [LinkAct::RecvFrame { keep: false }];
+    let mut schedule = Vec::new(alloc);
+    for (child, acts) in [
+        (A, ROUND.as_slice()),
+        (A, ROUND.as_slice()),
+        (B, recv_frame.as_slice()),
+        (B, recv_frame.as_slice()),
+        (B, ROUND.as_slice()),
+        (B, ROUND.as_slice()),
+    ] {
+        push_acts(&mut schedule, NodeId::new(child), acts)?;
+    }
+    Ok(schedule)
 }
 
 #[test]
@@ -143,6 +190,42 @@ fn two_links_under_one_schedule_deliver_one_stray_each(rt: HostRuntime) -> Resul
     let schedule = two_links(rt.alloc())?;
     let text = outcome(rt.alloc(), &tree, &WORST_STARTS, &schedule)??;
     assert_eq!(rt; text.as_str(), TWO_LINKS);
+    Ok(())
+}
+
+#[test]
+fn a_wider_second_link_holds_two_strays(rt: HostRuntime) -> Result<(), Fail> {
+    let tree = tree(&rt, rt.alloc(), CHAIN)?;
+    let params = [Params::new(1, 4)?, Params::new(2, 6)?];
+    let starts = starts_of_a_wider_second_link(rt.alloc())?;
+    let events = schedule_of_a_wider_second_link(rt.alloc())?;
+    let state = run_schedule(rt.alloc(), &params, &tree, &[7, 8], &starts, &events)?;
+    let text = schedule_text(rt.alloc(), &tree, &state)?;
+    assert_eq!(rt; text.as_str(), WIDER_SECOND_LINK);
+    Ok(())
+}
+
+#[test]
+fn each_link_is_held_to_its_own_capacity(rt: HostRuntime) -> Result<(), Fail> {
+    let tree = tree(&rt, rt.alloc(), CHAIN)?;
+    let starts = starts_of_a_wider_second_link(rt.alloc())?;
+    let one = Params::new(1, 4)?;
+    let two = Params::new(2, 6)?;
+    let wide_second = [one, two, two];
+    let narrow = [one, one];
+    let wide_first = [two, one];
+    let frames = TreeStartFault::Start(StartFault::TooManyFrames);
+    let rows = [
+        (&wide_second[..2], None),
+        (narrow.as_slice(), Some(frames)),
+        (wide_first.as_slice(), Some(frames)),
+        (&wide_second[..1], Some(TreeStartFault::StartCount)),
+        (wide_second.as_slice(), Some(TreeStartFault::StartCount)),
+    ];
+    for (params, want) in rows {
+        let state = run_schedule(rt.alloc(), params, &tree, &[7, 8], &starts, &[]);
+        assert_eq!(rt; state.err(), want);
+    }
     Ok(())
 }
 
@@ -185,7 +268,8 @@ fn refuses_the_first_event_that_names_no_link(rt: HostRuntime) -> Result<(), Fai
 fn an_offer_of_nothing_does_nothing(rt: HostRuntime) -> Result<(), Fail> {
     let tree = tree(&rt, rt.alloc(), CHAIN)?;
     let starts = starts(rt.alloc(), &WORST_STARTS)?;
-    let mut state = TreeState::new(rt.alloc(), Params::new(1, 4)?, &tree, &ITEMS, &starts)?;
+    let params = [Params::new(1, 4)?; 2];
+    let mut state = TreeState::new(rt.alloc(), &params, &tree, &ITEMS, &starts)?;
     let steps = [
         (B, LinkAct::Offer, Ok(Effect::Nothing)),
         (A, LinkAct::RecvFrame { keep: true }, Ok(Effect::Fresh(99))),
@@ -212,7 +296,7 @@ fn an_offer_of_nothing_does_nothing(rt: HostRuntime) -> Result<(), Fail> {
 #[test]
 fn a_lone_root_has_what_it_publishes(rt: HostRuntime) -> Result<(), Fail> {
     let tree = tree(&rt, rt.alloc(), r#"[{"name":"r"}]"#)?;
-    let state = run_schedule(rt.alloc(), Params::new(1, 4)?, &tree, &[7, 8], &[], &[])?;
+    let state = run_schedule(rt.alloc(), &[], &tree, &[7, 8], &[], &[])?;
     let text = schedule_text(rt.alloc(), &tree, &state)?;
     assert_eq!(rt; text.as_str(), "r depth 0 received 2 acked -\nitems: 7 8\n");
     Ok(())

@@ -1,27 +1,23 @@
 use Rattle.std.proofs.Common.{subst, arith}
-use Rattle.std.proofs.lemmas.List.{take_all}
 use Rattle.std.proofs.lemmas.List.Elements.{All-more}
-use Rattle.stab_core.specs.declared.start.StartFault.TheVariants.{TooManyFrames, TooManyAcks}
+use Rattle.std.proofs.lemmas.Result.{err_from_is_err_and}
 use Rattle.stab_core.specs.Replay.{IsLawful}
-use Rattle.std.proofs.Common.{All}
-use Rattle.stab_treecore.proofs.Opened.{first_fault}
+use Rattle.stab_frames.specs.Parameters.{AreLawful}
+use Rattle.stab_treecore.proofs.Opened.{all_zip_more, first_fault, opening_reason}
 use Rattle.stab_treecore.proofs.open.check.Goals as goal
 
-pub returns-then-len-from-clause-refused : goal.returns-then-len-from-clause-refused
-returns-then-len-from-clause-refused c =
-    first_fault c.args.params c.args.starts.now c.loop-start.start-index c.start-item.result TooManyFrames
-    c.loop-start-test.true c.start-item.is c.loop-start.invariant (omega arith)
+pub links-preserved : goal.links-preserved
+links-preserved c = (
+  All-more AreLawful c.args.params.now c.links.place c.index-params-place.result (omega arith) c.links.invariant.0
+      (subst AreLawful c.index-params-place.is c.check_start.ensures.lawful_params),
+  all_zip_more IsLawful c.args.params.now c.args.starts.now c.links.place c.index-params-place.result c.index-starts-place.result (omega arith) (omega arith)
+      c.index-params-place.is c.index-starts-place.is c.links.invariant.1 c.in_ok-check_start.ensures.lawful,
+)
 
-pub returns-then-len-from-2-clause-refused : goal.returns-then-len-from-2-clause-refused
-returns-then-len-from-2-clause-refused c =
-    first_fault c.args.params c.args.starts.now c.loop-start.start-index c.start-item.result TooManyAcks
-    c.loop-start-test.true c.start-item.is c.loop-start.invariant (omega arith, omega arith)
-
-pub loop-start-preserved : goal.loop-start-preserved
-loop-start-preserved c =
-    All-more (IsLawful c.args.params) c.args.starts.now c.loop-start.start-index c.start-item.result c.loop-start-test.true
-    c.loop-start.invariant (subst (IsLawful c.args.params) c.start-item.is (record { frames = omega arith; acks = omega arith }))
-
-pub returns-clause-lawful : goal.returns-clause-lawful
-returns-clause-lawful c =
-    subst (λ starts. All (IsLawful c.args.params) starts) (take_all c.loop-start.start-index c.args.starts.now (omega arith)) c.loop-start.invariant
+pub returns-in_err-check_start-clause-refused : goal.returns-in_err-check_start-clause-refused
+returns-in_err-check_start-clause-refused c =
+    let p = err_from_is_err_and c.from_residual.result c.from_residual.ensures.1 in
+    rw (p.1, p.2)
+    (opening_reason c.args.params.now c.args.starts.now c.in_err-check_start.field-0.0 c.in_err-check_start.ensures.no_memory
+    (first_fault c.args.params.now c.args.starts.now c.links.place c.index-params-place.result c.index-starts-place.result c.in_err-check_start.field-0.0
+    (omega arith) (omega arith) c.index-params-place.is c.index-starts-place.is c.links.invariant.1 c.in_err-check_start.ensures.reason))

@@ -10,7 +10,7 @@ use Rattle.stab_treecore.proofs.schedule.replayed.Goals as goal
 
 pub loop-event-preserved : goal.loop-event-preserved
 loop-event-preserved c =
-    let t : WholeTree = tree_opening c.args.params c.args.tree.now.parents c.args.published.now c.args.starts.now in
+    let t : WholeTree = tree_opening c.args.params.now c.args.tree.now.parents c.args.published.now c.args.starts.now in
     let stepped : c.apply.new.self ≡ tree_step c.loop-event.state c.event-item.result = c.in_ok-apply.ensures.steps.0 in
     let names : NamesLink c.args.tree.now.parents (get_or c.args.events.now c.loop-event.event-index c.event-item.result) =
     rw (← c.event-item.is, ← c.loop-event.invariant.0) c.in_ok-apply.ensures.named in (
