@@ -6,8 +6,12 @@
 //! from its start. Contracts see a link as what names it: its table of words, and the parameters
 //! and the start that it was given. The layer above uses one fact: [`WordLink::settle`] always
 //! answers, without a comparison, and one event list explains the accounts of both ends.
+//! [`AnySend`] and [`AnyRecv`] are the ends of a link of either kind, with a lock or of two words,
+//! and a finished one keeps its kind.
 #![tactic(auto)]
 
+mod any_recv;
+mod any_send;
 mod fault;
 mod link;
 mod recv;
@@ -18,6 +22,8 @@ mod steps;
 mod view;
 mod words;
 
+pub use any_recv::{AnyRecv, AnyRecvDone};
+pub use any_send::{AnySend, AnySendDone};
 pub use fault::WordFault;
 pub use link::{WordLink, WordOpening};
 pub use recv::{RecvDone, WordRecv};

@@ -3,6 +3,8 @@
 
 ghost use Rattle.std.specs.Prelude.{◌≡◌, IfOk};
 
+mod any_ends;
+
 use super::*;
 use stab_core::{Effect, Start, StartFault};
 use stab_frames::{Frame, Item, Label, Params, Sequence};
@@ -80,8 +82,9 @@ fn start_with(
 }
 
 /// Makes a call, and compares the answer.
-fn ask_one<S: SendSide<Pass = ()>, T: RecvSide<Pass = ()>, R: Abort>(
+fn ask_one<S: SendSide, T: RecvSide<Pass = S::Pass>, R: Abort>(
     rt: &R,
+    pass: &S::Pass,
     send: &mut S,
     recv: &mut T,
     ask: Ask,
@@ -90,20 +93,21 @@ fn ask_one<S: SendSide<Pass = ()>, T: RecvSide<Pass = ()>, R: Abort>(
     ensures receiver { T.link recv.new ≡ T.link recv.old }
 {
     let is_answered = match ask {
-        Ask::Offer(item, taken) => send.offer(&(), item)? == taken,
-        Ask::Send(effect) => send.send(&())? == effect,
-        Ask::PollAck(effect) => send.poll_ack(&())? == effect,
-        Ask::Close(effect) => send.close(&())? == effect,
-        Ask::PollFrame(seen) => recv.poll_frame(&())? == seen,
-        Ask::SendAck(effect) => recv.send_ack(&())? == effect,
+        Ask::Offer(item, taken) => send.offer(pass, item)? == taken,
+        Ask::Send(effect) => send.send(pass)? == effect,
+        Ask::PollAck(effect) => send.poll_ack(pass)? == effect,
+        Ask::Close(effect) => send.close(pass)? == effect,
+        Ask::PollFrame(seen) => recv.poll_frame(pass)? == seen,
+        Ask::SendAck(effect) => recv.send_ack(pass)? == effect,
     };
     assert!(rt; is_answered, "{ask:?}");
     Ok(())
 }
 
 /// Makes the calls on both ends, in their order, and compares the answers.
-fn ask_all<S: SendSide<Pass = ()>, T: RecvSide<Pass = ()>, R: Abort>(
+fn ask_all<S: SendSide, T: RecvSide<Pass = S::Pass>, R: Abort>(
     rt: &R,
+    pass: &S::Pass,
     send: &mut S,
     recv: &mut T,
     asks: &[Ask],
@@ -112,14 +116,15 @@ fn ask_all<S: SendSide<Pass = ()>, T: RecvSide<Pass = ()>, R: Abort>(
     ensures receiver { T.link recv.new ≡ T.link recv.old }
 {
     'asks: for ask in asks {
-        ask_one(rt, send, recv, *ask)?;
+        ask_one(rt, pass, send, recv, *ask)?;
     }
     Ok(())
 }
 
 /// Makes the calls on both ends, and finishes the ends.
-fn ask_and_finish<S: SendSide<Pass = ()>, T: RecvSide<Pass = ()>, R: Abort>(
+fn ask_and_finish<S: SendSide, T: RecvSide<Pass = S::Pass>, R: Abort>(
     rt: &R,
+    pass: &S::Pass,
     mut send: S,
     mut recv: T,
     asks: &[Ask],
@@ -127,7 +132,7 @@ fn ask_and_finish<S: SendSide<Pass = ()>, T: RecvSide<Pass = ()>, R: Abort>(
     ensures sender { IfOk result (λ done. S.done_link done.0 ≡ S.link send) }
     ensures receiver { IfOk result (λ done. T.done_link done.1 ≡ T.link recv) }
 {
-    ask_all(rt, &mut send, &mut recv, asks)?;
+    ask_all(rt, pass, &mut send, &mut recv, asks)?;
     Ok((send.finish(), recv.finish()))
 }
 
@@ -135,7 +140,7 @@ fn ask_and_finish<S: SendSide<Pass = ()>, T: RecvSide<Pass = ()>, R: Abort>(
 fn settled<R: Abort>(rt: &R, alloc: Global, start: &Start, asks: &[Ask]) -> Result<Settled, Fail> {
     let (link, opening) = WordLink::new(alloc, Params::new(1, 4)?, start)?;
     let (send, recv) = link.split(alloc, opening, Script::none(alloc))?;
-    let (sent, received) = ask_and_finish(rt, send, recv, asks)?;
+    let (sent, received) = ask_and_finish(rt, &(), send, recv, asks)?;
     Ok(link.settle(sent, received))
 }
 
@@ -248,7 +253,7 @@ fn a_script_in_words(rt: HostRuntime) -> Result<(), Fail> {
     let start = start_with(alloc, 0, 0, (0, 3))?;
     let (link, opening) = WordLink::new(alloc, Params::new(1, 4)?, &start)?;
     let (send, recv) = link.split(alloc, opening, script_of_losses(alloc)?)?;
-    ask_and_finish(&rt, send, recv, &SCRIPTED)?;
+    ask_and_finish(&rt, &(), send, recv, &SCRIPTED)?;
     Ok(())
 }
 
@@ -279,7 +284,7 @@ fn fill<S: SendSide<Pass = ()>, T: RecvSide<Pass = ()>, R: Abort>(
             Ask::SendAck(Effect::Sent),
             Ask::PollAck(Effect::Acked),
         ];
-        ask_all(rt, send, recv, &round)?;
+        ask_all(rt, &(), send, recv, &round)?;
     }
     Ok(MOST_ROUNDS)
 }
@@ -296,7 +301,7 @@ fn look_at_the_close<S: SendSide<Pass = ()>, T: RecvSide<Pass = ()>, R: Abort>(
         Ask::Close(Effect::Closed),
         Ask::PollFrame(FrameSeen::Closed),
     ];
-    ask_all(rt, send, recv, &close)?;
+    ask_all(rt, &(), send, recv, &close)?;
     assert!(rt; room(recv) == full, "the close");
     Ok(())
 }
@@ -309,12 +314,24 @@ fn look_without_a_place<S: SendSide<Pass = ()>, T: RecvSide<Pass = ()>, R: Abort
     mut recv: T,
 ) -> Result<(), AllocError> {
     let empty = room(&recv);
-    ask_one(rt, &mut send, &mut recv, Ask::PollFrame(FrameSeen::Nothing))?;
+    ask_one(
+        rt,
+        &(),
+        &mut send,
+        &mut recv,
+        Ask::PollFrame(FrameSeen::Nothing),
+    )?;
     assert!(rt; room(&recv) == empty, "an empty word");
 
     let next = fill(rt, &mut send, &mut recv, 0)?;
     let full = room(&recv);
-    ask_one(rt, &mut send, &mut recv, Ask::PollFrame(FrameSeen::Old))?;
+    ask_one(
+        rt,
+        &(),
+        &mut send,
+        &mut recv,
+        Ask::PollFrame(FrameSeen::Old),
+    )?;
     assert!(rt; room(&recv) == full, "an old label");
 
     let round = [
@@ -324,7 +341,7 @@ fn look_without_a_place<S: SendSide<Pass = ()>, T: RecvSide<Pass = ()>, R: Abort
         Ask::SendAck(Effect::Sent),
         Ask::PollAck(Effect::Acked),
     ];
-    ask_all(rt, &mut send, &mut recv, &round)?;
+    ask_all(rt, &(), &mut send, &mut recv, &round)?;
     assert!(rt; room(&recv) > full, "another label");
     look_at_the_close(rt, &mut send, &mut recv)
 }
