@@ -1,5 +1,5 @@
 -- Numbers of entries.
-use Rattle.std.proofs.Common.{nat_lt, ◌≡◌, ℕ, suc, false, List, [], ◌∷◌, length, replicate, Option, Some, None, Result, Ok, Err, refl, sym, ap, ◌∙◌}
+use Rattle.std.proofs.Common.{nat_lt, ◌≡◌, ℕ, suc, false, List, [], ◌∷◌, length, replicate, All, Option, Some, None, Result, Ok, Err, refl, sym, ap, ◌∙◌}
 use Rattle.std.proofs.lemmas.Bool.{eqb-true, ltb-false, or_parts}
 use Rattle.std.proofs.lemmas.List.{length-replicate}
 use Rattle.stab_json.specs.Checks.{◌>>=◌}
@@ -7,7 +7,7 @@ use Rattle.stab_script.specs.declared.fault.ScriptFault.{ScriptFault}
 use Rattle.stab_script.specs.declared.script_entry.ScriptEntry.{ScriptEntry}
 use Rattle.stab_script.specs.MadeScripts.{made}
 use Rattle.stab_script.specs.Scripts.{Acts, no_acts}
-use Rattle.stab_frames.specs.Parameters.{Parameters}
+use Rattle.stab_frames.specs.Parameters.{Parameters, AreLawful}
 use Rattle.stab_core.specs.declared.start.Start.{Start}
 use Rattle.stab_core.specs.Replay.{clean_start}
 use Rattle.stab_tree.specs.Nodes.{Nodes}
@@ -32,7 +32,7 @@ length_made [] scripts is = let same : [] ≡ scripts = cc in sym (ap length sam
 length_made (entry ∷ entries) scripts is = length_more (made entry) (all_made entries) (length entries) scripts (length_made entries) is
 
 -- a list that is not miscounted has one entry for each link
-right_number : {X : Type 0} (links : ℕ) (xs : List X) → are_miscounted links (Some xs) ≡ false → length xs ≡ links
+pub right_number : {X : Type 0} (links : ℕ) (xs : List X) → are_miscounted links (Some xs) ≡ false → length xs ≡ links
 right_number links xs right = eqb-true (length xs) links (Rattle.std.proofs.lemmas.Bool.not-false _ right)
 
 length_scripts : (links : ℕ) (entries : Option (List ScriptEntry)) (scripts : List Acts)
@@ -51,10 +51,12 @@ pub script_each : (m : Members) (t : Nodes) (n : ℕ) (scripts : List Acts)
 script_each m t n scripts counted each made = length_scripts n m.scripts scripts counted.one_script_each made ∙ each
 
 -- members whose numbers of entries and turns are right are those of a job
-pub parts_of_job : (m : Members) (t : Nodes) (params : Parameters) (n : ℕ) (starts : List Start) (scripts : List Acts) (events : List TreeEvent)
-    → AreCounted (links t) m → length scripts ≡ links t → n ≡ links t → starts ≡ starts_of n m.starts → are_out_of_range m.turns ≡ false
+pub parts_of_job : (m : Members) (t : Nodes) (params : List Parameters) (n : ℕ) (starts : List Start) (scripts : List Acts) (events : List TreeEvent)
+    → length params ≡ links t → All AreLawful params → AreCounted (links t) m → length scripts ≡ links t → n ≡ links t → starts ≡ starts_of n m.starts → are_out_of_range m.turns ≡ false
     → IsJob (record { params = params; tree = t; items = m.items; starts = starts; scripts = scripts; turns = m.turns; schedule = events })
-parts_of_job m t params n starts scripts events counted script_each each are_starts in_range = record {
+parts_of_job m t params n starts scripts events params_each lawful counted script_each each are_starts in_range = record {
+  one_params_each = params_each;
+  lawful_params = lawful;
   one_start_each = ap length are_starts ∙ length_starts n m.starts (rw each counted.one_start_each) ∙ each;
   one_script_each = script_each;
   few_items = ltb-false most_items (length m.items) counted.few_items;

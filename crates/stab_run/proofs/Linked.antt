@@ -1,6 +1,6 @@
 -- Starts and scripts, link by link.
-use Rattle.std.proofs.Common.{◌≡◌, ◌<◌, ℕ, ◌+◌, List, [], ◌∷◌, ◌++◌, length, map, take, drop, get_or, replicate, Result, Ok, Err, refl, sym, ap, ◌∙◌, append_assoc}
-use Rattle.std.proofs.lemmas.List.{replicate-append-replicate, append-nil, drop_more, length-map, map-append, map_more}
+use Rattle.std.proofs.Common.{◌≡◌, ◌<◌, ℕ, ◌+◌, List, [], ◌∷◌, ◌++◌, length, map, take, get_or, replicate, Result, Ok, Err, refl, sym, ap, ◌∙◌, append_assoc}
+use Rattle.std.proofs.lemmas.List.{replicate-append-replicate, append-nil, length-map, map-append, map_more}
 use Rattle.stab_json.specs.Checks.{◌>>=◌}
 use Rattle.stab_script.specs.declared.fault.ScriptFault.{ScriptFault}
 use Rattle.stab_script.specs.declared.script_entry.ScriptEntry.{ScriptEntry}
@@ -12,20 +12,20 @@ use Rattle.stab_run.specs.JobLinks.{all_made}
 pub one_more_alike : {A : Type 0} (n : ℕ) (x : A) → replicate n x ++ x ∷ [] ≡ replicate (n + 1) x
 one_more_alike n x = replicate-append-replicate n 1 x
 
--- the scripts so far, and then the others, if they are made
-abbrev pub made_after : List Acts → Result (List Acts) ScriptFault → Result (List Acts) ScriptFault
-made_after scripts (Ok others) = Ok (scripts ++ others)
-made_after scripts (Err fault) = Err fault
+-- what was made so far, and then the others, if they are made
+abbrev pub made_after : {A F : Type 0} → List A → Result (List A) F → Result (List A) F
+made_after made (Ok others) = Ok (made ++ others)
+made_after made (Err fault) = Err fault
 
--- before the first script there was none
-pub made_at_first : (o : Result (List Acts) ScriptFault) → o ≡ made_after [] o
-made_at_first (Ok scripts) = refl
+-- before the first there was none
+pub made_at_first : {A F : Type 0} (o : Result (List A) F) → o ≡ made_after [] o
+made_at_first (Ok made) = refl
 made_at_first (Err fault) = refl
 
-one_more : (scripts : List Acts) (script : Acts) (others : Result (List Acts) ScriptFault)
-    → made_after scripts (others >>= (λ more. Ok (script ∷ more))) ≡ made_after (scripts ++ script ∷ []) others
-one_more scripts script (Ok more) = ap Ok (sym (append_assoc scripts (script ∷ []) more))
-one_more scripts script (Err fault) = refl
+pub one_more : {A F : Type 0} (made : List A) (one : A) (others : Result (List A) F)
+    → made_after made (others >>= (λ more. Ok (one ∷ more))) ≡ made_after (made ++ one ∷ []) others
+one_more made one (Ok more) = ap Ok (sym (append_assoc made (one ∷ []) more))
+one_more made one (Err fault) = refl
 
 module _ (whole : Result (List Acts) ScriptFault) (scripts : List Acts) (entry : ScriptEntry) (others : List ScriptEntry) (so_far : whole ≡ made_after scripts (all_made (entry ∷ others))) where
   -- one script more was made
@@ -49,18 +49,6 @@ one_more_end view made_of ends end xs place x copy within read same shows so_far
     map-append view ends (end ∷ [])
     ∙ (ap (λ front. front ++ view end ∷ []) so_far
     ∙ (ap (λ y. map made_of (take place xs) ++ y ∷ []) next ∙ sym (map_more made_of xs place x within)))
-
--- where the ends so far, and then those of the entries that are left, are all ends, so it is with one more
-pub one_more_of : {E F X : Type 0} (view : E → F) (made_of : X → F) (ends : List E) (end : E) (xs : List X) (i : ℕ) (x : X)
-    → i < length xs → x ≡ get_or xs i x → view end ≡ made_of x → map view ends ++ map made_of (drop i xs) ≡ map made_of xs
-    → map view (ends ++ end ∷ []) ++ map made_of (drop (i + 1) xs) ≡ map made_of xs
-one_more_of view made_of ends end xs i x within read shows so_far =
-    let after = map made_of (drop (i + 1) xs) in
-    let left : map made_of (drop i xs) ≡ made_of x ∷ after =
-    ap (λ ys. map made_of ys) (drop_more xs i x within) ∙ ap (λ y. made_of y ∷ after) (sym read) in
-    ap (λ front. front ++ after) (map-append view ends (end ∷ []))
-    ∙ (append_assoc (map view ends) (view end ∷ []) after
-    ∙ (ap (λ y. map view ends ++ y ∷ after) shows ∙ (ap (λ rest. map view ends ++ rest) (sym left) ∙ so_far)))
 
 -- there are as many ends as entries that they are made of
 pub as_many_made : {E F X : Type 0} (view : E → F) (made_of : X → F) (ends : List E) (xs : List X)

@@ -1,7 +1,6 @@
 -- Lists of which the entries belong together, one by one: links and what there is one of for each.
-use Rattle.std.proofs.Common.{◌≡◌, ◌<◌, ◌+◌, ℕ, zero, suc, List, [], ◌∷◌, ◌++◌, length, map, take, drop, get_or, All, Some, None, Option, refl, sym, ap, ◌∙◌, subst, arith}
+use Rattle.std.proofs.Common.{◌≡◌, ◌<◌, ◌+◌, ℕ, zero, suc, List, [], ◌∷◌, ◌++◌, length, map, take, drop, get_or, Some, None, Option, refl, sym, ap, ◌∙◌, subst, arith}
 use Rattle.std.proofs.lemmas.List.{drop_more, length-map, take_more}
-use Rattle.std.proofs.lemmas.List.Elements.{All-cons, All-nil}
 use Rattle.std.proofs.lemmas.Option.{none-some, same_Some}
 use Rattle.std.specs.List.{AllZip}
 use Rattle.stab_workers.specs.ByNode.{entry_into}
@@ -36,6 +35,36 @@ module _ {A B : Type 0} (R : A → B → Type 0) where
       subst (λ zs. AllZip R zs (y ∷ ys)) (drop_more xs place x within) (subst (λ zs. AllZip R (drop place xs) zs) first all) in
       (subst (λ z. R z y) (sym read) both.0, both.1)
 
+  -- the entries at one place are paired
+  pub paired_at : (xs : List A) (ys : List B) (place : ℕ) (x : A) (y : B) → place < length xs → x ≡ get_or xs place x → y ≡ get_or ys place y
+      → AllZip R xs ys → R x y
+  paired_at [] ys place x y within read_x read_y all = absurd (omega (arith, within))
+  paired_at (v ∷ vs) [] place x y within read_x read_y all = absurd all
+  paired_at (v ∷ vs) (w ∷ ws) zero x y within read_x read_y all = subst (λ a. R a y) (sym read_x) (subst (λ b. R v b) (sym read_y) all.0)
+  paired_at (v ∷ vs) (w ∷ ws) (suc place) x y within read_x read_y all = paired_at vs ws place x y (omega (arith, within)) read_x read_y all.1
+
+  -- where the entries before a place are paired, and those at it, so are these together
+  pub one_more_pair : (xs : List A) (ys : List B) (place : ℕ) (x : A) (y : B) → place < length xs → place < length ys
+      → x ≡ get_or xs place x → y ≡ get_or ys place y
+      → AllZip R (take place xs) (take place ys) → R x y → AllZip R (take (place + 1) xs) (take (place + 1) ys)
+  one_more_pair xs ys place x y in_xs in_ys read_x read_y so_far next =
+      subst (λ zs. AllZip R (take (place + 1) xs) zs) (sym (take_more ys place y in_ys))
+      (one_more_paired xs (take place ys) place x (get_or ys place y) in_xs read_x so_far (subst (λ b. R x b) read_y next))
+
+  -- what is paired is paired at the link into each node
+  pub paired_by_child : (parents : List (Option ℕ)) (xs : List A) (ys : List B) (node : ℕ) (x : A) (y : B) → AllZip R xs ys
+      → entry_into parents xs node ≡ Some x → entry_into parents ys node ≡ Some y → R x y
+  paired_by_child [] xs ys node x y all is_x is_y = absurd (none-some x is_x)
+  paired_by_child (None ∷ parents) xs ys zero x y all is_x is_y = absurd (none-some x is_x)
+  paired_by_child (None ∷ parents) xs ys (suc node) x y all is_x is_y = paired_by_child parents xs ys node x y all is_x is_y
+  paired_by_child (Some q ∷ parents) [] ys zero x y all is_x is_y = absurd (none-some x is_x)
+  paired_by_child (Some q ∷ parents) [] [] (suc node) x y all is_x is_y = paired_by_child parents [] [] node x y all is_x is_y
+  paired_by_child (Some q ∷ parents) [] (w ∷ ws) (suc node) x y all is_x is_y = absurd all
+  paired_by_child (Some q ∷ parents) (v ∷ vs) [] node x y all is_x is_y = absurd all
+  paired_by_child (Some q ∷ parents) (v ∷ vs) (w ∷ ws) zero x y all is_x is_y =
+      subst (λ a. R a y) (same_Some v x is_x) (subst (λ b. R v b) (same_Some w y is_y) all.0)
+  paired_by_child (Some q ∷ parents) (v ∷ vs) (w ∷ ws) (suc node) x y all is_x is_y = paired_by_child parents vs ws node x y all.1 is_x is_y
+
   -- there are as many
   pub as_many_paired : (xs : List A) (ys : List B) → AllZip R xs ys → length ys ≡ length xs
   as_many_paired [] [] all = refl
@@ -56,17 +85,22 @@ pub as_many_alike : {A B C N : Type 0} (R : A → B → Type 0) (f : B → N) (g
 as_many_alike R f g xs ys zs all same =
     always_paired xs zs (sym (length-map zs g) ∙ (ap (λ ns. length ns) same ∙ (length-map ys f ∙ as_many_paired R xs ys all)))
 
+-- where each entry shows the name of its link, and others show the same in the same order, each of these shows that of its link
+pub paired_named : {X A B C : Type 0} (name : X → A) (f : B → A) (g : C → A) (xs : List X) (ys : List B) (zs : List C)
+    → AllZip (λ x y. f y ≡ name x) xs ys → map g zs ≡ map f ys → AllZip (λ x z. g z ≡ name x) xs zs
+paired_named name f g [] [] [] all same = tt
+paired_named name f g [] [] (z ∷ zs) all same = absurd (omega (arith, ap length same))
+paired_named name f g [] (y ∷ ys) zs all same = absurd all
+paired_named name f g (x ∷ xs) [] zs all same = absurd all
+paired_named name f g (x ∷ xs) (y ∷ ys) [] all same = absurd (omega (arith, ap length same))
+paired_named name f g (x ∷ xs) (y ∷ ys) (z ∷ zs) all same =
+    let first : g z ≡ f y = ap (λ ws. get_or ws 0 (name x)) same in
+    (first ∙ all.0, paired_named name f g xs ys zs all.1 (ap (λ ws. drop 1 ws) same))
+
 -- entries of one link each, and others that are of the same links in the same order
 pub paired_alike : {A B C : Type 0} (f : B → A) (g : C → A) (xs : List A) (ys : List B) (zs : List C) → AllZip (λ x y. f y ≡ x) xs ys
     → map g zs ≡ map f ys → AllZip (λ x z. g z ≡ x) xs zs
-paired_alike f g [] [] [] all same = tt
-paired_alike f g [] [] (z ∷ zs) all same = absurd (omega (arith, ap length same))
-paired_alike f g [] (y ∷ ys) zs all same = absurd all
-paired_alike f g (x ∷ xs) [] zs all same = absurd all
-paired_alike f g (x ∷ xs) (y ∷ ys) [] all same = absurd (omega (arith, ap length same))
-paired_alike f g (x ∷ xs) (y ∷ ys) (z ∷ zs) all same =
-    let first : g z ≡ f y = ap (λ ws. get_or ws 0 x) same in
-    (first ∙ all.0, paired_alike f g xs ys zs all.1 (ap (λ ws. drop 1 ws) same))
+paired_alike f g xs ys zs all same = paired_named (λ x. x) f g xs ys zs all same
 
 -- what is read of the entry into a node is that of an entry
 pub entry_read : {A B : Type 0} (f : A → B) (parents : List (Option ℕ)) (xs : List A) (node : ℕ) (y : B) → entry_into parents (map f xs) node ≡ Some y

@@ -9,7 +9,7 @@ use Rattle.stab_tree.specs.Links.{links_from, links_of}
 use Rattle.stab_tree.specs.Nodes.{parent_at}
 use Rattle.stab_treecore.specs.ByChild.{by_child}
 use Rattle.stab_workers.specs.ByNode.{entry_into}
-use Rattle.stab_run.specs.LinkRuns.{AreSettled, AreSettledBefore, IsSettled, acked_of}
+use Rattle.stab_run.specs.LinkRuns.{AreSettled, AreSettledBefore, HoldsInto, HoldsOfFirst, IsSettled, acked_of}
 
 -- there is no link into a node without a parent
 pub no_link_into : {A : Type 0} (parents : List (Option ℕ)) (xs : List A) (node : ℕ) → parent_at parents node ≡ None
@@ -63,6 +63,23 @@ module _ {A : Type 0} (parents : List (Option ℕ)) (all : List A) (node : ℕ) 
         (sym (ap (λ xs. entry_into (Some parent ∷ drop (node + 1) parents) xs 0) first)
         ∙ (sym (ap (λ ps. entry_into ps old 0) rest_of_child)
         ∙ (sym (before.at 0) ∙ (ap (λ k. entry_into parents all k) place ∙ found))))
+
+-- what holds of the first link that is left holds of the link into this child
+pub holds_into : (P : Given → Type 0) (parents : List (Option ℕ)) (links : List Given) (node parent : ℕ) (left : List Given)
+    → node < length parents → parent_at parents node ≡ Some parent → IsLeftOf parents links left node → HoldsOfFirst P left
+    → HoldsInto P parents links node
+holds_into P parents links node parent [] within is before first = absurd first
+holds_into P parents links node parent (link ∷ left) within is before first =
+    let place : node ≡ node + 0 = omega arith in
+    let rest : drop node parents ≡ Some parent ∷ drop (node + 1) parents =
+    drop_more parents node None within ∙ ap (λ o. o ∷ drop (node + 1) parents) is in
+    record {
+      link = link;
+      leads =
+          ap (λ k. entry_into parents links k) place
+          ∙ (before.at 0 ∙ ap (λ ps. entry_into ps (link ∷ left) 0) rest);
+      holds = first;
+    }
 
 -- the accounts of the links into the nodes before this one are settled
 abbrev pub SettledBefore : List (Option ℕ) → List Given → List Sender → List Receiver → ℕ → Type 0

@@ -2,7 +2,7 @@ ghost use Rattle.std.specs.Prelude.{◌≡◌};
 
 use stab_frames::ParamsFault;
 use stab_script::ScriptFault;
-use stab_tree::TreeFault;
+use stab_tree::{NodeId, TreeFault};
 use std::alloc::AllocError;
 use thiserror::Error;
 
@@ -20,7 +20,7 @@ pub enum JobFault {
     /// not looked at.
     #[error("job: wrong shape")]
     Shape,
-    /// The capacity and the number of labels are no parameters of a link.
+    /// The job's own capacity and number of labels are no parameters of a link.
     #[error("{0}")]
     Params(ParamsFault),
     /// The value of the member `tree` is no tree.
@@ -50,6 +50,13 @@ pub enum JobFault {
     /// An entry of the schedule names a node that the tree does not have.
     #[error("job: unknown node")]
     UnknownNode,
+    /// There is not one entry of the links for each link.
+    #[error("job: wrong number of links")]
+    LinkCount,
+    /// The numbers of a link's own entry are no parameters of a link; of several such links the
+    /// first is named, by its child.
+    #[error("{1}")]
+    LinkParams(NodeId, ParamsFault),
     /// Memory was refused.
     #[error("out of memory")]
     Memory,

@@ -7,12 +7,12 @@ use stab_tree::Tree;
 use stab_treecore::TreeEvent;
 use std::marker::Model;
 
-/// What a run goes by: the parameters of every link, the tree, the items that its root publishes,
-/// a start and a script for each link in the file order of their children, the number of turns, and
-/// a schedule. No method takes memory.
+/// What a run goes by: the tree, parameters, a start and a script for each of its links in the file
+/// order of their children, the items that the root publishes, the number of turns, and a schedule.
+/// No method takes memory.
 #[derive(Debug, Drop)]
 pub struct Job {
-    params: Params,
+    params: Sequence<Params>,
     tree: Tree,
     items: Sequence<Item>,
     starts: Sequence<Start>,
@@ -52,7 +52,7 @@ impl Job {
 
     /// The job of these parts.
     pub(crate) fn from_parts(
-        params: Params,
+        params: Sequence<Params>,
         tree: Tree,
         items: Sequence<Item>,
         starts: Sequence<Start>,
@@ -90,15 +90,15 @@ impl Job {
         }
     }
 
-    /// The parameters of every link.
-    pub fn params(&self) -> Params
-        ensures params { result ≡ self.now.params }
+    /// The parameters of the links: one entry for each link, in the file order of their children.
+    pub fn params(&self) -> &[Params]
+        ensures params { result.now ≡ self.now.params }
         ensures job { IsJob self.now }
     {
-        self.params
+        self.params.as_slice()
     }
 
-    /// The tree, whose links the starts and scripts are for.
+    /// The tree, whose links the parameters, starts and scripts are for.
     pub fn tree(&self) -> &Tree
         ensures tree { result.now ≡ self.now.tree }
         ensures job { IsJob self.now }

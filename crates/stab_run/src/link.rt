@@ -42,8 +42,8 @@ pub(crate) trait RunLink: Drop {
     // which parameters such a link can have
     ghost can_have: { Parameters → Type 0 };
 
-    // what is known where settling is refused
-    ghost may_differ: { Type 0 };
+    // what is known of what a link was given where settling it is refused
+    ghost may_differ: { Given → Type 0 };
 
     /// A link at a lawful start, and what splits it.
     fn make(
@@ -64,7 +64,7 @@ pub(crate) trait RunLink: Drop {
         ensures send { IfOk result (λ settled. settled.send ≡ sent send) }
         ensures recv { IfOk result (λ settled. settled.recv ≡ received recv) }
         ensures settled { OnOk result (IsSettled (given self) (sent send) (received recv)) }
-        ensures refused { IfErr result (λ fault. may_differ) };
+        ensures refused { IfErr result (λ fault. may_differ (given self)) };
 }
 
 /// A kind of link that is split into two ends, which borrow it; their calls take a runtime value of

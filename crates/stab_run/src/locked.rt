@@ -1,6 +1,7 @@
 //! The run of a job by one worker per node, over links behind locks.
 
-ghost use Rattle.std.specs.Prelude.{◌≡◌, ◌≢◌, ℕ, ◌<◌, true, IfOk, IfErr, OnOk, All, length};
+ghost use Rattle.std.specs.List.{AllZip};
+ghost use Rattle.std.specs.Prelude.{◌≡◌, ◌≢◌, ℕ, ◌<◌, true, IfOk, IfErr, OnOk, length};
 ghost use Rattle.stab_core.specs.Replay.{IsLawful};
 ghost use Rattle.stab_core.specs.declared.start.StartFault.{StartFault};
 ghost use Rattle.stab_lock.specs.declared.settle.SettleFault.{SettleFault};
@@ -54,7 +55,7 @@ impl RunLink for LockLink {
 
     ghost can_have = { λ p. ⊤ };
 
-    ghost may_differ = { ⊤ };
+    ghost may_differ = { λ link. ⊤ };
 
     fn make(alloc: Global, params: Params, start: &Start) -> Result<(LockLink, ()), AllocError> {
         match LockLink::new(alloc, params, start.copy(alloc)?) {
@@ -105,10 +106,11 @@ impl<'a, R> SplitLink<'a, R> for LockLink {
 /// agreed with the link's own history.
 ///
 /// Whatever is in the links at the start, whatever is lost or repeated and however the workers'
-/// steps interleave: a node at depth d received at most d times c strays from the links on its
-/// path, then published items in their order, each at most once, none missing before its last one
-/// except among the first d(2c + 1). Where the worker of each node above it ended with its
-/// upstream, none is missing at all except among these.
+/// steps interleave: with C the sum of the capacities c of the links on a node's path to the root,
+/// and M the sum of their 2c + 1, the node received at most C strays from these links, then
+/// published items in their order, each at most once, none missing before its last one except among
+/// the first M. Where the worker of each node above it ended with its upstream, none is missing at
+/// all except among these.
 pub fn run_locked<R: Threads + Wait + Send + Sync, G: Gate + Sync>(
     rt: &R,
     alloc: Global,
@@ -116,7 +118,7 @@ pub fn run_locked<R: Threads + Wait + Send + Sync, G: Gate + Sync>(
     gate: &G,
 ) -> Result<Report, RunFault>
     ensures nodes { IfOk result (λ report. OnePerNode job.now.tree.parents report) }
-    ensures lawful { OnOk result (All (IsLawful job.now.params) job.now.starts) }
+    ensures lawful { OnOk result (AllZip IsLawful job.now.params job.now.starts) }
     ensures root { IfOk result (λ report.
         RootHas job.now.tree.parents job.now.items report) }
     ensures edges { IfOk result (λ report.
@@ -125,13 +127,13 @@ pub fn run_locked<R: Threads + Wait + Send + Sync, G: Gate + Sync>(
 
     // The laws of every node.
     ensures half_tree_law { IfOk result (λ report.
-        HalfTreeLawAtNodes job.now.params.capacity job.now.tree.parents job.now.starts
+        HalfTreeLawAtNodes job.now.params job.now.tree.parents job.now.starts
         job.now.items (received_at report.received)) }
     ensures tree_law { IfOk result (λ report.
-        TreeLawAtNodes job.now.params.capacity job.now.tree.parents job.now.starts
+        TreeLawAtNodes job.now.params job.now.tree.parents job.now.starts
         job.now.items (received_at report.received)) }
     ensures complete { IfOk result (λ report.
-        CompleteBelowEnded job.now.params.capacity job.now.tree.parents job.now.starts
+        CompleteBelowEnded job.now.params job.now.tree.parents job.now.starts
         job.now.items report) }
 
     // What each worker asked of the gate.
@@ -146,7 +148,7 @@ pub fn run_locked<R: Threads + Wait + Send + Sync, G: Gate + Sync>(
         → fault ≡ RunFault.Start child reason
         → IsFirstUnlawful job.now.params job.now.tree.parents job.now.starts child reason) }
     ensures starts_first { IfErr result (λ fault. comes_after_starts fault ≡ true
-        → All (IsLawful job.now.params) job.now.starts) }
+        → AllZip IsLawful job.now.params job.now.starts) }
     ensures unstarted { IfErr result (λ fault. (node : ℕ) → fault ≡ RunFault.Thread node
         → IsFirstUnstarted (length job.now.tree.parents) (G.is_done gate.now) node) }
     ensures gave_up { IfErr result (λ fault. (node : ℕ) (why : NodeFault)

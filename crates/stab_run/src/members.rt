@@ -5,6 +5,7 @@ ghost use Rattle.stab_json.specs.Values.{item_number, list_of};
 ghost use Rattle.stab_run.specs.JobMembers.{members, if_there, turns_of, entries_of};
 ghost use Rattle.stab_run.specs.LentMembers.{members_lent};
 
+use crate::link_entry::LinkEntry;
 use serde_json::Value;
 use stab_core::Start;
 use stab_frames::{Item, Sequence};
@@ -27,6 +28,7 @@ pub(crate) struct LentMembers<'v> {
     pub(crate) items: Sequence<Item>,
     pub(crate) starts: Option<Sequence<Start>>,
     pub(crate) scripts: Option<Sequence<ScriptEntry>>,
+    pub(crate) links: Option<Sequence<LinkEntry>>,
 }
 
 /// The turns that a job names, or the default where it names none.
@@ -108,6 +110,9 @@ pub(crate) fn read_members<'v>(
     let Some(scripts) = list_member::<ScriptEntry>(alloc, value, "scripts")? else {
         return Ok(None);
     };
+    let Some(links) = list_member::<LinkEntry>(alloc, value, "links")? else {
+        return Ok(None);
+    };
     Ok(Some(LentMembers {
         capacity,
         labels,
@@ -117,5 +122,6 @@ pub(crate) fn read_members<'v>(
         items,
         starts,
         scripts,
+        links,
     }))
 }

@@ -6,13 +6,15 @@ ghost use Rattle.stab_run.specs.JobLinks.{are_miscounted};
 ghost use Rattle.stab_run.specs.JobValues.{links};
 ghost use Rattle.stab_run.specs.Jobs.{AreCounted, are_out_of_range, is_known_version};
 ghost use Rattle.stab_run.specs.Jobs.{job, job_on_tree, job_of_scripts};
+ghost use Rattle.stab_run.specs.LinkParams.{link_params};
 ghost use Rattle.stab_run.specs.LentMembers.{members_lent};
 ghost use Rattle.stab_run.specs.Refusals.{is_of_value};
 ghost use Rattle.stab_tree.specs.Nodes.{Nodes};
 
 use crate::fault::JobFault;
 use crate::job::Job;
-use crate::links::{make_scripts, starts_of};
+use crate::link_entry::LinkEntry;
+use crate::links::{make_scripts, params_of, starts_of};
 use crate::members::{LentMembers, read_members};
 use crate::schedule::read_schedule;
 use serde_json::Value;
@@ -110,8 +112,10 @@ fn job_of_scripts(
         → job_of_scripts tree (members_lent members.entry) scripts ≡ Err fault) }
     ensures reported { IfErr result (λ fault. is_of_value fault ≡ true) }
 {
+    let _lawful = params.capacity();
     let turns = turns_in_range(members.turns)?;
     let schedule = read_schedule(alloc, &tree, members.schedule)?;
+    let params = link_params(alloc, &tree, params, &members.links)?;
     let starts = starts_of(alloc, tree.link_count(), members.starts)?;
     Ok(Job::from_parts(
         params,
@@ -134,6 +138,25 @@ fn turns_in_range(turns: u64) -> Result<u32, JobFault>
         return Err(JobFault::TurnsOutOfRange);
     }
     Ok(turns as u32)
+}
+
+/// The parameters of each link, or the first check that the entries of the links fail: there is one
+/// for each link, where any are given, and only then is each looked at.
+fn link_params(
+    alloc: Global,
+    tree: &Tree,
+    of_job: Params,
+    entries: &Option<Sequence<LinkEntry>>,
+) -> Result<Sequence<Params>, JobFault>
+    ensures params { MatchResult result
+        (λ params. link_params tree.now of_job entries.now ≡ Ok params)
+        (λ fault. fault ≢ JobFault.Memory → link_params tree.now of_job entries.now ≡ Err fault) }
+    ensures reported { IfErr result (λ fault. is_of_value fault ≡ true) }
+{
+    if are_miscounted(tree.link_count(), entries) {
+        return Err(JobFault::LinkCount);
+    }
+    params_of(alloc, tree, of_job, entries)
 }
 
 /// Whether the numbers of entries of these members are right over that many links, or the first

@@ -2,10 +2,10 @@
 //! is made of what the workers left.
 
 ghost use Rattle.std.specs.List.{AllZip};
-ghost use Rattle.std.specs.Prelude.{◌≡◌, ℕ, true, All, IfErr, IfOk, map};
+ghost use Rattle.std.specs.Prelude.{◌≡◌, ℕ, true, IfErr, IfOk, map};
 ghost use Rattle.stab_core.specs.Replay.{IsLawful};
 ghost use Rattle.stab_lock.specs.declared.settle.SettleFault.{SettleFault};
-ghost use Rattle.stab_run.specs.LinkRuns.{IsFirstUnsettled, IsRun, given};
+ghost use Rattle.stab_run.specs.LinkRuns.{HoldsInto, IsFirstUnsettled, IsRun, all_given};
 ghost use Rattle.stab_run.specs.Reports.{OnePerNode};
 ghost use Rattle.stab_run.specs.RunFaults.{comes_of_settling};
 ghost use Rattle.stab_run.specs.Runs.{AreExplained, CompleteBelowEnded, HandsOn, RootHas};
@@ -28,8 +28,8 @@ pub(crate) fn report_of<L: RunLink>(
     links: Vec<L>,
     gathered: Gathered<L::RecvDone, L::SendDone>,
 ) -> Result<Report, RunFault>
-    requires given { map L.given links.items ≡ map (given job.now.params) job.now.starts }
-    requires lawful { All (IsLawful job.now.params) job.now.starts }
+    requires given { map L.given links.items ≡ all_given job.now.params job.now.starts }
+    requires lawful { AllZip IsLawful job.now.params job.now.starts }
     requires run { IsRun job.now.tree.parents job.now.items gathered.received.items
         gathered.ended.items (map L.sent gathered.sends.items)
         (map L.received gathered.recvs.items) }
@@ -43,23 +43,25 @@ pub(crate) fn report_of<L: RunLink>(
         AreExplained job.now.params job.now.tree.parents job.now.starts report) }
     ensures handed_on { IfOk result (λ report. HandsOn job.now.tree.parents report) }
     ensures half_tree_law { IfOk result (λ report.
-        HalfTreeLawAtNodes job.now.params.capacity job.now.tree.parents job.now.starts
+        HalfTreeLawAtNodes job.now.params job.now.tree.parents job.now.starts
         job.now.items (received_at report.received)) }
     ensures tree_law { IfOk result (λ report.
-        TreeLawAtNodes job.now.params.capacity job.now.tree.parents job.now.starts
+        TreeLawAtNodes job.now.params job.now.tree.parents job.now.starts
         job.now.items (received_at report.received)) }
     ensures complete { IfOk result (λ report.
-        CompleteBelowEnded job.now.params.capacity job.now.tree.parents job.now.starts
+        CompleteBelowEnded job.now.params job.now.tree.parents job.now.starts
         job.now.items report) }
     ensures unsettled { IfErr result (λ fault. (child : ℕ) (why : SettleFault)
         → fault ≡ RunFault.Settle child why
         → IsFirstUnsettled job.now.params job.now.tree.parents job.now.starts job.now.items child) }
     ensures refused { IfErr result (λ fault. (child : ℕ) (why : SettleFault)
-        → fault ≡ RunFault.Settle child why → L.may_differ) }
+        → fault ≡ RunFault.Settle child why
+        → HoldsInto L.may_differ job.now.tree.parents
+        (all_given job.now.params job.now.starts) child) }
     ensures of_settling { IfErr result (λ fault. comes_of_settling fault ≡ true) }
 {
     let report = settled_report::<L>(alloc, job, links, gathered)?;
-    let _lawful = job.params().capacity();
+    let _lawful = job.params();
     let _tree = job.tree().root();
     laws::explained_reports_obey_the_tree_law();
     laws::nothing_is_missing_below_ended_nodes();
@@ -73,8 +75,8 @@ fn settled_report<L: RunLink>(
     links: Vec<L>,
     gathered: Gathered<L::RecvDone, L::SendDone>,
 ) -> Result<Report, RunFault>
-    requires given { map L.given links.items ≡ map (given job.now.params) job.now.starts }
-    requires lawful { All (IsLawful job.now.params) job.now.starts }
+    requires given { map L.given links.items ≡ all_given job.now.params job.now.starts }
+    requires lawful { AllZip IsLawful job.now.params job.now.starts }
     requires run { IsRun job.now.tree.parents job.now.items gathered.received.items
         gathered.ended.items (map L.sent gathered.sends.items)
         (map L.received gathered.recvs.items) }
@@ -91,7 +93,9 @@ fn settled_report<L: RunLink>(
         → fault ≡ RunFault.Settle child why
         → IsFirstUnsettled job.now.params job.now.tree.parents job.now.starts job.now.items child) }
     ensures refused { IfErr result (λ fault. (child : ℕ) (why : SettleFault)
-        → fault ≡ RunFault.Settle child why → L.may_differ) }
+        → fault ≡ RunFault.Settle child why
+        → HoldsInto L.may_differ job.now.tree.parents
+        (all_given job.now.params job.now.starts) child) }
     ensures of_settling { IfErr result (λ fault. comes_of_settling fault ≡ true) }
 {
     let tree = job.tree();

@@ -1,11 +1,12 @@
 //! The links of a job at their starts.
 
-ghost use Rattle.std.specs.Prelude.{◌≡◌, ℕ, true, All, IfNone, IfOk, IfErr, IfSome, OnOk, length, map};
+ghost use Rattle.std.specs.Prelude.{◌≡◌, ℕ, true, All, IfNone, IfOk, IfErr, IfSome, OnOk};
+ghost use Rattle.std.specs.Prelude.{length, map};
 ghost use Rattle.std.specs.List.{AllZip};
 ghost use Rattle.stab_core.specs.declared.start.StartFault.{StartFault};
 ghost use Rattle.stab_core.specs.Link.{IsReason};
 ghost use Rattle.stab_core.specs.Replay.{IsLawful};
-ghost use Rattle.stab_run.specs.LinkRuns.{given};
+ghost use Rattle.stab_run.specs.LinkRuns.{all_given};
 ghost use Rattle.stab_run.specs.RunFaults.{is_of_start};
 ghost use Rattle.stab_run.specs.Runs.{IsFirstUnlawful};
 ghost use Rattle.stab_tree.specs.Links.{links_of};
@@ -33,18 +34,20 @@ fn unlawful(params: Params, start: &Start) -> Option<StartFault>
     None
 }
 
-/// Refuses the first start that no link can begin from. It takes no memory.
+/// Refuses the first start that its link cannot begin from. It takes no memory.
 #[tactic(auto, using(crate::proofs::Unlawful::first_unlawful))]
-pub(crate) fn check_starts(params: Params, tree: &Tree, starts: &[Start]) -> Result<(), RunFault>
+pub(crate) fn check_starts(params: &[Params], tree: &Tree, starts: &[Start]) -> Result<(), RunFault>
+    requires one_params_each { length params.now ≡ length (links_of tree.now.parents) }
     requires one_start_each { length starts.now ≡ length (links_of tree.now.parents) }
-    ensures lawful { OnOk result (All (IsLawful params) starts.now) }
+    ensures lawful { OnOk result (AllZip IsLawful params.now starts.now) }
     ensures unlawful { IfErr result (λ fault. (child : ℕ) (reason : StartFault)
         → fault ≡ RunFault.Start child reason
-        → IsFirstUnlawful params tree.now.parents starts.now child reason) }
+        → IsFirstUnlawful params.now tree.now.parents starts.now child reason) }
     ensures of_start { IfErr result (λ fault. is_of_start fault ≡ true) }
 {
     for place in 0..tree.link_count() {
-        match unlawful(params, &starts[usize::from(place)]) {
+        let link = usize::from(place);
+        match unlawful(params[link], &starts[link]) {
             None => {}
             Some(fault) => return Err(RunFault::Start(tree.link_child(place), fault)),
         }
@@ -52,21 +55,23 @@ pub(crate) fn check_starts(params: Params, tree: &Tree, starts: &[Start]) -> Res
     Ok(())
 }
 
-/// Each link at its start, and what splits it.
+/// Each link with its parameters at its start, and what splits it.
 pub(crate) fn make_links<L: RunLink>(
     alloc: Global,
-    params: Params,
+    params: &[Params],
     starts: &[Start],
 ) -> Result<(Vec<L>, Vec<L::Opening>), AllocError>
-    requires params { L.can_have params }
-    requires lawful { All (IsLawful params) starts.now }
-    ensures links { IfOk result (λ made. map L.given made.0.items ≡ map (given params) starts.now) }
+    requires params { All L.can_have params.now }
+    requires lawful { AllZip IsLawful params.now starts.now }
+    ensures links { IfOk result (λ made.
+        map L.given made.0.items ≡ all_given params.now starts.now) }
+    ensures one_link_each { IfOk result (λ made. length made.0.items ≡ length starts.now) }
     ensures openings { IfOk result (λ made. AllZip L.opens made.0.items made.1.items) }
 {
     let mut links = Vec::with_capacity(alloc, starts.len())?;
     let mut openings = Vec::with_capacity(alloc, starts.len())?;
-    for start in starts {
-        let (link, opening) = L::make(alloc, params, start)?;
+    'links: for place in 0..starts.len() {
+        let (link, opening) = L::make(alloc, params[place], &starts[place])?;
         links.push_reserved(link);
         openings.push_reserved(opening);
     }

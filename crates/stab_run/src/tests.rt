@@ -1,6 +1,8 @@
 //! Jobs at the values of the worked examples: what each means, and how each is refused.
 
 mod faults;
+mod mixed;
+mod own_params;
 mod parts;
 mod refusals;
 mod runs;

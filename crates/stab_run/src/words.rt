@@ -1,7 +1,8 @@
 //! The run of a job by one worker per node, over links of two words.
 
-ghost use Rattle.std.specs.Prelude.{◌≡◌, ◌≢◌, ℕ, ◌<◌, true, IfOk, IfErr, IsErrAnd, OnOk, All};
-ghost use Rattle.std.specs.Prelude.{length};
+ghost use Rattle.std.specs.List.{AllZip};
+ghost use Rattle.std.specs.Prelude.{◌≡◌, ◌≢◌, ◌↔◌, ℕ, ◌<◌, true, IfOk, IfErr, IsErrAnd, OnOk, All};
+ghost use Rattle.std.specs.Prelude.{IsTrue, length};
 ghost use Rattle.stab_core.specs.Replay.{IsLawful};
 ghost use Rattle.stab_core.specs.declared.start.StartFault.{StartFault};
 ghost use Rattle.stab_lock.specs.declared.settle.SettleFault.{SettleFault};
@@ -10,13 +11,14 @@ ghost use Rattle.stab_node.specs.Turns.{IsOver, IsRefused};
 ghost use Rattle.stab_run.specs.Reports.{OnePerNode};
 ghost use Rattle.stab_run.specs.RunFaults.{comes_after_starts};
 ghost use Rattle.stab_run.specs.Runs.{RootHas, AreExplained, HandsOn, IsFirstUnlawful};
-ghost use Rattle.stab_run.specs.Runs.{CompleteBelowEnded};
+ghost use Rattle.stab_run.specs.Runs.{CompleteBelowEnded, TreeLawByDepth};
 ghost use Rattle.stab_treecore.specs.NodeLaws.{HalfTreeLawAtNodes, TreeLawAtNodes};
 ghost use Rattle.stab_workers.specs.ByNode.{ended_at, received_at};
 ghost use Rattle.stab_workers.specs.FirstFault.{IsFirstToGiveUp, IsFirstUnstarted};
 
 use crate::ends::{run_ends, split_all};
 use crate::job::Job;
+use crate::laws;
 use crate::link::{RunLink, SplitLink};
 use crate::report::Report;
 use crate::run::report_of;
@@ -55,7 +57,7 @@ impl RunLink for WordLink {
 
     ghost can_have = { λ p. p.capacity ≡ 1 };
 
-    ghost may_differ = { ⊥ };
+    ghost may_differ = { λ link. ⊥ };
 
     fn make(
         alloc: Global,
@@ -102,10 +104,17 @@ impl<'a, R> SplitLink<'a, R> for WordLink {
     }
 }
 
-/// Runs a job whose capacity is one: one worker per node, each on a thread of its own, over links
-/// of two words, which have no lock.
+/// Whether each link has room for one entry in each direction.
+fn all_have_one_place(params: &[Params]) -> bool
+    ensures { IsTrue result ↔ All (λ p. p.capacity ≡ 1) params.now }
+{
+    params.iter().all(|its_params| its_params.capacity() == 1)
+}
+
+/// Runs a job whose links all have the capacity one: one worker per node, each on a thread of its
+/// own, over links of two words, which have no lock.
 ///
-/// The capacity is looked at before anything else, and every start before any worker is started;
+/// The capacities are looked at before anything else, and every start before any worker is started;
 /// every worker that was started has ended when this call returns. It answers what each node
 /// received. The two words of each link keep that some events explain what its ends have done, so
 /// nothing is compared in the end, and no call of an end waits: this call waits for the workers
@@ -123,8 +132,8 @@ pub fn run_words<R: Threads + Wait + Send + Sync, G: Gate + Sync>(
     gate: &G,
 ) -> Result<Report, RunFault>
     ensures nodes { IfOk result (λ report. OnePerNode job.now.tree.parents report) }
-    ensures one_place { OnOk result (job.now.params.capacity ≡ 1) }
-    ensures lawful { OnOk result (All (IsLawful job.now.params) job.now.starts) }
+    ensures one_place { OnOk result (All (λ p. p.capacity ≡ 1) job.now.params) }
+    ensures lawful { OnOk result (AllZip IsLawful job.now.params job.now.starts) }
     ensures root { IfOk result (λ report.
         RootHas job.now.tree.parents job.now.items report) }
     ensures edges { IfOk result (λ report.
@@ -133,13 +142,16 @@ pub fn run_words<R: Threads + Wait + Send + Sync, G: Gate + Sync>(
 
     // The laws of every node.
     ensures half_tree_law { IfOk result (λ report.
-        HalfTreeLawAtNodes job.now.params.capacity job.now.tree.parents job.now.starts
+        HalfTreeLawAtNodes job.now.params job.now.tree.parents job.now.starts
         job.now.items (received_at report.received)) }
     ensures tree_law { IfOk result (λ report.
-        TreeLawAtNodes job.now.params.capacity job.now.tree.parents job.now.starts
+        TreeLawAtNodes job.now.params job.now.tree.parents job.now.starts
         job.now.items (received_at report.received)) }
+    ensures tree_law_by_depth { IfOk result (λ report.
+        TreeLawByDepth job.now.tree.parents job.now.starts job.now.items
+        (received_at report.received)) }
     ensures complete { IfOk result (λ report.
-        CompleteBelowEnded job.now.params.capacity job.now.tree.parents job.now.starts
+        CompleteBelowEnded job.now.params job.now.tree.parents job.now.starts
         job.now.items report) }
 
     // What each worker asked of the gate.
@@ -150,14 +162,14 @@ pub fn run_words<R: Threads + Wait + Send + Sync, G: Gate + Sync>(
 
     // Why it is refused.
     ensures one { IfErr result (λ fault.
-        fault ≡ RunFault.CapacityNotOne → job.now.params.capacity ≢ 1) }
-    ensures not_one { job.now.params.capacity ≢ 1
+        fault ≡ RunFault.CapacityNotOne → ¬ All (λ p. p.capacity ≡ 1) job.now.params) }
+    ensures not_one { ¬ All (λ p. p.capacity ≡ 1) job.now.params
         → IsErrAnd result (λ fault. fault ≡ RunFault.CapacityNotOne) }
     ensures unlawful { IfErr result (λ fault. (child : ℕ) (reason : StartFault)
         → fault ≡ RunFault.Start child reason
         → IsFirstUnlawful job.now.params job.now.tree.parents job.now.starts child reason) }
     ensures starts_first { IfErr result (λ fault. comes_after_starts fault ≡ true
-        → All (IsLawful job.now.params) job.now.starts) }
+        → AllZip IsLawful job.now.params job.now.starts) }
     ensures unstarted { IfErr result (λ fault. (node : ℕ) → fault ≡ RunFault.Thread node
         → IsFirstUnstarted (length job.now.tree.parents) (G.is_done gate.now) node) }
     ensures gave_up { IfErr result (λ fault. (node : ℕ) (why : NodeFault)
@@ -170,7 +182,7 @@ pub fn run_words<R: Threads + Wait + Send + Sync, G: Gate + Sync>(
         → fault ≡ RunFault.Node node NodeFault.Gate
         → IsRefused (G.has_passed gate.now node) (G.may_refuse gate.now node) job.now.turns) }
 {
-    if job.params().capacity() != 1 {
+    if !all_have_one_place(job.params()) {
         return Err(RunFault::CapacityNotOne);
     }
     check_starts(job.params(), job.tree(), job.starts())?;
@@ -178,5 +190,7 @@ pub fn run_words<R: Threads + Wait + Send + Sync, G: Gate + Sync>(
     let (sends, recvs) = split_all::<R, WordLink>(alloc, &links, openings, job.scripts())?;
     let gathered = run_ends(rt, &(), alloc, job, sends, recvs, gate)?;
     let report = report_of::<WordLink>(alloc, job, links, gathered)?;
+    let _tree = job.tree().root();
+    laws::tree_law_of_one_place();
     Ok(report)
 }

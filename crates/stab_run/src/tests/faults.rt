@@ -1,7 +1,7 @@
 use crate::JobFault;
 use stab_frames::ParamsFault;
 use stab_script::ScriptFault;
-use stab_tree::TreeFault;
+use stab_tree::{NodeId, TreeFault};
 use std::test::Fail;
 
 #[test]
@@ -17,9 +17,10 @@ fn prints_each_fault_of_a_job(rt: HostRuntime) -> Result<(), Fail> {
         (JobFault::TurnsOutOfRange, "job: turns out of range"),
         (JobFault::Event, "job: bad event"),
         (JobFault::UnknownNode, "job: unknown node"),
+        (JobFault::LinkCount, "job: wrong number of links"),
         (JobFault::Memory, "out of memory"),
     ];
-    for (fault, want) in texts {
+    for &(fault, want) in &texts {
         assert_eq!(rt; fault.to_string(rt.alloc())?.as_str(), want);
     }
     Ok(())
@@ -40,6 +41,18 @@ fn prints_the_fault_of_a_part(rt: HostRuntime) -> Result<(), Fail> {
             JobFault::Params(ParamsFault::LabelsTooMany),
             "job: too many labels",
         ),
+        (
+            JobFault::LinkParams(NodeId::new(1), ParamsFault::CapacityOutOfRange),
+            "job: capacity out of range",
+        ),
+        (
+            JobFault::LinkParams(NodeId::new(2), ParamsFault::LabelsTooFew),
+            "job: too few labels",
+        ),
+        (
+            JobFault::LinkParams(NodeId::new(0), ParamsFault::LabelsTooMany),
+            "job: too many labels",
+        ),
         (JobFault::Tree(TreeFault::Cycle), "tree: cycle"),
         (
             JobFault::Script(ScriptFault::TooLong),
@@ -50,7 +63,7 @@ fn prints_the_fault_of_a_part(rt: HostRuntime) -> Result<(), Fail> {
             "job: rate out of range",
         ),
     ];
-    for (fault, want) in texts {
+    for &(fault, want) in &texts {
         assert_eq!(rt; fault.to_string(rt.alloc())?.as_str(), want);
     }
     Ok(())

@@ -28,9 +28,14 @@ fn joined(alloc: Global, pieces: &[&str]) -> Result<String, AllocError> {
     Ok(text)
 }
 
+/// How bytes are refused as a job, or `None` where they are read.
+fn refusal_of_bytes(alloc: Global, bytes: &[u8]) -> Option<JobFault> {
+    read_job(alloc, bytes).err()
+}
+
 /// How a job is refused, or `None` where it is read.
 fn refusal(alloc: Global, job: &str) -> Option<JobFault> {
-    read_job(alloc, job.as_bytes()).err()
+    refusal_of_bytes(alloc, job.as_bytes())
 }
 
 /// How a job of these pieces is refused, or `None` where it is read.
@@ -77,7 +82,7 @@ fn refuses_values_that_are_no_job(rt: HostRuntime) -> Result<(), Fail> {
             JobFault::Tree(TreeFault::NoRoot),
         ),
     ];
-    for (row, want) in rows {
+    for &(row, want) in &rows {
         assert_eq!(rt; refusal(rt.alloc(), row), Some(want), "{row}");
     }
     Ok(())
@@ -109,7 +114,7 @@ fn refuses_members_that_do_not_fit_the_tree(rt: HostRuntime) -> Result<(), Fail>
             JobFault::Script(ScriptFault::RateOutOfRange),
         ),
     ];
-    for (start, member, want) in rows {
+    for &(start, member, want) in &rows {
         assert_eq!(rt;
             refusal_with(rt.alloc(), start, member)?,
             Some(want),
@@ -123,7 +128,7 @@ fn refuses_members_that_do_not_fit_the_tree(rt: HostRuntime) -> Result<(), Fail>
 fn names_the_first_faulty_script(rt: HostRuntime) -> Result<(), Fail> {
     let rate = r#"{"seed":[42,54],"length":1,"loss":1001,"repeat":0}"#;
     let long = r#"{"seed":[42,54],"length":100001,"loss":0,"repeat":0}"#;
-    for (scripts, want) in [
+    for &(scripts, want) in &[
         ([rate, long], ScriptFault::RateOutOfRange),
         ([long, rate], ScriptFault::TooLong),
         (["null", rate], ScriptFault::RateOutOfRange),
@@ -176,11 +181,11 @@ fn refuses_1000001_events(rt: HostRuntime) -> Result<(), Fail> {
 fn refuses_each_part_of_a_job(rt: HostRuntime) -> Result<(), Fail> {
     let whole = LONE_ROOT.as_bytes();
     for bytes in 0..whole.len() {
-        let cut = read_job(rt.alloc(), &whole[..bytes]);
-        assert_eq!(rt; cut.err(), Some(JobFault::Json), "{bytes}");
+        let cut = refusal_of_bytes(rt.alloc(), &whole[..bytes]);
+        assert_eq!(rt; cut, Some(JobFault::Json), "{bytes}");
     }
-    assert!(rt; read_job(rt.alloc(), whole).is_ok());
-    assert_eq!(rt; read_job(rt.alloc(), &[255]).err(), Some(JobFault::Json));
+    assert_eq!(rt; refusal_of_bytes(rt.alloc(), whole), None);
+    assert_eq!(rt; refusal_of_bytes(rt.alloc(), &[255]), Some(JobFault::Json));
     Ok(())
 }
 
@@ -195,7 +200,7 @@ fn refuses_values_that_are_no_tree(rt: HostRuntime) -> Result<(), Fail> {
         ("null", TreeFault::Shape),
         ("[{}]", TreeFault::Shape),
     ];
-    for (row, want) in rows {
+    for &(row, want) in &rows {
         let pieces = [
             r#"{"capacity":1,"labels":4,"items":[7,8],"tree":"#,
             row,
@@ -223,7 +228,7 @@ fn refuses_wrong_shapes(rt: HostRuntime) -> Result<(), Fail> {
         r#""turns":1.0"#,
         r#""turns":-1"#,
     ];
-    for member in members {
+    for &member in &members {
         let fault = refusal_with(rt.alloc(), LONE_ROOT_WITH, member)?;
         assert_eq!(rt; fault, Some(JobFault::Shape), "{member}");
     }
@@ -237,7 +242,7 @@ fn refuses_wrong_shapes(rt: HostRuntime) -> Result<(), Fail> {
         r#"{"capacity":1,"labels":4,"tree":[]}"#,
         r#"{"capacity":1,"labels":"4","tree":[],"items":[]}"#,
     ];
-    for job in jobs {
+    for &job in &jobs {
         assert_eq!(rt; refusal(rt.alloc(), job), Some(JobFault::Shape), "{job}");
     }
     Ok(())
@@ -245,7 +250,7 @@ fn refuses_wrong_shapes(rt: HostRuntime) -> Result<(), Fail> {
 
 #[test]
 fn refuses_unknown_versions(rt: HostRuntime) -> Result<(), Fail> {
-    for version in ["0", "2", "1.0", r#""1""#, "true", "null", "[1]"] {
+    for &version in &["0", "2", "1.0", r#""1""#, "true", "null", "[1]"] {
         let fault = refusal_with(rt.alloc(), r#"{"version":"#, version)?;
         assert_eq!(rt; fault, Some(JobFault::Version), "{version}");
     }
@@ -269,7 +274,7 @@ fn refuses_bad_events_before_unknown_nodes(rt: HostRuntime) -> Result<(), Fail> 
         r#"["r","lose_ack",-1]"#,
         r#"["r","lose_ack",0,0]"#,
     ];
-    for entry in entries {
+    for &entry in &entries {
         let pieces = [LONE_ROOT_WITH, r#""schedule":[["x","close"],"#, entry, "]}"];
         let fault = refusal_of(rt.alloc(), &pieces)?;
         assert_eq!(rt; fault, Some(JobFault::Event), "{entry}");
@@ -297,7 +302,7 @@ fn checks_in_the_stated_order(rt: HostRuntime) -> Result<(), Fail> {
             JobFault::Tree(TreeFault::Shape),
         ),
     ];
-    for (row, want) in rows {
+    for &(row, want) in &rows {
         assert_eq!(rt; refusal_with(rt.alloc(), "{", row)?, Some(want), "{row}");
     }
     let rows = [
@@ -317,7 +322,7 @@ fn checks_in_the_stated_order(rt: HostRuntime) -> Result<(), Fail> {
             JobFault::UnknownNode,
         ),
     ];
-    for (member, want) in rows {
+    for &(member, want) in &rows {
         let fault = refusal_with(rt.alloc(), PAIR_WITH, member)?;
         assert_eq!(rt; fault, Some(want), "{member}");
     }

@@ -4,7 +4,7 @@
 ghost use Rattle.std.specs.Prelude.{⊤, IfOk};
 ghost use Rattle.stab_run.specs.Reports.{OnePerNode};
 
-use crate::{Job, Report, RunFault, read_job, report_text, run_locked, run_words};
+use crate::{Job, Report, RunFault, read_job, report_text, run_locked, run_mixed, run_words};
 use stab_core::StartFault;
 use stab_node::{Ended, Gate};
 use stab_tree::NodeId;
@@ -157,9 +157,11 @@ pub(super) enum Links {
     Locked,
     /// Links of two words.
     Words,
+    /// Links of two words where the capacity is one, and links behind locks elsewhere.
+    Mixed,
 }
 
-/// Both runs.
+/// The runs whose links are all of one kind.
 pub(super) const BOTH: [Links; 2] = [Links::Locked, Links::Words];
 
 /// The report of a job over such links, under a gate.
@@ -175,6 +177,7 @@ pub(super) fn run_over<R: Threads + Wait + Send + Sync, G: Gate + Sync>(
     match links {
         Links::Locked => run_locked(rt, alloc, job, gate),
         Links::Words => run_words(rt, alloc, job, gate),
+        Links::Mixed => run_mixed(rt, alloc, job, gate),
     }
 }
 
@@ -190,32 +193,72 @@ fn text_of_run<R: Threads + Wait + Send + Sync>(
     Ok(report_text(alloc, job.tree(), &report)?)
 }
 
+/// The same, where so many nodes begin their turns in this order.
+fn text_in_order<R: Threads + Wait + Send + Sync>(
+    rt: &R,
+    alloc: Global,
+    links: Links,
+    job: &Job,
+    order: Order,
+    count: u16,
+) -> Result<String, Fail> {
+    let gate = OrderedGate::for_nodes(order, count);
+    text_of_run(rt, alloc, links, job, &gate)
+}
+
+/// That text is this one.
+fn assert_printed<R: Threads + Wait + Send + Sync + Abort>(
+    rt: &R,
+    alloc: Global,
+    links: Links,
+    job: &Job,
+    order: Order,
+    count: u16,
+    expected: &str,
+) -> Result<(), Fail> {
+    let printed = text_in_order(rt, alloc, links, job, order, count)?;
+    assert!(rt;
+        printed.as_str() == expected,
+        "{links:?}, {order:?}: {printed}"
+    );
+    Ok(())
+}
+
 #[test]
 fn a_lone_root_runs(rt: HostRuntime) -> Result<(), Fail> {
     let text = r#"{"capacity":1,"labels":4,"tree":[{"name":"r"}],"items":[7,8]}"#;
     let job = read_job(rt.alloc(), text.as_bytes())?;
     let expected = "r depth 0 received 2 acked - ended upstream\nitems: 7 8\n";
-    for links in BOTH {
-        let gate = OrderedGate::for_nodes(Order::Paced, 1);
-        let printed = text_of_run(&rt, rt.alloc(), links, &job, &gate)?;
-        assert!(rt; printed.as_str() == expected, "{links:?}: {printed}");
+    for &links in &BOTH {
+        assert_printed(&rt, rt.alloc(), links, &job, Order::Paced, 1, expected)?;
     }
     Ok(())
 }
 
-/// How a run of this job of two nodes is refused, whose gate is never asked.
+/// Why a run of a job of two nodes is refused, whose gate is never asked; `None` where it answers.
+fn refusal_of_run<R: Threads + Wait + Send + Sync + Abort>(
+    rt: &R,
+    alloc: Global,
+    links: Links,
+    job: &Job,
+) -> Option<RunFault> {
+    let gate = OrderedGate::for_nodes(Order::Paced, 2);
+    let refused = run_over(rt, alloc, links, job, &gate).err();
+    assert_eq!(rt; (gate.asked(0), gate.asked(1)), (0, 0));
+    refused
+}
+
+/// The run of the job of this text is refused so.
 fn assert_refused<R: Threads + Wait + Send + Sync + Abort>(
     rt: &R,
     alloc: Global,
     links: Links,
     text: &str,
-    refused: RunFault,
+    want: RunFault,
 ) -> Result<(), Fail> {
     let job = read_job(alloc, text.as_bytes())?;
-    let gate = OrderedGate::for_nodes(Order::Paced, 2);
-    let answer = run_over(rt, alloc, links, &job, &gate).map(|_| ());
-    assert!(rt; answer == Err(refused), "{links:?}: {answer:?}");
-    assert_eq!(rt; (gate.asked(0), gate.asked(1)), (0, 0));
+    let refused = refusal_of_run(rt, alloc, links, &job);
+    assert!(rt; refused == Some(want), "{links:?}: {refused:?}");
     Ok(())
 }
 
@@ -223,7 +266,7 @@ fn assert_refused<R: Threads + Wait + Send + Sync + Abort>(
 fn an_unlawful_start_is_refused_before_any_turn(rt: HostRuntime) -> Result<(), Fail> {
     let text = r#"{"capacity":1,"labels":4,"tree":[{"name":"r"},{"name":"a","parent":"r"}],
         "items":[7],"starts":[{"frames":[[2,99],[3,98]],"acks":[],"send":0,"recv":1}]}"#;
-    for links in BOTH {
+    for &links in &BOTH {
         assert_refused(
             &rt,
             rt.alloc(),
@@ -241,7 +284,7 @@ fn words_need_capacity_one(rt: HostRuntime) -> Result<(), Fail> {
         "items":[7]}"#;
     let unlawful = r#"{"capacity":2,"labels":6,"tree":[{"name":"r"},{"name":"a","parent":"r"}],
         "items":[7],"starts":[{"frames":[[2,99],[3,98],[1,97]],"send":0,"recv":1}]}"#;
-    for text in [lawful, unlawful] {
+    for &text in &[lawful, unlawful] {
         assert_refused(
             &rt,
             rt.alloc(),
@@ -262,10 +305,15 @@ fn a_stray_of_the_start_comes_first(rt: HostRuntime) -> Result<(), Fail> {
     let job = read_job(rt.alloc(), text.as_bytes())?;
     let expected = "r depth 0 received 3 acked - ended upstream\nitems: 7 8 9\n\
         a depth 1 received 4 acked 3 ended upstream\nitems: 99 7 8 9\n";
-    let gate = OrderedGate::for_nodes(Order::Paced, 2);
-    let printed = text_of_run(&rt, rt.alloc(), Links::Locked, &job, &gate)?;
-    assert!(rt; printed.as_str() == expected, "{printed}");
-    Ok(())
+    assert_printed(
+        &rt,
+        rt.alloc(),
+        Links::Locked,
+        &job,
+        Order::Paced,
+        2,
+        expected,
+    )
 }
 
 /// The links of paced runs, and the beginnings of their jobs: the parameters.
@@ -289,7 +337,7 @@ const HUNDRED_ITEMS: &str = r#""items":[1,2,3,4,5,6,7,8,9,10,11,12,13,14,15,16,1
 
 /// Trees, and the number of their nodes: a chain of three and a star of four. The ends of the jobs
 /// are without scripts, and with a drawn script for each link.
-const TREES: [(u16, &str); 4] = [
+pub(super) const TREES: [(u16, &str); 4] = [
     (
         3,
         r#""tree":[{"name":"r"},{"name":"a","parent":"r"},{"name":"b","parent":"a"}]}"#,
@@ -316,12 +364,18 @@ const TREES: [(u16, &str); 4] = [
 ];
 
 /// The text of a job of a hundred items.
-fn job_of_hundred(alloc: Global, parameters: &str, tree: &str) -> Result<String, AllocError> {
+fn text_of_hundred(alloc: Global, parameters: &str, tree: &str) -> Result<String, AllocError> {
     let mut text = String::new(alloc);
     text.push_str(parameters)?;
     text.push_str(HUNDRED_ITEMS)?;
     text.push_str(tree)?;
     Ok(text)
+}
+
+/// A job of a hundred items.
+fn job_of_hundred(alloc: Global, parameters: &str, tree: &str) -> Result<Job, Fail> {
+    let text = text_of_hundred(alloc, parameters, tree)?;
+    Ok(read_job(alloc, text.as_bytes())?)
 }
 
 /// Each node received each item once, and each link has all of them acknowledged.
@@ -338,8 +392,34 @@ fn assert_delivered<R: Abort>(rt: &R, job: &Job, report: &Report) {
     }
 }
 
+/// The report of a job over such links, where so many nodes keep pace.
+fn paced_report<R: Threads + Wait + Send + Sync>(
+    rt: &R,
+    alloc: Global,
+    links: Links,
+    job: &Job,
+    count: u16,
+) -> Result<Report, RunFault> {
+    let gate = OrderedGate::for_nodes(Order::Paced, count);
+    run_over(rt, alloc, links, job, &gate)
+}
+
+/// So many nodes keep pace, and receive everything.
+fn assert_paced<R: Threads + Wait + Send + Sync + Abort>(
+    rt: &R,
+    alloc: Global,
+    links: Links,
+    job: &Job,
+    count: u16,
+) -> Result<(), Fail> {
+    let report = paced_report(rt, alloc, links, job, count)?;
+    assert_eq!(rt; report.received.len(), count as usize);
+    assert_delivered(rt, job, &report);
+    Ok(())
+}
+
 /// Runs a job of a hundred items, where the nodes keep pace.
-fn run_paced<R: Threads + Wait + Send + Sync + Abort>(
+pub(super) fn run_paced<R: Threads + Wait + Send + Sync + Abort>(
     rt: &R,
     alloc: Global,
     links: Links,
@@ -347,19 +427,14 @@ fn run_paced<R: Threads + Wait + Send + Sync + Abort>(
     tree: &str,
     count: u16,
 ) -> Result<(), Fail> {
-    let text = job_of_hundred(alloc, parameters, tree)?;
-    let job = read_job(alloc, text.as_bytes())?;
-    let gate = OrderedGate::for_nodes(Order::Paced, count);
-    let report = run_over(rt, alloc, links, &job, &gate)?;
-    assert_eq!(rt; report.received.len(), count as usize);
-    assert_delivered(rt, &job, &report);
-    Ok(())
+    let job = job_of_hundred(alloc, parameters, tree)?;
+    assert_paced(rt, alloc, links, &job, count)
 }
 
 #[test]
 fn paced_runs_deliver_everything(rt: HostRuntime) -> Result<(), Fail> {
-    for (links, parameters) in RUNS {
-        for (count, tree) in TREES {
+    for &(links, parameters) in &RUNS {
+        for &(count, tree) in &TREES {
             run_paced(&rt, rt.alloc(), links, parameters, tree, count)?;
         }
     }
@@ -367,26 +442,26 @@ fn paced_runs_deliver_everything(rt: HostRuntime) -> Result<(), Fail> {
 }
 
 /// A root and its child, one item and two turns.
-const TWO_TURNS: &str = r#"{"capacity":1,"labels":4,"turns":2,"items":[7],
+pub(super) const TWO_TURNS: &str = r#"{"capacity":1,"labels":4,"turns":2,"items":[7],
     "tree":[{"name":"r"},{"name":"a","parent":"r"}]}"#;
 
 /// Runs a job of two nodes, of which each begins its first turn once the other asks for its own.
-fn run_together<R: Threads + Wait + Send + Sync + Abort>(
+pub(super) fn run_together<R: Threads + Wait + Send + Sync + Abort>(
     rt: &R,
     alloc: Global,
     links: Links,
     job: &Job,
 ) {
     let gate = OrderedGate::for_nodes(Order::Together, 2);
-    let answer = run_over(rt, alloc, links, job, &gate).map(|_| ());
-    assert!(rt; answer == Ok(()), "{links:?}: {answer:?}");
+    let refused = run_over(rt, alloc, links, job, &gate).err();
+    assert!(rt; refused.is_none(), "{links:?}: {refused:?}");
     assert!(rt; gate.begun(0) > 0 && gate.begun(1) > 0);
 }
 
 #[test]
 fn workers_run_together(rt: HostRuntime) -> Result<(), Fail> {
     let job = read_job(rt.alloc(), TWO_TURNS.as_bytes())?;
-    for links in BOTH {
+    for &links in &BOTH {
         run_together(&rt, rt.alloc(), links, &job);
     }
     Ok(())
@@ -407,31 +482,24 @@ const BY_ORDER: [(Order, &str); 2] = [
     ),
 ];
 
-/// Runs a job of two nodes whose turns begin in this order.
-fn run_in_order<R: Threads + Wait + Send + Sync + Abort>(
+/// Runs a job of two nodes in each of these orders.
+fn run_in_each_order<R: Threads + Wait + Send + Sync + Abort>(
     rt: &R,
     alloc: Global,
     links: Links,
     job: &Job,
-    order: Order,
-    expected: &str,
 ) -> Result<(), Fail> {
-    let gate = OrderedGate::for_nodes(order, 2);
-    let printed = text_of_run(rt, alloc, links, job, &gate)?;
-    assert!(rt;
-        printed.as_str() == expected,
-        "{links:?}, {order:?}: {printed}"
-    );
+    for &(order, expected) in &BY_ORDER {
+        assert_printed(rt, alloc, links, job, order, 2, expected)?;
+    }
     Ok(())
 }
 
 #[test]
 fn the_order_of_turns_decides_what_arrives(rt: HostRuntime) -> Result<(), Fail> {
     let job = read_job(rt.alloc(), TWO_TURNS.as_bytes())?;
-    for links in BOTH {
-        for (order, expected) in BY_ORDER {
-            run_in_order(&rt, rt.alloc(), links, &job, order, expected)?;
-        }
+    for &links in &BOTH {
+        run_in_each_order(&rt, rt.alloc(), links, &job)?;
     }
     Ok(())
 }

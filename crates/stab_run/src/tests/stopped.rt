@@ -4,7 +4,7 @@
 ghost use Rattle.std.specs.Prelude.{⊤};
 
 use super::runs::{BOTH, Links, Order, OrderedGate, run_over};
-use crate::{RunFault, read_job};
+use crate::{Job, RunFault, read_job};
 use stab_node::{Gate, NodeFault};
 use stab_tree::NodeId;
 use std::alloc::Global;
@@ -110,26 +110,38 @@ impl Gate for StoppingGate {
     }
 }
 
-/// A run of the chain, whose gate refuses these turns, is refused for this node. The gate was asked
-/// this often for each node, and heard of the end of each once.
-fn assert_stopped<R: Threads + Wait + Send + Sync + Abort>(
+/// A run of the chain under this gate is refused for this node. The gate was asked this often for
+/// each node, and heard of the end of each once.
+fn assert_stopped_by<R: Threads + Wait + Send + Sync + Abort>(
     rt: &R,
     alloc: Global,
     links: Links,
-    refused: Refused,
+    job: &Job,
+    gate: &StoppingGate,
     node: u16,
     asked: (u64, u64, u64),
-) -> Result<(), Fail> {
-    let job = read_job(alloc, CHAIN.as_bytes())?;
-    let gate = StoppingGate::refusing(refused);
-    let answer = run_over(rt, alloc, links, &job, &gate).map(|_| ());
+) {
+    let answer = run_over(rt, alloc, links, job, gate).err();
     let stopped = RunFault::Node(NodeId::new(node), NodeFault::Gate);
-    assert!(rt; answer == Err(stopped), "{links:?}: {answer:?}");
+    assert!(rt; answer == Some(stopped), "{links:?}: {answer:?}");
     let counted = (gate.asked.of(0), gate.asked.of(1), gate.asked.of(2));
     assert_eq!(rt; counted, asked, "{links:?}, asked");
     let done = (gate.done.of(0), gate.done.of(1), gate.done.of(2));
     assert_eq!(rt; done, (1, 1, 1), "{links:?}, done");
-    Ok(())
+}
+
+/// The same of a gate that refuses these turns.
+fn assert_stopped<R: Threads + Wait + Send + Sync + Abort>(
+    rt: &R,
+    alloc: Global,
+    links: Links,
+    job: &Job,
+    refused: Refused,
+    node: u16,
+    asked: (u64, u64, u64),
+) {
+    let gate = StoppingGate::refusing(refused);
+    assert_stopped_by(rt, alloc, links, job, &gate, node, asked);
 }
 
 /// The middle node asks three times: only the close of its upstream could end it before, and the
@@ -139,9 +151,10 @@ fn assert_stopped<R: Threads + Wait + Send + Sync + Abort>(
 /// ends no more, so the link into the last node is never closed.
 #[test]
 fn a_gate_that_stops_one_node(rt: HostRuntime) -> Result<(), Fail> {
-    for links in BOTH {
+    let job = read_job(rt.alloc(), CHAIN.as_bytes())?;
+    for &links in &BOTH {
         let refused = Refused::ThirdOfTheMiddle;
-        assert_stopped(&rt, rt.alloc(), links, refused, 1, (100, 3, 100))?;
+        assert_stopped(&rt, rt.alloc(), links, &job, refused, 1, (100, 3, 100));
     }
     Ok(())
 }
@@ -149,8 +162,9 @@ fn a_gate_that_stops_one_node(rt: HostRuntime) -> Result<(), Fail> {
 /// The first turn of each node is refused at once, so no node asks twice.
 #[test]
 fn a_gate_that_stops_every_node(rt: HostRuntime) -> Result<(), Fail> {
-    for links in BOTH {
-        assert_stopped(&rt, rt.alloc(), links, Refused::Each, 0, (1, 1, 1))?;
+    let job = read_job(rt.alloc(), CHAIN.as_bytes())?;
+    for &links in &BOTH {
+        assert_stopped(&rt, rt.alloc(), links, &job, Refused::Each, 0, (1, 1, 1));
     }
     Ok(())
 }

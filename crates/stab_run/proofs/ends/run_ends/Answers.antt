@@ -1,4 +1,4 @@
-use Rattle.std.proofs.Common.{rules, ◌≡◌, length, ap, map, sym, ◌∙◌, subst}
+use Rattle.std.proofs.Common.{rules, ◌≡◌, length, ap, sym, ◌∙◌, subst}
 use Rattle.std.proofs.lemmas.List.{length-map}
 use Rattle.stab_node.specs.Work.{HasAll, IsServed}
 use Rattle.stab_tree.specs.Links.{links_of}

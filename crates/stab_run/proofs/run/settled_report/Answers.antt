@@ -1,15 +1,23 @@
-use Rattle.std.proofs.Common.{◌≡◌, List, Option, ℕ, None, All, map, sym, subst}
-use Rattle.stab_core.specs.Replay.{IsLawful}
+use Rattle.std.proofs.Common.{◌≡◌, List, Option, ℕ, None, ap, length, map, sym, ◌∙◌, subst}
+use Rattle.stab_tree.specs.Links.{links_of}
 use Rattle.stab_tree.specs.Nodes.{parent_at, root_of}
 use Rattle.stab_treecore.specs.ByChild.{by_child}
 use Rattle.stab_lock.specs.declared.settle.SettleFault.{SettleFault}
 use Rattle.stab_workers.proofs.ForCallers.{at_error}
-use Rattle.stab_run.specs.LinkRuns.{AreSettled, IsFirstUnsettled, acked_of, given}
+use Rattle.stab_run.specs.LinkRuns.{AreSettled, HoldsInto, IsFirstUnsettled, acked_of, all_given}
 use Rattle.stab_run.specs.declared.run_fault.RunFault.TheVariants.{Settle}
 use Rattle.stab_run.specs.Reports.{OnePerNode}
 use Rattle.stab_run.specs.Runs.{AreExplained, HandsOn, RootHas}
+use Rattle.stab_run.proofs.Begun.{as_many_links}
 use Rattle.stab_run.proofs.Explained.{one_per_node, root_has, are_explained, hands_on}
 use Rattle.stab_run.proofs.run.settled_report.Goals as goal
+
+pub settle_all-requires-clause-links : goal.settle_all-requires-clause-links
+settle_all-requires-clause-links g c =
+    let job = c.args.job.now in
+    let its_job = c.tree-tree.ensures.job in
+    as_many_links g.L.RunLink.given c.args.links.items job.params job.starts (its_job.one_params_each ∙ sym its_job.one_start_each) c.requires.given
+    ∙ (its_job.one_start_each ∙ ap (λ t. length (links_of t.parents)) (sym c.tree-tree.ensures.tree))
 
 pub returns-clause-nodes : goal.returns-clause-nodes
 returns-clause-nodes g c =
@@ -21,8 +29,7 @@ returns-clause-nodes g c =
     rw c.tree-tree.ensures.tree at c.in_ok-acked.ensures.acked in
     subst (λ (acked : List (Option ℕ)). OnePerNode job.tree.parents (record { received = ran.received.items; acked = acked; ended = ran.ended.items }))
     (sym counted)
-    (one_per_node job.params job.tree.parents job.starts job.items ran.received.items ran.ended.items sent delivered
-    c.requires.run)
+    (one_per_node job.tree.parents job.items ran.received.items ran.ended.items sent delivered c.requires.run)
 
 pub returns-clause-root : goal.returns-clause-root
 returns-clause-root g c =
@@ -36,8 +43,7 @@ returns-clause-root g c =
     rw c.tree-tree.ensures.tree at c.root-root.ensures.tree.root_has_none in
     subst (λ (acked : List (Option ℕ)). RootHas job.tree.parents job.items (record { received = ran.received.items; acked = acked; ended = ran.ended.items }))
     (sym counted)
-    (root_has job.params job.tree.parents job.starts job.items ran.received.items ran.ended.items sent delivered
-    c.requires.run none)
+    (root_has job.tree.parents job.items ran.received.items ran.ended.items sent delivered c.requires.run none)
 
 pub returns-clause-edges : goal.returns-clause-edges
 returns-clause-edges g c =
@@ -47,14 +53,13 @@ returns-clause-edges g c =
     let delivered = map g.L.RunLink.received ran.recvs.items in
     let counted : c.in_ok-acked.acked.items ≡ by_child job.tree.parents (map acked_of sent) =
     rw c.tree-tree.ensures.tree at c.in_ok-acked.ensures.acked in
-    let lawful : All (IsLawful job.params) job.starts = c.requires.lawful in
-    let settled : AreSettled (map (given job.params) job.starts) sent delivered =
+    let settled : AreSettled (all_given job.params job.starts) sent delivered =
     rw c.requires.given at c.in_ok-acked.ensures.settled in
     subst (λ (acked : List (Option ℕ)). AreExplained job.params job.tree.parents job.starts
     (record { received = ran.received.items; acked = acked; ended = ran.ended.items }))
     (sym counted)
-    (are_explained job.params job.tree.parents job.starts job.items ran.received.items ran.ended.items sent delivered
-    c.requires.run c.tree-tree.ensures.job.one_start_each lawful settled)
+    (are_explained job.tree.parents job.items ran.received.items ran.ended.items sent delivered c.requires.run job.params job.starts
+    c.tree-tree.ensures.job.one_params_each c.tree-tree.ensures.job.one_start_each settled c.requires.lawful)
 
 pub returns-clause-handed_on : goal.returns-clause-handed_on
 returns-clause-handed_on g c =
@@ -64,12 +69,12 @@ returns-clause-handed_on g c =
     let delivered = map g.L.RunLink.received ran.recvs.items in
     let counted : c.in_ok-acked.acked.items ≡ by_child job.tree.parents (map acked_of sent) =
     rw c.tree-tree.ensures.tree at c.in_ok-acked.ensures.acked in
-    let settled : AreSettled (map (given job.params) job.starts) sent delivered =
+    let settled : AreSettled (all_given job.params job.starts) sent delivered =
     rw c.requires.given at c.in_ok-acked.ensures.settled in
     subst (λ (acked : List (Option ℕ)). HandsOn job.tree.parents (record { received = ran.received.items; acked = acked; ended = ran.ended.items }))
     (sym counted)
-    (hands_on job.params job.tree.parents job.starts job.items ran.received.items ran.ended.items sent delivered
-    c.requires.run c.tree-tree.ensures.job.one_start_each settled)
+    (hands_on job.tree.parents job.items ran.received.items ran.ended.items sent delivered c.requires.run job.params job.starts
+    c.tree-tree.ensures.job.one_params_each c.tree-tree.ensures.job.one_start_each settled)
 
 -- what the workers left is not settled at this child
 pub returns-in_err-acked-clause-unsettled : goal.returns-in_err-acked-clause-unsettled
@@ -91,3 +96,13 @@ returns-in_err-acked-clause-unsettled g c =
       before =
           rw (c.tree-tree.ensures.tree, c.requires.given) at c.in_err-acked.ensures.settled_before child why is;
     })
+
+-- what is known of the refused link is known of the job's link into this child
+pub returns-in_err-acked-clause-refused : goal.returns-in_err-acked-clause-refused
+returns-in_err-acked-clause-refused g c =
+    let job = c.args.job.now in
+    at_error _ _
+    (λ fault. (child : ℕ) (why : SettleFault) → fault ≡ Settle child why
+    → HoldsInto g.L.RunLink.may_differ job.tree.parents (all_given job.params job.starts) child)
+    c.from_residual.ensures.1
+    (λ child why is. rw (c.tree-tree.ensures.tree, c.requires.given) at c.in_err-acked.ensures.refused child why is)

@@ -1,8 +1,8 @@
 use Rattle.std.proofs.Common.{rules, ◌≡◌, ◌<◌, ◌+◌, length, map, Some, None, ap, sym, ◌∙◌, subst}
 use Rattle.std.proofs.lemmas.List.{length-map}
 use Rattle.stab_tree.specs.Nodes.{parent_at}
-use Rattle.stab_run.specs.LinkRuns.{AreSettledBefore}
-use Rattle.stab_run.proofs.Settlements.{none_settled, root_settled, child_settled, settled_before}
+use Rattle.stab_run.specs.LinkRuns.{AreSettledBefore, HoldsInto}
+use Rattle.stab_run.proofs.Settlements.{none_settled, root_settled, child_settled, settled_before, holds_into}
 use Rattle.stab_run.proofs.Paired.{as_many_paired}
 use Rattle.stab_run.proofs.settle.settle_all.Goals as goal
 use Rattle.stab_run.proofs.settle.settle_all.Goals.{in-None, in-Some+in-Ok}
@@ -83,3 +83,17 @@ returns-in-Err-clause-settled_before g c = λ child why is.
     (sym c.new-node.ensures ∙ same)
     (settled_before parents (given c.args.links.items) (sent c.args.sends.items) (received c.args.recvs.items) c.nodes.acked.items c.nodes.place
     c.in-Some.field-0 (given c.nodes.links.items) (sent c.nodes.sends.items) (received c.nodes.recvs.items) c.nodes.invariant.so_far is_child)
+
+-- the link into this child, which is refused, is the first that is left
+pub returns-in-Err-clause-refused : goal.returns-in-Err-clause-refused
+returns-in-Err-clause-refused g c = λ child why is.
+    let parents = c.args.tree.now.parents in
+    let given = map g.L.RunLink.given in
+    let place = c.nodes.place in
+    let within : place < length parents = search rules in
+    let same : c.new-node.result ≡ child = cc in
+    let is_child : parent_at parents place ≡ Some c.in-Some.field-0 =
+    ap (λ n. parent_at parents n) (sym c.new-node.ensures) ∙ (sym c.parent.ensures.value ∙ c.in-Some.is) in
+    subst (HoldsInto g.L.RunLink.may_differ parents (given c.args.links.items)) (sym c.new-node.ensures ∙ same)
+    (holds_into g.L.RunLink.may_differ parents (given c.args.links.items) place c.in-Some.field-0 (given c.nodes.links.items) within is_child
+    c.nodes.invariant.so_far.links_from_here c.in-Err.ensures.refused)

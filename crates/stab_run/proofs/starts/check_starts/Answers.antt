@@ -1,23 +1,20 @@
-use Rattle.std.proofs.Common.{◌≡◌, ◌<◌, All, length, get_or, ap, ◌∙◌, subst, arith}
-use Rattle.std.proofs.lemmas.List.{take_all}
-use Rattle.std.proofs.lemmas.List.Elements.{All-more}
+use Rattle.std.proofs.Common.{◌≡◌, ◌<◌, length, get_or, ap, ◌∙◌, arith}
 use Rattle.stab_core.specs.Replay.{IsLawful}
+use Rattle.stab_run.proofs.Paired.{one_more_pair}
 use Rattle.stab_run.proofs.starts.check_starts.Goals as goal
 
 pub loop-place-preserved : goal.loop-place-preserved
 loop-place-preserved c =
+    let params = c.args.params.now in
     let starts = c.args.starts.now in
     let place = c.loop-place.place in
-    let start = c.index-starts-from.result in
-    let within : place < length starts =
+    let its_params = c.index-params-link.result in
+    let start = c.index-starts-link.result in
+    let in_params : place < length params =
+    omega (arith, c.loop-place-test.true, c.link_count-place-end.ensures.value, c.requires.one_params_each) in
+    let in_starts : place < length starts =
     omega (arith, c.loop-place-test.true, c.link_count-place-end.ensures.value, c.requires.one_start_each) in
-    let read : start ≡ get_or starts place start = c.index-starts-from.is ∙ ap (λ i. get_or starts i start) c.from.ensures in
-    All-more (IsLawful c.args.params) starts place start within c.loop-place.invariant
-    (subst (IsLawful c.args.params) read c.in-None.ensures.lawful)
-
-pub returns-clause-lawful : goal.returns-clause-lawful
-returns-clause-lawful c =
-    subst (All (IsLawful c.args.params))
-    (take_all c.loop-place.place c.args.starts.now
-    (omega (arith, c.loop-place-test.false, c.link_count-place-end.ensures.value, c.requires.one_start_each)))
-    c.loop-place.invariant
+    let has_params : its_params ≡ get_or params place its_params = c.index-params-link.is ∙ ap (λ i. get_or params i its_params) c.from-link.ensures in
+    let begins : start ≡ get_or starts place start = c.index-starts-link.is ∙ ap (λ i. get_or starts i start) c.from-link.ensures in
+    one_more_pair IsLawful params starts place its_params start in_params in_starts has_params begins c.loop-place.invariant
+    c.in-None.ensures.lawful

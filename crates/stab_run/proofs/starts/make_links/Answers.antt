@@ -1,25 +1,62 @@
-use Rattle.std.proofs.Common.{◌≡◌, ◌<◌, ◌+◌, ◌∙◌, ap, length, arith}
-use Rattle.stab_run.specs.LinkRuns.{given}
-use Rattle.stab_run.proofs.Linked.{one_more_of}
-use Rattle.stab_run.proofs.Paired.{paired_push}
+use Rattle.std.proofs.Common.{◌≡◌, ◌<◌, ◌+◌, ◌∙◌, ap, sym, length, subst, take, take_all, arith}
+use Rattle.stab_core.specs.Replay.{IsLawful}
+use Rattle.stab_run.specs.LinkRuns.{all_given}
+use Rattle.stab_run.proofs.Begun.{one_more_given}
+use Rattle.stab_run.proofs.Paired.{as_many_paired, paired_at, paired_push}
 use Rattle.stab_run.proofs.starts.make_links.Goals as goal
 
-pub loop-start-preserved : goal.loop-start-preserved
-loop-start-preserved g c =
+pub bounds-params-place : goal.bounds-params-place
+bounds-params-place g c =
+    omega (arith, c.links-test.true, as_many_paired IsLawful c.args.params.now c.args.starts.now c.requires.lawful)
+
+pub make-requires-clause-params : goal.make-requires-clause-params
+make-requires-clause-params g c =
+    let params = c.args.params.now in
+    let place = c.links.place in
+    let its_params = c.index-params-place.result in
+    let in_params : place < length params =
+    omega (arith, c.links-test.true, as_many_paired IsLawful params c.args.starts.now c.requires.lawful) in
+    subst g.L.RunLink.can_have (sym c.index-params-place.is) (c.requires.params place its_params in_params)
+
+pub make-requires-clause-lawful : goal.make-requires-clause-lawful
+make-requires-clause-lawful g c =
+    let params = c.args.params.now in
+    let place = c.links.place in
+    let in_params : place < length params =
+    omega (arith, c.links-test.true, as_many_paired IsLawful params c.args.starts.now c.requires.lawful) in
+    paired_at IsLawful params c.args.starts.now place c.index-params-place.result c.index-starts-place.result in_params
+    c.index-params-place.is c.index-starts-place.is c.requires.lawful
+
+pub links-preserved : goal.links-preserved
+links-preserved g c =
+    let params = c.args.params.now in
     let starts = c.args.starts.now in
-    let place = c.loop-start.start-index in
-    let within : place < length starts = omega (arith, c.loop-start-test.true) in
+    let place = c.links.place in
+    let in_starts : place < length starts = c.links-test.true in
+    let in_params : place < length params = omega (arith, in_starts, as_many_paired IsLawful params starts c.requires.lawful) in
     record {
-      link_room = c.push_reserved.ensures.capacity ∙ c.loop-start.invariant.link_room;
-      opening_room = c.push_reserved-in-loop-start.ensures.capacity ∙ c.loop-start.invariant.opening_room;
-      link_count = c.push_reserved.ensures.len ∙ ap (λ n. n + 1) c.loop-start.invariant.link_count;
-      opening_count = c.push_reserved-in-loop-start.ensures.len ∙ ap (λ n. n + 1) c.loop-start.invariant.opening_count;
-      links =
+      link_room = c.push_reserved.ensures.capacity ∙ c.links.invariant.link_room;
+      opening_room = c.push_reserved-in-links.ensures.capacity ∙ c.links.invariant.opening_room;
+      link_count = c.push_reserved.ensures.len ∙ ap (λ n. n + 1) c.links.invariant.link_count;
+      opening_count = c.push_reserved-in-links.ensures.len ∙ ap (λ n. n + 1) c.links.invariant.opening_count;
+      given =
           rw c.push_reserved.ensures.items
-          (one_more_of g.L.RunLink.given (given c.args.params) c.loop-start.links.items c.in_ok-link.link starts place c.start-item.result within
-          c.start-item.is c.in_ok-link.ensures.given c.loop-start.invariant.links);
+          (one_more_given g.L.RunLink.given c.links.links.items c.in_ok-link.link params starts place c.index-params-place.result
+          c.index-starts-place.result in_params in_starts c.index-params-place.is c.index-starts-place.is c.in_ok-link.ensures.given
+          c.links.invariant.given);
       openings =
-          rw (c.push_reserved.ensures.items, c.push_reserved-in-loop-start.ensures.items)
-          (paired_push g.L.RunLink.opens c.loop-start.links.items c.loop-start.openings.items c.in_ok-link.link c.in_ok-link.opening
-          c.loop-start.invariant.openings c.in_ok-link.ensures.opens);
+          rw (c.push_reserved.ensures.items, c.push_reserved-in-links.ensures.items)
+          (paired_push g.L.RunLink.opens c.links.links.items c.links.openings.items c.in_ok-link.link c.in_ok-link.opening
+          c.links.invariant.openings c.in_ok-link.ensures.opens);
     }
+
+pub returns-clause-links : goal.returns-clause-links
+returns-clause-links g c =
+    let params = c.args.params.now in
+    let starts = c.args.starts.now in
+    let place = c.links.place in
+    let all_starts : take place starts ≡ starts = take_all place starts (omega (arith, c.links-test.false)) in
+    let all_params : take place params ≡ params =
+    take_all place params (omega (arith, c.links-test.false, as_many_paired IsLawful params starts c.requires.lawful)) in
+    c.links.invariant.given
+    ∙ (ap (λ ps. all_given ps (take place starts)) all_params ∙ ap (λ ss. all_given params ss) all_starts)

@@ -1,3 +1,9 @@
+use Rattle.std.proofs.Common.{rules, ◌≡◌, ◌≢◌, ℕ, All, subst}
+use Rattle.stab_lock.specs.declared.settle.SettleFault.{SettleFault}
+use Rattle.stab_tree.specs.IsTree.{IsTree}
+use Rattle.stab_workers.proofs.ForCallers.{at_error}
+use Rattle.stab_workers.specs.ByNode.{received_at}
+use Rattle.stab_run.specs.declared.run_fault.RunFault.TheVariants.{Settle}
 use Rattle.stab_run.proofs.Paired.{paired_alike}
 use Rattle.stab_run.proofs.words.run_words.Goals as goal
 
@@ -11,3 +17,20 @@ pub report_of-requires-clause-recvs : goal.report_of-requires-clause-recvs
 report_of-requires-clause-recvs g c =
     paired_alike (λ end. end.link) (λ done. done.link) c.in_ok-links.links.items c.in_ok-sends.recvs.items c.in_ok-gathered.gathered.recvs.items
     (rw c.deref.ensures.value at c.in_ok-sends.ensures.receivers) c.in_ok-gathered.ensures.receiver_links
+
+-- what would be known of a link that is refused is known of none
+pub returns-in_err-report-clause-never_differ : goal.returns-in_err-report-clause-never_differ
+returns-in_err-report-clause-never_differ g c =
+    at_error _ _
+    (λ fault. (child : ℕ) (why : SettleFault) → fault ≢ Settle child why)
+    c.from_residual-in_err-report.ensures.1
+    (λ child why is. (c.in_err-report.ensures.refused child why is).holds)
+
+-- the bounds of links with room for one entry
+pub returns-clause-tree_law_by_depth : goal.returns-clause-tree_law_by_depth
+returns-clause-tree_law_by_depth g c =
+    let job = c.args.job.now in
+    let its_job = c.tree-2.ensures.job in
+    let one_place : All (λ p. p.capacity ≡ 1) job.params = search rules in
+    c.tree_law_of_one_place.ensures job.tree job.params job.starts job.items (received_at c.in_ok-report.report.received)
+    (subst IsTree c.tree-2.ensures.tree c.root-tree.ensures.tree) its_job.one_params_each one_place c.in_ok-report.ensures.tree_law

@@ -1,0 +1,112 @@
+//! The run of a job by one worker per node, over links of two words where the capacity is one, and
+//! over links with locks elsewhere.
+
+ghost use Rattle.std.specs.List.{AllZip};
+ghost use Rattle.std.specs.Prelude.{◌≡◌, ◌≢◌, ℕ, ◌<◌, true, IfOk, IfErr, OnOk, length};
+ghost use Rattle.stab_core.specs.Replay.{IsLawful};
+ghost use Rattle.stab_core.specs.declared.start.StartFault.{StartFault};
+ghost use Rattle.stab_lock.specs.declared.settle.SettleFault.{SettleFault};
+ghost use Rattle.stab_node.specs.declared.fault.NodeFault.{NodeFault};
+ghost use Rattle.stab_node.specs.Turns.{IsOver, IsRefused};
+ghost use Rattle.stab_run.specs.LinkKinds.{IsLarge};
+ghost use Rattle.stab_run.specs.LinkRuns.{HoldsInto, IsFirstUnsettled, all_given};
+ghost use Rattle.stab_run.specs.Reports.{OnePerNode};
+ghost use Rattle.stab_run.specs.RunFaults.{AllAreOver, comes_after_starts};
+ghost use Rattle.stab_run.specs.Runs.{RootHas, AreExplained, HandsOn, IsFirstUnlawful};
+ghost use Rattle.stab_run.specs.Runs.{CompleteBelowEnded};
+ghost use Rattle.stab_treecore.specs.NodeLaws.{HalfTreeLawAtNodes, TreeLawAtNodes};
+ghost use Rattle.stab_workers.specs.ByNode.{ended_at, received_at};
+ghost use Rattle.stab_workers.specs.FirstFault.{IsFirstToGiveUp, IsFirstUnstarted};
+
+use crate::any_link::AnyLink;
+use crate::ends::{run_ends, split_all};
+use crate::job::Job;
+use crate::report::Report;
+use crate::run::report_of;
+use crate::run_fault::RunFault;
+use crate::starts::{check_starts, make_links};
+use stab_node::Gate;
+use std::alloc::Global;
+use std::sync::Wait;
+use std::thread::Threads;
+
+/// Runs a job: one worker per node, each on a thread of its own, over links of two words where the
+/// capacity is one, and over links with locks elsewhere.
+///
+/// Every start is looked at before any worker is started; every worker that was started has ended
+/// when this call returns. It answers what each node received. The two ends of each link with a
+/// lock have agreed with the link's own history. The two words of each other link keep that some
+/// events explain what its ends have done, so there nothing is compared in the end, and no call of
+/// an end waits.
+///
+/// Whatever is in the links at the start, whatever is lost or repeated and however the workers'
+/// steps interleave: a node received at most as many strays as the capacities of the links on its
+/// path add up to, then published items in their order, each at most once, none missing before its
+/// last one except among the first, of which there are 2c + 1 for each link of capacity c on its
+/// path. Where the worker of each node above it ended with its upstream, none is missing at all
+/// except among these.
+pub fn run_mixed<R: Threads + Wait + Send + Sync, G: Gate + Sync>(
+    rt: &R,
+    alloc: Global,
+    job: &Job,
+    gate: &G,
+) -> Result<Report, RunFault>
+    ensures nodes { IfOk result (λ report. OnePerNode job.now.tree.parents report) }
+    ensures lawful { OnOk result (AllZip IsLawful job.now.params job.now.starts) }
+    ensures root { IfOk result (λ report.
+        RootHas job.now.tree.parents job.now.items report) }
+    ensures edges { IfOk result (λ report.
+        AreExplained job.now.params job.now.tree.parents job.now.starts report) }
+    ensures handed_on { IfOk result (λ report. HandsOn job.now.tree.parents report) }
+
+    // The laws of every node.
+    ensures half_tree_law { IfOk result (λ report.
+        HalfTreeLawAtNodes job.now.params job.now.tree.parents job.now.starts
+        job.now.items (received_at report.received)) }
+    ensures tree_law { IfOk result (λ report.
+        TreeLawAtNodes job.now.params job.now.tree.parents job.now.starts
+        job.now.items (received_at report.received)) }
+    ensures complete { IfOk result (λ report.
+        CompleteBelowEnded job.now.params job.now.tree.parents job.now.starts
+        job.now.items report) }
+
+    // What each worker asked of the gate.
+    ensures turns { IfOk result (λ report. (node : ℕ) → node < length job.now.tree.parents
+        → IsOver (G.has_passed gate.now node) job.now.turns (ended_at report.ended node)) }
+    ensures done { OnOk result ((node : ℕ) → node < length job.now.tree.parents
+        → G.is_done gate.now node) }
+
+    // Why it is refused.
+    ensures any_capacity { IfErr result (λ fault. fault ≢ RunFault.CapacityNotOne) }
+    ensures unlawful { IfErr result (λ fault. (child : ℕ) (reason : StartFault)
+        → fault ≡ RunFault.Start child reason
+        → IsFirstUnlawful job.now.params job.now.tree.parents job.now.starts child reason) }
+    ensures starts_first { IfErr result (λ fault. comes_after_starts fault ≡ true
+        → AllZip IsLawful job.now.params job.now.starts) }
+    ensures unstarted { IfErr result (λ fault. (node : ℕ) → fault ≡ RunFault.Thread node
+        → IsFirstUnstarted (length job.now.tree.parents) (G.is_done gate.now) node) }
+    ensures gave_up { IfErr result (λ fault. (node : ℕ) (why : NodeFault)
+        → fault ≡ RunFault.Node node why
+        → IsFirstToGiveUp (length job.now.tree.parents) (G.has_passed gate.now)
+        (G.is_done gate.now) job.now.turns node) }
+    ensures unsettled { IfErr result (λ fault. (child : ℕ) (why : SettleFault)
+        → fault ≡ RunFault.Settle child why
+        → IsFirstUnsettled job.now.params job.now.tree.parents job.now.starts job.now.items child) }
+    ensures only_large { IfErr result (λ fault. (child : ℕ) (why : SettleFault)
+        → fault ≡ RunFault.Settle child why
+        → HoldsInto IsLarge job.now.tree.parents (all_given job.now.params job.now.starts) child) }
+    ensures settled_last { IfErr result (λ fault. (child : ℕ) (why : SettleFault)
+        → fault ≡ RunFault.Settle child why
+        → AllAreOver (length job.now.tree.parents) (G.has_passed gate.now) (G.is_done gate.now)
+        job.now.turns) }
+    ensures refused { IfErr result (λ fault. (node : ℕ)
+        → fault ≡ RunFault.Node node NodeFault.Gate
+        → IsRefused (G.has_passed gate.now node) (G.may_refuse gate.now node) job.now.turns) }
+{
+    check_starts(job.params(), job.tree(), job.starts())?;
+    let (links, openings) = make_links::<AnyLink>(alloc, job.params(), job.starts())?;
+    let (sends, recvs) = split_all::<R, AnyLink>(alloc, &links, openings, job.scripts())?;
+    let gathered = run_ends(rt, rt, alloc, job, sends, recvs, gate)?;
+    let report = report_of::<AnyLink>(alloc, job, links, gathered)?;
+    Ok(report)
+}
