@@ -12,7 +12,7 @@ use Rattle.clap.specs.declared.parser.matches.MatchedArg.{MatchedArg}
 use Rattle.clap.specs.declared.parser.matches.ValueSource.{ValueSource}
 use Rattle.clap.proofs.OnLiterals.{clap_on_literals}
 use Rattle.clap.proofs.WalkLemmas.{find_row, first_value-rows}
-use Rattle.stab_task.specs.CommandLine.{IsWordsFault, has_trace, has_words_flag, is_from_words, source_of, stab_line}
+use Rattle.stab_task.specs.CommandLine.{IsTaken, IsWordsFault, has_mixed_flag, has_trace, has_words_flag, is_from_words, source_of, stab_line}
 use Rattle.stab_task.specs.declared.fault.CliFault.{CliFault}
 use Rattle.stab_task.specs.declared.fault.CliFault.TheVariants.{CommandLine, Memory}
 
@@ -49,11 +49,15 @@ pub words_by_rows : (f : Found) (source : Option ValueSource) → source ≡ opt
     → is_from_words source ≡ has_words_flag (rows_of f)
 words_by_rows f source is = ap is_from_words (is ∙ source_by_rows f (codes "words"))
 
--- no word after the program's name is taken
-pub few_words_taken : (words : List Text) → length words ≤ 1 → fault_of stab_line words ≡ []
+pub mixed_by_rows : (f : Found) (source : Option ValueSource) → source ≡ option_and_then (λ (a : MatchedArg). a.source) (matched_of f (codes "mixed"))
+    → is_from_words source ≡ has_mixed_flag (rows_of f)
+mixed_by_rows f source is = ap is_from_words (is ∙ source_by_rows f (codes "mixed"))
+
+-- the program's name alone is taken, and so is no word
+pub few_words_taken : (words : List Text) → length words ≤ 1 → IsTaken words
 unfolding clap_on_literals
-few_words_taken [] few = refl
-few_words_taken (x ∷ []) few = refl
+few_words_taken [] few = record { matched = refl; one_kind = refl }
+few_words_taken (x ∷ []) few = record { matched = refl; one_kind = refl }
 few_words_taken (x ∷ y ∷ rest) few = absurd (omega arith)
 
 -- an error that is not of memory comes only of words that are refused
@@ -61,7 +65,7 @@ pub refused : (words : List Text) (e : Error) (fault : CliFault) → HasKind (fa
     → (fault ≡ Memory) ⊎ ((fault ≡ CommandLine) × (kind_of e ≢ OutOfMemory)) → IsWordsFault words fault
 refused words e fault has (inl memory) = inl memory
 refused words e fault (inl memory) (inr other) = absurd (other.1 memory)
-refused words e fault (inr among) (inr other) = inr (other.0, some (fault_of stab_line words) among)
+refused words e fault (inr among) (inr other) = inr (other.0, λ taken. some (fault_of stab_line words) among taken.matched)
   where
     some : (kinds : Kinds) → IsAmong (kind_of e) kinds → kinds ≢ []
     some [] among = absurd among

@@ -1,5 +1,6 @@
 ghost use Rattle.std.specs.Prelude.{◌≡◌, ◌≢◌, ◌++◌, List, ℕ, string_bytes};
 ghost use Rattle.std.specs.Prelude.{All, IfSome, IfOk, IfErr, OnOk};
+ghost use Rattle.std.specs.List.{AllZip};
 ghost use Rattle.std.specs.Io.KnownBytes.{Appends, Keeps};
 ghost use Rattle.stab_core.specs.Link.{IsReason, link_at};
 ghost use Rattle.stab_core.specs.Replay.{IsLawful, opening, replay};
@@ -9,12 +10,12 @@ ghost use Rattle.stab_task.specs.Answers.{IsLinkAnswer, IsTreeAnswer, IsRunAnswe
 ghost use Rattle.stab_task.specs.Answers.{HasOnePlace, IsAnswer, IsFault, IsReport};
 ghost use Rattle.stab_task.specs.Answers.{IsRunReason};
 
-use crate::command::Task;
+use crate::command::{Links, Task};
 use crate::fault::CliFault;
 use crate::file::load;
 use stab_core::{Link, StartFault, link_text, push_origins_text, run_link, run_traced};
 use stab_node::Free;
-use stab_run::{Job, Report, RunFault, read_job, report_text, run_locked, run_words};
+use stab_run::{Job, Report, RunFault, read_job, report_text, run_locked, run_mixed, run_words};
 use stab_script::{LinkJob, read_link_job};
 use stab_treecore::{TreeStartFault, TreeState, run_schedule, schedule_text};
 use std::alloc::Global;
@@ -78,7 +79,7 @@ fn answer_bytes<T: Threads + Wait + Send + Sync>(
     match task {
         Task::Link { trace } => answer_link(alloc, trace, bytes),
         Task::Tree => answer_tree(alloc, bytes),
-        Task::Run { words } => answer_run(rt, alloc, words, bytes),
+        Task::Run { links } => answer_run(rt, alloc, links, bytes),
     }
 }
 
@@ -126,7 +127,7 @@ fn replay_tree(alloc: Global, job: &Job) -> Result<TreeState, TreeStartFault>
         (tree_opening job.now.params job.now.tree.parents job.now.items job.now.starts)
         job.now.schedule) }
     ensures same_tree { IfOk result (λ state. state.parents ≡ job.now.tree.parents) }
-    ensures lawful { OnOk result (All (IsLawful job.now.params) job.now.starts) }
+    ensures lawful { OnOk result (AllZip IsLawful job.now.params job.now.starts) }
     ensures named { OnOk result (All (NamesLink job.now.tree.parents) job.now.schedule) }
     ensures refused { IfErr result (IsScheduleReason job.now.params job.now.tree.parents
         job.now.items job.now.starts job.now.schedule) }
@@ -145,15 +146,15 @@ fn replay_tree(alloc: Global, job: &Job) -> Result<TreeState, TreeStartFault>
 fn answer_run<T: Threads + Wait + Send + Sync>(
     rt: &T,
     alloc: Global,
-    words: bool,
+    links: Links,
     bytes: &[u8],
 ) -> Result<String, CliFault>
-    ensures answer { IfOk result (λ text. IsRunAnswer words bytes.now (string_bytes text)) }
-    ensures fault { IfErr result (IsFault (Task.Run words) bytes.now) }
+    ensures answer { IfOk result (λ text. IsRunAnswer links bytes.now (string_bytes text)) }
+    ensures fault { IfErr result (IsFault (Task.Run links) bytes.now) }
     ensures no_write { IfErr result (λ fault. fault ≢ CliFault.Write) }
 {
     let job = read_job(alloc, bytes)?;
-    let report = run_job(rt, alloc, words, &job)?;
+    let report = run_job(rt, alloc, links, &job)?;
     Ok(report_text(alloc, job.tree(), &report)?)
 }
 
@@ -161,18 +162,18 @@ fn answer_run<T: Threads + Wait + Send + Sync>(
 fn run_job<T: Threads + Wait + Send + Sync>(
     rt: &T,
     alloc: Global,
-    words: bool,
+    links: Links,
     job: &Job,
 ) -> Result<Report, RunFault>
     ensures report { IfOk result (IsReport job.now) }
-    ensures one_place { OnOk result (HasOnePlace words job.now) }
-    ensures reason { IfErr result (IsRunReason words job.now) }
+    ensures one_place { OnOk result (HasOnePlace links job.now) }
+    ensures reason { IfErr result (IsRunReason links job.now) }
 {
     let gate = Free::for_nodes(job.tree().len());
-    if words {
-        run_words(rt, alloc, job, &gate)
-    } else {
-        run_locked(rt, alloc, job, &gate)
+    match links {
+        Links::Locked => run_locked(rt, alloc, job, &gate),
+        Links::Words => run_words(rt, alloc, job, &gate),
+        Links::Mixed => run_mixed(rt, alloc, job, &gate),
     }
 }
 

@@ -1,11 +1,13 @@
-ghost use Rattle.std.specs.Prelude.{◌≡◌, ◌≢◌, ◌≤◌, ◌⊎◌, codes, false, length, map, None};
+ghost use Rattle.std.specs.Prelude.{◌≡◌, ◌≢◌, ◌≤◌, ◌⊎◌, [], codes, false, length, map, None};
 ghost use Rattle.std.specs.Prelude.{option_map, string_bytes, IfOk, IfErr, IsOkAnd};
-ghost use Rattle.clap.specs.Words.{app_of, first_of, found_of, kind_of, rows_of, rule_of};
+ghost use Rattle.clap.specs.Words.{app_of, fault_of, first_of, found_of, kind_of, rows_of};
+ghost use Rattle.clap.specs.Words.{rule_of};
 ghost use Rattle.clap.specs.Words.{subcommand_of, subcommand_rows_of};
 ghost use Rattle.clap.specs.declared.builder.command.Command.TheViews.{out-Command as fields_of};
 ghost use Rattle.stab_task.specs.CommandLine.{has_trace, is_from_words, link_line, named_by};
 ghost use Rattle.stab_task.specs.CommandLine.{stab_line, task_of, trace_flag, tree_line};
-ghost use Rattle.stab_task.specs.CommandLine.{has_words_flag, run_line, words_flag};
+ghost use Rattle.stab_task.specs.CommandLine.{has_both_flags, has_mixed_flag, has_words_flag};
+ghost use Rattle.stab_task.specs.CommandLine.{links_by_flags, mixed_flag, run_line, words_flag};
 ghost use Rattle.stab_task.specs.CommandLine.{IsTaken, IsWordsFault};
 
 use crate::fault::CliFault;
@@ -21,15 +23,25 @@ pub enum Task {
     Link { trace: bool },
     /// Run a job's schedule over its whole tree.
     Tree,
-    /// Run a job by one worker per node, over links behind locks, or with `words` over links of two
-    /// words.
-    Run { words: bool },
+    /// Run a job by one worker per node, over these links.
+    Run { links: Links },
+}
+
+/// What the links of a run are.
+#[derive(Clone, Copy, Debug, PartialEq, Eq, Hash)]
+pub enum Links {
+    /// Each is a state and its history, behind a lock.
+    Locked,
+    /// Each is two words, and has capacity one.
+    Words,
+    /// Each of capacity one is two words, and each other one is behind a lock.
+    Mixed,
 }
 
 /// The task that these words name, the program's name first, and its file where there is one.
 ///
 /// Words that name no command are `link` without a file. Whatever `clap` refuses is a refused
-/// command line, a request for help included.
+/// command line, a request for help included, and so are `--words` and `--mixed` together.
 pub fn parse(alloc: Global, words: &[String]) -> Result<(Task, Option<String>), CliFault>
     ensures no_words { length words.now ≤ 1
         → IsOkAnd result (λ r. (r.0 ≡ Task.Link false) × (r.1 ≡ None)) }
@@ -44,13 +56,15 @@ pub fn parse(alloc: Global, words: &[String]) -> Result<(Task, Option<String>), 
     let matches = matches_of(alloc, words)?;
     match matches.subcommand() {
         None => Ok((Task::Link { trace: false }, None)),
+        Some((_, inner)) if has_words(inner) && has_mixed(inner) => Err(CliFault::CommandLine),
         Some((word, inner)) => Ok((named_task(word, inner), file_of(alloc, inner)?)),
     }
 }
 
 /// What `clap` finds in the words.
 fn matches_of<'a>(alloc: Global, words: &'a [String]) -> Result<ArgMatches<'a>, CliFault>
-    ensures taken { IfOk result (λ matches. IsTaken (map string_bytes words.entry.now)) }
+    ensures matched { IfOk result (λ matches.
+        fault_of stab_line (map string_bytes words.entry.now) ≡ []) }
     ensures subcommand { IfOk result (λ matches.
         subcommand_rows_of matches ≡ subcommand_of stab_line (map string_bytes words.entry.now)) }
     ensures fault { IfErr result (IsWordsFault (map string_bytes words.entry.now)) }
@@ -107,13 +121,15 @@ fn tree<'a>(alloc: Global) -> Result<Command<'a>, AllocError>
     Ok(tree)
 }
 
-/// The subcommand `run [--words] [FILE]`.
+/// The subcommand `run [--words | --mixed] [FILE]`. `clap` is told no rule about both flags
+/// together, since its model says exactly which words match only where no argument has such a rule.
 fn run<'a>(alloc: Global) -> Result<Command<'a>, AllocError>
     ensures line { IfOk result (λ command. app_of command ≡ run_line) }
     ensures local { IfOk result (λ command. (fields_of command).has_globals ≡ false) }
 {
     let run = Command::new(alloc, "run")
         .arg(words_argument(alloc))?
+        .arg(mixed_argument(alloc))?
         .arg(Arg::new(alloc, "FILE"))?;
     Ok(run)
 }
@@ -128,6 +144,16 @@ fn words_argument<'a>(alloc: Global) -> Arg<'a>
         .action(ArgAction::SetTrue)
 }
 
+/// The flag `--mixed` of `run`.
+fn mixed_argument<'a>(alloc: Global) -> Arg<'a>
+    ensures rule { rule_of result ≡ mixed_flag }
+    ensures local { result.global ≡ false }
+{
+    Arg::new(alloc, "mixed")
+        .long("mixed")
+        .action(ArgAction::SetTrue)
+}
+
 /// The task of a command word, which is `link`, `tree` or `run`.
 fn named_task(word: &str, matches: &ArgMatches<'_>) -> Task
     ensures { result ≡ task_of word.now (rows_of (found_of matches.now)) }
@@ -138,8 +164,21 @@ fn named_task(word: &str, matches: &ArgMatches<'_>) -> Task
     } else if word == "tree" {
         Task::Tree
     } else {
-        let words = has_words(matches);
-        Task::Run { words }
+        let links = named_links(matches);
+        Task::Run { links }
+    }
+}
+
+/// The links that the flags of `run` name.
+fn named_links(matches: &ArgMatches<'_>) -> Links
+    ensures { result ≡ links_by_flags (rows_of (found_of matches.now)) }
+{
+    if has_words(matches) {
+        Links::Words
+    } else if has_mixed(matches) {
+        Links::Mixed
+    } else {
+        Links::Locked
     }
 }
 
@@ -155,6 +194,13 @@ fn has_words(matches: &ArgMatches<'_>) -> bool
     ensures { result ≡ has_words_flag (rows_of (found_of matches.now)) }
 {
     is_written(matches.value_source("words"))
+}
+
+/// Whether `--mixed` is among the words of a subcommand.
+fn has_mixed(matches: &ArgMatches<'_>) -> bool
+    ensures { result ≡ has_mixed_flag (rows_of (found_of matches.now)) }
+{
+    is_written(matches.value_source("mixed"))
 }
 
 /// Whether a value came from the words, and is no default.

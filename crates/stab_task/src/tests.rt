@@ -5,6 +5,7 @@ mod bytes;
 mod files;
 mod limits;
 mod links;
+mod per_link;
 mod readers;
 mod runs;
 mod trees;
@@ -29,9 +30,17 @@ const PLAIN: Task = Task::Link { trace: false };
 
 const TRACED: Task = Task::Link { trace: true };
 
-const LOCKED: Task = Task::Run { words: false };
+const LOCKED: Task = Task::Run {
+    links: Links::Locked,
+};
 
-const WORDS: Task = Task::Run { words: true };
+const WORDS: Task = Task::Run {
+    links: Links::Words,
+};
+
+const MIXED: Task = Task::Run {
+    links: Links::Mixed,
+};
 
 const WORST_START: &str =
     r#"{"capacity":1,"labels":4,"start":{"frames":[[2,99]],"acks":[0],"send":0,"recv":1},"events":[["offer",10],"recv_ack","send_ack",["offer",11],"recv_ack","recv_frame","send_ack",["offer",12],"recv_ack",["offer",13],"send_frame","recv_frame"]}"#;
@@ -40,6 +49,12 @@ const WORST_TEXT: &str =
     "delivered: 99 13\noffered: 10 11 12 13\nacked: 3\nsend label: 3\nrecv label: 3\nframes:\nacks:\nclosed: no\n";
 
 const LONE_ROOT: &str = r#"{"capacity":1,"labels":4,"tree":[{"name":"r"}],"items":[7,8]}"#;
+
+/// The tasks that read a job of a tree.
+const OF_TREES: [Task; 4] = [Task::Tree, LOCKED, WORDS, MIXED];
+
+/// The tasks that run the workers of a job.
+const RUNS: [Task; 3] = [LOCKED, WORDS, MIXED];
 
 const LONE_TEXT: &str = "r depth 0 received 2 acked -\nitems: 7 8\n";
 
@@ -53,7 +68,8 @@ struct Work {
     text: &'static str,
 }
 
-/// One work for each task.
+/// One work for each task, of which each reads and writes as the others do; of the runs, those over
+/// one kind of link.
 const WORKS: [Work; 4] = [
     Work {
         task: PLAIN,

@@ -5,7 +5,7 @@ fn assert_not_json<T: Threads + Wait + Send + Sync + Abort + Alloc<A = Global>>(
     rt: &T,
     bytes: &[u8],
 ) {
-    for task in [PLAIN, TRACED, Task::Tree, LOCKED, WORDS] {
+    for task in [PLAIN, TRACED, Task::Tree, LOCKED, WORDS, MIXED] {
         assert_refused(rt, task, bytes, &not_json(task));
     }
 }

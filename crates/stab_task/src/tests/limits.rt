@@ -5,9 +5,6 @@ use stab_run::read_job;
 use stab_script::{OutAct, ScriptFault};
 use stab_tree::TreeFault;
 
-/// The tasks that read a job of a tree.
-const OF_TREES: [Task; 3] = [Task::Tree, LOCKED, WORDS];
-
 /// Fails the test where a task over a tree does not refuse the job with this fault.
 fn assert_no_job<T: Threads + Wait + Send + Sync + Abort + Alloc<A = Global>>(
     rt: &T,

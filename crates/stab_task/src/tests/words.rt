@@ -10,7 +10,7 @@ fn words(alloc: Global, line: &[&str]) -> Result<Vec<String>, AllocError> {
 }
 
 /// What the words of a command line are parsed as.
-fn parsed(
+pub(super) fn parsed(
     alloc: Global,
     line: &[&str],
 ) -> Result<Result<(Task, Option<String>), CliFault>, AllocError> {
@@ -64,6 +64,17 @@ fn takes_a_command_word_a_flag_and_a_file(rt: HostRuntime) -> Result<(), Fail> {
             LOCKED,
             Some("--words"),
         ),
+        (["stab", "run", "--mixed"].as_slice(), MIXED, None),
+        (
+            ["stab", "run", "job.json", "--mixed"].as_slice(),
+            MIXED,
+            Some("job.json"),
+        ),
+        (
+            ["stab", "run", "--words", "--", "--mixed"].as_slice(),
+            WORDS,
+            Some("--mixed"),
+        ),
     ];
     for (line, task, path) in rows {
         let (its_task, its_path) = parsed(rt.alloc(), line)??;
@@ -79,6 +90,13 @@ fn refuses_other_words_and_help(rt: HostRuntime) -> Result<(), Fail> {
         ["stab", "run", "--fast"].as_slice(),
         ["stab", "run", "--words", "--words"].as_slice(),
         ["stab", "run", "--words=1"].as_slice(),
+        ["stab", "run", "--words", "--mixed"].as_slice(),
+        ["stab", "run", "--mixed", "job.json", "--words"].as_slice(),
+        ["stab", "run", "--mixed", "--mixed"].as_slice(),
+        ["stab", "run", "--mixed=1"].as_slice(),
+        ["stab", "--mixed"].as_slice(),
+        ["stab", "link", "--mixed"].as_slice(),
+        ["stab", "tree", "--mixed"].as_slice(),
         ["stab", "run", "--trace"].as_slice(),
         ["stab", "--words"].as_slice(),
         ["stab", "link", "--words"].as_slice(),
