@@ -42,7 +42,8 @@ BUILD = os.path.join(HERE, "build")
 SECONDS = 20
 PART = 500  # so many cases one lane runs before it takes the next ones
 
-COMMANDS = ("link",), ("link", "--trace"), ("tree",), ("run",), ("run", "--words")
+COMMANDS = [("link",), ("link", "--trace"), ("tree",)]
+COMMANDS += [("run",), ("run", "--words"), ("run", "--mixed")]
 
 ITEMS = r"(?: [0-9]+)*"
 LINK_TEXT = (
@@ -60,7 +61,7 @@ TEXTS = {
     ("tree",): re.compile(NODE_TEXT % ""),
     ("run",): re.compile(NODE_TEXT % " ended (?:upstream|turns)"),
 }
-TEXTS["run", "--words"] = TEXTS["run",]
+TEXTS["run", "--words"] = TEXTS["run", "--mixed"] = TEXTS["run",]
 
 
 def faults():
@@ -133,8 +134,9 @@ TEXT_PARTS = ["", " ", "a", "A", "_", "-", "r", "é", "€", "𝄞"]
 TEXT_PARTS += ["\\u0061", "\\u0000", "\\ud800", "\\udc00", "\\ud834\\udd1e", "\\udd1e\\ud834"]
 TEXT_PARTS += ["\\/", "\\n", "\\x", "\\", "\\u12", "\t", "\n", "\0", "\x7f"]
 TEXT_PARTS += ["a" * 31, "a" * 32, "a" * 33, "P", "D", "E", "T", "K", "PDE" * 40, "x" * 5000]
-NAMES = "version capacity labels tree items starts scripts turns schedule start events frames acks"
-NAMES += " send recv name parent seed length loss repeat frames_out frames_in acks_out acks_in extra"
+NAMES = "version capacity labels links tree items starts scripts turns schedule start events frames"
+NAMES += " acks send recv name parent seed length loss repeat frames_out frames_in acks_out"
+NAMES += " acks_in extra"
 NAMES = [json.dumps(name) for name in NAMES.split()]
 NAMES += ['"\\u0063apacity"', '""', '"Capacity"', '"a\\u0000"']
 NODES = [json.dumps(name) for name in "r a b c d e x".split()]

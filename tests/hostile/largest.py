@@ -97,6 +97,12 @@ def drawn(length=MAX_ACTS, loss=500):
     return members(seed="[42,54]", length=length, loss=loss, repeat=500)
 
 
+def wide(count):
+    """Every other of so many links has the largest capacity."""
+    widest = members(capacity=64, labels=1000)
+    return "[" + ",".join([widest, "null"][i % 2] for i in range(count)) + "]"
+
+
 def filled(job, size):
     """A job with spaces after it, up to so many bytes."""
     return job + " " * (size - len(job))
@@ -110,7 +116,7 @@ def beside(value):
 def jobs():
     """Yields a name, the words, the fault that is expected, and the job."""
     link, trace, walk = ["link"], ["link", "--trace"], ["tree"]
-    locks, words = ["run"], ["run", "--words"]
+    locks, words, mixed = ["run"], ["run", "--words"], ["run", "--mixed"]
     all_events = lambda: link_job(events(MAX_EVENTS))
     yield "1,000,000 events", link, TEXT, all_events
     yield "1,000,000 events, traced", trace, TEXT, all_events
@@ -127,8 +133,13 @@ def jobs():
             nodes, chain, items=some("4294967295", count), starts=some(start(1, 1), nodes - 1))
         for command in walk, locks, words:
             yield f"{form} of 64, 10,000 items", command, TEXT, lambda it=items: it(MAX_ITEMS)
+        wider = lambda chain=is_chain: tree_job(
+            MAX_NODES, chain, items=some("4294967295", MAX_ITEMS), links=wide(MAX_NODES - 1))
+        yield f"{form} of 64, wide links", mixed, TEXT, wider
         yield "one item more", walk, "job: too many items", lambda it=items: it(MAX_ITEMS + 1)
         yield "one node more", walk, "tree: too many nodes", lambda it=items: it(MAX_ITEMS, 65)
+    more = lambda: tree_job(links=wide(MAX_NODES))
+    yield "one link more", walk, "job: wrong number of links", more
     written = lambda links, acts: tree_job(links + 1, scripts=some(letters(acts), links))
     for command in walk, locks, words:
         yield "41 links, 4 x 100,000 letters", command, TEXT, lambda: written(41, MAX_ACTS)
@@ -162,10 +173,11 @@ def jobs():
 def whole_runs():
     """Runs of many nodes to their end: how long they take is up to the system's scheduler, and
     beside other programs it may be minutes."""
-    for command in ["run"], ["run", "--words"]:
+    for command in ["run"], ["run", "--words"], ["run", "--mixed"]:
         for is_chain, form in (True, "chain"), (False, "star"):
-            yield f"{form} of 64, 10,000 items, whole", command, TEXT, lambda it=is_chain: tree_job(
-                MAX_NODES, it, items=some("1", MAX_ITEMS), turns=MAX_TURNS)
+            links = {"links": wide(MAX_NODES - 1)} if "--mixed" in command else {}
+            yield f"{form} of 64, 10,000 items, whole", command, TEXT, lambda it=is_chain, of=links: (
+                tree_job(MAX_NODES, it, items=some("1", MAX_ITEMS), turns=MAX_TURNS, **of))
 
 
 def path_of(name, command, job):

@@ -53,26 +53,34 @@ JOBS = """
     links/file_after_dashes
     trees/every_member
     trees/two_links_under_one_schedule
+    trees/a_wider_second_link
     runs/a_lone_root
     runs/words_a_lone_root
+    runs/mixed_a_lone_root
     refused/no_such_file
     refused/bad_event
     refused/flag_twice
     refused_trees/unknown_node
+    refused_trees/too_few_labels_of_a_link
     runs/two_frames_for_one_place
     runs/words_two_frames_for_one_place
+    runs/mixed_two_frames_for_one_place
 """.split()
 
-RUNS = ("run", ["run"]), ("run --words", ["run", "--words"])
+RUNS = [("run", ["run"]), ("run --words", ["run", "--words"]), ("run --mixed", ["run", "--mixed"])]
 
 
-def chain(nodes, items, turns):
-    """The job of a chain of so many nodes, with clean starts."""
+def chain(nodes, items, turns, words):
+    """The job of a chain of so many nodes, with clean starts, for a run by these words. Where both
+    kinds of link are asked for, every other link is wider."""
     tree = [{"name": "r"}]
     for i in range(1, nodes):
         tree.append({"name": f"n{i}", "parent": tree[-1]["name"]})
     items = list(range(1, items + 1))
-    return {"capacity": 1, "labels": 4, "tree": tree, "items": items, "turns": turns}
+    job = {"capacity": 1, "labels": 4, "tree": tree, "items": items, "turns": turns}
+    if "--mixed" in words:
+        job["links"] = [{"capacity": 3, "labels": 8} if i % 2 else None for i in range(nodes - 1)]
+    return job
 
 
 class Ended:
@@ -353,19 +361,21 @@ def check_stab(check, room, program, all_examples):
         # (the C library allocates for a thread, so that refused memory may be a refused thread)
         refusals = [OUT_OF_MEMORY] + [NOT_STARTED] * ("run" in words)
         check.stab(name, [program, *words], input, is_right, refusals)
-    job = chain(3, items=5, turns=50)
-    input = room.write("chain_of_3", job)
     for name, words in RUNS:
+        job = chain(3, items=5, turns=50, words=words)
+        input = room.write(f"{name} of a chain of 3", job)
         refusals = [OUT_OF_MEMORY, NOT_STARTED]
         check.stab(f"{name} of a chain of 3", [program, *words], input, is_report_of(job), refusals)
     for nodes in 1, 3, 64:
-        job = chain(nodes, items=5, turns=50)
-        input = room.write(f"chain_of_{nodes}", job)
         for name, words in RUNS:
+            job = chain(nodes, items=5, turns=50, words=words)
             of = f"{name} of a chain of {nodes}"
+            input = room.write(f"{of}, threads", job)
             check.threads(of, [program, *words], input, is_report_of(job), nodes)
     for name, words in RUNS:
+        job = chain(64, items=5, turns=50, words=words)
         of, command = f"{name} of a chain of 64, limited", [program, *words]
+        input = room.write(of, job)
         # (megabytes, up to more than the stacks of 64 threads take)
         memory = [int(12 * 1.4**i) for i in range(21)]
         threads = [1, 2, 3, 10, 40, 1000]

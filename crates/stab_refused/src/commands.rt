@@ -2,19 +2,21 @@
 
 use crate::call::{Call, make_call, tried_twice};
 use crate::streams::Pieces;
-use stab_task::{CliFault, Task, load, parse};
+use stab_task::{CliFault, Links, Task, load, parse};
 use std::alloc::{AllocError, Global};
 
-/// Command lines, without the name of the program: each task with its flag, and three that are
+/// Command lines, without the name of the program: each task with its flags, and four that are
 /// refused.
-const LINES: [&str; 9] = [
+const LINES: [&str; 11] = [
     "",
     "link job.json",
     "link --trace job.json",
     "tree job.json",
     "run job.json",
     "run --words job.json",
+    "run --mixed job.json",
     "run --fast",
+    "run --words --mixed",
     "tree one.json two.json",
     "--help",
 ];
@@ -99,8 +101,15 @@ pub fn task_words(task: Task) -> &'static str {
         Task::Link { trace: false } => "link",
         Task::Link { trace: true } => "link --trace",
         Task::Tree => "tree",
-        Task::Run { words: false } => "run",
-        Task::Run { words: true } => "run --words",
+        Task::Run {
+            links: Links::Locked,
+        } => "run",
+        Task::Run {
+            links: Links::Words,
+        } => "run --words",
+        Task::Run {
+            links: Links::Mixed,
+        } => "run --mixed",
     }
 }
 

@@ -1,4 +1,5 @@
-//! The calls on the ends of a link behind a lock, and of a link of two words.
+//! The calls on the ends of a link behind a lock, and what they have in common with those of other
+//! links.
 
 use crate::books::push_book;
 use crate::call::{Call, make_call, tried_twice};
@@ -20,6 +21,8 @@ pub enum Kind {
     Locked,
     /// A link of two words.
     Words,
+    /// A link of either kind.
+    Any,
 }
 
 /// Makes the calls on links behind locks.
@@ -58,7 +61,7 @@ fn make_locked_rounds<R: Print + Eprint + Wait + AllocGlobal>(rt: &R) -> anyhow:
 }
 
 /// The link behind a lock at its start.
-fn new_lock(alloc: Global, start: &Start) -> anyhow::Result<LockLink> {
+pub fn new_lock(alloc: Global, start: &Start) -> anyhow::Result<LockLink> {
     let params = params_of_one()?;
     let link = tried_twice(|| LockLink::new(alloc, params, start.copy(alloc)?))?;
     Ok(link)
@@ -80,7 +83,7 @@ fn make_on_ends<R: Print + Eprint + Wait + AllocGlobal>(
 }
 
 /// Prints what a book holds.
-fn print_book<R: Print + AllocGlobal>(rt: &R, book: &LinkBook) -> anyhow::Result<()> {
+pub fn print_book<R: Print + AllocGlobal>(rt: &R, book: &LinkBook) -> anyhow::Result<()> {
     let text = tried_twice(|| book_text(rt.alloc(), book))?;
     print!(rt; "{text}")?;
     Ok(())
@@ -194,6 +197,12 @@ impl<'p, S: SendSide, T: RecvSide<Pass = S::Pass>> Call for BothEnds<'p, S, T> {
             (Kind::Words, EndCall::Close) => "WordSend::close",
             (Kind::Words, EndCall::PollFrame) => "WordRecv::poll_frame",
             (Kind::Words, EndCall::SendAck) => "WordRecv::send_ack",
+            (Kind::Any, EndCall::Offer(_)) => "AnySend::offer",
+            (Kind::Any, EndCall::Send) => "AnySend::send",
+            (Kind::Any, EndCall::PollAck) => "AnySend::poll_ack",
+            (Kind::Any, EndCall::Close) => "AnySend::close",
+            (Kind::Any, EndCall::PollFrame) => "AnyRecv::poll_frame",
+            (Kind::Any, EndCall::SendAck) => "AnyRecv::send_ack",
         }
     }
 

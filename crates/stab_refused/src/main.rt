@@ -7,6 +7,7 @@
 //! not, a line of the text says so. The standard error names each call that was refused.
 #![tactic(auto)]
 
+mod any_ends;
 mod books;
 mod call;
 mod commands;
@@ -55,6 +56,7 @@ fn make_all<R: Print + Eprint + Threads + Wait + Send + Sync + AllocGlobal>(
     books::make_all(rt)?;
     ends::make_all(rt)?;
     word_ends::make_all(rt)?;
+    any_ends::make_all(rt)?;
     works::make_all(rt)?;
     commands::make_all(rt)?;
     runs::make_all(rt)?;

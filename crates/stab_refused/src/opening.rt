@@ -29,7 +29,7 @@ pub const ROUND: [LinkAct; 5] = [
 /// The chain, with the worst start of each link.
 #[derive(Debug, Drop)]
 pub struct Opening {
-    pub params: Params,
+    pub params: [Params; 2],
     pub tree: Tree,
     pub starts: Vec<Start>,
 }
@@ -43,7 +43,7 @@ impl Opening {
             starts.push(worst_start(alloc, stray)?)?;
         }
         Ok(Opening {
-            params: params()?,
+            params: [params()?, params()?],
             tree: read_tree(alloc, &value)?,
             starts,
         })

@@ -105,10 +105,12 @@ pub fn push_link_job(text: &mut String, job: &LinkJob) -> Result<(), AllocError>
     text.push_str("\n")
 }
 
-/// Adds the lines of a job: its parameters and turns, its tree and items, the start and the script
-/// of each link, and its schedule.
+/// Adds the lines of a job: the parameters of each link, its turns, its tree and items, the start
+/// and the script of each link, and its schedule.
 pub fn push_job(text: &mut String, job: &Job) -> Result<(), AllocError> {
-    push_params(text, job.params())?;
+    for params in job.params() {
+        push_params(text, *params)?;
+    }
     writeln!(text, "turns {}", job.turns())?;
     push_tree(text, job.tree())?;
     push_items_line(text, "items", job.items())?;

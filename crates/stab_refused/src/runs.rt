@@ -12,7 +12,7 @@ use anyhow::bail;
 use stab_core::{StartFault, push_items_line};
 use stab_frames::{Item, Sequence};
 use stab_node::{Ended, Free, Gate, NodeFault};
-use stab_run::{Job, Report, RunFault, read_job, report_text, run_locked, run_words};
+use stab_run::{Job, Report, RunFault, read_job, report_text, run_locked, run_mixed, run_words};
 use stab_tree::Tree;
 use std::alloc::{AllocError, Global};
 use std::array;
@@ -22,6 +22,11 @@ use std::thread::Threads;
 
 /// A chain of three nodes.
 const CHAIN: &str = r#"{"capacity":1,"labels":4,"items":[1,2,3,4,5],"turns":50,
+    "tree":[{"name":"r"},{"name":"a","parent":"r"},{"name":"b","parent":"a"}]}"#;
+
+/// The same chain, whose second link is wider than the first.
+const WIDER_CHAIN: &str = r#"{"capacity":1,"labels":4,"items":[1,2,3,4,5],"turns":50,
+    "links":[null,{"capacity":3,"labels":8}],
     "tree":[{"name":"r"},{"name":"a","parent":"r"},{"name":"b","parent":"a"}]}"#;
 
 /// How often a run is made: only one allocation of the program is refused.
@@ -38,19 +43,20 @@ pub fn make_all<R: Print + Eprint + Threads + Wait + Send + Sync + AllocGlobal>(
     rt: &R,
 ) -> anyhow::Result<()> {
     let job = tried_twice(|| read_job(rt.alloc(), CHAIN.as_bytes()))?;
-    make_runs(rt, &job)?;
+    let wider = tried_twice(|| read_job(rt.alloc(), WIDER_CHAIN.as_bytes()))?;
+    make_runs(rt, &job, &wider)?;
     make_report_text(rt, &job)
 }
 
-/// Runs a job over links of each kind.
+/// Runs a job over links of each kind, and one with a wider link over links of both kinds.
 fn make_runs<R: Print + Eprint + Threads + Wait + Send + Sync + AllocGlobal>(
     rt: &R,
     job: &Job,
+    wider: &Job,
 ) -> anyhow::Result<()> {
-    for kind in [Kind::Locked, Kind::Words] {
-        make_run(rt, kind, job)?;
-    }
-    Ok(())
+    make_run(rt, Kind::Locked, job)?;
+    make_run(rt, Kind::Words, job)?;
+    make_run(rt, Kind::Any, wider)
 }
 
 /// Runs a job, once more if that is refused, and prints what it answers. The job is only read, so
@@ -63,6 +69,7 @@ fn make_run<R: Print + Eprint + Threads + Wait + Send + Sync + AllocGlobal>(
     let name = match kind {
         Kind::Locked => "run_locked",
         Kind::Words => "run_words",
+        Kind::Any => "run_mixed",
     };
     for _ in 0..MOST_RUNS {
         if let Ok(answer) = run_once(rt, kind, job) {
@@ -85,6 +92,7 @@ fn run_once<R: Threads + Wait + Send + Sync + AllocGlobal>(
     let answer = match kind {
         Kind::Locked => run_locked(rt, rt.alloc(), job, &gate),
         Kind::Words => run_words(rt, rt.alloc(), job, &gate),
+        Kind::Any => run_mixed(rt, rt.alloc(), job, &gate),
     };
     if !gate.each_is_done_once() {
         return Ok(RunAnswer::NotDone);

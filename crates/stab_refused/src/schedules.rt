@@ -77,7 +77,7 @@ fn run(alloc: Global, opening: &Opening, events: &[TreeEvent]) -> Result<TreeSta
 {
     run_schedule(
         alloc,
-        opening.params,
+        &opening.params,
         &opening.tree,
         &ITEMS,
         &opening.starts,

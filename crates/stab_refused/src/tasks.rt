@@ -10,7 +10,7 @@ use stab_core::StartFault;
 use stab_node::NodeFault;
 use stab_run::{JobFault, RunFault};
 use stab_script::LinkJobFault;
-use stab_task::{CliFault, Task, act};
+use stab_task::{CliFault, Links, Task, act};
 use stab_treecore::{TreeStartFault, TreeStepFault};
 use std::alloc::{AllocError, Global};
 use std::sync::Wait;
@@ -35,6 +35,10 @@ const LONE_ROOT: &str = r#"{"capacity":1,"labels":4,"tree":[{"name":"r"}],"items
 const CHAIN: &str =
     r#"{"capacity":1,"labels":4,"tree":[{"name":"r"},{"name":"a","parent":"r"},{"name":"b","parent":"a"}],"items":[1,2,3,4,5],"scripts":[{"frames_out":"D","acks_in":"K"},{"seed":[42,54],"length":6,"loss":300,"repeat":400}],"turns":50}"#;
 
+/// The same, where the second link is wider than the first.
+const WIDER_CHAIN: &str =
+    r#"{"capacity":1,"labels":4,"links":[null,{"capacity":3,"labels":8}],"tree":[{"name":"r"},{"name":"a","parent":"r"},{"name":"b","parent":"a"}],"items":[1,2,3,4,5],"scripts":[{"frames_out":"D","acks_in":"K"},{"seed":[42,54],"length":6,"loss":300,"repeat":400}],"turns":50}"#;
+
 /// Does the tasks.
 pub fn make_all<R: Print + Eprint + Threads + Wait + Send + Sync + AllocGlobal>(
     rt: &R,
@@ -47,9 +51,13 @@ pub fn make_all<R: Print + Eprint + Threads + Wait + Send + Sync + AllocGlobal>(
         &written(rt, Task::Link { trace: false }, UNLAWFUL_START)?,
     )?;
     print_written(rt, &written(rt, Task::Tree, TWO_LINKS)?)?;
-    for words in [false, true] {
-        print_written(rt, &written(rt, Task::Run { words }, LONE_ROOT)?)?;
-        print_nodes(rt, &written(rt, Task::Run { words }, CHAIN)?)?;
+    for (links, chain) in [
+        (Links::Locked, CHAIN),
+        (Links::Words, CHAIN),
+        (Links::Mixed, WIDER_CHAIN),
+    ] {
+        print_written(rt, &written(rt, Task::Run { links }, LONE_ROOT)?)?;
+        print_nodes(rt, &written(rt, Task::Run { links }, chain)?)?;
     }
     Ok(())
 }

@@ -56,7 +56,7 @@ fn make_acts<R: Print + Eprint + AllocGlobal>(
 fn new_state(alloc: Global, opening: &Opening) -> Result<TreeState, TreeStartFault> {
     TreeState::new(
         alloc,
-        opening.params,
+        &opening.params,
         &opening.tree,
         &ITEMS,
         &opening.starts,

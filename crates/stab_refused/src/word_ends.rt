@@ -13,7 +13,7 @@ use stab_word::{WordFault, WordLink, WordOpening, WordRecv, WordSend};
 use std::alloc::{AllocError, Global};
 
 /// How often a link is split until it has ends: only one allocation of a run is refused.
-const MOST_SPLITS: u32 = 2;
+pub const MOST_SPLITS: u32 = 2;
 
 /// Makes the calls on links of two words. A refused split gives up the opening and the script, so
 /// another link is split after it.
@@ -51,7 +51,7 @@ fn make_on_ends<R: Print + Eprint + AllocGlobal>(
 }
 
 /// The link of two words at a clean start, and its opening.
-fn new_words(alloc: Global, params: Params) -> Result<(WordLink, WordOpening), WordFault>
+pub fn new_words(alloc: Global, params: Params) -> Result<(WordLink, WordOpening), WordFault>
     ensures { IfOk result (λ made. made.1 ≡ made.0) }
 {
     let start = Start::clean(alloc);
