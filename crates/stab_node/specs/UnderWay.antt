@@ -1,7 +1,7 @@
 -- What holds of a node while its worker makes turns, and before its lower ends are closed.
 -- Source: this project's own.
 use Rattle.std.specs.Prelude.{◌≡◌, ℕ, Bool, true, false, List, [], ◌∷◌, ◌++◌, length, All}
-use Rattle.std.specs.Prelude.{Option, Some, None, IfSome}
+use Rattle.std.specs.Prelude.{Option, IfSome}
 use Rattle.stab_lock.specs.Accounts.{Sender, Receiver}
 use Rattle.stab_lock.specs.declared.seen.FrameSeen.{FrameSeen}
 use Rattle.stab_lock.specs.declared.seen.FrameSeen.TheVariants as seen
@@ -19,9 +19,9 @@ pub record EndedIsClosed (ended : Bool) (up : Option Receiver) : Type 0 where
   pub upstream : ended ≡ true → IfSome up (λ r. r.closed ≡ true)
 
 -- what holds between two turns
-pub record IsUnderWay (published received : List ℕ) (ended : Bool) (up : Option Receiver)
+pub record IsUnderWay (first received : List ℕ) (ended : Bool) (up : Option Receiver)
     (downs : List Sender) : Type 0 where
-  pub received_is : received ≡ received_by up published
+  pub received_is : received ≡ received_by up first
   pub upstream : EndedIsClosed ended up
   pub lower : All (OffersPrefix received) downs
 
@@ -35,9 +35,9 @@ abbrev pub but_for_the_close : Sender → Sender
 but_for_the_close s = record s { closed = false }
 
 -- what holds once no further turn is made, and before the lower ends are closed
-pub record IsOut (published received : List ℕ) (up : Option Receiver) (downs : List Sender)
+pub record IsOut (first received : List ℕ) (up : Option Receiver) (downs : List Sender)
     (ended : Ended) : Type 0 where
-  pub received_is : received ≡ received_by up published
+  pub received_is : received ≡ received_by up first
   pub lower : All (OffersPrefix received) downs
   pub handed_on : ended ≡ Upstream → IsHandedOn received up downs
 
@@ -47,8 +47,3 @@ with_seen received seen.Nothing = received
 with_seen received seen.Old = received
 with_seen received (seen.Fresh item) = received ++ item ∷ []
 with_seen received seen.Closed = received
-
--- what a node has before its first turn: the root has the published items
-abbrev pub first_received : Option Receiver → List ℕ → List ℕ
-first_received None published = published
-first_received (Some up) published = []

@@ -1,6 +1,6 @@
 -- What a worker leaves at a node: what the node received, and what it handed on.
 -- Source: this project's profile.
-use Rattle.std.specs.Prelude.{◌≡◌, ℕ, true, List, length, All, Option, Some, None, IfSome}
+use Rattle.std.specs.Prelude.{◌≡◌, ℕ, true, List, ◌++◌, length, All, Option, Some, None, IfSome}
 use Rattle.stab_lock.specs.Accounts.{Sender, Receiver, new_sender, new_receiver}
 use Rattle.stab_node.specs.declared.account.Ended.{Ended}
 use Rattle.stab_node.specs.declared.account.Ended.TheVariants.{Upstream}
@@ -11,11 +11,11 @@ pub record AreNew (up : Option Receiver) (downs : List Sender) : Type 0 where
   pub upper : IfSome up (λ r. r ≡ new_receiver)
   pub lower : All (λ s. s ≡ new_sender) downs
 
--- what a node has: what its upper end delivered, or what is published at the root, which has no
--- upper end
+-- what a node has: what it began with, and then what its upper end delivered; the root has no upper
+-- end
 abbrev pub received_by : Option Receiver → List ℕ → List ℕ
-received_by None published = published
-received_by (Some up) published = up.delivered
+received_by None first = first
+received_by (Some up) first = first ++ up.delivered
 
 -- a lower end offered a prefix of what the node received, and is closed
 pub record IsServed (received : List ℕ) (down : Sender) : Type 0 where
@@ -33,9 +33,9 @@ pub record IsHandedOn (received : List ℕ) (up : Option Receiver) (downs : List
   pub upstream : IfSome up (λ r. r.closed ≡ true)
   pub lower : All (HasAll received) downs
 
--- a worker's answer, by the accounts of its finished ends
-pub record IsWork (published received : List ℕ) (up : Option Receiver) (downs : List Sender)
+-- a worker's answer, by what its node began with and the accounts of its finished ends
+pub record IsWork (first received : List ℕ) (up : Option Receiver) (downs : List Sender)
     (ended : Ended) : Type 0 where
-  pub received_is : received ≡ received_by up published
+  pub received_is : received ≡ received_by up first
   pub served : All (IsServed received) downs
   pub handed_on : ended ≡ Upstream → IsHandedOn received up downs

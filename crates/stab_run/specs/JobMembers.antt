@@ -11,6 +11,8 @@ use Rattle.stab_script.specs.ScriptEntries.{script_entry}
 use Rattle.stab_script.specs.Starts.{start}
 use Rattle.stab_run.specs.declared.link_entry.LinkEntry.{LinkEntry}
 use Rattle.stab_run.specs.LinkEntries.{link_entry}
+use Rattle.stab_run.specs.JobOpenings.{hold_of, lists_given}
+use Rattle.stab_run.specs.declared.version.Version.{Version}
 
 pub record Members : Type 0 where
   pub capacity : ℕ
@@ -22,6 +24,8 @@ pub record Members : Type 0 where
   pub turns : ℕ
   pub schedule : Items
   pub links : Option (List LinkEntry)
+  pub hold : ℕ
+  pub openings : Option (List (List ℕ))
 
 -- the turns of a job that names none
 abbrev pub default_turns : ℕ
@@ -42,8 +46,8 @@ abbrev pub entries_of : Option Data → Option Items
 entries_of None = Some no_items
 entries_of (Some d) = as_array d
 
-abbrev pub members : Data → Option Members
-members d = do
+abbrev pub members : Version → Data → Option Members
+members version d = do
   its_capacity ← get (codes "capacity") d >>= capped most_u16
   its_labels ← get (codes "labels") d >>= capped most_u16
   its_tree ← get (codes "tree") d
@@ -53,6 +57,8 @@ members d = do
   its_starts ← if_there (list_of start) (get (codes "starts") d)
   its_scripts ← if_there (list_of script_entry) (get (codes "scripts") d)
   its_links ← if_there (list_of link_entry) (get (codes "links") d)
+  its_hold ← hold_of version d
+  its_openings ← lists_given version d
   Some (record {
     capacity = its_capacity;
     labels = its_labels;
@@ -63,4 +69,6 @@ members d = do
     turns = its_turns;
     schedule = its_schedule;
     links = its_links;
+    hold = its_hold;
+    openings = its_openings;
   })

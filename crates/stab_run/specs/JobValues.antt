@@ -1,5 +1,5 @@
--- The value of a job: a tree, parameters, a start and a script for each of its links, published
--- items, a number of turns and a schedule.
+-- The value of a job: a tree, parameters, a start and a script for each of its links, the openings
+-- of its nodes, published items, a number of turns and a schedule.
 -- Source: this project's profile.
 use Rattle.std.specs.Prelude.{◌≡◌, ℕ, ◌≤◌, List, length, All}
 use Rattle.stab_frames.specs.Parameters.{Parameters, AreLawful}
@@ -8,6 +8,7 @@ use Rattle.stab_script.specs.Scripts.{Acts}
 use Rattle.stab_tree.specs.Links.{links_of}
 use Rattle.stab_tree.specs.Nodes.{Nodes}
 use Rattle.stab_treecore.specs.declared.event.TreeEvent.{TreeEvent}
+use Rattle.stab_treecore.specs.NodeOpenings.{FitTree, OpeningsValue}
 
 pub record JobValue : Type 0 where
   pub params : List Parameters
@@ -17,6 +18,7 @@ pub record JobValue : Type 0 where
   pub scripts : List Acts
   pub turns : ℕ
   pub schedule : List TreeEvent
+  pub openings : OpeningsValue
 
 -- the most items that a job may have
 abbrev pub most_items : ℕ
@@ -30,13 +32,14 @@ most_turns = 1000000
 abbrev pub links : Nodes → ℕ
 links t = length (links_of t.parents)
 
--- each link has lawful parameters, a start and a script, and the items and turns are within their
--- limits
+-- each link has lawful parameters, a start and a script, the openings are those of the tree, and
+-- the items and turns are within their limits
 pub record IsJob (j : JobValue) : Type 0 where
   pub one_params_each : length j.params ≡ links j.tree
   pub lawful_params : All AreLawful j.params
   pub one_start_each : length j.starts ≡ links j.tree
   pub one_script_each : length j.scripts ≡ links j.tree
+  pub openings_fit : FitTree j.tree.parents j.openings
   pub few_items : length j.items ≤ most_items
   pub some_turns : 1 ≤ j.turns
   pub few_turns : j.turns ≤ most_turns

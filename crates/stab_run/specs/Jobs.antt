@@ -1,14 +1,14 @@
 -- Jobs: what the bytes of a job mean, or the first check, in the stated order, that they fail.
--- Source: this project's profile. Each line of the lists below is a check beside its fault: `job` has
--- the first five, `job_on_tree` those that follow once there is a tree, `job_of_scripts` the one
--- after the scripts, `schedule` the two after that, `link_params` the last two.
-use Rattle.std.specs.Prelude.{ℕ, codes, ◌≡◌, List, length, ◌==◌, ◌||◌, Bool, true, false, not, nat_lt, Option, Some, None, option_map, Result, Ok}
-use Rattle.std.specs.Option.{option_map_or}
-use Rattle.serde_json.specs.Data.{Data, Items}
+-- Source: this project's profile. Each line of the lists below is a check beside its fault: `job`
+-- has the first five, `job_on_tree` those that follow once there is a tree, `job_of_scripts` the one
+-- after the scripts, `schedule` the two after that, `link_params` the next two, and `openings_of`
+-- those of the openings.
+use Rattle.std.specs.Prelude.{ℕ, codes, ◌≡◌, List, length, ◌||◌, Bool, false, nat_lt, option_map, Result, Ok}
+use Rattle.serde_json.specs.Data.{Items}
 use Rattle.serde_json.specs.Find.{get}
 use Rattle.stab_frames.specs.Parameters.{Parameters, fault_of}
 use Rattle.stab_json.specs.Checks.{◌>>=◌, ◌>>◌, ◌or◌, ◌when◌, ◌refused_as◌}
-use Rattle.stab_json.specs.Values.{value_of, whole, count, entries}
+use Rattle.stab_json.specs.Values.{value_of, count, entries}
 use Rattle.stab_script.specs.Scripts.{Acts}
 use Rattle.stab_tree.specs.Nodes.{Nodes}
 use Rattle.stab_tree.specs.Read.{tree_of}
@@ -17,14 +17,10 @@ use Rattle.stab_run.specs.declared.fault.JobFault.{JobFault}
 use Rattle.stab_run.specs.declared.fault.JobFault.TheVariants as fault
 use Rattle.stab_run.specs.JobLinks.{are_miscounted, starts_of, scripts_of}
 use Rattle.stab_run.specs.JobMembers.{Members, members}
+use Rattle.stab_run.specs.JobOpenings.{openings_of, version_of}
 use Rattle.stab_run.specs.JobValues.{JobValue, links, most_items, most_turns}
 use Rattle.stab_run.specs.LinkParams.{link_params}
 use Rattle.stab_run.specs.ScheduleEntries.{most_events, named_act, events_of}
-
--- no version is named, or the whole number 1
-abbrev pub is_known_version : Option Data → Bool
-is_known_version None = true
-is_known_version (Some d) = option_map_or (λ n. n == 1) (whole d) false
 
 -- the events of a schedule over the nodes of these names: every entry is an act, and only then does
 -- every act name a node
@@ -47,6 +43,7 @@ job_of_scripts t m scripts = do
   fault.TurnsOutOfRange when are_out_of_range m.turns
   events ← schedule t.names m.schedule
   params ← link_params t (params_of_job m) m.links
+  openings ← openings_of t m.hold m.openings
   Ok (record {
     params = params;
     tree = t;
@@ -55,6 +52,7 @@ job_of_scripts t m scripts = do
     scripts = scripts;
     turns = m.turns;
     schedule = events;
+    openings = openings;
   })
 
 -- the job of these members on their tree
@@ -71,8 +69,8 @@ job_on_tree t m = do
 abbrev pub job : List ℕ → Result JobValue JobFault
 job bytes = do
   value ← value_of bytes or fault.Json
-  fault.Version when not (is_known_version (get (codes "version") value))
-  m ← members value or fault.Shape
+  version ← version_of (get (codes "version") value) or fault.Version
+  m ← members version value or fault.Shape
   option_map fault.Params (fault_of m.capacity m.labels)
   t ← tree_of m.tree refused_as fault.Tree
   job_on_tree t m

@@ -15,4 +15,6 @@ members_lent m = record {
   turns = m.turns;
   schedule = items_view m.schedule.now;
   links = m.links;
+  hold = m.hold;
+  openings = m.openings;
 }

@@ -35,12 +35,14 @@ all_params of_job (child ∷ children) (entry ∷ entries) = do
   Ok (params ∷ others)
 
 -- the parameters of the links of these nodes
-abbrev pub params_of : Nodes → Parameters → Option (List LinkEntry) → Result (List Parameters) JobFault
+abbrev pub params_of : Nodes → Parameters → Option (List LinkEntry)
+    → Result (List Parameters) JobFault
 params_of t of_job None = Ok (replicate (links t) of_job)
 params_of t of_job (Some entries) = all_params of_job (links_of t.parents) entries
 
 -- there is one entry for each link, where entries are given, and only then is each checked
-abbrev pub link_params : Nodes → Parameters → Option (List LinkEntry) → Result (List Parameters) JobFault
+abbrev pub link_params : Nodes → Parameters → Option (List LinkEntry)
+    → Result (List Parameters) JobFault
 link_params t of_job entries = do
   fault.LinkCount when are_miscounted (links t) entries
   params_of t of_job entries

@@ -1,7 +1,7 @@
 -- A run of workers over links: what the workers leave, and what settling the links shows.
 -- Source: this project's own.
 use Rattle.std.specs.List.{zip}
-use Rattle.std.specs.Prelude.{◌≡◌, ◌<◌, ℕ, List, [], ◌∷◌, length, map, Option, Some}
+use Rattle.std.specs.Prelude.{◌≡◌, ◌<◌, ℕ, List, [], ◌∷◌, ◌++◌, length, map, Option, Some}
 use Rattle.stab_core.specs.declared.event.Event.{Event}
 use Rattle.stab_core.specs.declared.start.Start.{Start}
 use Rattle.stab_core.specs.Replay.{opening, replay}
@@ -16,6 +16,7 @@ use Rattle.stab_node.specs.Work.{HasAll, IsServed}
 use Rattle.stab_script.specs.Scripts.{Acts, sender_half, receiver_half}
 use Rattle.stab_tree.specs.Links.{links_of}
 use Rattle.stab_tree.specs.Nodes.{parent_at, root_of}
+use Rattle.stab_treecore.specs.NodeOpenings.{OpeningsValue, opening_at}
 use Rattle.stab_workers.specs.ByNode.{ended_at, entry_into, received_at}
 
 -- a link of these parameters at a start
@@ -75,15 +76,16 @@ acked_of send = send.acked
 
 -- what the workers leave: the items of each node, why each made no further turn, and the accounts
 -- of the two ends of each link
-pub record IsRun (parents : List (Option ℕ)) (published : List ℕ) (received : List (List ℕ))
-    (ended : List Ended) (sends : List Sender) (recvs : List Receiver) : Type 0 where
+pub record IsRun (openings : OpeningsValue) (parents : List (Option ℕ)) (published : List ℕ)
+    (received : List (List ℕ)) (ended : List Ended) (sends : List Sender) (recvs : List Receiver)
+    : Type 0 where
   pub all_received : length received ≡ length parents
   pub all_ended : length ended ≡ length parents
   pub all_sent : length sends ≡ length (links_of parents)
   pub all_delivered : length recvs ≡ length (links_of parents)
   pub at_root : received_at received (root_of parents) ≡ published
   pub delivered : (child : ℕ) (recv : Receiver) → entry_into parents recvs child ≡ Some recv
-      → received_at received child ≡ recv.delivered
+      → received_at received child ≡ opening_at openings.lists child ++ recv.delivered
   pub served : (child parent : ℕ) (send : Sender) → parent_at parents child ≡ Some parent
       → entry_into parents sends child ≡ Some send → IsServed (received_at received parent) send
   pub handed_on : (child parent : ℕ) (send : Sender) → parent_at parents child ≡ Some parent
@@ -92,13 +94,14 @@ pub record IsRun (parents : List (Option ℕ)) (published : List ℕ) (received 
 
 -- What the workers left, where it is not settled: all of them answered, a link leads into this
 -- node, and the links into the nodes before it are settled.
-pub record IsFirstUnsettled (params : List Parameters) (parents : List (Option ℕ))
-    (starts : List Start) (published : List ℕ) (child : ℕ) : Type 0 where
+pub record IsFirstUnsettled (params : List Parameters) (openings : OpeningsValue)
+    (parents : List (Option ℕ)) (starts : List Start) (published : List ℕ) (child : ℕ)
+    : Type 0 where
   pub received : List (List ℕ)
   pub ended : List Ended
   pub sends : List Sender
   pub recvs : List Receiver
-  pub run : IsRun parents published received ended sends recvs
+  pub run : IsRun openings parents published received ended sends recvs
   pub before : AreSettledBefore parents (all_given params starts) sends recvs child
 
 -- The first of these links is settled with the first account of each side, and so many items are

@@ -1,6 +1,6 @@
 -- What holds of the report of a run, and why a run is refused.
 -- Source: this project's profile.
-use Rattle.std.specs.Prelude.{◌≡◌, ℕ, suc, ◌*◌, ◌<◌, List, length, Option, Some, None}
+use Rattle.std.specs.Prelude.{◌≡◌, ℕ, suc, ◌+◌, ◌*◌, ◌<◌, List, ◌++◌, length, Option, Some, None}
 use Rattle.stab_core.specs.declared.start.Start.{Start}
 use Rattle.stab_core.specs.declared.start.StartFault.{StartFault}
 use Rattle.stab_core.specs.Link.{IsReason}
@@ -11,8 +11,9 @@ use Rattle.stab_node.specs.declared.account.Ended.TheVariants.{Upstream}
 use Rattle.stab_tree.specs.Nodes.{parent_at, root_of}
 use Rattle.stab_tree.specs.Steps.{ancestor, depth_of}
 use Rattle.stab_treecore.specs.EdgeLaw.{EdgeLaw}
-use Rattle.stab_treecore.specs.NodeLaws.{capacity_into, params_into, start_into, path_garbage}
-use Rattle.stab_treecore.specs.NodeLaws.{strays_bound, missing_bound, TreeLawOfNodes}
+use Rattle.stab_treecore.specs.NodeLaws.{params_into, start_into, garbage_past, held_bound}
+use Rattle.stab_treecore.specs.NodeLaws.{most_missing, most_strays, TreeLawOfNodes}
+use Rattle.stab_treecore.specs.NodeOpenings.{OpeningsValue, hold_at, opening_at}
 use Rattle.stab_treecore.specs.TreeLaw.{CompleteLaw}
 use Rattle.stab_workers.specs.ByNode.{ended_at, received_at}
 use Rattle.stab_run.specs.Reports.{Reported, acked_at}
@@ -23,11 +24,12 @@ pub record RootHas (parents : List (Option ℕ)) (published : List ℕ) (r : Rep
   pub acked : acked_at r.acked (root_of parents) ≡ None
 
 -- The link into a child: some events, from the start of this link and under its parameters, explain
--- what the report says of it. They end with the link closed, the child has what was delivered, so
--- many items are acknowledged as the report says, and what was offered is a prefix of what the
--- parent has.
-pub record IsExplained (params : List Parameters) (parents : List (Option ℕ)) (starts : List Start)
-    (r : Reported) (child parent : ℕ) : Type 0 where
+-- what the report says of it. They end with the link closed, the child has its opening and then
+-- what was delivered, so many items are acknowledged as the report says, and what was offered is a
+-- prefix of what the parent has.
+pub record IsExplained (params : List Parameters) (openings : OpeningsValue)
+    (parents : List (Option ℕ)) (starts : List Start) (r : Reported) (child parent : ℕ)
+    : Type 0 where
   pub its_params : Parameters
   pub has_params : params_into parents params child ≡ Some its_params
   pub start : Start
@@ -35,14 +37,16 @@ pub record IsExplained (params : List Parameters) (parents : List (Option ℕ)) 
   pub lawful : IsLawful its_params start
   pub acked : ℕ
   pub counted : acked_at r.acked child ≡ Some acked
-  pub edge : EdgeLaw its_params start (received_at r.received parent) acked
-      (received_at r.received child)
+  pub delivered : List ℕ
+  pub has : received_at r.received child ≡ opening_at openings.lists child ++ delivered
+  pub edge : EdgeLaw its_params start (received_at r.received parent) acked delivered
 
 -- every link is explained
-abbrev pub AreExplained : List Parameters → List (Option ℕ) → List Start → Reported → Type 0
-AreExplained params parents starts r =
+abbrev pub AreExplained : List Parameters → OpeningsValue → List (Option ℕ) → List Start → Reported
+    → Type 0
+AreExplained params openings parents starts r =
     (child parent : ℕ) → parent_at parents child ≡ Some parent
-    → IsExplained params parents starts r child parent
+    → IsExplained params openings parents starts r child parent
 
 -- what a node received whose worker ended with its upstream is acknowledged on the link into each
 -- child
@@ -59,19 +63,22 @@ AllAboveEnded parents ended node =
 
 -- No published item is missing at such a node, except among as many of the first as 2c + 1 of each
 -- link on its path adds up to.
-abbrev pub CompleteBelowEnded : List Parameters → List (Option ℕ) → List Start → List ℕ → Reported
-    → Type 0
-CompleteBelowEnded params parents starts published r =
+abbrev pub CompleteBelowEnded : List Parameters → OpeningsValue → List (Option ℕ) → List Start
+    → List ℕ → Reported → Type 0
+CompleteBelowEnded params openings parents starts published r =
     (node : ℕ) → node < length parents → AllAboveEnded parents r.ended node
-    → CompleteLaw (strays_bound parents (capacity_into parents params) node)
-    (missing_bound parents (capacity_into parents params) node)
-    (path_garbage parents starts node) published (received_at r.received node)
+    → CompleteLaw (most_strays params openings parents node) (most_missing params parents node)
+    (garbage_past openings parents starts node) published (received_at r.received node)
 
--- the tree law at each node, where the bounds of a node at depth d are d and 3d
-abbrev pub TreeLawByDepth : List (Option ℕ) → List Start → List ℕ → (ℕ → List ℕ) → Type 0
-TreeLawByDepth parents starts published received =
-    TreeLawOfNodes (depth_of parents) (λ node. 3 * depth_of parents node)
-    (path_garbage parents starts) parents published received
+-- the tree law at each node, where a node at depth d has at most d strays from its links, beside
+-- those of openings, and none is missing but among the first 3d
+abbrev pub TreeLawByDepth : OpeningsValue → List (Option ℕ) → List Start → List ℕ → (ℕ → List ℕ)
+    → Type 0
+TreeLawByDepth openings parents starts published received =
+    TreeLawOfNodes
+    (λ node. depth_of parents node + held_bound parents (hold_at parents openings.hold) node)
+    (λ node. 3 * depth_of parents node) (garbage_past openings parents starts) parents published
+    received
 
 -- This node is the first in file order into which a link leads that cannot begin from its start
 -- under its parameters, for this reason.

@@ -58,7 +58,8 @@ pub record IsLinkAnswer (trace : Bool) (input text : List ℕ) : Type 0 where
 -- the text of a whole tree: its nodes after the replay of its schedule
 abbrev pub tree_answer : JobValue → List ℕ
 tree_answer job = schedule_text job.tree
-    (tree_replay (tree_opening job.params job.tree.parents job.items job.starts) job.schedule)
+    (tree_replay (tree_opening job.params job.openings job.tree.parents job.items job.starts)
+    job.schedule)
 
 -- these bytes are a job with lawful starts whose schedule names links alone, and this is its text
 pub record IsTreeAnswer (input text : List ℕ) : Type 0 where
@@ -75,13 +76,13 @@ pub record IsReport (job : JobValue) (report : Reported) : Type 0 where
   pub nodes : OnePerNode job.tree.parents report
   pub lawful : AllZip IsLawful job.params job.starts
   pub root : RootHas job.tree.parents job.items report
-  pub edges : AreExplained job.params job.tree.parents job.starts report
+  pub edges : AreExplained job.params job.openings job.tree.parents job.starts report
   pub handed_on : HandsOn job.tree.parents report
-  pub half_tree_law : HalfTreeLawAtNodes job.params job.tree.parents job.starts
+  pub half_tree_law : HalfTreeLawAtNodes job.params job.openings job.tree.parents job.starts
       job.items (received_at report.received)
-  pub tree_law : TreeLawAtNodes job.params job.tree.parents job.starts
+  pub tree_law : TreeLawAtNodes job.params job.openings job.tree.parents job.starts
       job.items (received_at report.received)
-  pub complete : CompleteBelowEnded job.params job.tree.parents job.starts
+  pub complete : CompleteBelowEnded job.params job.openings job.tree.parents job.starts
       job.items report
 
 -- a run over words is of a job whose links all have the capacity one
@@ -134,13 +135,14 @@ IsJobFault (RunTask links) input refusal = refusal ≢ no_memory → whole_job i
 abbrev pub IsTreeFault : Task → List ℕ → TreeStartFault → Type 0
 IsTreeFault (Link trace) input refusal = ⊥
 IsTreeFault WholeTreeTask input refusal = (job : JobValue) × (whole_job input ≡ Ok job)
-    × IsScheduleReason job.params job.tree.parents job.items job.starts job.schedule refusal
+    × IsScheduleReason job.params job.openings job.tree.parents job.items job.starts job.schedule
+    refusal
 IsTreeFault (RunTask links) input refusal = ⊥
 
 -- Why a run of a job gives no report. The capacities are looked at first, and by a run over words
--- alone. A start is the first that is not lawful, and the faults after it come only where all are. A
--- worker's fault names a node, and no turn was refused. Accounts that differ are those of the link
--- into a child, the first that is not settled.
+-- alone. A start is the first that is not lawful, and the faults after it come only where all are.
+-- A worker's fault names a node, and no turn was refused. Accounts that differ are those of the
+-- link into a child, the first that is not settled.
 abbrev pub IsRunReason : Links → JobValue → RunFault → Type 0
 IsRunReason links job run.CapacityNotOne = (links ≡ Words) × ¬ All (λ p. p.capacity ≡ 1) job.params
 IsRunReason links job (run.Start child reason) = HasOnePlace links job
@@ -151,7 +153,7 @@ IsRunReason links job (run.Node node refusal) = HasOnePlace links job
     × AllZip IsLawful job.params job.starts × (node < length job.tree.parents) × (refusal ≢ Gate)
 IsRunReason links job (run.Settle child refusal) = MayDiffer links job child
     × AllZip IsLawful job.params job.starts
-    × IsFirstUnsettled job.params job.tree.parents job.starts job.items child
+    × IsFirstUnsettled job.params job.openings job.tree.parents job.starts job.items child
 IsRunReason links job run.Memory = HasOnePlace links job × AllZip IsLawful job.params job.starts
 
 -- a run has no answer where the bytes are a job of which the run is refused

@@ -58,6 +58,7 @@ job_status whole.Event = 1
 job_status whole.UnknownNode = 1
 job_status whole.LinkCount = 1
 job_status (whole.LinkParams child refusal) = 1
+job_status (whole.Opening refusal) = 1
 job_status whole.Memory = 3
 
 -- 1 for a file or a job, 2 for the command line, 3 for a start, a step, a run, a write or memory

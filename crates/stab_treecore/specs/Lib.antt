@@ -1,6 +1,8 @@
 pub mod ByChild
 pub mod EdgeLaw
+pub mod Fresh
 pub mod NodeLaws
+pub mod NodeOpenings
 pub mod Paths
 pub mod Refusals
 pub mod Texts

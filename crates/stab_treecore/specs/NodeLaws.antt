@@ -8,6 +8,7 @@ use Rattle.stab_core.specs.LinkLaw.{LinkLaw}
 use Rattle.stab_core.specs.Replay.{start_items}
 use Rattle.stab_frames.specs.Parameters.{Parameters}
 use Rattle.stab_treecore.specs.ByChild.{by_child}
+use Rattle.stab_treecore.specs.NodeOpenings.{OpeningsValue, hold_at, opening_at}
 use Rattle.stab_treecore.specs.Paths.{path_sum, path_lists}
 use mathlib.Core.List.{IsPrefix}
 use Rattle.stab_treecore.specs.TreeLaw.{HalfTreeLaw, TreeLaw}
@@ -49,11 +50,14 @@ abbrev pub opened_path_garbage : List (Option ℕ) → List Start → (ℕ → L
 opened_path_garbage parents starts opening_of node =
     path_lists parents (λ child. opening_of child ++ garbage_into parents starts child) node
 
--- the most strays at a node: beside the capacities of the links on its path, the lengths of the
--- openings of its nodes
-abbrev pub opened_strays_bound : List (Option ℕ) → (ℕ → ℕ) → (ℕ → List ℕ) → ℕ → ℕ
-opened_strays_bound parents capacity_into opening_of node =
-    path_sum parents (λ child. length (opening_of child) + capacity_into child) node
+-- the most strays at a node that come of openings: what each node on its path may hold, added
+abbrev pub held_bound : List (Option ℕ) → (ℕ → ℕ) → ℕ → ℕ
+held_bound parents hold_of node = path_sum parents hold_of node
+
+-- the most strays at a node in all
+abbrev pub opened_strays_bound : List (Option ℕ) → (ℕ → ℕ) → (ℕ → ℕ) → ℕ → ℕ
+opened_strays_bound parents capacity_into hold_of node =
+    strays_bound parents capacity_into node + held_bound parents hold_of node
 
 -- a link that obeys the link law offered a prefix of the first list and delivered the second
 abbrev pub LinkLawBetween : ℕ → List ℕ → List ℕ → List ℕ → Type 0
@@ -82,17 +86,32 @@ TreeLawOfNodes most_strays most_missing garbage parents published received =
     (node : ℕ) → node < length parents
     → TreeLaw (most_strays node) (most_missing node) (garbage node) published (received node)
 
--- the half tree law at each node: the links have these parameters, one entry for each
-abbrev pub HalfTreeLawAtNodes : List Parameters → List (Option ℕ) → List Start → List ℕ
-    → (ℕ → List ℕ) → Type 0
-HalfTreeLawAtNodes params parents starts published received =
-    HalfTreeLawOfNodes (strays_bound parents (capacity_into parents params))
-    (path_garbage parents starts) parents published received
+-- the garbage on a node's path, with these openings
+abbrev pub garbage_past : OpeningsValue → List (Option ℕ) → List Start → ℕ → List ℕ
+garbage_past openings parents starts node =
+    opened_path_garbage parents starts (opening_at openings.lists) node
 
--- the tree law at each node: the links have these parameters, one entry for each
-abbrev pub TreeLawAtNodes : List Parameters → List (Option ℕ) → List Start → List ℕ
-    → (ℕ → List ℕ) → Type 0
-TreeLawAtNodes params parents starts published received =
-    TreeLawOfNodes (strays_bound parents (capacity_into parents params))
-    (missing_bound parents (capacity_into parents params))
-    (path_garbage parents starts) parents published received
+-- the most strays at a node: the capacities of the links on its path, and so many items as an
+-- opening may have for each inner node on it, itself among them
+abbrev pub most_strays : List Parameters → OpeningsValue → List (Option ℕ) → ℕ → ℕ
+most_strays params openings parents node =
+    opened_strays_bound parents (capacity_into parents params) (hold_at parents openings.hold) node
+
+-- how many of the first published items may be missing at a node
+abbrev pub most_missing : List Parameters → List (Option ℕ) → ℕ → ℕ
+most_missing params parents node = missing_bound parents (capacity_into parents params) node
+
+-- the half tree law at each node: the links have these parameters, one entry for each, and the
+-- nodes these openings
+abbrev pub HalfTreeLawAtNodes : List Parameters → OpeningsValue → List (Option ℕ) → List Start
+    → List ℕ → (ℕ → List ℕ) → Type 0
+HalfTreeLawAtNodes params openings parents starts published received =
+    HalfTreeLawOfNodes (most_strays params openings parents)
+    (garbage_past openings parents starts) parents published received
+
+-- the tree law at each node
+abbrev pub TreeLawAtNodes : List Parameters → OpeningsValue → List (Option ℕ) → List Start
+    → List ℕ → (ℕ → List ℕ) → Type 0
+TreeLawAtNodes params openings parents starts published received =
+    TreeLawOfNodes (most_strays params openings parents) (most_missing params parents)
+    (garbage_past openings parents starts) parents published received

@@ -19,6 +19,7 @@ use Rattle.stab_treecore.specs.declared.fault.TreeStartFault.TheVariants.{Step}
 use Rattle.stab_treecore.specs.declared.fault.TreeStepFault.{TreeStepFault}
 use Rattle.stab_treecore.specs.declared.fault.TreeStepFault.TheVariants.{NoSuchLink}
 use Rattle.stab_treecore.specs.declared.fault.TreeStepFault.TheVariants.{Memory as StepMemory}
+use Rattle.stab_treecore.specs.NodeOpenings.{OpeningsValue}
 use Rattle.stab_treecore.specs.TreeReplay.{tree_opening}
 use Rattle.stab_treecore.specs.TreeStep.{tree_step, tree_effect}
 use Rattle.stab_treecore.specs.WholeTree.{WholeTree}
@@ -69,13 +70,13 @@ IsStepReason t events NoSuchLink = ReachesEvent (λ now e. NamesNoLink now.paren
 IsStepReason t events StepMemory = ReachesEvent (λ now e. Grows (tree_effect now e)) t events
 
 -- why a schedule is refused: as a whole tree that cannot begin, or at a step
-abbrev pub IsScheduleReason : List Parameters → List (Option ℕ) → List ℕ → List Start
-    → List TreeEvent → TreeStartFault → Type 0
-IsScheduleReason params parents published starts events StartCount =
+abbrev pub IsScheduleReason : List Parameters → OpeningsValue → List (Option ℕ) → List ℕ
+    → List Start → List TreeEvent → TreeStartFault → Type 0
+IsScheduleReason params openings parents published starts events StartCount =
     IsStartReason params parents starts StartCount
-IsScheduleReason params parents published starts events (StartRefused fault) =
+IsScheduleReason params openings parents published starts events (StartRefused fault) =
     IsStartReason params parents starts (StartRefused fault)
-IsScheduleReason params parents published starts events (Step fault) =
+IsScheduleReason params openings parents published starts events (Step fault) =
     OnePerLink parents params × OnePerLink parents starts
     × AllZip IsLawful params starts
-    × IsStepReason (tree_opening params parents published starts) events fault
+    × IsStepReason (tree_opening params openings parents published starts) events fault

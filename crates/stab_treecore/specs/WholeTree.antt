@@ -1,14 +1,17 @@
--- The state of a whole tree: the published items, the parent of each node, and the link into each
--- node, all in file order.
+-- The state of a whole tree: the published items, and of each node, in file order, its opening, its
+-- parent and the link into it.
 -- Source: this project's profile.
-use Rattle.std.specs.Prelude.{ℕ, List, [], Option, Some, None, slice_index_or}
+use Rattle.std.specs.Prelude.{ℕ, List, [], ◌++◌, Option, Some, None, slice_index_or}
 use Rattle.std.specs.Option.{option_map_or}
 use Rattle.stab_core.specs.Link.{LinkValue}
 use Rattle.stab_tree.specs.Nodes.{parent_at}
+use Rattle.stab_treecore.specs.NodeOpenings.{opening_at}
 
 pub record WholeTree : Type 0 where
   -- the items that the root publishes
   pub published : List ℕ
+  -- what each node begins with that nobody published
+  pub openings : List (List ℕ)
   -- the parent of each node, and nothing at the root
   pub parents : List (Option ℕ)
   -- the link into each node, and nothing at the root
@@ -18,9 +21,12 @@ pub record WholeTree : Type 0 where
 abbrev pub link_into : WholeTree → ℕ → Option LinkValue
 link_into t node = slice_index_or t.links node None
 
--- what a node received: what the link into it delivered, and at the root each published item
+-- what a node received: its opening, and then what the link into it delivered; at the root each
+-- published item
 abbrev pub received : WholeTree → ℕ → List ℕ
-received t node = option_map_or (λ link. link.state.delivered) (link_into t node) t.published
+received t node =
+    option_map_or (λ link. opening_at t.openings node ++ link.state.delivered) (link_into t node)
+    t.published
 
 -- the items that the link into a node offers, in their order: what the parent received
 abbrev pub source : WholeTree → ℕ → List ℕ

@@ -24,10 +24,10 @@ node_ends received link_above sent link_below up downs = record {
 }
 
 -- what a worker left that was not refused
-pub record HasWorked {L M : Type 0} (has_passed : ℕ → Type 0) (turns : ℕ) (published : List ℕ)
+pub record HasWorked {L M : Type 0} (has_passed : ℕ → Type 0) (turns : ℕ) (first : List ℕ)
     (before after : NodeEnds L M) (received : List ℕ) (ended : Ended) : Type 0 where
   pub work : AreNew before.up before.downs
-      → IsWork published received after.up after.downs ended
+      → IsWork first received after.up after.downs ended
   pub up_link : after.up_link ≡ before.up_link
   pub down_links : after.down_links ≡ before.down_links
   pub over : IsOver has_passed turns ended

@@ -2,3 +2,4 @@ pub mod Answers
 pub mod ByNode
 pub mod Dealing
 pub mod FirstFault
+pub mod FirstItems

@@ -1,0 +1,56 @@
+-- Openings: what inner nodes begin with, items that nobody published. An inner node is neither the
+-- root nor a leaf.
+-- Source: this project's profile.
+use Rattle.std.specs.List.{list_any}
+use Rattle.std.specs.Option.{option_map_or}
+use Rattle.std.specs.Prelude.{◌≡◌, ℕ, ◌+◌, ◌==◌, ◌&&◌, ◌||◌, Bool, false, not, nat_lt, if◌then◌else◌}
+use Rattle.std.specs.Prelude.{List, [], ◌∷◌, length, slice_index_or, Option, Some, None, is_some}
+use Rattle.stab_tree.specs.Nodes.{parent_at}
+use Rattle.stab_treecore.specs.declared.fault.OpeningFault.{OpeningFault}
+use Rattle.stab_treecore.specs.declared.fault.OpeningFault.TheVariants as fault
+
+-- the most items that any opening may have
+abbrev pub most_hold : ℕ
+most_hold = 64
+
+-- how many items an opening has at most, and the opening of each node, in file order
+pub record OpeningsValue : Type 0 where
+  pub hold : ℕ
+  pub lists : List (List ℕ)
+
+-- the opening of a node
+abbrev pub opening_at : List (List ℕ) → ℕ → List ℕ
+opening_at lists node = slice_index_or lists node []
+
+-- a link leads from this node
+abbrev pub has_child : List (Option ℕ) → ℕ → Bool
+has_child parents node =
+    list_any (λ parent. option_map_or (λ its_parent. its_parent == node) parent false) parents
+
+-- a link leads into this node, and one leads from it
+abbrev pub is_inner : List (Option ℕ) → ℕ → Bool
+is_inner parents node = is_some (parent_at parents node) && has_child parents node
+
+-- how many items a node's opening has at most: none at the root and at a leaf
+abbrev pub hold_at : List (Option ℕ) → ℕ → ℕ → ℕ
+hold_at parents hold node = if is_inner parents node then hold else 0
+
+-- one of these openings, the first of which is that of this node, has items and is at no inner node
+abbrev pub is_misplaced : List (Option ℕ) → ℕ → List (List ℕ) → Bool
+is_misplaced parents node [] = false
+is_misplaced parents node (list ∷ lists) =
+    (nat_lt 0 (length list) && not (is_inner parents node))
+    || is_misplaced parents (node + 1) lists
+
+-- why these lists are no openings of a tree: the first check that fails
+abbrev pub openings_fault : List (Option ℕ) → ℕ → List (List ℕ) → Option OpeningFault
+openings_fault parents hold lists =
+    if nat_lt most_hold hold then Some fault.HoldOutOfRange
+    else if not (length lists == length parents) then Some fault.OpeningCount
+    else if is_misplaced parents 0 lists then Some fault.OpeningPlace
+    else if list_any (λ list. nat_lt hold (length list)) lists then Some fault.OpeningTooLong
+    else None
+
+-- these are openings of a tree with these parents
+abbrev pub FitTree : List (Option ℕ) → OpeningsValue → Type 0
+FitTree parents openings = openings_fault parents openings.hold openings.lists ≡ None
