@@ -9,7 +9,9 @@ use Rattle.stab_tree.specs.IsTree.{IsTree}
 use Rattle.stab_tree.specs.Nodes.{Nodes, parent_at, root_of}
 use Rattle.stab_treecore.specs.EdgeLaw.{EdgeLaw, EdgeInto}
 use Rattle.stab_treecore.specs.NodeLaws.{capacity_into, garbage_into, LinkLawBetween, TreeLawAtNodes}
-use Rattle.stab_treecore.proofs.AtNodes.{nodes_obey}
+use Rattle.stab_treecore.specs.NodeOpenings.{FitTree, OpeningsValue, hold_at, opening_at}
+use Rattle.stab_treecore.proofs.AtNodes.{opened_nodes_obey}
+use Rattle.stab_treecore.proofs.Fitting.{openings_fit}
 use Rattle.stab_treecore.proofs.Replayed.{ReplaysObey}
 
 -- the link law between the lists at the two ends of a link
@@ -24,17 +26,21 @@ edge_obeys obey p start above acked delivered lawful_params lawful edge =
     )
 
 -- the tree law at each node
-pub edges_obey : ReplaysObey → (nodes : Nodes) (params : List Parameters) (starts : List Start) (published : List ℕ) (received : ℕ → List ℕ)
-    → IsTree nodes → received (root_of nodes.parents) ≡ published
+pub edges_obey : ReplaysObey → (nodes : Nodes) (params : List Parameters) (openings : OpeningsValue) (starts : List Start) (published : List ℕ)
+    (received : ℕ → List ℕ) → IsTree nodes → FitTree nodes.parents openings → received (root_of nodes.parents) ≡ published
     → ((child parent : ℕ) → parent_at nodes.parents child ≡ Some parent
-    → EdgeInto params nodes.parents starts child (received parent) (received child))
-    → TreeLawAtNodes params nodes.parents starts published received
-edges_obey obey nodes params starts published received tree at_root edges =
-    nodes_obey nodes tree published received at_root (capacity_into nodes.parents params) starts
+    → EdgeInto params openings nodes.parents starts child (received parent) (received child))
+    → TreeLawAtNodes params openings nodes.parents starts published received
+edges_obey obey nodes params openings starts published received tree fit at_root edges =
+    opened_nodes_obey nodes tree published received at_root (capacity_into nodes.parents params) starts
+    (hold_at nodes.parents openings.hold) (opening_at openings.lists) (openings_fit nodes.parents openings fit).short
     (λ child parent is_child.
     let link = edges child parent is_child in
     let capacity : capacity_into nodes.parents params child ≡ link.its_params.capacity = ap (λ o. option_map_or (λ p. p.capacity) o 0) link.has_params in
-    let garbage : garbage_into nodes.parents starts child ≡ start_items link.start = ap (λ o. option_map_or start_items o []) link.begins in
-    subst (λ c. LinkLawBetween c (garbage_into nodes.parents starts child) (received parent) (received child)) (sym capacity)
-    (subst (λ items. LinkLawBetween link.its_params.capacity items (received parent) (received child)) (sym garbage)
-    (edge_obeys obey link.its_params link.start (received parent) link.acked (received child) link.lawful_params link.lawful_start link.edge)))
+    let garbage : garbage_into nodes.parents starts child ≡ start_items link.start = ap (λ o. option_map_or start_items o []) link.begins in (
+      link.delivered,
+      link.has,
+      subst (λ c. LinkLawBetween c (garbage_into nodes.parents starts child) (received parent) link.delivered) (sym capacity)
+          (subst (λ items. LinkLawBetween link.its_params.capacity items (received parent) link.delivered) (sym garbage)
+          (edge_obeys obey link.its_params link.start (received parent) link.acked link.delivered link.lawful_params link.lawful_start link.edge)),
+    ))

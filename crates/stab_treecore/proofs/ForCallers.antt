@@ -1,5 +1,6 @@
 -- For the crates above: facts on what there is one of per link, dealt out by child, and dealt out to
 -- the children of each node; and on texts that have one part per node.
+pub use Rattle.stab_treecore.proofs.Fitting.{AreOpenings, openings_fit}
 pub use Rattle.stab_treecore.proofs.Lines.{next_place}
 use Rattle.std.specs.List.{AllZip}
 use Rattle.std.proofs.Common.{◌≡◌, ◌==◌, ◌<◌, ℕ, zero, suc, Bool, true, false, if◌then◌else◌, List, [], ◌∷◌, length, map, get_or, Option, Some, None, option_map, All, refl, ap, sym, ◌∙◌, subst, eq-eqb, arith}
@@ -59,6 +60,13 @@ one_by_child (Some q ∷ parents) [] w child parent same is_child = absurd (omeg
 one_by_child (Some q ∷ parents) (x ∷ xs) w zero parent same is_child = (x, refl)
 one_by_child (Some q ∷ parents) (x ∷ xs) w (suc child) parent same is_child =
     one_by_child parents xs (suc w) child parent (omega arith) is_child
+
+-- there is an entry, or none, beside each node
+pub length-by_child : {A : Type 0} (parents : List (Option ℕ)) (xs : List A) → length (by_child parents xs) ≡ length parents
+length-by_child [] xs = refl
+length-by_child (None ∷ parents) xs = ap suc (length-by_child parents xs)
+length-by_child (Some parent ∷ parents) [] = ap suc (length-by_child parents [])
+length-by_child (Some parent ∷ parents) (x ∷ xs) = ap suc (length-by_child parents xs)
 
 -- to deal out and then to map is to map and then to deal out
 pub map-by_child : {A B : Type 0} (f : A → B) (parents : List (Option ℕ)) (xs : List A)

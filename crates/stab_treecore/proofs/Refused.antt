@@ -1,5 +1,5 @@
 -- Why a schedule is refused at one of its events.
-use Rattle.std.proofs.Common.{◌≡◌, ℕ, ◌+◌, ◌<◌, List, ◌∷◌, length, get_or, drop, ap, sym, ◌∙◌, subst, inl, inr}
+use Rattle.std.proofs.Common.{◌≡◌, ℕ, ◌+◌, ◌<◌, List, ◌∷◌, length, get_or, drop, refl, ap, sym, ◌∙◌, subst, inl, inr}
 use Rattle.std.proofs.lemmas.List.{drop_more}
 use Rattle.stab_core.specs.Link.{Grows}
 use Rattle.stab_treecore.specs.declared.event.TreeEvent.{TreeEvent}
@@ -17,6 +17,12 @@ CarriesOver now rest t events = (fault : TreeStepFault) → IsStepReason now res
 abbrev pub IsRefused : WholeTree → TreeEvent → TreeStepFault → Type 0
 IsRefused t e NoSuchLink = NamesNoLink t.parents e
 IsRefused t e Memory = Grows (tree_effect t e)
+
+-- each fault of a step has its reason
+pub why_refused : (t : WholeTree) (e : TreeEvent) (fault : TreeStepFault) → (fault ≡ NoSuchLink → NamesNoLink t.parents e)
+    → (fault ≡ Memory → Grows (tree_effect t e)) → IsRefused t e fault
+why_refused t e NoSuchLink named memory = named refl
+why_refused t e Memory named memory = memory refl
 
 module _ (t : WholeTree) (e : TreeEvent) (es : List TreeEvent) where
   -- the first event is refused

@@ -1,9 +1,9 @@
 -- What each schedule leaves of a whole tree: links that are replays from their starts, and offered a prefix of the parent's list.
-use Rattle.std.proofs.Common.{◌≡◌, ◌≢◌, ◌⊎◌, ℕ, zero, suc, List, [], ◌∷◌, ◌++◌, length, map, get_or, set, slice_get, option_and_then, Option, Some, None, is_some, option_map, All, refl, ap, sym, ◌∙◌, subst, inl, inr, true, false}
+use Rattle.std.proofs.Common.{◌≡◌, ◌≢◌, ◌⊎◌, ℕ, zero, suc, List, [], ◌∷◌, ◌++◌, length, map, get_or, set, slice_get, option_and_then, Option, Some, None, is_some, option_map, All, refl, ap, sym, ◌∙◌, subst, inl, inr, true, false, append_assoc}
 use Rattle.std.specs.List.{AllZip}
 use Rattle.std.specs.Option.{option_map_or}
 use Rattle.std.proofs.lemmas.Bool.{cases_eq}
-use Rattle.std.proofs.lemmas.List.{get_or-set_other, set-get_or}
+use Rattle.std.proofs.lemmas.List.{append-nil, get_or-set_other, set-get_or}
 use Rattle.std.proofs.lemmas.Option.{none-some, same_Some}
 use Rattle.stab_frames.specs.Parameters.{Parameters, AreLawful}
 use Rattle.stab_core.specs.declared.event.Event.{Event}
@@ -19,12 +19,14 @@ use Rattle.stab_tree.specs.Links.{links_of}
 use Rattle.stab_tree.specs.Nodes.{Nodes, parent_at, root_of}
 use Rattle.stab_treecore.specs.declared.event.TreeEvent.{TreeEvent}
 use Rattle.stab_treecore.specs.ByChild.{by_child}
-use Rattle.stab_treecore.specs.NodeLaws.{params_into, capacity_into, start_into, garbage_into, LinkLawBetween, TreeLawAtNodes}
+use Rattle.stab_treecore.specs.NodeLaws.{params_into, capacity_into, start_into, garbage_into, LinkLawPastOpening, TreeLawAtNodes}
+use Rattle.stab_treecore.specs.NodeOpenings.{FitTree, OpeningsValue, hold_at, opening_at}
 use mathlib.Core.List.{IsPrefix}
 use Rattle.stab_treecore.specs.TreeReplay.{opened, opened_links, tree_opening, tree_replay}
 use Rattle.stab_treecore.specs.TreeStep.{next_item, event_on, link_after, tree_step}
 use Rattle.stab_treecore.specs.WholeTree.{WholeTree, link_into, received, source}
-use Rattle.stab_treecore.proofs.AtNodes.{nodes_obey}
+use Rattle.stab_treecore.proofs.AtNodes.{opened_nodes_obey}
+use Rattle.stab_treecore.proofs.Fitting.{openings_fit}
 use Rattle.stab_treecore.proofs.ForCallers.{holds_by_child, holds_by_child_of_both, not_of_nothing}
 use Rattle.stab_treecore.proofs.Linked.{kind-set, same_kind}
 use Rattle.stab_treecore.proofs.Opened.{as_many_opened, linked_nodes}
@@ -46,8 +48,10 @@ pub record IsReplayAt (params : List Parameters) (parents : List (Option ℕ)) (
 
 -- A whole tree with these published items and parents: nodes with a parent have a link, which is a replay from its start and
 -- offered a prefix of the parent's list.
-pub record IsRun (params : List Parameters) (parents : List (Option ℕ)) (starts : List Start) (published : List ℕ) (t : WholeTree) : Type 0 where
+pub record IsRun (params : List Parameters) (lists : List (List ℕ)) (parents : List (Option ℕ)) (starts : List Start) (published : List ℕ)
+    (t : WholeTree) : Type 0 where
   pub published_stay : t.published ≡ published
+  pub openings_stay : t.openings ≡ lists
   pub parents_stay : t.parents ≡ parents
   pub linked : map is_some t.links ≡ map is_some t.parents
   pub replays : (node : ℕ) (link : LinkValue) → link_into t node ≡ Some link → IsReplayAt params parents starts node link
@@ -58,6 +62,10 @@ pub record IsRun (params : List Parameters) (parents : List (Option ℕ)) (start
 none_or_some : {A : Type 0} (o : Option A) → (o ≡ None) ⊎ ((x : A) × (o ≡ Some x))
 none_or_some None = inl refl
 none_or_some (Some x) = inr (x, refl)
+
+-- a prefix behind an opening
+prefix_behind : (first xs ys : List ℕ) → IsPrefix xs ys → IsPrefix (first ++ xs) (first ++ ys)
+prefix_behind first xs ys (rest, is) = (rest, append_assoc first xs rest ∙ ap (λ zs. first ++ zs) is)
 
 -- the law of one link that each step needs: the step of a reachable state is reachable
 abbrev pub StepsReach : Type 0
@@ -79,8 +87,8 @@ written_same [] i old new there = absurd (none-some old there)
 written_same (x ∷ xs) zero old new there = refl
 written_same (x ∷ xs) (suc i) old new there = written_same xs i old new there
 
-module _ (steps : StepsReach) (params : List Parameters) (parents : List (Option ℕ)) (starts : List Start) (published : List ℕ)
-    (t : WholeTree) (e : TreeEvent) (run : IsRun params parents starts published t) where
+module _ (steps : StepsReach) (params : List Parameters) (lists : List (List ℕ)) (parents : List (Option ℕ)) (starts : List Start) (published : List ℕ)
+    (t : WholeTree) (e : TreeEvent) (run : IsRun params lists parents starts published t) where
   -- a step on the link into a node
   module _ (link : LinkValue) (there : link_into t e.child ≡ Some link) where
     -- the whole tree after it
@@ -101,8 +109,10 @@ module _ (steps : StepsReach) (params : List Parameters) (parents : List (Option
         elim (cases_eq node e.child) [
           | inl same ↦
               rw (same, stepped_link)
-              (subst (λ o. IsPrefix (option_map_or (λ l. l.state.delivered) o t.published) (link_after (event_on t e) link).state.delivered)
-              (sym there) (after_delivers (event_on t e) link))
+              (subst (λ o. IsPrefix (option_map_or (λ l. opening_at t.openings e.child ++ l.state.delivered) o t.published)
+              (opening_at t.openings e.child ++ (link_after (event_on t e) link).state.delivered)) (sym there)
+              (prefix_behind (opening_at t.openings e.child) link.state.delivered (link_after (event_on t e) link).state.delivered
+              (after_delivers (event_on t e) link)))
           | inr other ↦
               rw (other_link node other) (prefix_of_itself (received t node))
         ]
@@ -149,11 +159,12 @@ module _ (steps : StepsReach) (params : List Parameters) (parents : List (Option
         ]
 
     -- so it is a whole tree of the same kind
-    still_run : IsRun params parents starts published after
+    still_run : IsRun params lists parents starts published after
     still_run =
         let kind : is_some (Some (link_after (event_on t e) link)) ≡ is_some (link_into t e.child) = ap is_some (sym there) in
         record {
           published_stay = run.published_stay;
+          openings_stay = run.openings_stay;
           parents_stay = run.parents_stay;
           linked = kind-set t.links e.child (Some (link_after (event_on t e) link)) kind ∙ run.linked;
           replays = still_replays;
@@ -161,25 +172,25 @@ module _ (steps : StepsReach) (params : List Parameters) (parents : List (Option
         }
 
   -- each step keeps it
-  pub step_keeps : IsRun params parents starts published (tree_step t e)
+  pub step_keeps : IsRun params lists parents starts published (tree_step t e)
   step_keeps =
       elim (none_or_some (link_into t e.child)) [
         | inl none ↦
             let same : set t.links e.child (option_map (link_after (event_on t e)) (link_into t e.child)) ≡ t.links =
             ap (λ o. set t.links e.child (option_map (link_after (event_on t e)) o)) none
             ∙ (ap (λ o. set t.links e.child o) (sym none) ∙ set-get_or t.links e.child None) in
-            subst (λ links. IsRun params parents starts published (record t { links = links })) (sym same) run
+            subst (λ links. IsRun params lists parents starts published (record t { links = links })) (sym same) run
         | inr some ↦
-            subst (λ o. IsRun params parents starts published (record t { links = set t.links e.child (option_map (link_after (event_on t e)) o) }))
+            subst (λ o. IsRun params lists parents starts published (record t { links = set t.links e.child (option_map (link_after (event_on t e)) o) }))
             (sym some.1) (still_run some.0 some.1)
       ]
 
 -- each schedule keeps it
-pub replay_keeps : StepsReach → (params : List Parameters) (parents : List (Option ℕ)) (starts : List Start) (published : List ℕ) (t : WholeTree)
-    (es : List TreeEvent) → IsRun params parents starts published t → IsRun params parents starts published (tree_replay t es)
-replay_keeps steps params parents starts published t [] run = run
-replay_keeps steps params parents starts published t (e ∷ es) run =
-    replay_keeps steps params parents starts published (tree_step t e) es (step_keeps steps params parents starts published t e run)
+pub replay_keeps : StepsReach → (params : List Parameters) (lists : List (List ℕ)) (parents : List (Option ℕ)) (starts : List Start) (published : List ℕ) (t : WholeTree)
+    (es : List TreeEvent) → IsRun params lists parents starts published t → IsRun params lists parents starts published (tree_replay t es)
+replay_keeps steps params lists parents starts published t [] run = run
+replay_keeps steps params lists parents starts published t (e ∷ es) run =
+    replay_keeps steps params lists parents starts published (tree_step t e) es (step_keeps steps params lists parents starts published t e run)
 
 -- the link into a node that has one, at its opening: it begins with parameters and a start of its own
 pub record IsOpenedAt (params : List Parameters) (parents : List (Option ℕ)) (starts : List Start) (node : ℕ) (link : LinkValue) : Type 0 where
@@ -206,14 +217,22 @@ opened_into (p ∷ params) (Some parent ∷ parents) (start ∷ starts) (suc nod
     let found = opened_into params parents starts node link is in
     record { p = found.p; has_params = found.has_params; start = found.start; begins = found.begins; at_start = found.at_start }
 
+-- at its start a link has delivered nothing, so its node has its opening
+pub opened_listed : (params : List Parameters) (parents : List (Option ℕ)) (starts : List Start) (first : List ℕ) (node : ℕ) (link : LinkValue)
+    → get_or (by_child parents (opened_links params starts)) node None ≡ Some link → first ≡ first ++ link.state.delivered
+opened_listed params parents starts first node link is =
+    let found = opened_into params parents starts node link is in
+    sym (ap (λ l. first ++ l.state.delivered) found.at_start ∙ append-nil first)
+
 -- at its opening a whole tree is of this kind
-pub opening_is_run : (params : List Parameters) (parents : List (Option ℕ)) (starts : List Start) (published : List ℕ)
+pub opening_is_run : (params : List Parameters) (openings : OpeningsValue) (parents : List (Option ℕ)) (starts : List Start) (published : List ℕ)
     → length params ≡ length (links_of parents) → length starts ≡ length (links_of parents)
-    → IsRun params parents starts published (tree_opening params parents published starts)
-opening_is_run params parents starts published params_per_link one_per_link =
-    let t = tree_opening params parents published starts in
+    → IsRun params openings.lists parents starts published (tree_opening params openings parents published starts)
+opening_is_run params openings parents starts published params_per_link one_per_link =
+    let t = tree_opening params openings parents published starts in
     record {
       published_stay = refl;
+      openings_stay = refl;
       parents_stay = refl;
       linked = linked_nodes parents (opened_links params starts) 0 (as_many_opened params starts (params_per_link ∙ sym one_per_link) ∙ one_per_link);
       replays =
@@ -238,12 +257,12 @@ ReplaysObey =
     (p : Parameters) (start : Start) (events : List Event) → AreLawful p → IsLawful p start
     → let s = replay p (opening start) events in LinkLaw p.capacity (start_items start) s.offered s.acked s.delivered
 
--- so between a parent and its child there is a link that obeys the link law
-pub run_links : ReplaysObey → (params : List Parameters) (parents : List (Option ℕ)) (starts : List Start) (published : List ℕ) (t : WholeTree)
-    → IsRun params parents starts published t → All AreLawful params → AllZip IsLawful params starts
+-- so between a parent and its child there is a link that obeys the link law, and the child's opening comes before what it delivered
+pub run_links : ReplaysObey → (params : List Parameters) (lists : List (List ℕ)) (parents : List (Option ℕ)) (starts : List Start) (published : List ℕ)
+    (t : WholeTree) → IsRun params lists parents starts published t → All AreLawful params → AllZip IsLawful params starts
     → (child parent : ℕ) → parent_at parents child ≡ Some parent
-    → LinkLawBetween (capacity_into parents params child) (garbage_into parents starts child) (received t parent) (received t child)
-run_links obey params parents starts published t run lawful_params lawful child parent is_child =
+    → LinkLawPastOpening (opening_at lists child) (capacity_into parents params child) (garbage_into parents starts child) (received t parent) (received t child)
+run_links obey params lists parents starts published t run lawful_params lawful child parent is_child =
     let child_of : parent_at t.parents child ≡ Some parent = ap (λ ps. parent_at ps child) run.parents_stay ∙ is_child in
     let kind : is_some (link_into t child) ≡ true = same_kind t.links t.parents child run.linked ∙ ap is_some child_of in
     elim (none_or_some (link_into t child)) [
@@ -252,7 +271,9 @@ run_links obey params parents starts published t run lawful_params lawful child 
           let link = some.0 in
           let was = run.replays child link some.1 in
           let (events, reached) = was.run.reached in
-          let fed : received t child ≡ link.state.delivered = ap (λ o. option_map_or (λ l. l.state.delivered) o t.published) some.1 in
+          let fed : received t child ≡ opening_at lists child ++ link.state.delivered =
+          ap (λ o. option_map_or (λ l. opening_at t.openings child ++ l.state.delivered) o t.published) some.1
+          ∙ ap (λ openings. opening_at openings child ++ link.state.delivered) run.openings_stay in
           let garbage : garbage_into parents starts child ≡ start_items was.start = ap (λ o. option_map_or start_items o []) was.begins in
           let capacity : capacity_into parents params child ≡ was.p.capacity = ap (λ o. option_map_or (λ p. p.capacity) o 0) was.has_params in
           let its_params : AreLawful was.p = holds_by_child AreLawful parents params child was.p lawful_params was.has_params in
@@ -261,37 +282,43 @@ run_links obey params parents starts published t run lawful_params lawful child 
           let law : LinkLaw was.p.capacity (start_items was.start) link.state.offered link.state.acked link.state.delivered =
           subst (λ s. LinkLaw was.p.capacity (start_items was.start) s.offered s.acked s.delivered) (sym reached)
           (obey was.p was.start events its_params its_start) in (
-            link.state.offered,
-            link.state.acked,
-            run.prefixes child parent link child_of some.1,
-            subst (λ c. LinkLaw c (garbage_into parents starts child) link.state.offered link.state.acked (received t child)) (sym capacity)
-                (subst (λ xs. LinkLaw was.p.capacity xs link.state.offered link.state.acked (received t child)) (sym garbage)
-                (subst (λ xs. LinkLaw was.p.capacity (start_items was.start) link.state.offered link.state.acked xs) (sym fed) law)),
+            link.state.delivered,
+            fed,
+            (
+              link.state.offered,
+              link.state.acked,
+              run.prefixes child parent link child_of some.1,
+              subst (λ c. LinkLaw c (garbage_into parents starts child) link.state.offered link.state.acked link.state.delivered) (sym capacity)
+                  (subst (λ xs. LinkLaw was.p.capacity xs link.state.offered link.state.acked link.state.delivered) (sym garbage) law),
+            ),
           )
     ]
 
 -- a node without a parent received each published item
-pub run_root : (params : List Parameters) (parents : List (Option ℕ)) (starts : List Start) (published : List ℕ) (t : WholeTree)
-    → IsRun params parents starts published t → (node : ℕ) → parent_at parents node ≡ None → received t node ≡ published
-run_root params parents starts published t run node root =
+pub run_root : (params : List Parameters) (lists : List (List ℕ)) (parents : List (Option ℕ)) (starts : List Start) (published : List ℕ) (t : WholeTree)
+    → IsRun params lists parents starts published t → (node : ℕ) → parent_at parents node ≡ None → received t node ≡ published
+run_root params lists parents starts published t run node root =
     let kind : is_some (link_into t node) ≡ false =
     same_kind t.links t.parents node run.linked ∙ ap is_some (ap (λ ps. parent_at ps node) run.parents_stay ∙ root) in
     elim (none_or_some (link_into t node)) [
-      | inl none ↦ ap (λ o. option_map_or (λ l. l.state.delivered) o t.published) none ∙ run.published_stay
+      | inl none ↦ ap (λ o. option_map_or (λ l. opening_at t.openings node ++ l.state.delivered) o t.published) none ∙ run.published_stay
       | inr some ↦ let never : true ≡ false = sym (ap is_some some.1) ∙ kind in cc
     ]
 
 -- each node obeys the tree law after each schedule
-pub schedule_obeys : StepsReach → ReplaysObey → (nodes : Nodes) (params : List Parameters) (starts : List Start) (published : List ℕ) (events : List TreeEvent)
-    → IsTree nodes → length params ≡ length (links_of nodes.parents) → length starts ≡ length (links_of nodes.parents)
+pub schedule_obeys : StepsReach → ReplaysObey → (nodes : Nodes) (params : List Parameters) (openings : OpeningsValue) (starts : List Start)
+    (published : List ℕ) (events : List TreeEvent) → IsTree nodes → FitTree nodes.parents openings
+    → length params ≡ length (links_of nodes.parents) → length starts ≡ length (links_of nodes.parents)
     → All AreLawful params → AllZip IsLawful params starts
-    → TreeLawAtNodes params nodes.parents starts published (received (tree_replay (tree_opening params nodes.parents published starts) events))
-schedule_obeys steps obey nodes params starts published events tree params_per_link one_per_link lawful_params lawful =
-    let t = tree_replay (tree_opening params nodes.parents published starts) events in
-    let run : IsRun params nodes.parents starts published t =
-    replay_keeps steps params nodes.parents starts published (tree_opening params nodes.parents published starts) events
-    (opening_is_run params nodes.parents starts published params_per_link one_per_link) in
-    nodes_obey nodes tree published (received t)
-    (run_root params nodes.parents starts published t run (root_of nodes.parents) tree.root_has_none)
-    (capacity_into nodes.parents params) starts
-    (run_links obey params nodes.parents starts published t run lawful_params lawful)
+    → TreeLawAtNodes params openings nodes.parents starts published
+    (received (tree_replay (tree_opening params openings nodes.parents published starts) events))
+schedule_obeys steps obey nodes params openings starts published events tree fit params_per_link one_per_link lawful_params lawful =
+    let t = tree_replay (tree_opening params openings nodes.parents published starts) events in
+    let run : IsRun params openings.lists nodes.parents starts published t =
+    replay_keeps steps params openings.lists nodes.parents starts published (tree_opening params openings nodes.parents published starts) events
+    (opening_is_run params openings nodes.parents starts published params_per_link one_per_link) in
+    opened_nodes_obey nodes tree published (received t)
+    (run_root params openings.lists nodes.parents starts published t run (root_of nodes.parents) tree.root_has_none)
+    (capacity_into nodes.parents params) starts (hold_at nodes.parents openings.hold) (opening_at openings.lists)
+    (openings_fit nodes.parents openings fit).short
+    (run_links obey params openings.lists nodes.parents starts published t run lawful_params lawful)

@@ -157,6 +157,11 @@ module _ (most_strays : ℕ) (opening garbage published delivered : List ℕ) wh
       → TreeLaw (most_strays + length opening) most_missing (opening ++ garbage) published (opening ++ delivered)
   law_past_opening most_missing (places, half, none_missing) = (places, half_past_opening places half, none_missing)
 
+  -- the complete law of a list that begins with an opening
+  pub complete_past_opening : (most_missing : ℕ) → CompleteLaw most_strays most_missing garbage published delivered
+      → CompleteLaw (most_strays + length opening) most_missing (opening ++ garbage) published (opening ++ delivered)
+  complete_past_opening most_missing (places, half, none_missing) = (places, half_past_opening places half, none_missing)
+
 -- ---- the root, and larger bounds
 
 -- the root has every published item and no stray
@@ -180,19 +185,32 @@ pub root_has_all : (published : List ℕ) → CompleteLaw 0 0 [] published publi
 root_has_all published = (all_places published, root_half published, λ i enough before. all_there published i before)
 
 -- larger bounds hold where smaller ones do
+more_strays : (few most_strays : ℕ) (garbage published received places : List ℕ) → few ≤ most_strays
+    → HalfTreeLawAt few garbage published received places → HalfTreeLawAt most_strays garbage published received places
+more_strays few most_strays garbage published received places more half = record {
+  strays = half.strays;
+  stray_places = half.stray_places;
+  taken = half.taken;
+  parts = half.parts;
+  few_strays = omega (arith, half.few_strays);
+  strays_picked = half.strays_picked;
+  taken_picked = half.taken_picked;
+}
+
 pub larger_bounds : (few most_strays first most_missing : ℕ) (garbage published received : List ℕ)
     → few ≤ most_strays → first ≤ most_missing
     → TreeLaw few first garbage published received → TreeLaw most_strays most_missing garbage published received
 larger_bounds few most_strays first most_missing garbage published received more later (places, half, none_missing) = (
   places,
-  record {
-    strays = half.strays;
-    stray_places = half.stray_places;
-    taken = half.taken;
-    parts = half.parts;
-    few_strays = omega (arith, half.few_strays);
-    strays_picked = half.strays_picked;
-    taken_picked = half.taken_picked;
-  },
+  more_strays few most_strays garbage published received places more half,
   λ i q enough before last. none_missing i q (omega arith) before last,
+)
+
+pub larger_complete : (few most_strays first most_missing : ℕ) (garbage published received : List ℕ)
+    → few ≤ most_strays → first ≤ most_missing
+    → CompleteLaw few first garbage published received → CompleteLaw most_strays most_missing garbage published received
+larger_complete few most_strays first most_missing garbage published received more later (places, half, none_missing) = (
+  places,
+  more_strays few most_strays garbage published received places more half,
+  λ i enough before. none_missing i (omega arith) before,
 )

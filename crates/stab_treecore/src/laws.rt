@@ -18,8 +18,10 @@ ghost use Rattle.stab_treecore.specs.EdgeLaw.{EdgeLaw, EdgeInto};
 ghost use Rattle.stab_treecore.specs.NodeLaws.{capacity_into, garbage_into};
 ghost use Rattle.stab_treecore.specs.NodeLaws.{path_garbage, opened_path_garbage};
 ghost use Rattle.stab_treecore.specs.NodeLaws.{strays_bound, opened_strays_bound, missing_bound};
+ghost use Rattle.stab_treecore.specs.NodeLaws.{most_strays, most_missing, garbage_past};
 ghost use Rattle.stab_treecore.specs.NodeLaws.{LinkLawBetween, LinkLawPastOpening};
 ghost use Rattle.stab_treecore.specs.NodeLaws.{HalfTreeLawOfNodes, TreeLawOfNodes, TreeLawAtNodes};
+ghost use Rattle.stab_treecore.specs.NodeOpenings.{FitTree, OpeningsValue};
 ghost use Rattle.stab_treecore.specs.Refusals.{OnePerLink};
 ghost use Rattle.stab_treecore.specs.TreeLaw.{HalfTreeLaw, TreeLaw, CompleteLaw};
 ghost use Rattle.stab_treecore.specs.TreeReplay.{tree_opening, tree_replay};
@@ -83,8 +85,8 @@ pub fn tree_law_of_the_child_past_its_opening()
         (opening ++ (start_items ++ garbage)) published (opening ++ delivered) }
 {}
 
-/// An opening alone: the tree law of a list is that of the same list after an opening, with as many
-/// more strays.
+/// An opening alone: the law of a list is that of the same list after an opening, with as many more
+/// strays.
 pub fn tree_law_past_an_opening()
     ensures tree_law { (most_strays most_missing : ℕ) (opening garbage published received : List ℕ)
         → TreeLaw most_strays most_missing garbage published received
@@ -93,6 +95,11 @@ pub fn tree_law_past_an_opening()
     ensures half_tree_law { (most_strays : ℕ) (opening garbage published received : List ℕ)
         → HalfTreeLaw most_strays garbage published received
         → HalfTreeLaw (most_strays + length opening)
+        (opening ++ garbage) published (opening ++ received) }
+    ensures complete_law { (most_strays most_missing : ℕ)
+        (opening garbage published received : List ℕ)
+        → CompleteLaw most_strays most_missing garbage published received
+        → CompleteLaw (most_strays + length opening) most_missing
         (opening ++ garbage) published (opening ++ received) }
 {}
 
@@ -112,16 +119,18 @@ pub fn tree_law_at_every_node()
         nodes.parents published received }
 {}
 
-/// The same, where each node's list but the root's begins with an opening of its own.
+/// The same, where each node's list but the root's begins with an opening of its own, of no more
+/// items than the node may hold.
 pub fn tree_law_at_every_opened_node()
-    ensures { (nodes : Nodes) (capacity_into : ℕ → ℕ) (opening_of : ℕ → List ℕ)
+    ensures { (nodes : Nodes) (capacity_into hold_of : ℕ → ℕ) (opening_of : ℕ → List ℕ)
         (starts : List Start) (published : List ℕ) (received : ℕ → List ℕ)
         → IsTree nodes
         → received (root_of nodes.parents) ≡ published
+        → ((node : ℕ) → length (opening_of node) ≤ hold_of node)
         → ((child parent : ℕ) → parent_at nodes.parents child ≡ Some parent
         → LinkLawPastOpening (opening_of child) (capacity_into child)
         (garbage_into nodes.parents starts child) (received parent) (received child))
-        → TreeLawOfNodes (opened_strays_bound nodes.parents capacity_into opening_of)
+        → TreeLawOfNodes (opened_strays_bound nodes.parents capacity_into hold_of)
         (missing_bound nodes.parents capacity_into)
         (opened_path_garbage nodes.parents starts opening_of) nodes.parents published received }
 {}
@@ -137,15 +146,15 @@ pub fn link_law_of_an_edge()
 }
 
 /// The tree law at every node, where a run keeps no schedule but tells the edge law of each link.
-/// Each link has parameters of its own.
+/// Each link has parameters of its own, and each inner node an opening.
 pub fn tree_law_of_edges()
-    ensures { (nodes : Nodes) (params : List Parameters) (starts : List Start)
-        (published : List ℕ) (received : ℕ → List ℕ)
-        → IsTree nodes
+    ensures { (nodes : Nodes) (params : List Parameters) (openings : OpeningsValue)
+        (starts : List Start) (published : List ℕ) (received : ℕ → List ℕ)
+        → IsTree nodes → FitTree nodes.parents openings
         → received (root_of nodes.parents) ≡ published
         → ((child parent : ℕ) → parent_at nodes.parents child ≡ Some parent
-        → EdgeInto params nodes.parents starts child (received parent) (received child))
-        → TreeLawAtNodes params nodes.parents starts published received }
+        → EdgeInto params openings nodes.parents starts child (received parent) (received child))
+        → TreeLawAtNodes params openings nodes.parents starts published received }
 {
     stab_core::laws::every_replay_obeys_the_link_law();
 }
@@ -163,24 +172,36 @@ pub fn bounds_of_one_capacity()
         → IsTree nodes
         → OnePerLink nodes.parents params → All (λ p. p.capacity ≡ capacity) params
         → node < length nodes.parents
-        → missing_bound nodes.parents (capacity_into nodes.parents params) node
+        → most_missing params nodes.parents node
         ≡ depth_of nodes.parents node * (2 * capacity + 1) }
-    ensures law { (nodes : Nodes) (params : List Parameters) (capacity : ℕ) (starts : List Start)
-        (published : List ℕ) (received : ℕ → List ℕ)
-        → IsTree nodes
-        → OnePerLink nodes.parents params → All (λ p. p.capacity ≡ capacity) params
-        → TreeLawAtNodes params nodes.parents starts published received
-        → TreeLawOfNodes (λ node. depth_of nodes.parents node * capacity)
-        (λ node. depth_of nodes.parents node * (2 * capacity + 1))
-        (path_garbage nodes.parents starts) nodes.parents published received }
+{}
+
+/// Where no node may hold anything, all strays come of the links, and all garbage is theirs.
+pub fn bounds_without_openings()
+    ensures strays { (nodes : Nodes) (params : List Parameters) (openings : OpeningsValue)
+        (node : ℕ)
+        → openings.hold ≡ 0
+        → most_strays params openings nodes.parents node
+        ≡ strays_bound nodes.parents (capacity_into nodes.parents params) node }
+    ensures garbage { (nodes : Nodes) (openings : OpeningsValue) (starts : List Start)
+        (node : ℕ)
+        → FitTree nodes.parents openings → openings.hold ≡ 0
+        → garbage_past openings nodes.parents starts node
+        ≡ path_garbage nodes.parents starts node }
 {}
 
 /// Larger bounds hold where smaller ones do.
-pub fn tree_law_of_larger_bounds()
-    ensures { (few most_strays first most_missing : ℕ) (garbage published received : List ℕ)
+pub fn laws_of_larger_bounds()
+    ensures tree_law { (few most_strays first most_missing : ℕ)
+        (garbage published received : List ℕ)
         → few ≤ most_strays → first ≤ most_missing
         → TreeLaw few first garbage published received
         → TreeLaw most_strays most_missing garbage published received }
+    ensures complete { (few most_strays first most_missing : ℕ)
+        (garbage published received : List ℕ)
+        → few ≤ most_strays → first ≤ most_missing
+        → CompleteLaw few first garbage published received
+        → CompleteLaw most_strays most_missing garbage published received }
 {}
 
 /// Where the tree law holds at every node, so does the half tree law.
@@ -191,16 +212,17 @@ pub fn half_tree_law_at_every_node()
         → HalfTreeLawOfNodes most_strays garbage parents published received }
 {}
 
-/// Whatever the links hold at their lawful starts, and whatever the schedule, each node obeys the
-/// tree law.
+/// Whatever the links hold at their lawful starts and the inner nodes at theirs, and whatever the
+/// schedule, each node obeys the tree law.
 pub fn every_schedule_obeys_the_tree_law()
-    ensures { (nodes : Nodes) (params : List Parameters) (starts : List Start)
-        (published : List ℕ) (events : List TreeEvent)
-        → IsTree nodes
+    ensures { (nodes : Nodes) (params : List Parameters) (openings : OpeningsValue)
+        (starts : List Start) (published : List ℕ) (events : List TreeEvent)
+        → IsTree nodes → FitTree nodes.parents openings
         → OnePerLink nodes.parents params → OnePerLink nodes.parents starts
         → All AreLawful params → AllZip IsLawful params starts
-        → TreeLawAtNodes params nodes.parents starts published
-        (received (tree_replay (tree_opening params nodes.parents published starts) events)) }
+        → TreeLawAtNodes params openings nodes.parents starts published
+        (received
+        (tree_replay (tree_opening params openings nodes.parents published starts) events)) }
 {
     stab_core::laws::reachable_steps();
     stab_core::laws::every_replay_obeys_the_link_law();

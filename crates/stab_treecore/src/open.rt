@@ -1,18 +1,20 @@
 //! What a whole tree begins with.
 
 ghost use Rattle.std.specs.List.{AllZip};
-ghost use Rattle.std.specs.Prelude.{◌≡◌, ◌≢◌, ◌<◌, All, OnOk, IfOk, IfErr, length, slice_index_or};
+ghost use Rattle.std.specs.Prelude.{◌≡◌, ◌≢◌, ◌<◌, All, OnOk, IfOk, IfErr, length, map, slice_index_or};
 ghost use Rattle.stab_core.specs.Link.{IsReason};
 ghost use Rattle.stab_core.specs.Replay.{IsLawful};
 ghost use Rattle.stab_frames.specs.Parameters.{AreLawful};
 ghost use Rattle.stab_treecore.specs.ByChild.{by_child};
+ghost use Rattle.stab_treecore.specs.NodeOpenings.{FitTree};
 ghost use Rattle.stab_treecore.specs.Refusals.{OnePerLink, IsOpeningReason};
 ghost use Rattle.stab_treecore.specs.TreeReplay.{opened_links};
 
+use crate::openings::Openings;
 use stab_core::{Link, Start, StartFault};
-use stab_frames::Params;
-use stab_tree::NodeId;
-use std::alloc::Global;
+use stab_frames::{Item, Params};
+use stab_tree::{NodeId, Tree};
+use std::alloc::{AllocError, Global};
 
 /// Refuses a start that no link of these parameters can begin from.
 fn check_start(params: Params, start: &Start) -> Result<(), StartFault>
@@ -88,4 +90,20 @@ pub(crate) fn links(
         }
     }
     Ok(links)
+}
+
+/// What each node begins with: a copy of its opening.
+pub(crate) fn lists(
+    alloc: Global,
+    tree: &Tree,
+    openings: &Openings,
+) -> Result<Vec<Vec<Item>>, AllocError>
+    requires { FitTree tree.now.parents openings.now }
+    ensures { IfOk result (λ lists. map (λ list. list.items) lists.items ≡ openings.now.lists) }
+{
+    let mut lists = Vec::with_capacity(alloc, usize::from(tree.len()))?;
+    'nodes: for node in 0..tree.len() {
+        lists.push_reserved(Vec::from_slice(alloc, openings.list(NodeId::new(node)))?);
+    }
+    Ok(lists)
 }

@@ -1,12 +1,15 @@
 ghost use Rattle.std.specs.List.{AllZip};
 ghost use Rattle.std.specs.Prelude.{◌≡◌, ◌↔◌, ◌<◌, length, is_some, option_copied, option_map, All};
-ghost use Rattle.std.specs.Prelude.{IsSome, IsNone, IfOk, IfErr, OnOk, OnErr, IsErrOf};
+ghost use Rattle.std.specs.Prelude.{ℕ, List, ◌++◌, Some, IsSome, IsNone, IfOk, IfErr, OnOk, OnErr, IsErrOf};
 ghost use Rattle.std.specs.Option.{option_map_or};
-ghost use Rattle.stab_core.specs.Link.{Grows};
+ghost use Rattle.stab_core.specs.Link.{Grows, LinkValue, Steps};
 ghost use Rattle.stab_core.specs.Replay.{IsLawful};
 ghost use Rattle.stab_frames.specs.Parameters.{AreLawful};
 ghost use Rattle.stab_tree.specs.Nodes.{parent_at};
 ghost use Rattle.stab_treecore.specs.WholeTree.{WholeTree, link_into, received, source};
+ghost use Rattle.stab_core.specs.Step.{effect};
+ghost use Rattle.stab_treecore.specs.Fresh.{fresh_item};
+ghost use Rattle.stab_treecore.specs.NodeOpenings.{FitTree};
 ghost use Rattle.stab_treecore.specs.Refusals.{OnePerLink, IsStartReason, NamesLink, NamesNoLink};
 ghost use Rattle.stab_treecore.specs.TreeReplay.{tree_opening};
 ghost use Rattle.stab_treecore.specs.TreeStep.{next_item, link_after, effect_on, tree_step};
@@ -15,22 +18,29 @@ ghost use Rattle.stab_treecore.specs.TreeStep.{tree_effect};
 use crate::event::TreeEvent;
 use crate::fault::{TreeStartFault, TreeStepFault};
 use crate::open;
+use crate::openings::Openings;
 use stab_core::{Effect, Event, Link, Start};
 use stab_frames::{Item, Params};
 use stab_tree::{NodeId, Tree};
-use std::alloc::Global;
+use std::alloc::{AllocError, Global};
 use std::marker::Model;
 
-/// All links of a tree, with the items that its root publishes. Contracts see the published items,
-/// the parent of each node and the link into each node.
+/// All links of a tree, with the items that its root publishes and those that its inner nodes begin
+/// with. Contracts see the published items, and of each node its opening, its parent and the link
+/// into it.
 #[derive(Debug, Drop)]
 pub struct TreeState {
     published: Vec<Item>,
+    /// What each node began with that nobody published.
+    openings: Vec<Vec<Item>>,
     parents: Vec<Option<NodeId>>,
     links: Vec<Option<Link>>,
+    /// What each node with a link received: its opening, and then what its link delivered.
+    received: Vec<Vec<Item>>,
 }
 
 impl Model for TreeState {
+    ghost use Rattle.std.specs.Prelude.{map};
     ghost use Rattle.stab_treecore.specs.WholeTree.{WholeTree};
 
     ghost Value = { WholeTree };
@@ -39,15 +49,17 @@ impl Model for TreeState {
 
     ghost view = { λ t. record {
       published = t.published.items;
+      openings = map (λ list. list.items) t.openings.items;
       parents = t.parents.items;
       links = t.links.items;
     } };
 
     ghost invariant = { λ t. IsSound (record {
       published = t.published.items;
+      openings = map (λ list. list.items) t.openings.items;
       parents = t.parents.items;
       links = t.links.items;
-    }) };
+    }) (map (λ list. list.items) t.received.items) };
 }
 
 impl TreeState {
@@ -62,9 +74,12 @@ impl TreeState {
         tree: &Tree,
         published: &[Item],
         starts: &[Start],
+        openings: &Openings,
     ) -> Result<TreeState, TreeStartFault>
+        requires fit { FitTree tree.now.parents openings.now }
         ensures opening { IfOk result (λ state.
-            state ≡ tree_opening params.now tree.now.parents published.now starts.now) }
+            state ≡ tree_opening params.now openings.now tree.now.parents published.now
+            starts.now) }
         ensures params_per_link { OnOk result (OnePerLink tree.now.parents params.now) }
         ensures one_per_link { OnOk result (OnePerLink tree.now.parents starts.now) }
         ensures lawful_params { OnOk result (All AreLawful params.now) }
@@ -80,8 +95,10 @@ impl TreeState {
         let _root = tree.root();
         Ok(TreeState {
             published: Vec::from_slice(alloc, published)?,
+            openings: open::lists(alloc, tree, openings)?,
             parents: Vec::from_slice(alloc, tree.parents())?,
             links,
+            received: open::lists(alloc, tree, openings)?,
         })
     }
 
@@ -101,16 +118,17 @@ impl TreeState {
             return Err(TreeStepFault::NoSuchLink);
         }
         let event = event.act.event(self.next_item(event.child));
-        step(&mut self.links[place], event)
+        step(&mut self.links[place], &mut self.received[place], event)
     }
 
-    /// What a node received: what the link into it delivered, and at the root each published item.
+    /// What a node received: its opening, and then what the link into it delivered; at the root
+    /// each published item.
     pub fn received(&self, node: NodeId) -> &[Item]
         requires { node < length self.now.parents }
         ensures { result.now ≡ received self.now node }
     {
         match &self.links[node.index()] {
-            Some(link) => link.delivered(),
+            Some(_) => self.received[node.index()].as_slice(),
             None => self.published.as_slice(),
         }
     }
@@ -142,8 +160,47 @@ impl TreeState {
     }
 }
 
+/// The item that an event on a link delivers, where it delivers one.
+fn fresh_item(link: &Link, event: Event) -> Option<Item>
+    ensures { result ≡ fresh_item (effect link.now.params link.now.state event) }
+{
+    let Event::RecvFrame { .. } = event else {
+        return None;
+    };
+    if link.is_closed() {
+        return None;
+    }
+    let frame = link.frame_at(0)?;
+    if frame.label == link.recv_label() {
+        return None;
+    }
+    Some(frame.item)
+}
+
+/// One step of a link by an event; an item that it delivers is added to this list. Where memory is
+/// refused, the link and the list are as they were.
+fn step_link(link: &mut Link, received: &mut Vec<Item>, event: Event) -> Result<Effect, AllocError>
+    ensures steps { IfOk result (λ had. Steps link.old event link.new had) }
+    ensures follows { (opening : List ℕ) → received.old.items ≡ opening ++ link.old.state.delivered
+        → received.new.items ≡ opening ++ link.new.state.delivered }
+    ensures memory { OnErr result (Grows (effect link.old.params link.old.state event)) }
+    ensures unchanged { OnErr result (link.new ≡ link.old) }
+{
+    let Some(item) = fresh_item(link, event) else {
+        return link.apply(event);
+    };
+    received.reserve(1)?;
+    let effect = link.apply(event)?;
+    received.push_reserved(item);
+    Ok(effect)
+}
+
 /// One step of a link, where there is one, by an event, where there is one.
-fn step(link: &mut Option<Link>, event: Option<Event>) -> Result<Effect, TreeStepFault>
+fn step(
+    link: &mut Option<Link>,
+    received: &mut Vec<Item>,
+    event: Option<Event>,
+) -> Result<Effect, TreeStepFault>
     ensures link { IfOk result (λ _. link.new ≡ option_map (link_after event) link.old) }
     ensures kind { is_some link.new ≡ is_some link.old }
     ensures effect { IfOk result (λ effect.
@@ -152,6 +209,10 @@ fn step(link: &mut Option<Link>, event: Option<Event>) -> Result<Effect, TreeSte
     ensures no_such_link { IsErrOf result TreeStepFault.NoSuchLink ↔ IsNone link.old }
     ensures memory { IsErrOf result TreeStepFault.Memory
         → Grows (option_map_or (effect_on event) link.old Effect.Nothing) }
+    ensures follows { (opening : List ℕ) (before after : LinkValue)
+        → link.old ≡ Some before → link.new ≡ Some after
+        → received.old.items ≡ opening ++ before.state.delivered
+        → received.new.items ≡ opening ++ after.state.delivered }
     ensures unchanged { OnErr result (link.new ≡ link.old) }
 {
     let Some(link) = link else {
@@ -159,6 +220,6 @@ fn step(link: &mut Option<Link>, event: Option<Event>) -> Result<Effect, TreeSte
     };
     match event {
         None => Ok(Effect::Nothing),
-        Some(event) => Ok(link.apply(event)?),
+        Some(event) => Ok(step_link(link, received, event)?),
     }
 }

@@ -1,6 +1,9 @@
+ghost use Rattle.std.specs.Prelude.{◌≡◌, IfOk, length};
+ghost use Rattle.stab_treecore.specs.NodeOpenings.{FitTree};
+
 use crate::{
-    LinkAct, TreeEvent, TreeStartFault, TreeState, TreeStepFault, push_node_counts, run_schedule,
-    schedule_text,
+    LinkAct, OpeningFault, Openings, TreeEvent, TreeStartFault, TreeState, TreeStepFault,
+    push_node_counts, run_schedule, schedule_text,
 };
 use serde_json::Value;
 use stab_core::{Effect, Start, StartFault};
@@ -69,6 +72,17 @@ a depth 1 received 2 acked 2
 items: 7 8
 b depth 2 received 4 acked 2
 items: 20 21 7 8
+";
+
+/// What the chain is after four rounds on each of its links, of two published items and two that
+/// the node between begins with.
+const PASSED_ON: &str = "\
+r depth 0 received 2 acked -
+items: 7 8
+a depth 1 received 4 acked 2
+items: 50 51 7 8
+b depth 2 received 4 acked 4
+items: 50 51 7 8
 ";
 
 /// One item goes from the parent to the child, undisturbed.
@@ -142,7 +156,8 @@ fn outcome(
 ) -> Result<Result<String, TreeStartFault>, Fail> {
     let params = [Params::new(1, 4)?; 2];
     let starts = starts(alloc, links)?;
-    match run_schedule(alloc, &params, tree, &ITEMS, &starts, events) {
+    let openings = Openings::none(alloc, tree)?;
+    match run_schedule(alloc, &params, tree, &ITEMS, &starts, &openings, events) {
         Ok(state) => Ok(Ok(schedule_text(alloc, tree, &state)?)),
         Err(fault) => Ok(Err(fault)),
     }
@@ -199,7 +214,16 @@ fn a_wider_second_link_holds_two_strays(rt: HostRuntime) -> Result<(), Fail> {
     let params = [Params::new(1, 4)?, Params::new(2, 6)?];
     let starts = starts_of_a_wider_second_link(rt.alloc())?;
     let events = schedule_of_a_wider_second_link(rt.alloc())?;
-    let state = run_schedule(rt.alloc(), &params, &tree, &[7, 8], &starts, &events)?;
+    let openings = Openings::none(rt.alloc(), &tree)?;
+    let state = run_schedule(
+        rt.alloc(),
+        &params,
+        &tree,
+        &[7, 8],
+        &starts,
+        &openings,
+        &events,
+    )?;
     let text = schedule_text(rt.alloc(), &tree, &state)?;
     assert_eq!(rt; text.as_str(), WIDER_SECOND_LINK);
     Ok(())
@@ -222,10 +246,103 @@ fn each_link_is_held_to_its_own_capacity(rt: HostRuntime) -> Result<(), Fail> {
         (&wide_second[..1], Some(TreeStartFault::StartCount)),
         (wide_second.as_slice(), Some(TreeStartFault::StartCount)),
     ];
+    let openings = Openings::none(rt.alloc(), &tree)?;
     for (params, want) in rows {
-        let state = run_schedule(rt.alloc(), params, &tree, &[7, 8], &starts, &[]);
+        let state = run_schedule(rt.alloc(), params, &tree, &[7, 8], &starts, &openings, &[]);
         assert_eq!(rt; state.err(), want);
     }
+    Ok(())
+}
+
+/// The openings of these lists of items.
+fn openings(
+    alloc: Global,
+    tree: &Tree,
+    hold: u16,
+    lists: &[&[Item]],
+) -> Result<Result<Openings, OpeningFault>, AllocError>
+    ensures fit { IfOk result (λ made. IfOk made (FitTree tree.now.parents)) }
+    ensures one_per_node { IfOk result (λ made. IfOk made (λ openings.
+        length openings.lists ≡ length tree.now.parents)) }
+{
+    let mut its_lists = Vec::new(alloc);
+    for list in lists {
+        its_lists.push(Sequence::from_vec(Vec::from_slice(alloc, *list)?))?;
+    }
+    Ok(Openings::new(tree, hold, its_lists))
+}
+
+/// Rounds on both links of the chain, first all on the upper one.
+fn rounds(alloc: Global, upper: u16, lower: u16) -> Result<Vec<TreeEvent>, AllocError> {
+    let mut schedule = Vec::new(alloc);
+    for (child, count) in [(A, upper), (B, lower)] {
+        for _ in 0..count {
+            push_acts(&mut schedule, NodeId::new(child), &ROUND)?;
+        }
+    }
+    Ok(schedule)
+}
+
+#[test]
+fn an_opening_passed_on(rt: HostRuntime) -> Result<(), Fail> {
+    let tree = tree(&rt, rt.alloc(), CHAIN)?;
+    let params = [Params::new(1, 4)?; 2];
+    let starts = [Start::clean(rt.alloc()), Start::clean(rt.alloc())];
+    let openings = openings(rt.alloc(), &tree, 2, &[&[], &[50, 51], &[]])?.expect(&rt, "openings");
+    let events = rounds(rt.alloc(), 2, 4)?;
+    let state = run_schedule(
+        rt.alloc(),
+        &params,
+        &tree,
+        &[7, 8],
+        &starts,
+        &openings,
+        &events,
+    )?;
+    let text = schedule_text(rt.alloc(), &tree, &state)?;
+    assert_eq!(rt; text.as_str(), PASSED_ON);
+    Ok(())
+}
+
+#[test]
+fn refused_openings(rt: HostRuntime) -> Result<(), Fail> {
+    let tree = tree(&rt, rt.alloc(), CHAIN)?;
+    let few: [&[Item]; 2] = [&[], &[50, 51]];
+    let fit: [&[Item]; 3] = [&[], &[50, 51], &[]];
+    let at_the_root: [&[Item]; 3] = [&[1], &[], &[]];
+    let at_a_leaf: [&[Item]; 3] = [&[], &[], &[1]];
+    let long: [&[Item]; 3] = [&[], &[1, 2, 3], &[]];
+    let long_at_the_root: [&[Item]; 3] = [&[1, 2, 3], &[], &[]];
+    let rows = [
+        (65, few.as_slice(), Some(OpeningFault::HoldOutOfRange)),
+        (2, few.as_slice(), Some(OpeningFault::OpeningCount)),
+        (2, at_the_root.as_slice(), Some(OpeningFault::OpeningPlace)),
+        (2, at_a_leaf.as_slice(), Some(OpeningFault::OpeningPlace)),
+        (
+            2,
+            long_at_the_root.as_slice(),
+            Some(OpeningFault::OpeningPlace),
+        ),
+        (2, long.as_slice(), Some(OpeningFault::OpeningTooLong)),
+        (64, fit.as_slice(), None),
+        (2, fit.as_slice(), None),
+    ];
+    for (hold, lists, want) in rows {
+        assert_eq!(rt; openings(rt.alloc(), &tree, hold, lists)?.err(), want);
+    }
+    Ok(())
+}
+
+#[test]
+fn openings_are_read_back(rt: HostRuntime) -> Result<(), Fail> {
+    let tree = tree(&rt, rt.alloc(), CHAIN)?;
+    assert!(rt; tree.len() == 3);
+    let openings = openings(rt.alloc(), &tree, 2, &[&[], &[50, 51], &[]])?.expect(&rt, "openings");
+    assert_eq!(rt; openings.hold(), 2);
+    assert!(rt; openings.list(NodeId::new(A)) == [50, 51].as_slice());
+    let none = Openings::none(rt.alloc(), &tree)?;
+    assert_eq!(rt; none.hold(), 0);
+    assert!(rt; none.list(NodeId::new(B)).is_empty());
     Ok(())
 }
 
@@ -269,7 +386,8 @@ fn an_offer_of_nothing_does_nothing(rt: HostRuntime) -> Result<(), Fail> {
     let tree = tree(&rt, rt.alloc(), CHAIN)?;
     let starts = starts(rt.alloc(), &WORST_STARTS)?;
     let params = [Params::new(1, 4)?; 2];
-    let mut state = TreeState::new(rt.alloc(), &params, &tree, &ITEMS, &starts)?;
+    let openings = Openings::none(rt.alloc(), &tree)?;
+    let mut state = TreeState::new(rt.alloc(), &params, &tree, &ITEMS, &starts, &openings)?;
     let steps = [
         (B, LinkAct::Offer, Ok(Effect::Nothing)),
         (A, LinkAct::RecvFrame { keep: true }, Ok(Effect::Fresh(99))),
@@ -296,7 +414,8 @@ fn an_offer_of_nothing_does_nothing(rt: HostRuntime) -> Result<(), Fail> {
 #[test]
 fn a_lone_root_has_what_it_publishes(rt: HostRuntime) -> Result<(), Fail> {
     let tree = tree(&rt, rt.alloc(), r#"[{"name":"r"}]"#)?;
-    let state = run_schedule(rt.alloc(), &[], &tree, &[7, 8], &[], &[])?;
+    let openings = Openings::none(rt.alloc(), &tree)?;
+    let state = run_schedule(rt.alloc(), &[], &tree, &[7, 8], &[], &openings, &[])?;
     let text = schedule_text(rt.alloc(), &tree, &state)?;
     assert_eq!(rt; text.as_str(), "r depth 0 received 2 acked -\nitems: 7 8\n");
     Ok(())
@@ -326,6 +445,18 @@ fn each_fault_prints_its_text(rt: HostRuntime) -> Result<(), Fail> {
         (TreeStartFault::Step(TreeStepFault::Memory), "out of memory"),
     ];
     for (fault, want) in texts {
+        assert_eq!(rt; fault.to_string(rt.alloc())?.as_str(), want);
+    }
+    let openings = [
+        (OpeningFault::HoldOutOfRange, "job: h out of range"),
+        (OpeningFault::OpeningCount, "job: wrong number of openings"),
+        (
+            OpeningFault::OpeningPlace,
+            "job: opening at the root or a leaf",
+        ),
+        (OpeningFault::OpeningTooLong, "job: opening too long"),
+    ];
+    for (fault, want) in openings {
         assert_eq!(rt; fault.to_string(rt.alloc())?.as_str(), want);
     }
     Ok(())

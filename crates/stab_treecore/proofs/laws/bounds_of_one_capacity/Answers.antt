@@ -1,4 +1,4 @@
-use Rattle.stab_treecore.proofs.AtNodes.{strays-same, missing-same, one_capacity}
+use Rattle.stab_treecore.proofs.AtNodes.{strays-same, missing-same}
 use Rattle.stab_treecore.proofs.laws.bounds_of_one_capacity.Goals as goal
 
 pub returns-clause-strays : goal.returns-clause-strays
@@ -6,6 +6,3 @@ returns-clause-strays c nodes params capacity node tree one_each alike = strays-
 
 pub returns-clause-missing : goal.returns-clause-missing
 returns-clause-missing c nodes params capacity node tree one_each alike = missing-same nodes tree params capacity one_each alike node
-
-pub returns-clause-law : goal.returns-clause-law
-returns-clause-law c nodes params capacity starts published received tree one_each alike = one_capacity nodes tree params capacity one_each alike starts published received

@@ -9,7 +9,7 @@ use Rattle.stab_treecore.proofs.schedule.replayed.Given as goal
 -- them refuses all.
 abbrev pub invariant-loop-event : goal.invariant-loop-event
 invariant-loop-event l =
-    let t : WholeTree = tree_opening l.params l.tree.parents l.published l.starts in
+    let t : WholeTree = tree_opening l.params l.openings l.tree.parents l.published l.starts in
     (l.state.parents ≡ l.tree.parents)
     × All (NamesLink l.tree.parents) (take l.event-index l.events)
     × (tree_replay l.state (drop l.event-index l.events) ≡ tree_replay t l.events)
