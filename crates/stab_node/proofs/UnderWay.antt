@@ -1,8 +1,9 @@
 -- From the ends that a worker is given to its answer: what holds at the beginning, between two turns,
 -- once no further turn is made, and once the lower ends are closed.
 use Rattle.std.proofs.Common.{◌≡◌, ℕ, List, [], ◌∷◌, length, map, Bool, true, false, All, rules}
-use Rattle.std.proofs.Common.{refl, sym, subst}
+use Rattle.std.proofs.Common.{◌++◌, append_assoc, ap, refl, sym, subst, ◌∙◌}
 use Rattle.std.proofs.Common.{Option, Some, None}
+use Rattle.std.proofs.lemmas.List.{append-nil}
 use Rattle.std.proofs.lemmas.List.Elements.{All-nil, All-cons, All-head, All-tail, All-weaker}
 use Rattle.stab_lock.specs.Accounts.{Sender, Receiver, new_sender, after_seen}
 use Rattle.stab_lock.specs.declared.seen.FrameSeen.{FrameSeen}
@@ -12,7 +13,7 @@ use Rattle.stab_node.specs.declared.account.Ended.TheVariants.{Upstream, Turns}
 use Rattle.stab_node.specs.Work.{AreNew, HasAll, IsServed}
 use Rattle.stab_node.specs.UnderWay.{EndedIsClosed, IsOut, IsThrough, IsUnderWay}
 use Rattle.stab_node.specs.Work.{IsWork, received_by}
-use Rattle.stab_node.specs.UnderWay.{OffersPrefix, but_for_the_close, first_received, with_seen}
+use Rattle.stab_node.specs.UnderWay.{OffersPrefix, but_for_the_close, with_seen}
 use Rattle.stab_node.proofs.Prefixes.{prefix_of_more, through_has_all}
 
 -- a prefix is a prefix still, once what was seen is added
@@ -24,20 +25,20 @@ prefix_with_seen received (seen.Fresh item) down prefix = prefix_of_more receive
 prefix_with_seen received seen.Closed down prefix = prefix
 
 -- what is added is what the upper end delivers
-pub delivered_with_seen : (r : Receiver) (s : FrameSeen)
-    → (after_seen r s).delivered ≡ with_seen r.delivered s
-delivered_with_seen r seen.Nothing = refl
-delivered_with_seen r seen.Old = refl
-delivered_with_seen r (seen.Fresh item) = refl
-delivered_with_seen r seen.Closed = refl
+pub delivered_with_seen : (first : List ℕ) (r : Receiver) (s : FrameSeen)
+    → with_seen (first ++ r.delivered) s ≡ first ++ (after_seen r s).delivered
+delivered_with_seen first r seen.Nothing = refl
+delivered_with_seen first r seen.Old = refl
+delivered_with_seen first r (seen.Fresh item) = append_assoc first r.delivered (item ∷ [])
+delivered_with_seen first r seen.Closed = refl
 
 -- the work goes on once the upper end was served
-pub upper_served : (published before after : List ℕ) (ended ends : Bool) (up now : Option Receiver) (downs : List Sender)
-    → (before ≡ received_by up published → after ≡ received_by now published)
+pub upper_served : (first before after : List ℕ) (ended ends : Bool) (up now : Option Receiver) (downs : List Sender)
+    → (before ≡ received_by up first → after ≡ received_by now first)
     → ((down : Sender) → OffersPrefix before down → OffersPrefix after down)
     → EndedIsClosed ends now
-    → IsUnderWay published before ended up downs → IsUnderWay published after ends now downs
-upper_served published before after ended ends up now downs received prefixes closed way =
+    → IsUnderWay first before ended up downs → IsUnderWay first after ends now downs
+upper_served first before after ended ends up now downs received prefixes closed way =
     record {
       received_is = received way.received_is;
       upstream = closed;
@@ -45,17 +46,17 @@ upper_served published before after ended ends up now downs received prefixes cl
     }
 
 -- the work goes on once the lower ends were served
-pub lower_served : (published received : List ℕ) (ended : Bool) (up : Option Receiver) (downs served : List Sender)
+pub lower_served : (first received : List ℕ) (ended : Bool) (up : Option Receiver) (downs served : List Sender)
     → (All (OffersPrefix received) downs → All (OffersPrefix received) served)
-    → IsUnderWay published received ended up downs → IsUnderWay published received ended up served
-lower_served published received ended up downs served prefixes way =
+    → IsUnderWay first received ended up downs → IsUnderWay first received ended up served
+lower_served first received ended up downs served prefixes way =
     record { received_is = way.received_is; upstream = way.upstream; lower = prefixes way.lower }
 
 -- an upstream that has ended, and ends that are through, end the work
-pub out_by_upstream : (published received : List ℕ) (ended : Bool) (up : Option Receiver) (downs : List Sender)
+pub out_by_upstream : (first received : List ℕ) (ended : Bool) (up : Option Receiver) (downs : List Sender)
     → ended ≡ true → All (IsThrough (length received)) downs
-    → IsUnderWay published received ended up downs → IsOut published received up downs Upstream
-out_by_upstream published received ended up downs is through way =
+    → IsUnderWay first received ended up downs → IsOut first received up downs Upstream
+out_by_upstream first received ended up downs is through way =
     record {
       received_is = way.received_is;
       lower = way.lower;
@@ -66,9 +67,9 @@ out_by_upstream published received ended up downs is through way =
     }
 
 -- so do turns that are over
-pub out_by_turns : (published received : List ℕ) (ended : Bool) (up : Option Receiver) (downs : List Sender)
-    → IsUnderWay published received ended up downs → IsOut published received up downs Turns
-out_by_turns published received ended up downs way =
+pub out_by_turns : (first received : List ℕ) (ended : Bool) (up : Option Receiver) (downs : List Sender)
+    → IsUnderWay first received ended up downs → IsOut first received up downs Turns
+out_by_turns first received ended up downs way =
     record { received_is = way.received_is; lower = way.lower; handed_on = search rules }
 
 -- ends that have made no call offered a prefix of any list
@@ -78,20 +79,20 @@ prefixes_of_new received downs new =
     All-weaker (λ s. s ≡ new_sender) (OffersPrefix received)
     (λ s is. subst (OffersPrefix received) (sym is) (record { offered = (received, refl) })) downs new
 
--- new ends, and the first items of the node, begin the work
-pub begins : (published : List ℕ) (up : Option Receiver) (downs : List Sender) → AreNew up downs
-    → IsUnderWay published (first_received up published) false up downs
-begins published None downs new =
+-- new ends, and what the node has at first, begin the work
+pub begins : (first : List ℕ) (up : Option Receiver) (downs : List Sender) → AreNew up downs
+    → IsUnderWay first first false up downs
+begins first None downs new =
     record {
       received_is = refl;
       upstream = record { upstream = search rules };
-      lower = prefixes_of_new published downs new.lower;
+      lower = prefixes_of_new first downs new.lower;
     }
-begins published (Some r) downs new =
+begins first (Some r) downs new =
     record {
-      received_is = search (rules, new.upper);
+      received_is = sym (ap (λ x. first ++ x.delivered) new.upper ∙ append-nil first);
       upstream = record { upstream = search rules };
-      lower = prefixes_of_new [] downs new.lower;
+      lower = prefixes_of_new first downs new.lower;
     }
 
 -- ends that are closed, and changed in nothing else, are served
@@ -130,11 +131,11 @@ having received (d ∷ downs) (s ∷ closed) alike all =
     (having received downs closed rest (All-tail (HasAll received) d downs all))
 
 -- closed ends are a worker's answer
-pub worked : (published received : List ℕ) (up : Option Receiver) (downs closed : List Sender) (ended : Ended)
+pub worked : (first received : List ℕ) (up : Option Receiver) (downs closed : List Sender) (ended : Ended)
     → map but_for_the_close closed ≡ map but_for_the_close downs
     → All (λ s. s.closed ≡ true) closed
-    → IsOut published received up downs ended → IsWork published received up closed ended
-worked published received up downs closed ended alike shut out =
+    → IsOut first received up downs ended → IsWork first received up closed ended
+worked first received up downs closed ended alike shut out =
     record {
       received_is = out.received_is;
       served = served received downs closed alike shut out.lower;

@@ -12,8 +12,8 @@ pub enum Ended {
 /// What a worker answers: what its node received, and its ends, finished.
 #[derive(Debug, Drop)]
 pub struct NodeAccount<A, B> {
-    /// The items of the node, in the order in which it received them: the published items at the
-    /// root, strays included elsewhere.
+    /// The items of the node, in the order in which it had them: what it began with, and then,
+    /// below the root, what its upper end delivered, strays included.
     pub received: Vec<Item>,
     /// The finished upper end; the root has none.
     pub up: Option<A>,

@@ -4,8 +4,9 @@
 //! [`work`] is a node's whole life: turns that are counted, then a close of each lower end. It is
 //! proved once, over any two ends ([`stab_lock::RecvSide`], [`stab_lock::SendSide`]) and any
 //! [`Gate`], which decides when the next turn begins. The layer above uses one fact: what each
-//! lower end was offered is a prefix of what the node received, and what it received is what its
-//! upper end delivered. [`plain`] has two ends without a link, to start from.
+//! lower end was offered is a prefix of what the node received, and what it received is what it
+//! began with, followed by what its upper end delivered. [`plain`] has two ends without a link, to
+//! start from.
 #![tactic(auto)]
 
 mod account;

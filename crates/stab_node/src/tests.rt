@@ -88,6 +88,20 @@ fn work_below<G: Gate>(alloc: Global, acknowledge: &[bool], turns: u32, gate: &G
     work(&(), alloc, 1, Some(up), downs, &[], turns, gate)
 }
 
+/// Lets node 1 begin with 50 and 51 and work below an upper end that sees 7, 7, 8 and the close.
+fn work_from_an_opening<G: Gate>(
+    alloc: Global,
+    acknowledge: &[bool],
+    turns: u32,
+    gate: &G,
+) -> Answer
+    requires { 1 ≤ turns }
+{
+    let up = plain_up(alloc)?;
+    let downs = plain_downs(alloc, acknowledge)?;
+    work(&(), alloc, 1, Some(up), downs, &[50, 51], turns, gate)
+}
+
 /// Lets node 0 work as a root.
 fn work_at_root<G: Gate>(
     alloc: Global,
@@ -179,6 +193,47 @@ fn one_lower_end_that_never_acknowledges(rt: HostRuntime) -> Result<(), Fail> {
     assert_down(&rt, account.downs.get(0), &[7, 7, 8], 3);
     assert_down(&rt, account.downs.get(1), &[7], 0);
     assert_asked(&rt, &gate, 10);
+    Ok(())
+}
+
+#[test]
+fn an_opening_is_handed_on_before_what_is_delivered(rt: HostRuntime) -> Result<(), Fail> {
+    let alloc = rt.alloc();
+    let gate = CountingGate::refusing(0);
+    let account = work_from_an_opening(alloc, &[true, false], 10, &gate)?;
+    assert!(rt; account.received.as_slice() == [50, 51, 7, 7, 8].as_slice());
+    assert!(rt; account.ended == Ended::Turns);
+    assert_down(&rt, account.downs.get(0), &[50, 51, 7, 7, 8], 5);
+    assert_down(&rt, account.downs.get(1), &[50], 0);
+    assert_asked(&rt, &gate, 10);
+    Ok(())
+}
+
+#[test]
+fn an_opening_is_acknowledged_before_the_end(rt: HostRuntime) -> Result<(), Fail> {
+    let alloc = rt.alloc();
+    let gate = CountingGate::refusing(0);
+    let account = work_from_an_opening(alloc, &[true], 10, &gate)?;
+    assert!(rt; account.received.as_slice() == [50, 51, 7, 7, 8].as_slice());
+    assert!(rt; account.ended == Ended::Upstream);
+    assert!(rt; account.up.is_some());
+    if let Some(up) = &account.up {
+        assert!(rt; up.closed && up.delivered.as_slice() == [7, 7, 8].as_slice());
+    }
+    assert_down(&rt, account.downs.get(0), &[50, 51, 7, 7, 8], 5);
+    assert_asked(&rt, &gate, 6);
+    Ok(())
+}
+
+#[test]
+fn an_opening_is_kept_where_no_further_item_comes(rt: HostRuntime) -> Result<(), Fail> {
+    let alloc = rt.alloc();
+    let gate = CountingGate::refusing(0);
+    let account = work_from_an_opening(alloc, &[true], 1, &gate)?;
+    assert!(rt; account.received.as_slice() == [50, 51, 7].as_slice());
+    assert!(rt; account.ended == Ended::Turns);
+    assert_down(&rt, account.downs.get(0), &[50], 0);
+    assert_asked(&rt, &gate, 1);
     Ok(())
 }
 

@@ -1,6 +1,6 @@
 //! A node's upper end: what a turn takes from it.
 
-ghost use Rattle.std.specs.Prelude.{◌≡◌, ◌<◌, ℕ, List, true, IfOk, option_map, vec_len};
+ghost use Rattle.std.specs.Prelude.{◌≡◌, ◌<◌, ℕ, List, ◌++◌, true, IfOk, option_map, vec_len};
 ghost use Rattle.std.specs.Prelude.{vec_capacity};
 ghost use Rattle.stab_lock.specs.Accounts.{Sender};
 ghost use Rattle.stab_node.specs.Work.{received_by};
@@ -20,9 +20,9 @@ pub(crate) fn serve_upstream<U: RecvSide>(
     ended: &mut bool,
     received: &mut Vec<Item>,
 ) -> Result<(), AllocError>
-    ensures under_way { (published : List ℕ) (downs : List Sender)
-        → IsUnderWay published received.old.items ended.old (option_map U.received up.old) downs
-        → IsUnderWay published received.new.items ended.new (option_map U.received up.new) downs }
+    ensures under_way { (first : List ℕ) (downs : List Sender)
+        → IsUnderWay first received.old.items ended.old (option_map U.received up.old) downs
+        → IsUnderWay first received.new.items ended.new (option_map U.received up.new) downs }
     ensures link { option_map U.link up.new ≡ option_map U.link up.old }
 {
     if !*ended {
@@ -37,9 +37,9 @@ fn take_from<U: RecvSide>(
     up: &mut Option<U>,
     received: &mut Vec<Item>,
 ) -> Result<bool, AllocError>
-    ensures received { (published : List ℕ)
-        → received.old.items ≡ received_by (option_map U.received up.old) published
-        → received.new.items ≡ received_by (option_map U.received up.new) published }
+    ensures received { (first : List ℕ)
+        → received.old.items ≡ received_by (option_map U.received up.old) first
+        → received.new.items ≡ received_by (option_map U.received up.new) first }
     ensures prefixes { (down : Sender)
         → OffersPrefix received.old.items down → OffersPrefix received.new.items down }
     ensures ended { IfOk result (λ ended. EndedIsClosed ended (option_map U.received up.new)) }
@@ -61,8 +61,9 @@ fn look<U: RecvSide>(
     up: &mut U,
     received: &mut Vec<Item>,
 ) -> Result<bool, AllocError>
-    ensures received { (U.received up.old).delivered ≡ received.old.items
-        → (U.received up.new).delivered ≡ received.new.items }
+    ensures received { (first : List ℕ)
+        → received.old.items ≡ first ++ (U.received up.old).delivered
+        → received.new.items ≡ first ++ (U.received up.new).delivered }
     ensures prefixes { (down : Sender)
         → OffersPrefix received.old.items down → OffersPrefix received.new.items down }
     ensures ended { IfOk result (λ ended. ended ≡ true → (U.received up.new).closed ≡ true) }

@@ -3,7 +3,6 @@ ghost use Rattle.std.specs.Prelude.{map};
 ghost use Rattle.std.specs.Prelude.{length, option_map, vec_capacity};
 ghost use Rattle.stab_node.specs.Work.{AreNew, IsWork};
 ghost use Rattle.stab_node.specs.UnderWay.{IsUnderWay, IsOut, IsThrough};
-ghost use Rattle.stab_node.specs.UnderWay.{first_received};
 ghost use Rattle.stab_node.specs.Turns.{IsOver, IsRefused};
 
 use crate::account::{Ended, NodeAccount};
@@ -21,8 +20,12 @@ use std::alloc::{AllocError, Global};
 /// it looks for an acknowledgement, offers the next item where the end is idle, and sends. The
 /// worker makes no further turn once its upstream has ended and each lower end has all that the
 /// node received acknowledged, or once it has made `turns` turns. Then it closes each lower end,
-/// tells the gate that it is done, and finishes its ends. A root has no upper end: it has the
-/// published items, which are read at no other node, and its upstream counts as ended.
+/// tells the gate that it is done, and finishes its ends. A root has no upper end, and its upstream
+/// counts as ended.
+///
+/// `first` is what the node has before its first turn: the items that it publishes at the root, and
+/// at any other node items that nobody published. They come before what the upper end delivers, and
+/// are handed on as that is.
 ///
 /// It is refused with Gate where the gate refuses a turn, and with Memory where memory is refused,
 /// to the worker itself or to a call of an end. Then it tells the gate that it is done and makes no
@@ -36,7 +39,7 @@ pub fn work<P, U, D, G>(
     node: u16,
     up: Option<U>,
     downs: Vec<D>,
-    published: &[Item],
+    first: &[Item],
     turns: u32,
     gate: &G,
 ) -> Result<NodeAccount<U::Done, D::Done>, NodeFault>
@@ -46,7 +49,7 @@ where
     G: Gate,
     requires turns { 1 ≤ turns }
     ensures work { IfOk result (λ a. AreNew (option_map U.received up) (map D.sent downs.items)
-        → IsWork published.now a.received.items
+        → IsWork first.now a.received.items
         (option_map U.done_received a.up) (map D.done_sent a.downs.items) a.ended) }
     ensures upper_link { IfOk result (λ a. option_map U.done_link a.up ≡ option_map U.link up) }
     ensures lower_links { IfOk result (λ a.
@@ -58,9 +61,7 @@ where
 {
     let mut up = up;
     let mut downs = downs;
-    let served = serve(
-        pass, alloc, node, &mut up, &mut downs, published, turns, gate,
-    );
+    let served = serve(pass, alloc, node, &mut up, &mut downs, first, turns, gate);
     gate.done(node);
     let served = served?;
     Ok(NodeAccount {
@@ -87,7 +88,7 @@ fn serve<P, U, D, G>(
     node: u16,
     up: &mut Option<U>,
     downs: &mut [D],
-    published: &[Item],
+    first: &[Item],
     turns: u32,
     gate: &G,
 ) -> Result<Served<D::Done>, NodeFault>
@@ -98,7 +99,7 @@ where
     requires turns { 1 ≤ turns }
     ensures work { IfOk result (λ served.
         AreNew (option_map U.received up.old) (map D.sent downs.old)
-        → IsWork published.now served.received.items
+        → IsWork first.now served.received.items
         (option_map U.received up.new) (map D.sent downs.new) served.ended) }
     ensures upper_link { option_map U.link up.new ≡ option_map U.link up.old }
     ensures lower_links { map D.link downs.new ≡ map D.link downs.old }
@@ -109,7 +110,7 @@ where
         → IsRefused (G.has_passed gate.now node) (G.may_refuse gate.now node) turns) }
 {
     let room = Vec::with_capacity(alloc, downs.len())?;
-    let mut received = first_items(alloc, up, published)?;
+    let mut received = Vec::from_slice(alloc, first)?;
     let ended = take_turns(pass, node, up, downs, &mut received, turns, gate)?;
     close_all(pass, downs)?;
     Ok(Served {
@@ -117,22 +118,6 @@ where
         ended,
         room,
     })
-}
-
-/// What a node has before its first turn: the published items at the root, and nothing elsewhere.
-fn first_items<U: RecvSide>(
-    alloc: Global,
-    up: &Option<U>,
-    published: &[Item],
-) -> Result<Vec<Item>, AllocError>
-    ensures { IfOk result (λ items.
-        items.items ≡ first_received (option_map U.received up.now) published.now) }
-{
-    if up.is_none() {
-        Vec::from_slice(alloc, published)
-    } else {
-        Ok(Vec::new(alloc))
-    }
 }
 
 /// Makes turns until the worker has handed everything on or its turns are over.
@@ -150,11 +135,11 @@ where
     D: SendSide<Pass = P>,
     G: Gate,
     requires turns { 1 ≤ turns }
-    ensures under_way { (published : List ℕ)
-        → IsUnderWay published received.old.items false (option_map U.received up.old)
+    ensures under_way { (first : List ℕ)
+        → IsUnderWay first received.old.items false (option_map U.received up.old)
         (map D.sent downs.old)
         → IfOk result (λ ended.
-        IsOut published received.new.items (option_map U.received up.new)
+        IsOut first received.new.items (option_map U.received up.new)
         (map D.sent downs.new) ended) }
     ensures upper_link { option_map U.link up.new ≡ option_map U.link up.old }
     ensures lower_links { map D.link downs.new ≡ map D.link downs.old }
@@ -185,10 +170,10 @@ fn make_turn<P, U, D>(
 where
     U: RecvSide<Pass = P>,
     D: SendSide<Pass = P>,
-    ensures under_way { (published : List ℕ)
-        → IsUnderWay published received.old.items upstream_ended.old (option_map U.received up.old)
+    ensures under_way { (first : List ℕ)
+        → IsUnderWay first received.old.items upstream_ended.old (option_map U.received up.old)
         (map D.sent downs.old)
-        → IsUnderWay published received.new.items upstream_ended.new (option_map U.received up.new)
+        → IsUnderWay first received.new.items upstream_ended.new (option_map U.received up.new)
         (map D.sent downs.new) }
     ensures handed_on { IfOk result (λ all. all ≡ true → (upstream_ended.new ≡ true)
         × All (IsThrough (length received.new.items)) (map D.sent downs.new)) }

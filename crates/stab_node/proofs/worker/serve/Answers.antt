@@ -6,17 +6,17 @@ use Rattle.stab_node.proofs.worker.serve.Goals as goal
 
 pub returns-clause-work : goal.returns-clause-work
 returns-clause-work g c = λ new.
-    let published = c.args.published.now in
+    let first = c.args.first.now in
     let up = option_map g.U.RecvSide.received c.args.up.now in
     let downs = map g.D.SendSide.sent c.args.downs.now in
-    let begun : IsUnderWay published c.in_ok-received.received.items false up downs =
-    subst (λ r. IsUnderWay published r false up downs)
-    (sym c.in_ok-received.ensures) (begins published up downs new) in
-    worked published c.take_turns.new.received.items (option_map g.U.RecvSide.received c.take_turns.new.up)
+    let begun : IsUnderWay first c.in_ok-received.received.items false up downs =
+    subst (λ r. IsUnderWay first r false up downs)
+    (sym c.in_ok-received.ensures.items) (begins first up downs new) in
+    worked first c.take_turns.new.received.items (option_map g.U.RecvSide.received c.take_turns.new.up)
     (map g.D.SendSide.sent c.take_turns.new.downs) (map g.D.SendSide.sent c.close_all.new.downs)
     c.in_ok-ended.ended
     (map-map but_for_the_close g.D.SendSide.sent c.close_all.new.downs
     ∙ (c.close_all.ensures.accounts
     ∙ sym (map-map but_for_the_close g.D.SendSide.sent c.take_turns.new.downs)))
     c.in_ok-close_all.ensures.closed
-    (c.in_ok-ended.ensures.under_way published begun)
+    (c.in_ok-ended.ensures.under_way first begun)
