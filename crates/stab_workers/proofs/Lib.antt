@@ -1,5 +1,6 @@
 pub mod Dealt
 pub mod Seated
+pub mod Firsts
 pub mod Gathering
 pub mod ForCallers
 pub mod Worked

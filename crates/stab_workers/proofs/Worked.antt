@@ -109,15 +109,22 @@ module _ {S A F : Type 0} (R : S → Result A F → Type 0) where
       ∙ (carried (λ a. f (part a)) (λ s. g (dealt s)) seats accounts each zipped
       ∙ (sym (map-map g dealt seats) ∙ ap (λ ends. map g ends) are))
 
-  -- what each account has by its seat, all have
-  pub worked : (N : S → Type 0) (P : A → Type 0) (seats : List S) (accounts : List A) → ((s : S) (a : A) → R s (Ok a) → N s → P a)
-      → AllZip R seats (map Ok accounts) → All N seats → All P accounts
-  worked N P [] [] each zipped all = All-nil P
-  worked N P [] (a ∷ accounts) each zipped all = absurd zipped
-  worked N P (s ∷ seats) [] each zipped all = absurd zipped
-  worked N P (s ∷ seats) (a ∷ accounts) each zipped all =
-      All-cons P a accounts (each s a zipped.0 (All-head N s seats all))
-      (worked N P seats accounts each zipped.1 (All-tail N s seats all))
+  -- what each account has by its seat and by a part of it, all have
+  all_worked : {B : Type 0} (part : S → B) (N : S → Type 0) (P : B → A → Type 0) (seats : List S) (accounts : List A)
+      → ((s : S) (a : A) → R s (Ok a) → N s → P (part s) a)
+      → AllZip R seats (map Ok accounts) → All N seats → AllZip P (map part seats) accounts
+  all_worked part N P [] [] each zipped all = tt
+  all_worked part N P [] (a ∷ accounts) each zipped all = absurd zipped
+  all_worked part N P (s ∷ seats) [] each zipped all = absurd zipped
+  all_worked part N P (s ∷ seats) (a ∷ accounts) each zipped all =
+      (each s a zipped.0 (All-head N s seats all), all_worked part N P seats accounts each zipped.1 (All-tail N s seats all))
+
+  -- the same with these parts in a list
+  pub worked : {B : Type 0} (part : S → B) (N : S → Type 0) (P : B → A → Type 0) (seats : List S) (accounts : List A) (parts : List B)
+      → ((s : S) (a : A) → R s (Ok a) → N s → P (part s) a)
+      → AllZip R seats (map Ok accounts) → map part seats ≡ parts → All N seats → AllZip P parts accounts
+  worked part N P seats accounts parts each zipped are all =
+      subst (λ xs. AllZip P xs accounts) are (all_worked part N P seats accounts each zipped all)
 
   -- what holds of each seat's number and a part of its account holds at each node
   pub at_numbers : {X : Type 0} (number : S → ℕ) (part : A → X) (default : X) (T : ℕ → X → Type 0) (seats : List S) (accounts : List A)

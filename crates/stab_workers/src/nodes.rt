@@ -1,12 +1,16 @@
+ghost use Rattle.std.specs.List.{AllZip, range_with_len};
 ghost use Rattle.std.specs.Prelude.{◌≡◌, ◌≤◌, ◌<◌, ℕ, IfOk, IfErr, All, length, map, option_map};
 ghost use Rattle.stab_lock.specs.Accounts.{new_sender, new_receiver};
 ghost use Rattle.stab_node.specs.declared.fault.NodeFault.{NodeFault};
 ghost use Rattle.stab_node.specs.Turns.{IsOver, IsRefused};
 ghost use Rattle.stab_node.specs.Work.{IsWork};
+ghost use Rattle.stab_tree.specs.Nodes.{root_of};
 ghost use Rattle.stab_treecore.specs.ByChild.{by_child};
+ghost use Rattle.stab_treecore.specs.NodeOpenings.{FitTree};
 ghost use Rattle.stab_workers.specs.ByNode.{ended_at};
 ghost use Rattle.stab_workers.specs.Dealing.{by_parent};
 ghost use Rattle.stab_workers.specs.FirstFault.{IsFirstToGiveUp, IsFirstUnstarted};
+ghost use Rattle.stab_workers.specs.FirstItems.{first_at};
 
 use crate::accounts::take_accounts;
 use crate::deal::deal;
@@ -16,6 +20,7 @@ use stab_frames::Item;
 use stab_lock::{RecvSide, SendSide};
 use stab_node::{Gate, NodeAccount, NodeFault};
 use stab_tree::Tree;
+use stab_treecore::Openings;
 use std::alloc::Global;
 use std::collections::VecDeque;
 use std::sync::Wait;
@@ -30,6 +35,7 @@ pub(crate) fn run_nodes<'e, R: Threads + Wait + Sync, P: Sync, U, D, G>(
     sends: Vec<D>,
     recvs: Vec<U>,
     published: &'e [Item],
+    openings: &'e Openings,
     turns: u32,
     gate: &'e G,
 ) -> Result<Vec<NodeAccount<U::Done, D::Done>>, WorkersFault>
@@ -40,6 +46,7 @@ where
     U::Done: Send,
     D::Done: Send,
     requires turns { 1 ≤ turns }
+    requires fits { FitTree tree.now.parents openings.now }
     requires new_senders { All (λ d. D.sent d ≡ new_sender) sends.items }
     requires new_receivers { All (λ u. U.received u ≡ new_receiver) recvs.items }
     ensures up_links { IfOk result (λ accounts.
@@ -48,9 +55,10 @@ where
     ensures down_links { IfOk result (λ accounts.
         map (map D.done_link) (map (λ a. a.downs.items) accounts.items)
         ≡ map (map D.link) (by_parent tree.now.parents sends.items)) }
-    ensures work { IfOk result (λ accounts. All (λ a. IsWork published.now a.received.items
-        (option_map U.done_received a.up) (map D.done_sent a.downs.items) a.ended)
-        accounts.items) }
+    ensures work { IfOk result (λ accounts. AllZip (λ node a. IsWork
+        (first_at (root_of tree.now.parents) published.now openings.now.lists node)
+        a.received.items (option_map U.done_received a.up) (map D.done_sent a.downs.items) a.ended)
+        (range_with_len 0 (length tree.now.parents)) accounts.items) }
     ensures turns { IfOk result (λ accounts. (node : ℕ) → node < length tree.now.parents
         → IsOver (G.has_passed gate.now node) turns
         (ended_at (map (λ a. a.ended) accounts.items) node)) }
@@ -67,6 +75,7 @@ where
         → IsRefused (G.has_passed gate.now node) (G.may_refuse gate.now node) turns) }
 {
     let _count = tree.len();
+    let root = tree.root().place();
     let seats = deal(alloc, tree, sends, recvs)?;
     let room = Vec::with_capacity(alloc, seats.len())?;
     let room_for_answers = VecDeque::with_capacity(alloc, seats.len())?;
@@ -76,7 +85,9 @@ where
         pass,
         alloc,
         seats,
+        root,
         published,
+        openings,
         turns,
         gate,
         room_for_answers,

@@ -1,10 +1,12 @@
-ghost use Rattle.std.specs.Prelude.{◌≡◌, ◌≤◌, ◌<◌, ℕ, Some, true, IfOk, IfErr, All, length, map};
+ghost use Rattle.std.specs.Prelude.{◌≡◌, ◌≤◌, ◌<◌, ◌++◌, ℕ, Some, true, IfOk, IfErr, All};
+ghost use Rattle.std.specs.Prelude.{length, map};
 ghost use Rattle.stab_lock.specs.Accounts.{new_sender, new_receiver};
 ghost use Rattle.stab_node.specs.declared.fault.NodeFault.{NodeFault};
 ghost use Rattle.stab_node.specs.Turns.{IsOver, IsRefused};
 ghost use Rattle.stab_node.specs.Work.{HasAll, IsServed};
 ghost use Rattle.stab_tree.specs.Links.{links_of};
 ghost use Rattle.stab_tree.specs.Nodes.{parent_at, root_of};
+ghost use Rattle.stab_treecore.specs.NodeOpenings.{FitTree, opening_at};
 ghost use Rattle.stab_workers.specs.ByNode.{ended_at, entry_into, received_at};
 ghost use Rattle.stab_workers.specs.FirstFault.{IsFirstToGiveUp, IsFirstUnstarted};
 
@@ -15,6 +17,7 @@ use stab_frames::Item;
 use stab_lock::{RecvSide, SendSide};
 use stab_node::{Ended, Gate, NodeFault};
 use stab_tree::Tree;
+use stab_treecore::Openings;
 use std::alloc::Global;
 use std::sync::Wait;
 use std::thread::Threads;
@@ -22,7 +25,8 @@ use std::thread::Threads;
 /// Runs one worker per node of a tree, each on a thread of its own, over the ends of its links.
 ///
 /// There are two new ends per link, in file order of the children. What a node's worker does is the
-/// contract of `stab_node::work`. Every worker that was started has ended when this call returns.
+/// contract of `stab_node::work`. It begins with the published items at the root, and with the
+/// node's opening elsewhere. Every worker that was started has ended when this call returns.
 /// Where a worker cannot be started, those of the nodes after it are not started either.
 pub fn run_workers<'e, R: Threads + Wait + Sync, P: Sync, U, D, G>(
     rt: &'e R,
@@ -32,6 +36,7 @@ pub fn run_workers<'e, R: Threads + Wait + Sync, P: Sync, U, D, G>(
     sends: Vec<D>,
     recvs: Vec<U>,
     published: &'e [Item],
+    openings: &'e Openings,
     turns: u32,
     gate: &'e G,
 ) -> Result<Gathered<U::Done, D::Done>, WorkersFault>
@@ -42,6 +47,7 @@ where
     U::Done: Send,
     D::Done: Send,
     requires turns { 1 ≤ turns }
+    requires fits { FitTree tree.now.parents openings.now }
     requires senders { length sends.items ≡ length (links_of tree.now.parents) }
     requires receivers { length recvs.items ≡ length (links_of tree.now.parents) }
     requires new_senders { All (λ d. D.sent d ≡ new_sender) sends.items }
@@ -54,7 +60,8 @@ where
         received_at g.received.items (root_of tree.now.parents) ≡ published.now) }
     ensures delivered { IfOk result (λ g. (child : ℕ) (done : U.Done)
         → entry_into tree.now.parents g.recvs.items child ≡ Some done
-        → received_at g.received.items child ≡ (U.done_received done).delivered) }
+        → received_at g.received.items child
+        ≡ opening_at openings.now.lists child ++ (U.done_received done).delivered) }
     ensures served { IfOk result (λ g. (child parent : ℕ) (done : D.Done)
         → parent_at tree.now.parents child ≡ Some parent
         → entry_into tree.now.parents g.sends.items child ≡ Some done
@@ -83,7 +90,9 @@ where
         → IsRefused (G.has_passed gate.now node) (G.may_refuse gate.now node) turns) }
 {
     let _root = tree.root();
-    let accounts = run_nodes(rt, pass, alloc, tree, sends, recvs, published, turns, gate)?;
+    let accounts = run_nodes(
+        rt, pass, alloc, tree, sends, recvs, published, openings, turns, gate,
+    )?;
     let gathered = gather_accounts(alloc, tree, accounts)?;
     Ok(gathered)
 }

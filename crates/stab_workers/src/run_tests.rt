@@ -3,16 +3,18 @@
 
 ghost use Rattle.std.specs.Prelude.{◌≡◌, ⊤, [], ◌∷◌, IfOk, All};
 ghost use Rattle.stab_lock.specs.Accounts.{new_sender, new_receiver};
+ghost use Rattle.stab_treecore.specs.NodeOpenings.{FitTree};
 
 use crate::{Gathered, WorkersFault, run_workers};
 use serde_json::Value;
 use stab_core::Start;
-use stab_frames::{Item, Params};
+use stab_frames::{Item, Params, Sequence};
 use stab_lock::{FrameSeen, LockLink, RecvAccount, RecvSide, SendAccount, SendSide};
 use stab_node::plain::{PlainRecv, PlainSend};
 use stab_node::{Ended, Gate, NodeFault};
 use stab_script::Script;
 use stab_tree::{Tree, TreeFault, read_tree};
+use stab_treecore::{OpeningFault, Openings};
 use std::alloc::{AllocError, Global};
 use std::collections::VecDeque;
 use std::process::Abort;
@@ -103,7 +105,37 @@ fn plain_recvs(alloc: Global) -> Result<Vec<PlainRecv>, AllocError>
     Ok(recvs)
 }
 
-/// A run of a tree over ends without a link, one of each kind for each link.
+/// A run of a tree over ends without a link, one of each kind for each link, from these openings.
+fn run_plain_from<R: Threads + Wait + Sync + Abort>(
+    rt: &R,
+    alloc: Global,
+    tree: &Tree,
+    openings: &Openings,
+    sends: Vec<PlainSend>,
+    recvs: Vec<PlainRecv>,
+    gate: &RefusesFrom,
+) -> Result<Gathered<RecvAccount, SendAccount>, WorkersFault>
+    requires fits { FitTree tree.now.parents openings.now }
+    requires lowers { All (λ d. ⟦<PlainSend as SendSide>⟧.sent d ≡ new_sender) sends.items }
+    requires uppers { All (λ u. ⟦<PlainRecv as RecvSide>⟧.received u ≡ new_receiver) recvs.items }
+{
+    let links = tree.link_count() as usize;
+    assert!(rt; links == sends.len() && links == recvs.len());
+    run_workers(
+        rt,
+        &(),
+        alloc,
+        tree,
+        sends,
+        recvs,
+        &PUBLISHED,
+        openings,
+        TURNS,
+        gate,
+    )
+}
+
+/// The same from empty openings.
 fn run_plain<R: Threads + Wait + Sync + Abort>(
     rt: &R,
     alloc: Global,
@@ -115,9 +147,8 @@ fn run_plain<R: Threads + Wait + Sync + Abort>(
     requires lowers { All (λ d. ⟦<PlainSend as SendSide>⟧.sent d ≡ new_sender) sends.items }
     requires uppers { All (λ u. ⟦<PlainRecv as RecvSide>⟧.received u ≡ new_receiver) recvs.items }
 {
-    let links = tree.link_count() as usize;
-    assert!(rt; links == sends.len() && links == recvs.len());
-    run_workers(rt, &(), alloc, tree, sends, recvs, &PUBLISHED, TURNS, gate)
+    let openings = Openings::none(alloc, tree)?;
+    run_plain_from(rt, alloc, tree, &openings, sends, recvs, gate)
 }
 
 #[test]
@@ -146,6 +177,43 @@ fn each_node_hands_on_what_it_received(rt: HostRuntime) -> Result<(), Fail> {
     assert_eq!(rt; gathered.recvs.len(), delivered.len());
     for (recv, want) in gathered.recvs.iter().zip(delivered) {
         assert!(rt; recv.delivered.as_slice() == want && recv.closed);
+    }
+    Ok(())
+}
+
+/// The openings of the tree: a, which is first, begins with 50 and 51.
+fn openings_at_a(alloc: Global, tree: &Tree) -> Result<Result<Openings, OpeningFault>, AllocError>
+    ensures { IfOk result (λ made. IfOk made (FitTree tree.now.parents)) }
+{
+    let mut lists = Vec::with_capacity(alloc, 4)?;
+    lists.push(Sequence::from_vec(Vec::from_slice(alloc, &[50, 51])?))?;
+    for _ in 0..3 {
+        lists.push(Sequence::new(alloc))?;
+    }
+    Ok(Openings::new(tree, 2, lists))
+}
+
+#[test]
+fn a_node_hands_on_its_opening_first(rt: HostRuntime) -> Result<(), Fail> {
+    let alloc = rt.alloc();
+    let tree = tree(&rt, alloc, TREE)?;
+    let sends = plain_sends(alloc)?;
+    let recvs = plain_recvs(alloc)?;
+    let openings = openings_at_a(alloc, &tree)??;
+    let gathered = run_plain_from(&rt, alloc, &tree, &openings, sends, recvs, &RefusesFrom(4))?;
+    let received: [&[Item]; 4] = [&[50, 51, 10], PUBLISHED.as_slice(), &[20], &[30]];
+    assert_eq!(rt; gathered.received.len(), received.len());
+    for (items, want) in gathered.received.iter().zip(received) {
+        assert!(rt; items.as_slice() == want);
+    }
+    for ended in &gathered.ended {
+        assert!(rt; *ended == Ended::Upstream);
+    }
+    let offered: [&[Item]; 3] = [PUBLISHED.as_slice(), &[50, 51, 10], PUBLISHED.as_slice()];
+    assert_eq!(rt; gathered.sends.len(), offered.len());
+    for (send, want) in gathered.sends.iter().zip(offered) {
+        assert!(rt; send.offered.as_slice() == want && send.closed);
+        assert!(rt; send.acked == want.len() as u64);
     }
     Ok(())
 }
@@ -253,7 +321,10 @@ fn run_pair<R: Threads + Wait + Send + Sync + Abort>(
     let gate = Pace {
         turns: [AtomicU64::new(0), AtomicU64::new(0)],
     };
-    run_workers(rt, rt, alloc, tree, sends, recvs, &PUBLISHED, TURNS, &gate)
+    let openings = Openings::none(alloc, tree)?;
+    run_workers(
+        rt, rt, alloc, tree, sends, recvs, &PUBLISHED, &openings, TURNS, &gate,
+    )
 }
 
 #[test]

@@ -1,15 +1,19 @@
 ghost use Rattle.std.specs.List.{AllZip};
 ghost use Rattle.std.specs.Thread.{IsSend, IsSync};
-ghost use Rattle.std.specs.Prelude.{◌≡◌, ◌≤◌, ◌+◌, [], ◌∷◌, IfErr, IfOk, MatchResult, map, ℕ};
+ghost use Rattle.std.specs.Prelude.{◌≡◌, ◌≤◌, ◌<◌, ◌+◌, [], ◌∷◌, All, IfErr, IfOk, MatchResult};
+ghost use Rattle.std.specs.Prelude.{length, map, ℕ};
 ghost use Rattle.std.specs.VecDeque.{deque_capacity, deque_len};
 ghost use Rattle.stab_node.specs.Turns.{IsRefused};
 ghost use Rattle.stab_workers.specs.Answers.{HasWorked, node_ends};
 ghost use Rattle.stab_workers.specs.FirstFault.{StopsAt};
+ghost use Rattle.stab_workers.specs.FirstItems.{first_at};
 
+use crate::first::first_items;
 use crate::seat::Seat;
 use stab_frames::Item;
 use stab_lock::{RecvSide, SendSide};
 use stab_node::{Gate, NodeAccount, NodeFault, work};
+use stab_treecore::Openings;
 use std::alloc::Global;
 use std::collections::VecDeque;
 use std::snapshot::Snapshot;
@@ -27,7 +31,7 @@ pub(crate) type Answer<U, D> = Result<
 #[derive(Drop)]
 struct WorkPromise<'e, U: RecvSide, D: SendSide, G: Gate> {
     seat: Snapshot<Seat<U, D>>,
-    published: &'e [Item],
+    first: &'e [Item],
     turns: u32,
     gate: &'e G,
 }
@@ -41,7 +45,7 @@ impl<'e, U: RecvSide, D: SendSide, G: Gate> Promise<
     ghost use Rattle.stab_workers.specs.Answers.{HasWorked, node_ends};
 
     ghost kept_by = { λ p r. MatchResult r
-        (λ a. HasWorked (G.has_passed p.gate.now p.seat.value.node) p.turns p.published.now
+        (λ a. HasWorked (G.has_passed p.gate.now p.seat.value.node) p.turns p.first.now
         (node_ends U.received U.link D.sent D.link p.seat.value.up p.seat.value.downs.items)
         (node_ends U.done_received U.done_link D.done_sent D.done_link a.up a.downs.items)
         a.received.items a.ended)
@@ -57,7 +61,9 @@ pub(crate) fn run_seats<'e, R: Threads + Wait + Sync, P: Sync, U, D, G>(
     pass: &'e P,
     alloc: Global,
     mut seats: VecDeque<Seat<U, D>>,
+    root: u16,
     published: &'e [Item],
+    openings: &'e Openings,
     turns: u32,
     gate: &'e G,
     answers: VecDeque<Answer<U, D>>,
@@ -69,12 +75,15 @@ where
     U::Done: Send,
     D::Done: Send,
     requires turns { 1 ≤ turns }
+    requires known { All (λ node. node < length openings.now.lists)
+        (map (λ s. s.node) seats.items) }
     requires none { answers.items ≡ [] }
     requires room { deque_len seats ≤ deque_capacity answers }
     requires kinds { IsSync R.row × IsSync P.row × IsSend U.row × IsSend D.row × IsSync G.row
         × IsSend U.Done.row × IsSend D.Done.row }
     ensures answers { IfOk result (λ answers. AllZip (λ s r. MatchResult r
-        (λ a. HasWorked (G.has_passed gate.now s.node) turns published.now
+        (λ a. HasWorked (G.has_passed gate.now s.node) turns
+        (first_at root published.now openings.now.lists s.node)
         (node_ends U.received U.link D.sent D.link s.up s.downs.items)
         (node_ends U.done_received U.done_link D.done_sent D.done_link a.up a.downs.items)
         a.received.items a.ended)
@@ -94,12 +103,16 @@ where
         rt,
         move |scope| -> Result<VecDeque<Answer<U, D>>, u16>
             requires turns { 1 ≤ turns }
+            requires node { seat.node < length openings.now.lists }
+            requires known { All (λ node. node < length openings.now.lists)
+                (map (λ s. s.node) seats.items) }
             requires none { answers.items ≡ [] }
             requires room { deque_len seats + 1 ≤ deque_capacity answers }
             requires kinds { IsSync R.row × IsSync P.row × IsSend U.row × IsSend D.row
                 × IsSync G.row × IsSend U.Done.row × IsSend D.Done.row }
             ensures answers { IfOk result (λ answers. AllZip (λ s r. MatchResult r
-                (λ a. HasWorked (G.has_passed gate.entry.now s.node) turns published.entry.now
+                (λ a. HasWorked (G.has_passed gate.entry.now s.node) turns
+                (first_at root published.entry.now openings.entry.now.lists s.node)
                 (node_ends U.received U.link D.sent D.link s.up s.downs.items)
                 (node_ends U.done_received U.done_link D.done_sent D.done_link
                 a.up a.downs.items)
@@ -114,9 +127,10 @@ where
                 (seat.node ∷ map (λ s. s.node) seats.items)) }
         {
             let node = seat.node;
+            let first = first_items(root, published, openings, node);
             let promise = WorkPromise {
                 seat: Snapshot::of(&seat),
-                published,
+                first,
                 turns,
                 gate,
             };
@@ -126,7 +140,7 @@ where
                     requires turns { 1 ≤ turns }
                     ensures work { MatchResult result
                         (λ a. HasWorked (G.has_passed gate.entry.now seat.node) turns
-                        published.entry.now
+                        first.entry.now
                         (node_ends U.received U.link D.sent D.link seat.up seat.downs.items)
                         (node_ends U.done_received U.done_link D.done_sent D.done_link
                         a.up a.downs.items)
@@ -137,13 +151,15 @@ where
                     ensures done { G.is_done gate.entry.now seat.node }
                 {
                     let Seat { node, up, downs } = seat;
-                    work(pass, alloc, node, up, downs, published, turns, gate)
+                    work(pass, alloc, node, up, downs, first, turns, gate)
                 },
             ) {
                 Ok(worker) => worker,
                 Err(_) => return Err(node),
             };
-            let rest = run_seats(rt, pass, alloc, seats, published, turns, gate, answers);
+            let rest = run_seats(
+                rt, pass, alloc, seats, root, published, openings, turns, gate, answers,
+            );
             let answer = worker.join(rt);
             let mut answers = rest?;
             answers.push_front_reserved(answer);

@@ -1,9 +1,10 @@
-use Rattle.std.proofs.Common.{Some, sym, ◌≡◌, ◌<◌, ℕ, length, map, ap, ◌∙◌, refl, arith}
+use Rattle.std.proofs.Common.{Some, sym, ◌≡◌, ℕ, length, map, ap, ◌∙◌, refl, arith}
 use Rattle.stab_node.specs.declared.account.Ended.{Ended}
 use Rattle.stab_node.specs.declared.account.Ended.TheVariants.{Turns}
 use Rattle.stab_node.specs.declared.fault.NodeFault.{NodeFault}
 use Rattle.stab_node.specs.declared.fault.NodeFault.TheVariants.{Gate}
 use Rattle.stab_node.specs.Turns.{IsOver, IsRefused}
+use Rattle.stab_workers.proofs.Firsts.{all_known}
 use Rattle.stab_workers.proofs.Worked.{all_done, answered_before, as_many, at_error, as_many_numbered, at_numbers, never_unstarted, new_at_seats, of_accounts, of_seats, read_alike, refused_at, started_before, worked}
 use Rattle.stab_workers.specs.declared.fault.WorkersFault.TheVariants.{Node, Thread}
 use Rattle.stab_workers.specs.FirstFault.{IsFirstToGiveUp, IsFirstUnstarted, first_fault}
@@ -27,11 +28,19 @@ returns-clause-down_links g c =
     (of_accounts _ _ _ _ _ _ c.in-Ok.ensures.answers c.from-seats.ensures.0 c.from-answers.ensures.0 c.in_ok-accounts.ensures.accounts)
     c.in_ok-seats.ensures.downs
 
+-- there is an opening for each seat
+pub run_seats-requires-clause-known : goal.run_seats-requires-clause-known
+run_seats-requires-clause-known g c κs within =
+    all_known _ c.args.tree.now.parents c.args.openings.now
+    (ap (λ seats. map (λ s. s.node) seats) c.from-seats.ensures.0 ∙ c.in_ok-seats.ensures.nodes) c.requires.fits
+
 pub returns-clause-work : goal.returns-clause-work
 returns-clause-work g c =
-    worked _ _ _ _ _ (λ s a kept new. kept.0.work new)
+    rw (← (c.place-root.ensures ∙ c.root.ensures.value))
+    (worked _ _ _ _ _ _ _ (λ s a kept new. kept.0.work new)
     (of_accounts _ _ _ _ _ _ c.in-Ok.ensures.answers c.from-seats.ensures.0 c.from-answers.ensures.0 c.in_ok-accounts.ensures.accounts)
-    (new_at_seats g.U.RecvSide.received g.D.SendSide.sent _ _ _ _ _ _ c.in_ok-seats.ensures.ups c.in_ok-seats.ensures.downs c.requires.new_receivers c.requires.new_senders)
+    c.in_ok-seats.ensures.nodes
+    (new_at_seats g.U.RecvSide.received g.D.SendSide.sent _ _ _ _ _ _ c.in_ok-seats.ensures.ups c.in_ok-seats.ensures.downs c.requires.new_receivers c.requires.new_senders))
 
 pub returns-clause-turns : goal.returns-clause-turns
 returns-clause-turns g c = λ node within.

@@ -1,5 +1,9 @@
 use Rattle.stab_workers.proofs.ForCallers.{column_can_be_gathered, column_gathered_alike, rows_can_be_gathered, rows_gathered_alike}
-use Rattle.stab_workers.proofs.HandedOn.{delivered_at, handed_on_at, length_ended, length_received, root_at, served_at, upstream_at}
+use Rattle.stab_workers.proofs.HandedOn.{delivered_at, first_below, handed_on_at, length_ended, length_received, root_at, served_at, upstream_at}
+use Rattle.std.proofs.Common.{◌++◌, ap, refl, ◌∙◌}
+use Rattle.stab_tree.specs.Nodes.{parent_at, root_of}
+use Rattle.stab_workers.proofs.Firsts.{first_at_root}
+use Rattle.stab_workers.specs.FirstItems.{first_at}
 use Rattle.stab_workers.proofs.run.run_workers.Goals as goal
 
 -- the accounts have an upper end wherever one was dealt out
@@ -12,12 +16,12 @@ gather_accounts-requires-clause-downs g c = rows_can_be_gathered _ _ _ _ c.requi
 
 pub returns-clause-received : goal.returns-clause-received
 returns-clause-received g c =
-    length_received _ _ g.U.RecvSide.done_received g.D.SendSide.done_sent _ _ _ _ _ _ _ _ _
+    length_received (first_at (root_of c.args.tree.now.parents) c.args.published.now c.args.openings.now.lists) _ g.U.RecvSide.done_received g.D.SendSide.done_sent _ _ _ _ _ _ _ _ _
     c.in_ok-gathered.ensures.received c.in_ok-gathered.ensures.ended c.in_ok-gathered.ensures.recvs c.in_ok-gathered.ensures.sends c.in_ok-accounts.ensures.work
 
 pub returns-clause-ended : goal.returns-clause-ended
 returns-clause-ended g c =
-    length_ended _ _ g.U.RecvSide.done_received g.D.SendSide.done_sent _ _ _ _ _ _ _ _ _
+    length_ended (first_at (root_of c.args.tree.now.parents) c.args.published.now c.args.openings.now.lists) _ g.U.RecvSide.done_received g.D.SendSide.done_sent _ _ _ _ _ _ _ _ _
     c.in_ok-gathered.ensures.received c.in_ok-gathered.ensures.ended c.in_ok-gathered.ensures.recvs c.in_ok-gathered.ensures.sends c.in_ok-accounts.ensures.work
 
 -- what is gathered belongs, link by link, to the links that were dealt out
@@ -31,28 +35,33 @@ returns-clause-receiver_links g c =
 
 pub returns-clause-root : goal.returns-clause-root
 returns-clause-root g c =
-    root_at _ _ g.U.RecvSide.done_received g.D.SendSide.done_sent _ _ _ _ _ _ _ _ _
+    root_at (first_at (root_of c.args.tree.now.parents) c.args.published.now c.args.openings.now.lists) _ g.U.RecvSide.done_received g.D.SendSide.done_sent _ _ _ _ _ _ _ _ _
     c.in_ok-gathered.ensures.received c.in_ok-gathered.ensures.ended c.in_ok-gathered.ensures.recvs c.in_ok-gathered.ensures.sends c.in_ok-accounts.ensures.work
     c.root-root.ensures.tree.root_has_none c.root-root.ensures.tree.root_is_node
+    ∙ first_at_root (root_of c.args.tree.now.parents) c.args.published.now c.args.openings.now.lists
 
 pub returns-clause-delivered : goal.returns-clause-delivered
-returns-clause-delivered g c =
-    delivered_at _ _ g.U.RecvSide.done_received g.D.SendSide.done_sent _ _ _ _ _ _ _ _ _
+returns-clause-delivered g c = λ child done is.
+    delivered_at (first_at (root_of c.args.tree.now.parents) c.args.published.now c.args.openings.now.lists) _ g.U.RecvSide.done_received g.D.SendSide.done_sent _ _ _ _ _ _ _ _ _
     c.in_ok-gathered.ensures.received c.in_ok-gathered.ensures.ended c.in_ok-gathered.ensures.recvs c.in_ok-gathered.ensures.sends c.in_ok-accounts.ensures.work
+    child done is
+    ∙ ap (λ first. first ++ (g.U.RecvSide.done_received done).delivered)
+    (first_below (root_of c.args.tree.now.parents) c.args.published.now c.args.openings.now.lists c.args.tree.now.parents c.in_ok-gathered.gathered.recvs.items
+    child done (parent_at c.args.tree.now.parents child) c.root-root.ensures.tree.root_has_none refl is)
 
 pub returns-clause-served : goal.returns-clause-served
 returns-clause-served g c =
-    served_at _ _ g.U.RecvSide.done_received g.D.SendSide.done_sent _ _ _ _ _ _ _ _ _
+    served_at (first_at (root_of c.args.tree.now.parents) c.args.published.now c.args.openings.now.lists) _ g.U.RecvSide.done_received g.D.SendSide.done_sent _ _ _ _ _ _ _ _ _
     c.in_ok-gathered.ensures.received c.in_ok-gathered.ensures.ended c.in_ok-gathered.ensures.recvs c.in_ok-gathered.ensures.sends c.in_ok-accounts.ensures.work
     c.root-root.ensures.tree.known_parents
 
 pub returns-clause-upstream : goal.returns-clause-upstream
 returns-clause-upstream g c =
-    upstream_at _ _ g.U.RecvSide.done_received g.D.SendSide.done_sent _ _ _ _ _ _ _ _ _
+    upstream_at (first_at (root_of c.args.tree.now.parents) c.args.published.now c.args.openings.now.lists) _ g.U.RecvSide.done_received g.D.SendSide.done_sent _ _ _ _ _ _ _ _ _
     c.in_ok-gathered.ensures.received c.in_ok-gathered.ensures.ended c.in_ok-gathered.ensures.recvs c.in_ok-gathered.ensures.sends c.in_ok-accounts.ensures.work
 
 pub returns-clause-handed_on : goal.returns-clause-handed_on
 returns-clause-handed_on g c =
-    handed_on_at _ _ g.U.RecvSide.done_received g.D.SendSide.done_sent _ _ _ _ _ _ _ _ _
+    handed_on_at (first_at (root_of c.args.tree.now.parents) c.args.published.now c.args.openings.now.lists) _ g.U.RecvSide.done_received g.D.SendSide.done_sent _ _ _ _ _ _ _ _ _
     c.in_ok-gathered.ensures.received c.in_ok-gathered.ensures.ended c.in_ok-gathered.ensures.recvs c.in_ok-gathered.ensures.sends c.in_ok-accounts.ensures.work
     c.root-root.ensures.tree.known_parents

@@ -1,4 +1,5 @@
-use Rattle.std.proofs.Common.{rules}
+use Rattle.std.proofs.Common.{ap, length, map, rules}
+use Rattle.stab_workers.proofs.Firsts.{known_first}
 use Rattle.stab_workers.proofs.workers.+fn-run_seats-scope+run_seats.Goals as goal
 
 -- the promise remembers the seat that the worker took
@@ -10,7 +11,7 @@ pub scope-returns : goal.scope-returns
 scope-returns g t c = record {
   answers =
       rw c.push_front_reserved.ensures.items
-      (rw c.of.ensures at (rw c.in-Ok.ensures.ok at c.join-answer.ensures), c.in_ok-answers.ensures.answers);
+      (rw c.first_items-first.ensures at (rw c.of.ensures at (rw c.in-Ok.ensures.ok at c.join-answer.ensures)), c.in_ok-answers.ensures.answers);
   len = search rules;
   room = search rules;
   unstarted = tt;
@@ -21,7 +22,7 @@ pub fn::run_seats::scope+FnOnce::call_once-scope-requires :
     goal.fn::run_seats::scope+FnOnce::call_once-scope-requires
 fn::run_seats::scope+FnOnce::call_once-scope-requires g t c κs within =
     let asked = c.requires.1.1.1.1.1.1.1 in
-    let kinds = asked.1.1.1.0 in (
+    let kinds = asked.1.1.1.1.1.0 in (
       c.decreases,
       (
         within.0,
@@ -51,7 +52,7 @@ fn::run_seats::scope+FnOnce::call_once-scope-requires g t c κs within =
                                 kinds.1,
                                 (
                                   kinds.4,
-                                  (asked.0, (asked.1.0, (asked.1.1.0, kinds))),
+                                  (asked.0, (asked.1.0, (asked.1.1.0, (asked.1.1.1.0, (asked.1.1.1.1.0, kinds))))),
                                 ),
                               ),
                             ),
@@ -72,7 +73,8 @@ fn::run_seats::scope+FnOnce::call_once-scope-requires g t c κs within =
 pub scoped-requires : goal.scoped-requires
 scoped-requires g t c = record {
   at = λ a.
-      let kinds = c.requires.kinds in (
+      let kinds = c.requires.kinds in
+      let known = known_first (length c.args.openings.now.lists) _ _ _ (ap (λ seats. map (λ s. s.node) seats) c.in-Some.ensures.items) c.requires.known in (
         search rules,
         (
           (λ x m. m),
@@ -91,10 +93,16 @@ scoped-requires g t c = record {
                       (
                         c.requires.turns,
                         (
-                          c.requires.none,
+                          known.0,
                           (
-                            search rules,
-                            (kinds, (kinds.2, kinds.3, kinds.5, kinds.6, kinds.0, kinds.1, kinds.4)),
+                            known.1,
+                            (
+                              c.requires.none,
+                              (
+                                search rules,
+                                (kinds, (kinds.2, kinds.3, kinds.5, kinds.6, kinds.0, kinds.1, kinds.4)),
+                              ),
+                            ),
                           ),
                         ),
                       ),
