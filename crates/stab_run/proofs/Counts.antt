@@ -12,6 +12,7 @@ use Rattle.stab_core.specs.declared.start.Start.{Start}
 use Rattle.stab_core.specs.Replay.{clean_start}
 use Rattle.stab_tree.specs.Nodes.{Nodes}
 use Rattle.stab_treecore.specs.declared.event.TreeEvent.{TreeEvent}
+use Rattle.stab_treecore.specs.NodeOpenings.{FitTree, OpeningsValue}
 use Rattle.stab_run.specs.JobLinks.{are_miscounted, all_made, starts_of, scripts_of}
 use Rattle.stab_run.specs.JobMembers.{Members}
 use Rattle.stab_run.specs.JobValues.{IsJob, links, most_items, most_turns}
@@ -51,14 +52,15 @@ pub script_each : (m : Members) (t : Nodes) (n : ℕ) (scripts : List Acts)
 script_each m t n scripts counted each made = length_scripts n m.scripts scripts counted.one_script_each made ∙ each
 
 -- members whose numbers of entries and turns are right are those of a job
-pub parts_of_job : (m : Members) (t : Nodes) (params : List Parameters) (n : ℕ) (starts : List Start) (scripts : List Acts) (events : List TreeEvent)
-    → length params ≡ links t → All AreLawful params → AreCounted (links t) m → length scripts ≡ links t → n ≡ links t → starts ≡ starts_of n m.starts → are_out_of_range m.turns ≡ false
-    → IsJob (record { params = params; tree = t; items = m.items; starts = starts; scripts = scripts; turns = m.turns; schedule = events })
-parts_of_job m t params n starts scripts events params_each lawful counted script_each each are_starts in_range = record {
+pub parts_of_job : (m : Members) (t : Nodes) (params : List Parameters) (n : ℕ) (starts : List Start) (scripts : List Acts) (events : List TreeEvent) (openings : OpeningsValue)
+    → length params ≡ links t → All AreLawful params → AreCounted (links t) m → length scripts ≡ links t → n ≡ links t → starts ≡ starts_of n m.starts → are_out_of_range m.turns ≡ false → FitTree t.parents openings
+    → IsJob (record { params = params; tree = t; items = m.items; starts = starts; scripts = scripts; turns = m.turns; schedule = events; openings = openings })
+parts_of_job m t params n starts scripts events openings params_each lawful counted script_each each are_starts in_range fit = record {
   one_params_each = params_each;
   lawful_params = lawful;
   one_start_each = ap length are_starts ∙ length_starts n m.starts (rw each counted.one_start_each) ∙ each;
   one_script_each = script_each;
+  openings_fit = fit;
   few_items = ltb-false most_items (length m.items) counted.few_items;
   some_turns = ltb-false m.turns 1 (or_parts (nat_lt m.turns 1) (nat_lt most_turns m.turns) in_range).0;
   few_turns = ltb-false most_turns m.turns (or_parts (nat_lt m.turns 1) (nat_lt most_turns m.turns) in_range).1;

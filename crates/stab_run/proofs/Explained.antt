@@ -12,6 +12,7 @@ use Rattle.stab_tree.specs.Links.{links_from, links_of}
 use Rattle.stab_tree.specs.Nodes.{parent_at, root_of}
 use Rattle.stab_treecore.specs.ByChild.{by_child}
 use Rattle.stab_treecore.specs.EdgeLaw.{EdgeLaw, EdgeInto}
+use Rattle.stab_treecore.specs.NodeOpenings.{OpeningsValue}
 use Rattle.stab_workers.proofs.ForCallers.{holds_by_child, length-by_child}
 use Rattle.stab_workers.specs.ByNode.{received_at}
 use Rattle.stab_run.specs.LinkRuns.{AreSettled, IsRun, IsSettled, acked_of, all_given, given}
@@ -21,11 +22,11 @@ use Rattle.stab_run.proofs.Paired.{paired_by_child}
 use Rattle.stab_run.proofs.Settlements.{no_link_into}
 
 -- the edge law of each link of a report, as the laws of the layer below take it
-pub edge_into : (params : List Parameters) → All AreLawful params → (parents : List (Option ℕ)) (starts : List Start) (report : Reported)
-    → AreExplained params parents starts report
+pub edge_into : (params : List Parameters) (openings : OpeningsValue) → All AreLawful params → (parents : List (Option ℕ)) (starts : List Start) (report : Reported)
+    → AreExplained params openings parents starts report
     → (child parent : ℕ) → parent_at parents child ≡ Some parent
-    → EdgeInto params parents starts child (received_at report.received parent) (received_at report.received child)
-edge_into params lawful parents starts report explained child parent is_child =
+    → EdgeInto params openings parents starts child (received_at report.received parent) (received_at report.received child)
+edge_into params openings lawful parents starts report explained child parent is_child =
     let link = explained child parent is_child in
     record {
       its_params = link.its_params;
@@ -35,6 +36,8 @@ edge_into params lawful parents starts report explained child parent is_child =
       lawful_params = holds_by_child AreLawful parents params child link.its_params lawful link.has_params;
       lawful_start = link.lawful;
       acked = link.acked;
+      delivered = link.delivered;
+      has = link.has;
       edge = link.edge;
     }
 
@@ -110,8 +113,8 @@ abbrev pub report_of : List (Option ℕ) → List (List ℕ) → List Ended → 
 report_of parents received ended sends =
     record { received = received; acked = by_child parents (map acked_of sends); ended = ended }
 
-module _ (parents : List (Option ℕ)) (published : List ℕ) (received : List (List ℕ)) (ended : List Ended)
-    (sends : List Sender) (recvs : List Receiver) (run : IsRun parents published received ended sends recvs) where
+module _ (openings : OpeningsValue) (parents : List (Option ℕ)) (published : List ℕ) (received : List (List ℕ)) (ended : List Ended)
+    (sends : List Sender) (recvs : List Receiver) (run : IsRun openings parents published received ended sends recvs) where
   -- there is one entry per node
   pub one_per_node : OnePerNode parents (report_of parents received ended sends)
   one_per_node = record {
@@ -130,17 +133,17 @@ module _ (parents : List (Option ℕ)) (published : List ℕ) (received : List (
   module _ (params : List Parameters) (starts : List Start) (counted : length params ≡ length (links_of parents))
       (begun : length starts ≡ length (links_of parents)) (all : AreSettled (all_given params starts) sends recvs) where
     -- each link is explained
-    pub are_explained : AllZip IsLawful params starts → AreExplained params parents starts (report_of parents received ended sends)
+    pub are_explained : AllZip IsLawful params starts → AreExplained params openings parents starts (report_of parents received ended sends)
     are_explained lawful child parent is_child =
         let link = settled_into 0 parents params starts sends recvs counted begun all child parent is_child in
         let s = replay link.its_params (opening link.start) link.settled.events in
         let agree = link.settled.agree in
         let served = run.served child parent link.send is_child link.sent in
-        let edge : EdgeLaw link.its_params link.start (received_at received parent) link.send.acked (received_at received child) =
+        let edge : EdgeLaw link.its_params link.start (received_at received parent) link.send.acked link.recv.delivered =
         record {
           events = link.settled.events;
           closed = sym agree.closed.by_sender ∙ served.closed;
-          delivers = sym agree.delivered ∙ sym (run.delivered child link.recv link.delivered);
+          delivers = sym agree.delivered;
           counts = sym agree.acked;
           offers = subst (λ xs. IsPrefix xs (received_at received parent)) agree.offered served.offered;
         } in
@@ -152,6 +155,8 @@ module _ (parents : List (Option ℕ)) (published : List ℕ) (received : List (
           lawful = paired_by_child IsLawful parents params starts child link.its_params link.start lawful link.has_params link.begins;
           acked = link.send.acked;
           counted = link.counted;
+          delivered = link.recv.delivered;
+          has = run.delivered child link.recv link.delivered;
           edge = edge;
         }
 

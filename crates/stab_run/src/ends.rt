@@ -84,7 +84,7 @@ where
     requires receivers { length recvs.items ≡ length (links_of job.now.tree.parents) }
     requires new_senders { All (λ d. D.sent d ≡ new_sender) sends.items }
     requires new_receivers { All (λ u. U.received u ≡ new_receiver) recvs.items }
-    ensures run { IfOk result (λ g. IsRun job.now.tree.parents job.now.items
+    ensures run { IfOk result (λ g. IsRun job.now.openings job.now.tree.parents job.now.items
         g.received.items g.ended.items (map D.done_sent g.sends.items)
         (map U.done_received g.recvs.items)) }
     ensures sender_links { IfOk result (λ g.
@@ -114,6 +114,7 @@ where
         sends,
         recvs,
         job.items(),
+        job.openings(),
         job.turns(),
         gate,
     )?;

@@ -3,6 +3,7 @@ ghost use Rattle.std.specs.Prelude.{◌≡◌};
 use stab_frames::ParamsFault;
 use stab_script::ScriptFault;
 use stab_tree::{NodeId, TreeFault};
+use stab_treecore::OpeningFault;
 use std::alloc::AllocError;
 use thiserror::Error;
 
@@ -13,7 +14,7 @@ pub enum JobFault {
     /// The bytes are no JSON.
     #[error("job: not JSON")]
     Json,
-    /// The version is not the whole number 1.
+    /// The version is neither the whole number 1 nor the whole number 2.
     #[error("job: unknown version")]
     Version,
     /// Something has another shape; the content of the tree and the entries of the schedule are
@@ -57,6 +58,9 @@ pub enum JobFault {
     /// first is named, by its child.
     #[error("{1}")]
     LinkParams(NodeId, ParamsFault),
+    /// The openings are none of this tree.
+    #[error("{0}")]
+    Opening(OpeningFault),
     /// Memory was refused.
     #[error("out of memory")]
     Memory,
@@ -109,5 +113,16 @@ impl From<ScriptFault> for JobFault {
             ScriptFault::Memory => JobFault::Memory,
             _ => JobFault::Script(refusal),
         }
+    }
+}
+
+impl From<OpeningFault> for JobFault {
+    ghost use Rattle.std.specs.Prelude.{◌≡◌};
+    ghost use Rattle.stab_run.specs.declared.fault.JobFault.TheVariants.{Opening};
+
+    ghost from_gives = { λ refusal fault. fault ≡ Opening refusal };
+
+    fn from(refusal: OpeningFault) -> JobFault {
+        JobFault::Opening(refusal)
     }
 }

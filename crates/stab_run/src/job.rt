@@ -4,12 +4,12 @@ use stab_core::Start;
 use stab_frames::{Item, Params, Sequence};
 use stab_script::Script;
 use stab_tree::Tree;
-use stab_treecore::TreeEvent;
+use stab_treecore::{Openings, TreeEvent};
 use std::marker::Model;
 
 /// What a run goes by: the tree, parameters, a start and a script for each of its links in the file
-/// order of their children, the items that the root publishes, the number of turns, and a schedule.
-/// No method takes memory.
+/// order of their children, the openings of its nodes, the items that the root publishes, the
+/// number of turns, and a schedule. No method takes memory.
 #[derive(Debug, Drop)]
 pub struct Job {
     params: Sequence<Params>,
@@ -19,6 +19,7 @@ pub struct Job {
     scripts: Sequence<Script>,
     turns: u32,
     schedule: Sequence<TreeEvent>,
+    openings: Openings,
 }
 
 impl Model for Job {
@@ -34,6 +35,7 @@ impl Model for Job {
       scripts = j.scripts;
       turns = j.turns;
       schedule = j.schedule;
+      openings = j.openings;
     } };
 
     ghost invariant = { λ j. IsJob (record {
@@ -44,6 +46,7 @@ impl Model for Job {
       scripts = j.scripts;
       turns = j.turns;
       schedule = j.schedule;
+      openings = j.openings;
     }) };
 }
 
@@ -59,6 +62,7 @@ impl Job {
         scripts: Sequence<Script>,
         turns: u32,
         schedule: Sequence<TreeEvent>,
+        openings: Openings,
     ) -> Job
         requires { let its_parts : JobValue = record {
           params = params;
@@ -68,6 +72,7 @@ impl Job {
           scripts = scripts;
           turns = turns;
           schedule = schedule;
+          openings = openings;
         } in IsJob its_parts }
         ensures { result ≡ record {
           params = params;
@@ -77,6 +82,7 @@ impl Job {
           scripts = scripts;
           turns = turns;
           schedule = schedule;
+          openings = openings;
         } }
     {
         Job {
@@ -87,6 +93,7 @@ impl Job {
             scripts,
             turns,
             schedule,
+            openings,
         }
     }
 
@@ -146,5 +153,13 @@ impl Job {
         ensures job { IsJob self.now }
     {
         self.schedule.as_slice()
+    }
+
+    /// What the nodes begin with that nobody published, which fits the tree.
+    pub fn openings(&self) -> &Openings
+        ensures openings { result.now ≡ self.now.openings }
+        ensures job { IsJob self.now }
+    {
+        &self.openings
     }
 }

@@ -10,24 +10,26 @@ ghost use Rattle.stab_run.specs.Runs.{TreeLawByDepth};
 ghost use Rattle.stab_tree.specs.IsTree.{IsTree};
 ghost use Rattle.stab_tree.specs.Nodes.{Nodes};
 ghost use Rattle.stab_treecore.specs.NodeLaws.{HalfTreeLawAtNodes, TreeLawAtNodes};
+ghost use Rattle.stab_treecore.specs.NodeOpenings.{FitTree, OpeningsValue};
 ghost use Rattle.stab_treecore.specs.Refusals.{OnePerLink};
 ghost use Rattle.stab_workers.specs.ByNode.{received_at};
 
 /// Where every link of a report is explained, each node obeys the tree law, and so the half tree
 /// law.
 pub fn explained_reports_obey_the_tree_law()
-    ensures tree_law { (nodes : Nodes) (params : List Parameters) (starts : List Start)
-        (published : List ℕ) (report : Reported)
-        → IsTree nodes → All AreLawful params
+    ensures tree_law { (nodes : Nodes) (params : List Parameters) (openings : OpeningsValue)
+        (starts : List Start) (published : List ℕ) (report : Reported)
+        → IsTree nodes → FitTree nodes.parents openings → All AreLawful params
         → RootHas nodes.parents published report
-        → AreExplained params nodes.parents starts report
-        → TreeLawAtNodes params nodes.parents starts published (received_at report.received) }
-    ensures half_tree_law { (nodes : Nodes) (params : List Parameters) (starts : List Start)
-        (published : List ℕ) (report : Reported)
-        → IsTree nodes → All AreLawful params
+        → AreExplained params openings nodes.parents starts report
+        → TreeLawAtNodes params openings nodes.parents starts published
+        (received_at report.received) }
+    ensures half_tree_law { (nodes : Nodes) (params : List Parameters) (openings : OpeningsValue)
+        (starts : List Start) (published : List ℕ) (report : Reported)
+        → IsTree nodes → FitTree nodes.parents openings → All AreLawful params
         → RootHas nodes.parents published report
-        → AreExplained params nodes.parents starts report
-        → HalfTreeLawAtNodes params nodes.parents starts published
+        → AreExplained params openings nodes.parents starts report
+        → HalfTreeLawAtNodes params openings nodes.parents starts published
         (received_at report.received) }
 {
     stab_treecore::laws::tree_law_of_edges();
@@ -38,28 +40,30 @@ pub fn explained_reports_obey_the_tree_law()
 /// into each child, no published item is missing below nodes that all ended so, except among the
 /// first M, where M is the sum of 2c + 1 over the links on a node's path to the root.
 pub fn nothing_is_missing_below_ended_nodes()
-    ensures { (nodes : Nodes) (params : List Parameters) (starts : List Start) (published : List ℕ)
-        (report : Reported)
-        → IsTree nodes → All AreLawful params
+    ensures { (nodes : Nodes) (params : List Parameters) (openings : OpeningsValue)
+        (starts : List Start) (published : List ℕ) (report : Reported)
+        → IsTree nodes → FitTree nodes.parents openings → All AreLawful params
         → RootHas nodes.parents published report
-        → AreExplained params nodes.parents starts report
+        → AreExplained params openings nodes.parents starts report
         → HandsOn nodes.parents report
-        → CompleteBelowEnded params nodes.parents starts published report }
+        → CompleteBelowEnded params openings nodes.parents starts published report }
 {
     stab_core::laws::every_replay_obeys_the_link_law();
     stab_treecore::laws::root_obeys_the_complete_law();
     stab_treecore::laws::complete_law_of_the_child();
+    stab_treecore::laws::tree_law_past_an_opening();
+    stab_treecore::laws::laws_of_larger_bounds();
 }
 
-/// Where each link has room for one entry, a node at depth d received at most d strays, and no item
-/// is missing before its last one except among the first 3d.
+/// Where each link has room for one entry, a node at depth d received at most d strays beside those
+/// of openings, and no item is missing before its last one except among the first 3d.
 pub fn tree_law_of_one_place()
-    ensures { (nodes : Nodes) (params : List Parameters) (starts : List Start) (published : List ℕ)
-        (received : ℕ → List ℕ)
+    ensures { (nodes : Nodes) (params : List Parameters) (openings : OpeningsValue)
+        (starts : List Start) (published : List ℕ) (received : ℕ → List ℕ)
         → IsTree nodes
         → OnePerLink nodes.parents params → All (λ p. p.capacity ≡ 1) params
-        → TreeLawAtNodes params nodes.parents starts published received
-        → TreeLawByDepth nodes.parents starts published received }
+        → TreeLawAtNodes params openings nodes.parents starts published received
+        → TreeLawByDepth openings nodes.parents starts published received }
 {
     stab_treecore::laws::bounds_of_one_capacity();
 }

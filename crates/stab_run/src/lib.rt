@@ -1,12 +1,13 @@
 //! The job of a whole tree with its reader, and the run of a job by one worker per node.
 //!
 //! Contracts see a [`Job`] as its parts, and its type keeps lawful parameters, one start and one
-//! script for each link of its tree. The reader's contract goes from bytes to that value by small
-//! definitions in `specs/`. The layer above uses two facts: the answer of [`read_job`] is the job
-//! that the bytes mean, or the first check that they fail, unless memory is refused; and the tree
-//! law holds at every node of the report that [`run_locked`] answers, over links behind locks,
-//! [`run_words`], over links of two words, and [`run_mixed`], over links of both kinds;
-//! [`report_text`] prints it.
+//! script for each link of its tree, and openings of its nodes that fit the tree: in a run a node
+//! has its opening, and then what the link into it delivered. The reader's contract goes from bytes
+//! to that value by small definitions in `specs/`. The layer above uses two facts: the answer of
+//! [`read_job`] is the job that the bytes mean, or the first check that they fail, unless memory is
+//! refused; and the tree law holds at every node of the report that [`run_locked`] answers, over
+//! links behind locks, [`run_words`], over links of two words, and [`run_mixed`], over links of
+//! both kinds; [`report_text`] prints it.
 #![tactic(auto)]
 
 mod any_link;
@@ -20,6 +21,7 @@ mod links;
 mod locked;
 mod members;
 mod mixed;
+mod opened;
 mod read;
 mod report;
 mod run;
@@ -27,6 +29,7 @@ mod run_fault;
 mod schedule;
 mod settle;
 mod starts;
+mod version;
 mod words;
 
 pub use fault::JobFault;

@@ -6,6 +6,8 @@ ghost use Rattle.stab_run.specs.JobMembers.{members, if_there, turns_of, entries
 ghost use Rattle.stab_run.specs.LentMembers.{members_lent};
 
 use crate::link_entry::LinkEntry;
+use crate::opened::{hold_of, lists_given};
+use crate::version::Version;
 use serde_json::Value;
 use stab_core::Start;
 use stab_frames::{Item, Sequence};
@@ -29,6 +31,8 @@ pub(crate) struct LentMembers<'v> {
     pub(crate) starts: Option<Sequence<Start>>,
     pub(crate) scripts: Option<Sequence<ScriptEntry>>,
     pub(crate) links: Option<Sequence<LinkEntry>>,
+    pub(crate) hold: u16,
+    pub(crate) openings: Option<Sequence<Sequence<Item>>>,
 }
 
 /// The turns that a job names, or the default where it names none.
@@ -53,7 +57,7 @@ fn schedule_of<'v>(value: &'v Value) -> Option<&'v [Value]>
 }
 
 /// The list that a member of an object is, if there is such a member.
-fn list_member<'v, E: Entry<'v>>(
+pub(crate) fn list_member<'v, E: Entry<'v>>(
     alloc: Global,
     value: &'v Value,
     name: &str,
@@ -82,12 +86,15 @@ fn items_of(alloc: Global, value: &Value) -> Result<Option<Sequence<Item>>, Allo
     Ok(list_member::<Item>(alloc, value, "items")?.flatten())
 }
 
-/// The members of a job, or `None` where one of them has another shape; only memory can be refused.
+/// The members of a job of this version, or `None` where one of them has another shape; only memory
+/// can be refused.
 pub(crate) fn read_members<'v>(
     alloc: Global,
+    version: Version,
     value: &'v Value,
 ) -> Result<Option<LentMembers<'v>>, AllocError>
-    ensures { IfOk result (λ lent. option_map members_lent lent ≡ members (view value.now)) }
+    ensures { IfOk result (λ lent.
+        option_map members_lent lent ≡ members version (view value.now)) }
 {
     let (Some(capacity), Some(labels)) = (
         u16_member(value, "capacity"),
@@ -113,6 +120,12 @@ pub(crate) fn read_members<'v>(
     let Some(links) = list_member::<LinkEntry>(alloc, value, "links")? else {
         return Ok(None);
     };
+    let Some(hold) = hold_of(version, value) else {
+        return Ok(None);
+    };
+    let Some(openings) = lists_given(alloc, version, value)? else {
+        return Ok(None);
+    };
     Ok(Some(LentMembers {
         capacity,
         labels,
@@ -123,5 +136,7 @@ pub(crate) fn read_members<'v>(
         starts,
         scripts,
         links,
+        hold,
+        openings,
     }))
 }

@@ -39,12 +39,13 @@ use std::thread::Threads;
 /// events explain what its ends have done, so there nothing is compared in the end, and no call of
 /// an end waits.
 ///
-/// Whatever is in the links at the start, whatever is lost or repeated and however the workers'
-/// steps interleave: a node received at most as many strays as the capacities of the links on its
-/// path add up to, then published items in their order, each at most once, none missing before its
-/// last one except among the first, of which there are 2c + 1 for each link of capacity c on its
-/// path. Where the worker of each node above it ended with its upstream, none is missing at all
-/// except among these.
+/// Whatever the links and the inner nodes hold at the start, whatever is lost or repeated and
+/// however the workers' steps interleave: with C the sum of the capacities c of the links on a
+/// node's path to the root, M the sum of their 2c + 1, and E so many items as an opening may have
+/// for each inner node on the path, itself among them, the node received at most C + E strays, then
+/// published items in their order, each at most once, none missing before its last one except among
+/// the first M. Where the worker of each node above it ended with its upstream, none is missing at
+/// all except among these.
 pub fn run_mixed<R: Threads + Wait + Send + Sync, G: Gate + Sync>(
     rt: &R,
     alloc: Global,
@@ -56,18 +57,19 @@ pub fn run_mixed<R: Threads + Wait + Send + Sync, G: Gate + Sync>(
     ensures root { IfOk result (λ report.
         RootHas job.now.tree.parents job.now.items report) }
     ensures edges { IfOk result (λ report.
-        AreExplained job.now.params job.now.tree.parents job.now.starts report) }
+        AreExplained job.now.params job.now.openings job.now.tree.parents job.now.starts
+        report) }
     ensures handed_on { IfOk result (λ report. HandsOn job.now.tree.parents report) }
 
     // The laws of every node.
     ensures half_tree_law { IfOk result (λ report.
-        HalfTreeLawAtNodes job.now.params job.now.tree.parents job.now.starts
+        HalfTreeLawAtNodes job.now.params job.now.openings job.now.tree.parents job.now.starts
         job.now.items (received_at report.received)) }
     ensures tree_law { IfOk result (λ report.
-        TreeLawAtNodes job.now.params job.now.tree.parents job.now.starts
+        TreeLawAtNodes job.now.params job.now.openings job.now.tree.parents job.now.starts
         job.now.items (received_at report.received)) }
     ensures complete { IfOk result (λ report.
-        CompleteBelowEnded job.now.params job.now.tree.parents job.now.starts
+        CompleteBelowEnded job.now.params job.now.openings job.now.tree.parents job.now.starts
         job.now.items report) }
 
     // What each worker asked of the gate.
@@ -91,7 +93,8 @@ pub fn run_mixed<R: Threads + Wait + Send + Sync, G: Gate + Sync>(
         (G.is_done gate.now) job.now.turns node) }
     ensures unsettled { IfErr result (λ fault. (child : ℕ) (why : SettleFault)
         → fault ≡ RunFault.Settle child why
-        → IsFirstUnsettled job.now.params job.now.tree.parents job.now.starts job.now.items child) }
+        → IsFirstUnsettled job.now.params job.now.openings job.now.tree.parents job.now.starts
+        job.now.items child) }
     ensures only_large { IfErr result (λ fault. (child : ℕ) (why : SettleFault)
         → fault ≡ RunFault.Settle child why
         → HoldsInto IsLarge job.now.tree.parents (all_given job.now.params job.now.starts) child) }

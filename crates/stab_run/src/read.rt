@@ -4,7 +4,7 @@ ghost use Rattle.serde_json.specs.View.{view};
 ghost use Rattle.stab_json.specs.Values.{value_of};
 ghost use Rattle.stab_run.specs.JobLinks.{are_miscounted};
 ghost use Rattle.stab_run.specs.JobValues.{links};
-ghost use Rattle.stab_run.specs.Jobs.{AreCounted, are_out_of_range, is_known_version};
+ghost use Rattle.stab_run.specs.Jobs.{AreCounted, are_out_of_range};
 ghost use Rattle.stab_run.specs.Jobs.{job, job_on_tree, job_of_scripts};
 ghost use Rattle.stab_run.specs.LinkParams.{link_params};
 ghost use Rattle.stab_run.specs.LentMembers.{members_lent};
@@ -16,7 +16,9 @@ use crate::job::Job;
 use crate::link_entry::LinkEntry;
 use crate::links::{make_scripts, params_of, starts_of};
 use crate::members::{LentMembers, read_members};
+use crate::opened::openings_of;
 use crate::schedule::read_schedule;
+use crate::version::version_of;
 use serde_json::Value;
 use stab_frames::{Params, Sequence};
 use stab_json::read_value;
@@ -50,25 +52,15 @@ pub fn read_job(alloc: Global, bytes: &[u8]) -> Result<Job, JobFault>
     let Some(value) = read_value(alloc, bytes)? else {
         return Err(JobFault::Json);
     };
-    if !has_known_version(&value) {
+    let Some(version) = version_of(&value) else {
         return Err(JobFault::Version);
-    }
-    let Some(members) = read_members(alloc, &value)? else {
+    };
+    let Some(members) = read_members(alloc, version, &value)? else {
         return Err(JobFault::Shape);
     };
     let params = Params::new(members.capacity, members.labels)?;
     let tree = read_tree(alloc, members.tree)?;
     job_on_tree(alloc, params, tree, members)
-}
-
-/// Whether a value names no version, or the one that is known.
-fn has_known_version(value: &Value) -> bool
-    ensures { result ≡ is_known_version (get (codes "version") (view value.now)) }
-{
-    match value.get("version") {
-        Some(version) => version.as_u64() == Some(1),
-        None => true,
-    }
 }
 
 /// The job of these members on their tree, or the first check that they fail.
@@ -116,6 +108,7 @@ fn job_of_scripts(
     let turns = turns_in_range(members.turns)?;
     let schedule = read_schedule(alloc, &tree, members.schedule)?;
     let params = link_params(alloc, &tree, params, &members.links)?;
+    let openings = openings_of(alloc, &tree, members.hold, members.openings)?;
     let starts = starts_of(alloc, tree.link_count(), members.starts)?;
     Ok(Job::from_parts(
         params,
@@ -125,6 +118,7 @@ fn job_of_scripts(
         scripts,
         turns,
         schedule,
+        openings,
     ))
 }
 

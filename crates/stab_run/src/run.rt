@@ -30,8 +30,8 @@ pub(crate) fn report_of<L: RunLink>(
 ) -> Result<Report, RunFault>
     requires given { map L.given links.items ≡ all_given job.now.params job.now.starts }
     requires lawful { AllZip IsLawful job.now.params job.now.starts }
-    requires run { IsRun job.now.tree.parents job.now.items gathered.received.items
-        gathered.ended.items (map L.sent gathered.sends.items)
+    requires run { IsRun job.now.openings job.now.tree.parents job.now.items
+        gathered.received.items gathered.ended.items (map L.sent gathered.sends.items)
         (map L.received gathered.recvs.items) }
     requires sends { AllZip L.has_sent links.items gathered.sends.items }
     requires recvs { AllZip L.has_received links.items gathered.recvs.items }
@@ -40,20 +40,22 @@ pub(crate) fn report_of<L: RunLink>(
     ensures root { IfOk result (λ report.
         RootHas job.now.tree.parents job.now.items report) }
     ensures edges { IfOk result (λ report.
-        AreExplained job.now.params job.now.tree.parents job.now.starts report) }
+        AreExplained job.now.params job.now.openings job.now.tree.parents job.now.starts
+        report) }
     ensures handed_on { IfOk result (λ report. HandsOn job.now.tree.parents report) }
     ensures half_tree_law { IfOk result (λ report.
-        HalfTreeLawAtNodes job.now.params job.now.tree.parents job.now.starts
+        HalfTreeLawAtNodes job.now.params job.now.openings job.now.tree.parents job.now.starts
         job.now.items (received_at report.received)) }
     ensures tree_law { IfOk result (λ report.
-        TreeLawAtNodes job.now.params job.now.tree.parents job.now.starts
+        TreeLawAtNodes job.now.params job.now.openings job.now.tree.parents job.now.starts
         job.now.items (received_at report.received)) }
     ensures complete { IfOk result (λ report.
-        CompleteBelowEnded job.now.params job.now.tree.parents job.now.starts
+        CompleteBelowEnded job.now.params job.now.openings job.now.tree.parents job.now.starts
         job.now.items report) }
     ensures unsettled { IfErr result (λ fault. (child : ℕ) (why : SettleFault)
         → fault ≡ RunFault.Settle child why
-        → IsFirstUnsettled job.now.params job.now.tree.parents job.now.starts job.now.items child) }
+        → IsFirstUnsettled job.now.params job.now.openings job.now.tree.parents job.now.starts
+        job.now.items child) }
     ensures refused { IfErr result (λ fault. (child : ℕ) (why : SettleFault)
         → fault ≡ RunFault.Settle child why
         → HoldsInto L.may_differ job.now.tree.parents
@@ -77,8 +79,8 @@ fn settled_report<L: RunLink>(
 ) -> Result<Report, RunFault>
     requires given { map L.given links.items ≡ all_given job.now.params job.now.starts }
     requires lawful { AllZip IsLawful job.now.params job.now.starts }
-    requires run { IsRun job.now.tree.parents job.now.items gathered.received.items
-        gathered.ended.items (map L.sent gathered.sends.items)
+    requires run { IsRun job.now.openings job.now.tree.parents job.now.items
+        gathered.received.items gathered.ended.items (map L.sent gathered.sends.items)
         (map L.received gathered.recvs.items) }
     requires sends { AllZip L.has_sent links.items gathered.sends.items }
     requires recvs { AllZip L.has_received links.items gathered.recvs.items }
@@ -87,11 +89,13 @@ fn settled_report<L: RunLink>(
     ensures root { IfOk result (λ report.
         RootHas job.now.tree.parents job.now.items report) }
     ensures edges { IfOk result (λ report.
-        AreExplained job.now.params job.now.tree.parents job.now.starts report) }
+        AreExplained job.now.params job.now.openings job.now.tree.parents job.now.starts
+        report) }
     ensures handed_on { IfOk result (λ report. HandsOn job.now.tree.parents report) }
     ensures unsettled { IfErr result (λ fault. (child : ℕ) (why : SettleFault)
         → fault ≡ RunFault.Settle child why
-        → IsFirstUnsettled job.now.params job.now.tree.parents job.now.starts job.now.items child) }
+        → IsFirstUnsettled job.now.params job.now.openings job.now.tree.parents job.now.starts
+        job.now.items child) }
     ensures refused { IfErr result (λ fault. (child : ℕ) (why : SettleFault)
         → fault ≡ RunFault.Settle child why
         → HoldsInto L.may_differ job.now.tree.parents

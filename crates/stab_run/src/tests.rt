@@ -2,6 +2,8 @@
 
 mod faults;
 mod mixed;
+mod opened;
+mod openings;
 mod own_params;
 mod parts;
 mod refusals;

@@ -120,11 +120,12 @@ fn all_have_one_place(params: &[Params]) -> bool
 /// nothing is compared in the end, and no call of an end waits: this call waits for the workers
 /// alone.
 ///
-/// Whatever is in the links at the start, whatever is lost or repeated and however the workers'
-/// steps interleave: a node at depth d received at most d strays from the links on its path, then
-/// published items in their order, each at most once, none missing before its last one except among
-/// the first 3d. Where the worker of each node above it ended with its upstream, none is missing at
-/// all except among these.
+/// Whatever the links and the inner nodes hold at the start, whatever is lost or repeated and
+/// however the workers' steps interleave: a node at depth d received at most d strays from the
+/// links on its path, and beside them so many as an opening may have for each inner node on the
+/// path, itself among them, then published items in their order, each at most once, none missing
+/// before its last one except among the first 3d. Where the worker of each node above it ended with
+/// its upstream, none is missing at all except among these.
 pub fn run_words<R: Threads + Wait + Send + Sync, G: Gate + Sync>(
     rt: &R,
     alloc: Global,
@@ -137,21 +138,22 @@ pub fn run_words<R: Threads + Wait + Send + Sync, G: Gate + Sync>(
     ensures root { IfOk result (λ report.
         RootHas job.now.tree.parents job.now.items report) }
     ensures edges { IfOk result (λ report.
-        AreExplained job.now.params job.now.tree.parents job.now.starts report) }
+        AreExplained job.now.params job.now.openings job.now.tree.parents job.now.starts
+        report) }
     ensures handed_on { IfOk result (λ report. HandsOn job.now.tree.parents report) }
 
     // The laws of every node.
     ensures half_tree_law { IfOk result (λ report.
-        HalfTreeLawAtNodes job.now.params job.now.tree.parents job.now.starts
+        HalfTreeLawAtNodes job.now.params job.now.openings job.now.tree.parents job.now.starts
         job.now.items (received_at report.received)) }
     ensures tree_law { IfOk result (λ report.
-        TreeLawAtNodes job.now.params job.now.tree.parents job.now.starts
+        TreeLawAtNodes job.now.params job.now.openings job.now.tree.parents job.now.starts
         job.now.items (received_at report.received)) }
     ensures tree_law_by_depth { IfOk result (λ report.
-        TreeLawByDepth job.now.tree.parents job.now.starts job.now.items
+        TreeLawByDepth job.now.openings job.now.tree.parents job.now.starts job.now.items
         (received_at report.received)) }
     ensures complete { IfOk result (λ report.
-        CompleteBelowEnded job.now.params job.now.tree.parents job.now.starts
+        CompleteBelowEnded job.now.params job.now.openings job.now.tree.parents job.now.starts
         job.now.items report) }
 
     // What each worker asked of the gate.

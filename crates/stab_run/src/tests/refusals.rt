@@ -236,6 +236,7 @@ fn refuses_wrong_shapes(rt: HostRuntime) -> Result<(), Fail> {
         "null",
         "{}",
         r#"{"version":1}"#,
+        r#"{"version":2}"#,
         r#"{"capacity":1,"labels":4,"items":[7,8]}"#,
         r#"{"capacity":1,"labels":4,"tree":[],"items":[-7]}"#,
         r#"{"capacity":1,"labels":4,"tree":[],"items":[4294967296]}"#,
@@ -250,12 +251,14 @@ fn refuses_wrong_shapes(rt: HostRuntime) -> Result<(), Fail> {
 
 #[test]
 fn refuses_unknown_versions(rt: HostRuntime) -> Result<(), Fail> {
-    for &version in &["0", "2", "1.0", r#""1""#, "true", "null", "[1]"] {
+    for &version in &["0", "3", "1.0", "2.0", r#""1""#, "true", "null", "[1]"] {
         let fault = refusal_with(rt.alloc(), r#"{"version":"#, version)?;
         assert_eq!(rt; fault, Some(JobFault::Version), "{version}");
     }
-    let known = refusal_with(rt.alloc(), LONE_ROOT_WITH, r#""version":1"#)?;
-    assert_eq!(rt; known, None);
+    for &member in &[r#""version":1"#, r#""version":2,"h":0"#] {
+        let known = refusal_with(rt.alloc(), LONE_ROOT_WITH, member)?;
+        assert_eq!(rt; known, None, "{member}");
+    }
     Ok(())
 }
 
@@ -286,7 +289,7 @@ fn refuses_bad_events_before_unknown_nodes(rt: HostRuntime) -> Result<(), Fail> 
 fn checks_in_the_stated_order(rt: HostRuntime) -> Result<(), Fail> {
     let rows = [
         (
-            r#""version":2,"capacity":0,"labels":4,"tree":[],"items":[7],"turns":null"#,
+            r#""version":3,"capacity":0,"labels":4,"tree":[],"items":[7],"turns":null"#,
             JobFault::Version,
         ),
         (

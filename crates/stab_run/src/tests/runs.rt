@@ -207,7 +207,7 @@ fn text_in_order<R: Threads + Wait + Send + Sync>(
 }
 
 /// That text is this one.
-fn assert_printed<R: Threads + Wait + Send + Sync + Abort>(
+pub(super) fn assert_printed<R: Threads + Wait + Send + Sync + Abort>(
     rt: &R,
     alloc: Global,
     links: Links,

@@ -1,8 +1,9 @@
-use Rattle.std.proofs.Common.{rules, ◌≡◌, length, ap, sym, ◌∙◌, subst}
+use Rattle.std.proofs.Common.{rules, ◌≡◌, ◌++◌, length, ap, sym, ◌∙◌, subst}
 use Rattle.std.proofs.lemmas.List.{length-map}
 use Rattle.stab_node.specs.Work.{HasAll, IsServed}
 use Rattle.stab_tree.specs.Links.{links_of}
 use Rattle.stab_tree.specs.Nodes.{root_of}
+use Rattle.stab_treecore.specs.NodeOpenings.{opening_at}
 use Rattle.stab_workers.specs.ByNode.{received_at}
 use Rattle.stab_run.proofs.Paired.{entry_read}
 use Rattle.stab_run.proofs.ends.run_ends.Goals as goal
@@ -17,7 +18,7 @@ returns-clause-run g c =
     let trees : length (links_of c.args.job.now.tree.parents) ≡ length (links_of parents) =
     ap (λ t. length (links_of t.parents)) (sym c.tree.ensures.tree) in
     let root : received_at left.received.items (root_of parents) ≡ c.args.job.now.items = search rules in
-    rw (← c.tree.ensures.tree)
+    rw (← c.tree.ensures.tree, ← c.openings.ensures.openings)
     (record {
       all_received = ran.received;
       all_ended = ran.ended;
@@ -33,7 +34,7 @@ returns-clause-run g c =
       delivered =
           λ child recv is.
           let (done, there, read) = entry_read delivered parents left.recvs.items child recv is in
-          ran.delivered child done there ∙ ap (λ r. r.delivered) read;
+          ran.delivered child done there ∙ ap (λ r. opening_at c.openings.result.now.lists child ++ r.delivered) read;
       served =
           λ child parent send is_child is.
           let (done, there, read) = entry_read sent parents left.sends.items child send is in

@@ -29,7 +29,7 @@ returns-clause-nodes g c =
     rw c.tree-tree.ensures.tree at c.in_ok-acked.ensures.acked in
     subst (λ (acked : List (Option ℕ)). OnePerNode job.tree.parents (record { received = ran.received.items; acked = acked; ended = ran.ended.items }))
     (sym counted)
-    (one_per_node job.tree.parents job.items ran.received.items ran.ended.items sent delivered c.requires.run)
+    (one_per_node job.openings job.tree.parents job.items ran.received.items ran.ended.items sent delivered c.requires.run)
 
 pub returns-clause-root : goal.returns-clause-root
 returns-clause-root g c =
@@ -43,7 +43,7 @@ returns-clause-root g c =
     rw c.tree-tree.ensures.tree at c.root-root.ensures.tree.root_has_none in
     subst (λ (acked : List (Option ℕ)). RootHas job.tree.parents job.items (record { received = ran.received.items; acked = acked; ended = ran.ended.items }))
     (sym counted)
-    (root_has job.tree.parents job.items ran.received.items ran.ended.items sent delivered c.requires.run none)
+    (root_has job.openings job.tree.parents job.items ran.received.items ran.ended.items sent delivered c.requires.run none)
 
 pub returns-clause-edges : goal.returns-clause-edges
 returns-clause-edges g c =
@@ -55,10 +55,10 @@ returns-clause-edges g c =
     rw c.tree-tree.ensures.tree at c.in_ok-acked.ensures.acked in
     let settled : AreSettled (all_given job.params job.starts) sent delivered =
     rw c.requires.given at c.in_ok-acked.ensures.settled in
-    subst (λ (acked : List (Option ℕ)). AreExplained job.params job.tree.parents job.starts
+    subst (λ (acked : List (Option ℕ)). AreExplained job.params job.openings job.tree.parents job.starts
     (record { received = ran.received.items; acked = acked; ended = ran.ended.items }))
     (sym counted)
-    (are_explained job.tree.parents job.items ran.received.items ran.ended.items sent delivered c.requires.run job.params job.starts
+    (are_explained job.openings job.tree.parents job.items ran.received.items ran.ended.items sent delivered c.requires.run job.params job.starts
     c.tree-tree.ensures.job.one_params_each c.tree-tree.ensures.job.one_start_each settled c.requires.lawful)
 
 pub returns-clause-handed_on : goal.returns-clause-handed_on
@@ -73,7 +73,7 @@ returns-clause-handed_on g c =
     rw c.requires.given at c.in_ok-acked.ensures.settled in
     subst (λ (acked : List (Option ℕ)). HandsOn job.tree.parents (record { received = ran.received.items; acked = acked; ended = ran.ended.items }))
     (sym counted)
-    (hands_on job.tree.parents job.items ran.received.items ran.ended.items sent delivered c.requires.run job.params job.starts
+    (hands_on job.openings job.tree.parents job.items ran.received.items ran.ended.items sent delivered c.requires.run job.params job.starts
     c.tree-tree.ensures.job.one_params_each c.tree-tree.ensures.job.one_start_each settled)
 
 -- what the workers left is not settled at this child
@@ -85,7 +85,7 @@ returns-in_err-acked-clause-unsettled g c =
     let delivered = map g.L.RunLink.received ran.recvs.items in
     at_error _ _
     (λ fault. (child : ℕ) (why : SettleFault) → fault ≡ Settle child why
-    → IsFirstUnsettled job.params job.tree.parents job.starts job.items child)
+    → IsFirstUnsettled job.params job.openings job.tree.parents job.starts job.items child)
     c.from_residual.ensures.1
     (λ child why is. record {
       received = ran.received.items;

@@ -32,5 +32,5 @@ returns-clause-tree_law_by_depth g c =
     let job = c.args.job.now in
     let its_job = c.tree-2.ensures.job in
     let one_place : All (λ p. p.capacity ≡ 1) job.params = search rules in
-    c.tree_law_of_one_place.ensures job.tree job.params job.starts job.items (received_at c.in_ok-report.report.received)
+    c.tree_law_of_one_place.ensures job.tree job.params job.openings job.starts job.items (received_at c.in_ok-report.report.received)
     (subst IsTree c.tree-2.ensures.tree c.root-tree.ensures.tree) its_job.one_params_each one_place c.in_ok-report.ensures.tree_law
