@@ -124,13 +124,13 @@ fn answer_tree(alloc: Global, bytes: &[u8]) -> Result<String, CliFault>
 /// The whole tree of a job after its schedule.
 fn replay_tree(alloc: Global, job: &Job) -> Result<TreeState, TreeStartFault>
     ensures replay { IfOk result (λ state. state ≡ tree_replay
-        (tree_opening job.now.params job.now.tree.parents job.now.items job.now.starts)
-        job.now.schedule) }
+        (tree_opening job.now.params job.now.openings job.now.tree.parents job.now.items
+        job.now.starts) job.now.schedule) }
     ensures same_tree { IfOk result (λ state. state.parents ≡ job.now.tree.parents) }
     ensures lawful { OnOk result (AllZip IsLawful job.now.params job.now.starts) }
     ensures named { OnOk result (All (NamesLink job.now.tree.parents) job.now.schedule) }
-    ensures refused { IfErr result (IsScheduleReason job.now.params job.now.tree.parents
-        job.now.items job.now.starts job.now.schedule) }
+    ensures refused { IfErr result (IsScheduleReason job.now.params job.now.openings
+        job.now.tree.parents job.now.items job.now.starts job.now.schedule) }
 {
     run_schedule(
         alloc,
@@ -138,6 +138,7 @@ fn replay_tree(alloc: Global, job: &Job) -> Result<TreeState, TreeStartFault>
         job.tree(),
         job.items(),
         job.starts(),
+        job.openings(),
         job.schedule(),
     )
 }

@@ -9,10 +9,11 @@ use stab_tree::TreeFault;
 fn assert_no_job<T: Threads + Wait + Send + Sync + Abort + Alloc<A = Global>>(
     rt: &T,
     job: &str,
-    fault: JobFault,
+    fault: &JobFault,
 ) {
+    let fault = CliFault::Job(*fault);
     for task in OF_TREES {
-        assert_refused(rt, task, job.as_bytes(), &CliFault::Job(fault));
+        assert_refused(rt, task, job.as_bytes(), &fault);
     }
 }
 
@@ -69,8 +70,8 @@ fn numbers_at_their_limits(rt: HostRuntime) -> Result<(), Fail> {
             JobFault::Event,
         ),
     ];
-    for (member, changed, fault) in refused {
-        let job = LONE_ROOT.replace(rt.alloc(), member, changed)?;
+    for (member, changed, fault) in &refused {
+        let job = LONE_ROOT.replace(rt.alloc(), *member, *changed)?;
         assert_no_job(&rt, &job, fault);
     }
     let accepted = [
@@ -136,7 +137,7 @@ fn assert_no_script<T: Threads + Wait + Send + Sync + Abort + Alloc<A = Global>>
     script: &str,
     fault: JobFault,
 ) -> Result<(), AllocError> {
-    assert_no_job(rt, &scripted(rt.alloc(), script)?, fault);
+    assert_no_job(rt, &scripted(rt.alloc(), script)?, &fault);
     Ok(())
 }
 
@@ -182,7 +183,7 @@ fn sixty_four_nodes(rt: HostRuntime) -> Result<(), Fail> {
         let job = job_of_64(rt.alloc(), is_chain)?;
         assert_answer(&rt, Task::Tree, &job, &text_of_64(rt.alloc(), is_chain)?);
         let same = job.replace(rt.alloc(), r#""name":"n63""#, r#""name":"n62""#)?;
-        assert_no_job(&rt, &same, JobFault::Tree(TreeFault::SameName));
+        assert_no_job(&rt, &same, &JobFault::Tree(TreeFault::SameName));
     }
     Ok(())
 }

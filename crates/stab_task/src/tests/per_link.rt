@@ -14,14 +14,14 @@ const LINKS: &str = r#""links":[null,{"capacity":2,"labels":6}]"#;
 fn assert_no_links<T: Threads + Wait + Send + Sync + Abort + Alloc<A = Global>>(
     rt: &T,
     links: &str,
-    fault: JobFault,
+    fault: &CliFault,
     text: &str,
 ) -> Result<(), AllocError> {
     let job = WIDER.replace(rt.alloc(), LINKS, links)?;
     for task in OF_TREES {
-        assert_refused(rt, task, job.as_bytes(), &CliFault::Job(fault));
+        assert_refused(rt, task, job.as_bytes(), fault);
     }
-    assert_fault(rt, &CliFault::Job(fault), 1, text)
+    assert_fault(rt, fault, 1, text)
 }
 
 #[test]
@@ -42,22 +42,37 @@ fn a_wider_second_link(rt: HostRuntime) -> Result<(), Fail> {
 #[test]
 fn refused_link_parameters(rt: HostRuntime) -> Result<(), Fail> {
     let count = "job: wrong number of links";
-    assert_no_links(&rt, r#""links":[null]"#, JobFault::LinkCount, count)?;
-    assert_no_links(&rt, r#""links":[]"#, JobFault::LinkCount, count)?;
+    assert_no_links(
+        &rt,
+        r#""links":[null]"#,
+        &CliFault::Job(JobFault::LinkCount),
+        count,
+    )?;
+    assert_no_links(
+        &rt,
+        r#""links":[]"#,
+        &CliFault::Job(JobFault::LinkCount),
+        count,
+    )?;
     assert_no_links(
         &rt,
         r#""links":[null,{"capacity":2,"labels":5}]"#,
-        JobFault::LinkParams(NodeId::new(2), ParamsFault::LabelsTooFew),
+        &CliFault::Job(JobFault::LinkParams(NodeId::new(2), ParamsFault::LabelsTooFew)),
         "job: too few labels",
     )?;
     assert_no_links(
         &rt,
         r#""links":[{"capacity":65,"labels":200},{"capacity":2,"labels":5}]"#,
-        JobFault::LinkParams(NodeId::new(1), ParamsFault::CapacityOutOfRange),
+        &CliFault::Job(JobFault::LinkParams(NodeId::new(1), ParamsFault::CapacityOutOfRange)),
         "job: capacity out of range",
     )?;
     for links in [r#""links":3"#, r#""links":null"#, r#""links":[null,3]"#] {
-        assert_no_links(&rt, links, JobFault::Shape, "job: wrong shape")?;
+        assert_no_links(
+            &rt,
+            links,
+            &CliFault::Job(JobFault::Shape),
+            "job: wrong shape",
+        )?;
     }
     let not_one = CliFault::Run(RunFault::CapacityNotOne);
     assert_refused(&rt, WORDS, WIDER.as_bytes(), &not_one);
