@@ -8,7 +8,8 @@
 A case is a spoilt job and a command. Its seed and its number say all of it, so every machine makes
 the same cases. A job is spoilt in its bytes, in its values (numbers at the limits and beyond, lists
 doubled, emptied and nested, names changed and repeated, members removed, repeated and renamed), by
-deep nesting, or in its encoding. `stab` is run on each case twice. It must
+deep nesting, or in its encoding. A part of the trees first gets a version and openings. `stab` is
+run on each case twice. It must
 
   - give a text of the form that docs/FORMATS.md describes, with status 0 and nothing on standard
     error, or one line of the table of faults there, with its status and nothing on standard output;
@@ -136,9 +137,11 @@ TEXT_PARTS += ["\\/", "\\n", "\\x", "\\", "\\u12", "\t", "\n", "\0", "\x7f"]
 TEXT_PARTS += ["a" * 31, "a" * 32, "a" * 33, "P", "D", "E", "T", "K", "PDE" * 40, "x" * 5000]
 NAMES = "version capacity labels links tree items starts scripts turns schedule start events frames"
 NAMES += " acks send recv name parent seed length loss repeat frames_out frames_in acks_out"
-NAMES += " acks_in extra"
+NAMES += " acks_in h openings extra"
 NAMES = [json.dumps(name) for name in NAMES.split()]
 NAMES += ['"\\u0063apacity"', '""', '"Capacity"', '"a\\u0000"']
+VERSIONS = ["2"] * 8 + "1 1 0 3 2.0 2e0 \"2\" true null [2]".split()
+HOLDS = [0, 1, 2, 2, 2, 3, 63, 64, 64, 65, 65_536]
 NODES = [json.dumps(name) for name in "r a b c d e x".split()]
 EVENTS = "offer send_frame recv_frame recv_frame_keep send_ack recv_ack recv_ack_keep lose_frame"
 EVENTS = [json.dumps(event) for event in (EVENTS + " lose_ack close jump").split()]
@@ -261,6 +264,32 @@ def spoil_value(draw, value):
     return text.encode("utf-8", "surrogatepass")
 
 
+def member(value, name):
+    """The last member of this name, or None where there is no such member."""
+    found = [entry for its_name, entry in value if its_name == f'"{name}"']
+    return found[-1] if found else None
+
+
+def open_nodes(draw, value):
+    """A job of a tree with a version and with openings. Most are right: those of inner nodes have no
+    more items than an opening may have, and those of the root and of the leaves none."""
+    tree = member(value, "tree")
+    if not isinstance(tree, list) or isinstance(tree, Members):
+        return value
+    nodes = [node if isinstance(node, Members) else Members() for node in tree]
+    parents, hold = [member(node, "parent") for node in nodes], draw.choice(HOLDS)
+    lists = []
+    for node, parent in zip(nodes, parents):
+        is_inner = parent is not None and member(node, "name") in parents
+        most = min(hold, 65) if is_inner != (draw.random() < 0.02) else 0
+        count = draw.randrange(most + 1) + (draw.random() < 0.01)
+        lists.append([Scalar(str(draw.randrange(50, 60))) for _ in range(count)])
+    more = [('"version"', Scalar(draw.choice(VERSIONS))), ('"h"', Scalar(str(hold)))]
+    more += [('"openings"', lists)] * (draw.random() < 0.9)
+    named = [name for name, _ in more]
+    return Members([pair for pair in value if pair[0] not in named] + more)
+
+
 PIECES = b', : [ ] { } " \\ \\u0000 \\ud800 null 1e999 -0 0 -1 4294967296 65536 "a"'.split(b" ")
 PIECES += b"[[ ]] [] {} // # 'a' \0".split(b" ")
 PIECES += [b"\xef\xbb\xbf", b"\xff", b"\xc0\xaf", b"\xed\xa0\x80", b"\xf4\x90\x80\x80"]
@@ -355,6 +384,11 @@ def case(jobs, seed, number):
         command = draw.choice(COMMANDS[2:])
     elif draw.random() < 0.4:
         command = ("link", "--trace")
+    if command[0] != "link" and isinstance(value, Members) and draw.random() < 0.3:
+        value = open_nodes(draw, value)
+        text = write(value).encode("utf-8", "surrogatepass")
+        if draw.random() < 0.3:
+            return command, text
     how = draw.random()
     if how < 0.72 and value is not None and not isinstance(value, str):
         text = spoil_value(draw, value)

@@ -27,6 +27,7 @@ MAX_BYTES = 16_777_216
 MAX_EVENTS = 1_000_000
 MAX_ITEMS = 10_000
 MAX_NODES = 64
+MAX_HELD = 64
 MAX_ACTS = 100_000
 MAX_TURNS = 1_000_000
 MAX_LEVELS = 127
@@ -103,6 +104,13 @@ def wide(count):
     return "[" + ",".join([widest, "null"][i % 2] for i in range(count)) + "]"
 
 
+def held(inner, nodes=MAX_NODES):
+    """A chain whose inner nodes begin with so many items each, as many as any may."""
+    lists = ["[]", *[some("4294967295", inner)] * (nodes - 2), "[]"]
+    openings = "[" + ",".join(lists) + "]"
+    return tree_job(nodes, version=2, h=MAX_HELD, openings=openings, items=some("1", MAX_ITEMS))
+
+
 def filled(job, size):
     """A job with spaces after it, up to so many bytes."""
     return job + " " * (size - len(job))
@@ -140,6 +148,13 @@ def jobs():
         yield "one node more", walk, "tree: too many nodes", lambda it=items: it(MAX_ITEMS, 65)
     more = lambda: tree_job(links=wide(MAX_NODES))
     yield "one link more", walk, "job: wrong number of links", more
+    for command in walk, locks, words, mixed:
+        yield "62 openings of 64 items", command, TEXT, lambda: held(MAX_HELD)
+    yield "one item more of each", walk, "job: opening too long", lambda: held(MAX_HELD + 1)
+    longer = lambda: tree_job(version=2, h=MAX_HELD + 1)
+    yield "openings of 65 items", walk, "job: h out of range", longer
+    lists = lambda: tree_job(version=2, h=MAX_HELD, openings=some("[]", MAX_NODES + 1))
+    yield "one opening more", walk, "job: wrong number of openings", lists
     written = lambda links, acts: tree_job(links + 1, scripts=some(letters(acts), links))
     for command in walk, locks, words:
         yield "41 links, 4 x 100,000 letters", command, TEXT, lambda: written(41, MAX_ACTS)

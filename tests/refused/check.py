@@ -54,6 +54,7 @@ JOBS = """
     trees/every_member
     trees/two_links_under_one_schedule
     trees/a_wider_second_link
+    trees/an_opening_passed_on
     runs/a_lone_root
     runs/words_a_lone_root
     runs/mixed_a_lone_root
@@ -62,6 +63,7 @@ JOBS = """
     refused/flag_twice
     refused_trees/unknown_node
     refused_trees/too_few_labels_of_a_link
+    refused_trees/opening_too_long
     runs/two_frames_for_one_place
     runs/words_two_frames_for_one_place
     runs/mixed_two_frames_for_one_place
@@ -70,9 +72,9 @@ JOBS = """
 RUNS = [("run", ["run"]), ("run --words", ["run", "--words"]), ("run --mixed", ["run", "--mixed"])]
 
 
-def chain(nodes, items, turns, words):
+def chain(nodes, items, turns, words, held=0):
     """The job of a chain of so many nodes, with clean starts, for a run by these words. Where both
-    kinds of link are asked for, every other link is wider."""
+    kinds of link are asked for, every other link is wider. Inner nodes begin with so many strays."""
     tree = [{"name": "r"}]
     for i in range(1, nodes):
         tree.append({"name": f"n{i}", "parent": tree[-1]["name"]})
@@ -80,6 +82,9 @@ def chain(nodes, items, turns, words):
     job = {"capacity": 1, "labels": 4, "tree": tree, "items": items, "turns": turns}
     if "--mixed" in words:
         job["links"] = [{"capacity": 3, "labels": 8} if i % 2 else None for i in range(nodes - 1)]
+    if held:
+        inner = [list(range(1000 * i, 1000 * i + held)) for i in range(1, nodes - 1)]
+        job.update(version=2, h=held, openings=[[], *inner, []])
     return job
 
 
@@ -306,9 +311,11 @@ def is_report_of(job):
     """A test for the report of a run of a chain with clean starts, under any schedule.
 
     Two runs of a job may print different lists. Whatever the schedule, there are two lines for each
-    node; the root has all items, and every other node has some of those of the node above it, in
-    their order and each once.
+    node; the root has all items, and every other node has what it begins with and then some of those
+    of the node above it, in their order and each once.
     """
+    openings = job.get("openings", [[]] * len(job["tree"]))
+
     def is_report(ended):
         lines = ended.out.decode(errors="replace").split("\n")
         if ended.status != 0 or ended.err or len(lines) != 2 * len(job["tree"]) + 1 or lines[-1]:
@@ -325,8 +332,10 @@ def is_report_of(job):
                 return False
             if depth == 0 and items != above or depth > 0 and int(found[2]) > len(above):
                 return False
-            rest = iter(above)
-            if not all(item in rest for item in items):
+            opening, rest = openings[depth], iter(above)
+            if items[: len(opening)] != opening:
+                return False
+            if not all(item in rest for item in items[len(opening) :]):
                 return False
             above = items
         return True
@@ -362,7 +371,7 @@ def check_stab(check, room, program, all_examples):
         refusals = [OUT_OF_MEMORY] + [NOT_STARTED] * ("run" in words)
         check.stab(name, [program, *words], input, is_right, refusals)
     for name, words in RUNS:
-        job = chain(3, items=5, turns=50, words=words)
+        job = chain(3, items=5, turns=50, words=words, held=2)
         input = room.write(f"{name} of a chain of 3", job)
         refusals = [OUT_OF_MEMORY, NOT_STARTED]
         check.stab(f"{name} of a chain of 3", [program, *words], input, is_report_of(job), refusals)

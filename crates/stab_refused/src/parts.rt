@@ -105,8 +105,8 @@ pub fn push_link_job(text: &mut String, job: &LinkJob) -> Result<(), AllocError>
     text.push_str("\n")
 }
 
-/// Adds the lines of a job: the parameters of each link, its turns, its tree and items, the start
-/// and the script of each link, and its schedule.
+/// Adds the lines of a job: the parameters of each link, its turns, its tree, items and openings,
+/// the start and the script of each link, and its schedule.
 pub fn push_job(text: &mut String, job: &Job) -> Result<(), AllocError> {
     for params in job.params() {
         push_params(text, *params)?;
@@ -114,6 +114,7 @@ pub fn push_job(text: &mut String, job: &Job) -> Result<(), AllocError> {
     writeln!(text, "turns {}", job.turns())?;
     push_tree(text, job.tree())?;
     push_items_line(text, "items", job.items())?;
+    writeln!(text, "{:?}", job.openings())?;
     for start in job.starts() {
         text.push_str("start ")?;
         push_start(text, start)?;

@@ -39,15 +39,18 @@ const LINK_JOBS: [&str; 2] = [
     r#"{"capacity":1,"labels":4,"start":{"acks":[0],"send":0,"recv":1},"events":["close","jump"]}"#,
 ];
 
-/// Jobs: with each member but `links`, where the second script is drawn; without what may be absent;
-/// with a schedule that names no node of the tree; with a second link that is wider; and with one
-/// that has too few labels.
-const JOBS: [&str; 5] = [
+/// Jobs: with each member but `links`, where the second script is drawn; without what may be
+/// absent; with a schedule that names no node of the tree; with a second link that is wider; with
+/// one that has too few labels; of the second version with an opening; and with one that is too
+/// long.
+const JOBS: [&str; 7] = [
     r#"{"version":1,"capacity":1,"labels":4,"tree":[{"name":"r"},{"name":"a","parent":"r"},{"name":"b","parent":"a"}],"items":[10,11],"starts":[{"frames":[[2,99]],"acks":[0],"send":0,"recv":1},{"send":5,"recv":6}],"scripts":[{"frames_out":"PDE","acks_in":"TK"},{"seed":[42,54],"length":6,"loss":300,"repeat":400}],"turns":50,"schedule":[["a","offer"],["a","send_frame"],["b","lose_ack",3]]}"#,
     r#"{"capacity":3,"labels":8,"tree":[{"name":"a","parent":"r"},{"name":"r"}],"items":[]}"#,
     r#"{"capacity":1,"labels":4,"tree":[{"name":"r"},{"name":"a","parent":"r"}],"items":[7],"scripts":[{"seed":[1,2],"length":3,"loss":0,"repeat":0}],"schedule":[["a","offer"],["c","offer"]]}"#,
     r#"{"capacity":1,"labels":4,"links":[null,{"capacity":2,"labels":6}],"tree":[{"name":"r"},{"name":"a","parent":"r"},{"name":"b","parent":"a"}],"items":[7,8],"starts":[{"send":0,"recv":65535},{"frames":[[1,20],[2,21]],"send":0,"recv":0}]}"#,
     r#"{"capacity":1,"labels":4,"links":[null,{"capacity":2,"labels":5}],"tree":[{"name":"r"},{"name":"a","parent":"r"},{"name":"b","parent":"a"}],"items":[7,8]}"#,
+    r#"{"version":2,"h":2,"openings":[[],[50,51],[]],"capacity":1,"labels":4,"tree":[{"name":"r"},{"name":"a","parent":"r"},{"name":"b","parent":"a"}],"items":[7,8]}"#,
+    r#"{"version":2,"h":1,"openings":[[],[50,51],[]],"capacity":1,"labels":4,"tree":[{"name":"r"},{"name":"a","parent":"r"},{"name":"b","parent":"a"}],"items":[7,8]}"#,
 ];
 
 /// Makes the calls of the readers.

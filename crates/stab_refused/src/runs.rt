@@ -20,12 +20,14 @@ use std::sync::Wait;
 use std::sync::atomic::{AtomicU64, Ordering};
 use std::thread::Threads;
 
-/// A chain of three nodes.
-const CHAIN: &str = r#"{"capacity":1,"labels":4,"items":[1,2,3,4,5],"turns":50,
+/// A chain of three nodes, where the one between begins with two strays.
+const CHAIN: &str = r#"{"version":2,"h":2,"openings":[[],[50,51],[]],
+    "capacity":1,"labels":4,"items":[1,2,3,4,5],"turns":50,
     "tree":[{"name":"r"},{"name":"a","parent":"r"},{"name":"b","parent":"a"}]}"#;
 
 /// The same chain, whose second link is wider than the first.
-const WIDER_CHAIN: &str = r#"{"capacity":1,"labels":4,"items":[1,2,3,4,5],"turns":50,
+const WIDER_CHAIN: &str = r#"{"version":2,"h":2,"openings":[[],[50,51],[]],
+    "capacity":1,"labels":4,"items":[1,2,3,4,5],"turns":50,
     "links":[null,{"capacity":3,"labels":8}],
     "tree":[{"name":"r"},{"name":"a","parent":"r"},{"name":"b","parent":"a"}]}"#;
 
@@ -37,6 +39,9 @@ const NODES: usize = 3;
 
 /// What its root publishes.
 const PUBLISHED: [Item; 5] = [1, 2, 3, 4, 5];
+
+/// What the node between begins with.
+const OPENED: [Item; 2] = [50, 51];
 
 /// Runs a chain over links of each kind, and makes the text of a report.
 pub fn make_all<R: Print + Eprint + Threads + Wait + Send + Sync + AllocGlobal>(
@@ -230,8 +235,8 @@ fn refused_or(fault: RunFault) -> Result<RunAnswer, AllocError> {
 fn push_report(text: &mut String, report: &Report) -> Result<(), AllocError> {
     if is_handed_on(report) {
         return text.push_str(
-            " the root has what is published, and each other node has some of what the one \
-            above has, in its order\n",
+            " the root has what is published, the node below it what it begins with and then some \
+            of that, and the leaf some of what the node above it has, in its order\n",
         );
     }
     text.push_str(" what is not handed on\n")?;
@@ -241,8 +246,8 @@ fn push_report(text: &mut String, report: &Report) -> Result<(), AllocError> {
     Ok(())
 }
 
-/// Whether the root of the chain has what is published, and each other node has some of what the
-/// node above it has, in its order and each item once.
+/// Whether the root of the chain has what is published, its child what that begins with and then
+/// some of what the root has, and the leaf some of what the child has, in its order and each once.
 fn is_handed_on(report: &Report) -> bool {
     if report.received.len() != NODES {
         return false;
@@ -250,19 +255,26 @@ fn is_handed_on(report: &Report) -> bool {
     let root = report.received[0].as_slice();
     let child = report.received[1].as_slice();
     let leaf = report.received[2].as_slice();
-    root == PUBLISHED.as_slice() && is_some_of(child, root) && is_some_of(leaf, child)
+    root == PUBLISHED.as_slice() && is_opened(child, root) && is_some_of(leaf, child)
 }
 
-/// Whether a list has some of the items of another one, which rise, in its order and each once.
+/// Whether a list begins with the opening, and then has some of the items of the list above.
+fn is_opened(items: &[Item], above: &[Item]) -> bool {
+    let opened = OPENED.len();
+    items.len() >= opened
+        && &items[..opened] == OPENED.as_slice()
+        && is_some_of(&items[opened..], above)
+}
+
+/// Whether a list has some of the items of another one, in its order and each once.
 fn is_some_of(items: &[Item], all: &[Item]) -> bool {
-    let mut last = 0;
-    for item in items {
-        if *item <= last || !all.contains(item) {
-            return false;
+    let mut count = 0;
+    for item in all {
+        if items.get(count) == Some(item) {
+            count += 1;
         }
-        last = *item;
     }
-    true
+    count == items.len()
 }
 
 /// A report of the chain.

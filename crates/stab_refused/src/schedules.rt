@@ -7,9 +7,7 @@ use crate::opening::{CHILDREN, Opening, ROUND, act_on, push_links_or_fault};
 use stab_core::{LinkAct, StartFault};
 use stab_frames::Item;
 use stab_tree::Tree;
-use stab_treecore::{
-    TreeEvent, TreeStartFault, TreeState, TreeStepFault, run_schedule, schedule_text,
-};
+use stab_treecore::{TreeEvent, TreeStartFault, TreeState, TreeStepFault, schedule_text};
 use std::alloc::{AllocError, Global};
 use std::marker::Model;
 
@@ -44,12 +42,7 @@ pub fn make_all<R: Print + Eprint + AllocGlobal>(rt: &R) -> anyhow::Result<()> {
     };
     make_call(rt, &mut call)?;
     let state = run_twice(rt.alloc(), &opening, &events)?;
-    let Opening {
-        params: _,
-        tree,
-        starts,
-    } = opening;
-    drop(starts);
+    let tree = opening.into_tree();
     make_call(rt, &mut ScheduleText { tree, state })
 }
 
@@ -71,31 +64,17 @@ fn worst_schedule(alloc: Global) -> Result<Vec<TreeEvent>, AllocError> {
     Ok(events)
 }
 
-/// The tree after a schedule.
-fn run(alloc: Global, opening: &Opening, events: &[TreeEvent]) -> Result<TreeState, TreeStartFault>
-    ensures same_tree { IfOk result (λ state. state.parents ≡ opening.now.tree.parents) }
-{
-    run_schedule(
-        alloc,
-        &opening.params,
-        &opening.tree,
-        &ITEMS,
-        &opening.starts,
-        events,
-    )
-}
-
 /// The tree after a schedule, which is run once more if it fails.
 fn run_twice(
     alloc: Global,
     opening: &Opening,
     events: &[TreeEvent],
 ) -> Result<TreeState, TreeStartFault>
-    ensures same_tree { IfOk result (λ state. state.parents ≡ opening.now.tree.parents) }
+    ensures same_tree { IfOk result (λ state. state.parents ≡ opening.now) }
 {
-    match run(alloc, opening, events) {
+    match opening.after(alloc, &ITEMS, events) {
         Ok(state) => Ok(state),
-        Err(_) => run(alloc, opening, events),
+        Err(_) => opening.after(alloc, &ITEMS, events),
     }
 }
 
@@ -118,7 +97,7 @@ impl Call for RunSchedule<'_> {
     }
 
     fn make(&mut self, alloc: Global) -> Result<Self::Answer, AllocError> {
-        match run(alloc, self.opening, self.events) {
+        match self.opening.after(alloc, &ITEMS, self.events) {
             Err(
                 TreeStartFault::Start(StartFault::Memory)
                 | TreeStartFault::Step(TreeStepFault::Memory),

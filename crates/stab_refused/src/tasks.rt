@@ -28,6 +28,11 @@ const UNLAWFUL_START: &str =
 const TWO_LINKS: &str =
     r#"{"capacity":1,"labels":4,"tree":[{"name":"r"},{"name":"a","parent":"r"},{"name":"b","parent":"a"}],"items":[7,8],"starts":[{"send":0,"recv":65535},{"frames":[[2,99]],"send":0,"recv":1}],"scripts":[null,{"seed":[42,54],"length":6,"loss":300,"repeat":400}],"turns":50,"schedule":[["a","offer"],["a","send_frame"],["a","recv_frame"],["b","recv_frame"],["b","offer"],["b","send_frame"],["b","recv_frame"]]}"#;
 
+/// Two items go down a chain whose inner node begins with two strays: two rounds on its first link,
+/// and four on the second.
+const OPENED_CHAIN: &str =
+    r#"{"version":2,"h":2,"openings":[[],[50,51],[]],"capacity":1,"labels":4,"tree":[{"name":"r"},{"name":"a","parent":"r"},{"name":"b","parent":"a"}],"items":[7,8],"schedule":[["a","offer"],["a","send_frame"],["a","recv_frame"],["a","send_ack"],["a","recv_ack"],["a","offer"],["a","send_frame"],["a","recv_frame"],["a","send_ack"],["a","recv_ack"],["b","offer"],["b","send_frame"],["b","recv_frame"],["b","send_ack"],["b","recv_ack"],["b","offer"],["b","send_frame"],["b","recv_frame"],["b","send_ack"],["b","recv_ack"],["b","offer"],["b","send_frame"],["b","recv_frame"],["b","send_ack"],["b","recv_ack"],["b","offer"],["b","send_frame"],["b","recv_frame"],["b","send_ack"],["b","recv_ack"]]}"#;
+
 /// A root without children, and its items.
 const LONE_ROOT: &str = r#"{"capacity":1,"labels":4,"tree":[{"name":"r"}],"items":[7,8]}"#;
 
@@ -35,9 +40,10 @@ const LONE_ROOT: &str = r#"{"capacity":1,"labels":4,"tree":[{"name":"r"}],"items
 const CHAIN: &str =
     r#"{"capacity":1,"labels":4,"tree":[{"name":"r"},{"name":"a","parent":"r"},{"name":"b","parent":"a"}],"items":[1,2,3,4,5],"scripts":[{"frames_out":"D","acks_in":"K"},{"seed":[42,54],"length":6,"loss":300,"repeat":400}],"turns":50}"#;
 
-/// The same, where the second link is wider than the first.
+/// The same, where the second link is wider than the first, and the node between begins with
+/// strays.
 const WIDER_CHAIN: &str =
-    r#"{"capacity":1,"labels":4,"links":[null,{"capacity":3,"labels":8}],"tree":[{"name":"r"},{"name":"a","parent":"r"},{"name":"b","parent":"a"}],"items":[1,2,3,4,5],"scripts":[{"frames_out":"D","acks_in":"K"},{"seed":[42,54],"length":6,"loss":300,"repeat":400}],"turns":50}"#;
+    r#"{"version":2,"h":2,"openings":[[],[50,51],[]],"capacity":1,"labels":4,"links":[null,{"capacity":3,"labels":8}],"tree":[{"name":"r"},{"name":"a","parent":"r"},{"name":"b","parent":"a"}],"items":[1,2,3,4,5],"scripts":[{"frames_out":"D","acks_in":"K"},{"seed":[42,54],"length":6,"loss":300,"repeat":400}],"turns":50}"#;
 
 /// Does the tasks.
 pub fn make_all<R: Print + Eprint + Threads + Wait + Send + Sync + AllocGlobal>(
@@ -50,7 +56,9 @@ pub fn make_all<R: Print + Eprint + Threads + Wait + Send + Sync + AllocGlobal>(
         rt,
         &written(rt, Task::Link { trace: false }, UNLAWFUL_START)?,
     )?;
-    print_written(rt, &written(rt, Task::Tree, TWO_LINKS)?)?;
+    for job in [TWO_LINKS, OPENED_CHAIN] {
+        print_written(rt, &written(rt, Task::Tree, job)?)?;
+    }
     for (links, chain) in [
         (Links::Locked, CHAIN),
         (Links::Words, CHAIN),

@@ -4,7 +4,7 @@ use crate::call::{Call, make_call, tried_twice};
 use crate::opening::{CHILDREN, Opening, ROUND, act_on, push_links, push_links_or_fault};
 use crate::worst::ITEMS;
 use stab_core::{Effect, LinkAct, StartFault};
-use stab_treecore::{TreeEvent, TreeStartFault, TreeState, TreeStepFault};
+use stab_treecore::{Openings, TreeEvent, TreeStartFault, TreeState, TreeStepFault};
 use std::alloc::{AllocError, Global};
 
 /// The stray and the old acknowledgement are received.
@@ -16,8 +16,9 @@ const STRAY: [LinkAct; 2] = [
 /// Makes the calls.
 pub fn make_all<R: Print + Eprint + AllocGlobal>(rt: &R) -> anyhow::Result<()> {
     let opening = tried_twice(|| Opening::new(rt.alloc()))?;
+    make_call(rt, &mut NoOpenings { opening: &opening })?;
     make_call(rt, &mut NewTreeState { opening: &opening })?;
-    let state = tried_twice(|| new_state(rt.alloc(), &opening))?;
+    let state = tried_twice(|| opening.state(rt.alloc()))?;
     let event = act_on(CHILDREN[0], LinkAct::Offer);
     let mut step = TreeStep { state, event };
     make_steps(rt, &mut step)?;
@@ -52,17 +53,6 @@ fn make_acts<R: Print + Eprint + AllocGlobal>(
     Ok(())
 }
 
-/// The tree at its opening.
-fn new_state(alloc: Global, opening: &Opening) -> Result<TreeState, TreeStartFault> {
-    TreeState::new(
-        alloc,
-        &opening.params,
-        &opening.tree,
-        &ITEMS,
-        &opening.starts,
-    )
-}
-
 /// What the links of a tree hold.
 fn links_text(alloc: Global, state: &TreeState) -> Result<String, AllocError> {
     let mut text = String::new(alloc);
@@ -70,7 +60,33 @@ fn links_text(alloc: Global, state: &TreeState) -> Result<String, AllocError> {
     Ok(text)
 }
 
-/// A tree is made of the starts of its links.
+/// Empty openings are made for a tree.
+#[derive(Drop)]
+struct NoOpenings<'a> {
+    opening: &'a Opening,
+}
+
+impl Call for NoOpenings<'_> {
+    type Answer = Openings;
+
+    fn name(&self) -> &'static str {
+        "Openings::none"
+    }
+
+    fn push_object(&self, text: &mut String) -> Result<(), AllocError> {
+        write!(text, "{:?}", self.opening)
+    }
+
+    fn make(&mut self, alloc: Global) -> Result<Self::Answer, AllocError> {
+        Openings::none(alloc, self.opening.tree())
+    }
+
+    fn push_answer(text: &mut String, openings: &Self::Answer) -> Result<(), AllocError> {
+        writeln!(text, " {openings:?}")
+    }
+}
+
+/// A tree is made of the starts of its links and the openings of its nodes.
 #[derive(Drop)]
 struct NewTreeState<'a> {
     opening: &'a Opening,
@@ -88,7 +104,7 @@ impl Call for NewTreeState<'_> {
     }
 
     fn make(&mut self, alloc: Global) -> Result<Self::Answer, AllocError> {
-        match new_state(alloc, self.opening) {
+        match self.opening.state(alloc) {
             Err(TreeStartFault::Start(StartFault::Memory)) => Err(AllocError),
             answer => Ok(answer),
         }

@@ -19,6 +19,9 @@ const SEEN: [FrameSeen; 6] = [
     FrameSeen::Closed,
 ];
 
+/// What the node begins with.
+const OPENED: [Item; 2] = [50, 51];
+
 /// The most turns of the worker.
 const TURNS: u32 = 50;
 
@@ -72,7 +75,7 @@ impl Call for Work {
             None => new_ends(alloc)?,
         };
         let gate = Free::for_nodes(1);
-        match work(&(), alloc, 0, Some(up), downs, &[], TURNS, &gate) {
+        match work(&(), alloc, 0, Some(up), downs, &OPENED, TURNS, &gate) {
             Err(NodeFault::Memory) => Err(AllocError),
             answer => Ok(answer),
         }
