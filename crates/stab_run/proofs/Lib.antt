@@ -1,12 +1,5 @@
 pub mod Paired
-pub mod Counts
-pub mod Entries
-pub mod Linked
 pub mod Begun
-pub mod OptionalMembers
-pub mod OwnParams
-pub mod Refused
-pub mod Schedules
 pub mod Unlawful
 pub mod Settlements
 pub mod Explained

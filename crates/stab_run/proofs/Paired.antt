@@ -1,6 +1,6 @@
 -- Lists of which the entries belong together, one by one: links and what there is one of for each.
 use Rattle.std.proofs.Common.{◌≡◌, ◌<◌, ◌+◌, ℕ, zero, suc, List, [], ◌∷◌, ◌++◌, length, map, take, drop, get_or, Some, None, Option, refl, sym, ap, ◌∙◌, subst, arith}
-use Rattle.std.proofs.lemmas.List.{drop_more, length-map, take_more}
+use Rattle.std.proofs.lemmas.List.{drop_more, length-map, map-append, map_more, take_more}
 use Rattle.std.proofs.lemmas.Option.{none-some, same_Some}
 use Rattle.std.specs.List.{AllZip}
 use Rattle.stab_workers.specs.ByNode.{entry_into}
@@ -112,3 +112,13 @@ entry_read f (Some q ∷ parents) [] zero y is = absurd (none-some y is)
 entry_read f (Some q ∷ parents) [] (suc node) y is = entry_read f parents [] node y is
 entry_read f (Some q ∷ parents) (x ∷ xs) zero y is = (x, refl, same_Some (f x) y is)
 entry_read f (Some q ∷ parents) (x ∷ xs) (suc node) y is = entry_read f parents xs node y is
+
+-- where the ends so far are made of the entries so far, one more end is made of the next entry
+pub one_more_end : {E F X : Type 0} (view : E → F) (made_of : X → F) (ends : List E) (end : E) (xs : List X) (place : ℕ) (x copy : X)
+    → place < length xs → x ≡ get_or xs place x → copy ≡ x → view end ≡ made_of copy → map view ends ≡ map made_of (take place xs)
+    → map view (ends ++ end ∷ []) ≡ map made_of (take (place + 1) xs)
+one_more_end view made_of ends end xs place x copy within read same shows so_far =
+    let next : view end ≡ made_of (get_or xs place x) = shows ∙ (ap made_of same ∙ ap made_of read) in
+    map-append view ends (end ∷ [])
+    ∙ (ap (λ front. front ++ view end ∷ []) so_far
+    ∙ (ap (λ y. map made_of (take place xs) ++ y ∷ []) next ∙ sym (map_more made_of xs place x within)))

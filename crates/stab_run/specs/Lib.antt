@@ -1,13 +1,3 @@
-pub mod Refusals
-pub mod ScheduleEntries
-pub mod LinkEntries
-pub mod JobLinks
-pub mod JobOpenings
-pub mod JobValues
-pub mod LinkParams
-pub mod JobMembers
-pub mod LentMembers
-pub mod Jobs
 pub mod Reports
 pub mod RunFaults
 pub mod LinkRuns

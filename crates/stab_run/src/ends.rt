@@ -12,7 +12,7 @@ ghost use Rattle.stab_tree.specs.Links.{links_of};
 ghost use Rattle.stab_workers.specs.ByNode.{ended_at};
 ghost use Rattle.stab_workers.specs.FirstFault.{IsFirstToGiveUp, IsFirstUnstarted};
 
-use crate::job::Job;
+use stab_job::Job;
 use crate::link::SplitLink;
 use crate::run_fault::RunFault;
 use stab_lock::{RecvSide, SendSide};

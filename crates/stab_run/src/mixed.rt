@@ -20,7 +20,7 @@ ghost use Rattle.stab_workers.specs.FirstFault.{IsFirstToGiveUp, IsFirstUnstarte
 
 use crate::any_link::AnyLink;
 use crate::ends::{run_ends, split_all};
-use crate::job::Job;
+use stab_job::Job;
 use crate::report::Report;
 use crate::run::report_of;
 use crate::run_fault::RunFault;

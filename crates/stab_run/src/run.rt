@@ -12,7 +12,7 @@ ghost use Rattle.stab_run.specs.Runs.{AreExplained, CompleteBelowEnded, HandsOn,
 ghost use Rattle.stab_treecore.specs.NodeLaws.{HalfTreeLawAtNodes, TreeLawAtNodes};
 ghost use Rattle.stab_workers.specs.ByNode.{received_at};
 
-use crate::job::Job;
+use stab_job::Job;
 use crate::laws;
 use crate::link::RunLink;
 use crate::report::Report;

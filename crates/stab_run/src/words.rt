@@ -17,7 +17,7 @@ ghost use Rattle.stab_workers.specs.ByNode.{ended_at, received_at};
 ghost use Rattle.stab_workers.specs.FirstFault.{IsFirstToGiveUp, IsFirstUnstarted};
 
 use crate::ends::{run_ends, split_all};
-use crate::job::Job;
+use stab_job::Job;
 use crate::laws;
 use crate::link::{RunLink, SplitLink};
 use crate::report::Report;

@@ -12,10 +12,10 @@ use Rattle.stab_script.specs.declared.link_job.LinkJobFault.{LinkJobFault}
 use Rattle.stab_script.specs.declared.link_job.LinkJobFault.TheVariants.{Memory as out_of_memory}
 use Rattle.stab_core.specs.declared.start.StartFault.{StartFault}
 use Rattle.stab_treecore.specs.declared.fault.TreeStartFault.{TreeStartFault}
-use Rattle.stab_run.specs.declared.fault.JobFault.{JobFault}
-use Rattle.stab_run.specs.declared.fault.JobFault.TheVariants.{Memory as no_memory}
-use Rattle.stab_run.specs.JobValues.{JobValue}
-use Rattle.stab_run.specs.Jobs.{job as whole_job}
+use Rattle.stab_job.specs.declared.fault.JobFault.{JobFault}
+use Rattle.stab_job.specs.declared.fault.JobFault.TheVariants.{Memory as no_memory}
+use Rattle.stab_job.specs.JobValues.{JobValue}
+use Rattle.stab_job.specs.Jobs.{job as whole_job}
 use Rattle.stab_run.specs.LinkKinds.{IsLarge}
 use Rattle.stab_run.specs.LinkRuns.{HoldsInto, IsFirstUnsettled, all_given}
 use Rattle.stab_run.specs.Reports.{OnePerNode, Reported, report_text}

@@ -7,8 +7,8 @@ use Rattle.stab_script.specs.declared.fault.ScriptFault.{ScriptFault}
 use Rattle.stab_script.specs.declared.fault.ScriptFault.TheVariants as script
 use Rattle.stab_tree.specs.declared.fault.TreeFault.{TreeFault}
 use Rattle.stab_tree.specs.declared.fault.TreeFault.TheVariants as tree
-use Rattle.stab_run.specs.declared.fault.JobFault.{JobFault}
-use Rattle.stab_run.specs.declared.fault.JobFault.TheVariants as whole
+use Rattle.stab_job.specs.declared.fault.JobFault.{JobFault}
+use Rattle.stab_job.specs.declared.fault.JobFault.TheVariants as whole
 use Rattle.stab_task.specs.declared.fault.CliFault.{CliFault}
 use Rattle.stab_task.specs.declared.fault.CliFault.TheVariants.{CommandLine, Open, Read}
 use Rattle.stab_task.specs.declared.fault.CliFault.TheVariants.{TooLong, LinkJob, Job, Start}

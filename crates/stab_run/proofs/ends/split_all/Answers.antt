@@ -2,8 +2,7 @@ use Rattle.std.proofs.Common.{◌≡◌, ◌<◌, ◌+◌, ◌∙◌, ap, length
 use Rattle.std.proofs.lemmas.List.Elements.{All-push}
 use Rattle.stab_lock.specs.Accounts.{new_receiver, new_sender}
 use Rattle.stab_script.specs.Scripts.{receiver_half, sender_half}
-use Rattle.stab_run.proofs.Linked.{one_more_end}
-use Rattle.stab_run.proofs.Paired.{more_paired, next_paired, one_more_paired}
+use Rattle.stab_run.proofs.Paired.{more_paired, next_paired, one_more_end, one_more_paired}
 use Rattle.stab_run.proofs.ends.split_all.Goals as goal
 
 pub take_first-opening-requires : goal.take_first-opening-requires

@@ -1,0 +1,22 @@
+//! The job of a whole tree, and its reader.
+//!
+//! Contracts see a [`Job`] as its parts, and its type keeps lawful parameters, one start and one
+//! script for each link of its tree, and openings of its nodes that fit the tree. The reader's
+//! contract goes from bytes to that value by small definitions in `specs/`. The layer above uses
+//! one fact: the answer of [`read_job`] is the job that the bytes mean, or the first check that
+//! they fail, unless memory is refused.
+#![tactic(auto)]
+
+mod fault;
+mod job;
+mod link_entry;
+mod links;
+mod members;
+mod opened;
+mod read;
+mod schedule;
+mod version;
+
+pub use fault::JobFault;
+pub use job::Job;
+pub use read::read_job;

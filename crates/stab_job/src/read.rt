@@ -1,0 +1,189 @@
+ghost use Rattle.std.specs.Prelude.{◌≡◌, ◌≢◌, ◌<◌, codes, true, false, length, IfErr, MatchResult, None, Ok, Err};
+ghost use Rattle.serde_json.specs.Find.{get};
+ghost use Rattle.serde_json.specs.View.{view};
+ghost use Rattle.stab_json.specs.Values.{value_of};
+ghost use Rattle.stab_job.specs.JobLinks.{are_miscounted};
+ghost use Rattle.stab_job.specs.JobValues.{links};
+ghost use Rattle.stab_job.specs.Jobs.{AreCounted, are_out_of_range};
+ghost use Rattle.stab_job.specs.Jobs.{job, job_on_tree, job_of_scripts};
+ghost use Rattle.stab_job.specs.LinkParams.{link_params};
+ghost use Rattle.stab_job.specs.LentMembers.{members_lent};
+ghost use Rattle.stab_job.specs.Refusals.{is_of_value};
+ghost use Rattle.stab_tree.specs.Nodes.{Nodes};
+
+use crate::fault::JobFault;
+use crate::job::Job;
+use crate::link_entry::LinkEntry;
+use crate::links::{make_scripts, params_of, starts_of};
+use crate::members::{LentMembers, read_members};
+use crate::opened::openings_of;
+use crate::schedule::read_schedule;
+use crate::version::version_of;
+use serde_json::Value;
+use stab_frames::{Params, Sequence};
+use stab_json::read_value;
+use stab_script::{Script, ScriptFault};
+use stab_tree::{Tree, TreeFault, read_tree};
+use std::alloc::Global;
+
+/// The most items that a job may have.
+const MAX_ITEMS: usize = 10_000;
+
+/// The most entries that a schedule may have.
+const MAX_EVENTS: usize = 1_000_000;
+
+/// The most turns that a job may name.
+const MAX_TURNS: u64 = 1_000_000;
+
+/// The job that these bytes mean, or the first check that they fail; memory may be refused before a
+/// later check.
+#[tactic(auto, using(stab_json::proofs::ForCallers::some_bytes, crate::proofs::Refused::tree_fault_is_of_value))]
+pub fn read_job(alloc: Global, bytes: &[u8]) -> Result<Job, JobFault>
+    ensures job { MatchResult result
+        (λ its_job. job bytes.now ≡ Ok its_job)
+        (λ fault. fault ≢ JobFault.Memory → job bytes.now ≡ Err fault) }
+    ensures json { result ≡ Err JobFault.Json → value_of bytes.now ≡ None }
+
+    // Refused memory is reported as that alone.
+    ensures memory { result ≡ Err JobFault.Memory → 0 < length bytes.now }
+    ensures tree_memory { result ≢ Err (JobFault.Tree TreeFault.Memory) }
+    ensures script_memory { result ≢ Err (JobFault.Script ScriptFault.Memory) }
+{
+    let Some(value) = read_value(alloc, bytes)? else {
+        return Err(JobFault::Json);
+    };
+    let Some(version) = version_of(&value) else {
+        return Err(JobFault::Version);
+    };
+    let Some(members) = read_members(alloc, version, &value)? else {
+        return Err(JobFault::Shape);
+    };
+    let params = Params::new(members.capacity, members.labels)?;
+    let tree = read_tree(alloc, members.tree)?;
+    job_on_tree(alloc, params, tree, members)
+}
+
+/// The job of these members on their tree, or the first check that they fail.
+#[tactic(auto, using(crate::proofs::Refused::script_fault_is_of_value))]
+fn job_on_tree(
+    alloc: Global,
+    params: Params,
+    tree: Tree,
+    mut members: LentMembers<'_>,
+) -> Result<Job, JobFault>
+    requires capacity { params.capacity ≡ members.capacity }
+    requires labels { params.labels ≡ members.labels }
+    ensures job { MatchResult result
+        (λ its_job. job_on_tree tree (members_lent members.entry) ≡ Ok its_job)
+        (λ fault. fault ≢ JobFault.Memory
+        → job_on_tree tree (members_lent members.entry) ≡ Err fault) }
+    ensures reported { IfErr result (λ fault. is_of_value fault ≡ true) }
+{
+    let links = tree.link_count();
+    check_counts(links, &members)?;
+    let scripts = make_scripts(alloc, links, members.scripts.take())?;
+    job_of_scripts(alloc, params, tree, members, scripts)
+}
+
+/// The job of these scripts and of the other members, whose numbers of entries are right; or the
+/// first check that the turns and the schedule fail.
+fn job_of_scripts(
+    alloc: Global,
+    params: Params,
+    tree: Tree,
+    members: LentMembers<'_>,
+    scripts: Sequence<Script>,
+) -> Result<Job, JobFault>
+    requires capacity { params.capacity ≡ members.capacity }
+    requires labels { params.labels ≡ members.labels }
+    requires counted { AreCounted (links tree) (members_lent members) }
+    requires one_script_each { length scripts ≡ links tree }
+    ensures job { MatchResult result
+        (λ its_job. job_of_scripts tree (members_lent members.entry) scripts ≡ Ok its_job)
+        (λ fault. fault ≢ JobFault.Memory
+        → job_of_scripts tree (members_lent members.entry) scripts ≡ Err fault) }
+    ensures reported { IfErr result (λ fault. is_of_value fault ≡ true) }
+{
+    let _lawful = params.capacity();
+    let turns = turns_in_range(members.turns)?;
+    let schedule = read_schedule(alloc, &tree, members.schedule)?;
+    let params = link_params(alloc, &tree, params, &members.links)?;
+    let openings = openings_of(alloc, &tree, members.hold, members.openings)?;
+    let starts = starts_of(alloc, tree.link_count(), members.starts)?;
+    Ok(Job::from_parts(
+        params,
+        tree,
+        members.items,
+        starts,
+        scripts,
+        turns,
+        schedule,
+        openings,
+    ))
+}
+
+/// These turns, where they are 1 to 1,000,000.
+fn turns_in_range(turns: u64) -> Result<u32, JobFault>
+    ensures { MatchResult result
+        (λ its_turns. (its_turns ≡ turns) × (are_out_of_range turns ≡ false))
+        (λ fault. (fault ≡ JobFault.TurnsOutOfRange) × (are_out_of_range turns ≡ true)) }
+{
+    if turns < 1 || turns > MAX_TURNS {
+        return Err(JobFault::TurnsOutOfRange);
+    }
+    Ok(turns as u32)
+}
+
+/// The parameters of each link, or the first check that the entries of the links fail: there is one
+/// for each link, where any are given, and only then is each looked at.
+fn link_params(
+    alloc: Global,
+    tree: &Tree,
+    of_job: Params,
+    entries: &Option<Sequence<LinkEntry>>,
+) -> Result<Sequence<Params>, JobFault>
+    ensures params { MatchResult result
+        (λ params. link_params tree.now of_job entries.now ≡ Ok params)
+        (λ fault. fault ≢ JobFault.Memory → link_params tree.now of_job entries.now ≡ Err fault) }
+    ensures reported { IfErr result (λ fault. is_of_value fault ≡ true) }
+{
+    if are_miscounted(tree.link_count(), entries) {
+        return Err(JobFault::LinkCount);
+    }
+    params_of(alloc, tree, of_job, entries)
+}
+
+/// Whether the numbers of entries of these members are right over that many links, or the first
+/// check that they fail.
+#[tactic(auto, using(stab_json::proofs::ForCallers::count_of_values))]
+fn check_counts(link_count: u16, members: &LentMembers<'_>) -> Result<(), JobFault>
+    ensures counted { MatchResult result
+        (λ _. AreCounted link_count (members_lent members.now))
+        (λ fault. (t : Nodes) → links t ≡ link_count
+        → job_on_tree t (members_lent members.now) ≡ Err fault) }
+    ensures reported { IfErr result (λ fault. is_of_value fault ≡ true) }
+{
+    if members.items.len() > MAX_ITEMS {
+        return Err(JobFault::TooManyItems);
+    }
+    if members.schedule.len() > MAX_EVENTS {
+        return Err(JobFault::TooManyEvents);
+    }
+    if are_miscounted(link_count, &members.starts) {
+        return Err(JobFault::StartCount);
+    }
+    if are_miscounted(link_count, &members.scripts) {
+        return Err(JobFault::ScriptCount);
+    }
+    Ok(())
+}
+
+/// Whether a list is given that has not one entry for each of that many links.
+fn are_miscounted<T>(link_count: u16, list: &Option<Sequence<T>>) -> bool
+    ensures { result ≡ are_miscounted link_count list.now }
+{
+    match list {
+        Some(list) => list.len() != usize::from(link_count),
+        None => false,
+    }
+}
