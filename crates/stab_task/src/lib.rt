@@ -18,6 +18,3 @@ pub use command::{Links, Task, parse};
 pub use fault::CliFault;
 pub use file::{LoadFault, load};
 pub use run::{perform, words};
-
-#[cfg(test)]
-mod tests;

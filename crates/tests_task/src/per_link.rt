@@ -1,6 +1,21 @@
-use super::words::parsed;
-use super::*;
+//! Jobs whose links have parameters of their own.
+
+use crate::tasks::{
+    LOCKED, LONE_REPORT, LONE_ROOT, MIXED, OF_TREES, RUNS, WORDS, assert_answer, assert_fault,
+    assert_refused, outcome,
+};
+use crate::words::is_refused;
+use stab_core::StartFault;
 use stab_frames::ParamsFault;
+use stab_run::{JobFault, RunFault};
+use stab_task::{CliFault, Task};
+use stab_tree::NodeId;
+use stab_treecore::TreeStartFault;
+use std::alloc::{AllocError, Global};
+use std::process::Abort;
+use std::sync::Wait;
+use std::test::Fail;
+use std::thread::Threads;
 
 /// A chain of three nodes, whose second link is wider than the first and begins with two frames.
 const WIDER: &str =
@@ -9,19 +24,19 @@ const WIDER: &str =
 /// The member that makes the second link wider.
 const LINKS: &str = r#""links":[null,{"capacity":2,"labels":6}]"#;
 
-/// Fails the test where a task over a tree, with these links in place of the wider second one, does
-/// not refuse its job with this fault, or the fault has another text.
+/// Fails the test where a task, with these links in place of the wider second one, does not refuse
+/// its job with this fault.
 fn assert_no_links<T: Threads + Wait + Send + Sync + Abort + Alloc<A = Global>>(
     rt: &T,
+    tasks: &[Task],
     links: &str,
     fault: &CliFault,
-    text: &str,
 ) -> Result<(), AllocError> {
     let job = WIDER.replace(rt.alloc(), LINKS, links)?;
-    for task in OF_TREES {
+    for &task in tasks {
         assert_refused(rt, task, job.as_bytes(), fault);
     }
-    assert_fault(rt, fault, 1, text)
+    Ok(())
 }
 
 #[test]
@@ -32,54 +47,60 @@ fn a_wider_second_link(rt: HostRuntime) -> Result<(), Fail> {
         WIDER,
         "r depth 0 received 2 acked -\nitems: 7 8\na depth 1 received 2 acked 2\nitems: 7 8\nb depth 2 received 4 acked 2\nitems: 20 21 7 8\n",
     );
-    let narrow = WIDER.replace(rt.alloc(), LINKS, r#""labels":4"#)?;
     let fault = CliFault::Tree(TreeStartFault::Start(StartFault::TooManyFrames));
-    assert_refused(&rt, Task::Tree, narrow.as_bytes(), &fault);
+    assert_no_links(&rt, &[Task::Tree], r#""labels":4"#, &fault)?;
     assert_fault(&rt, &fault, 3, "start: too many frames")?;
     Ok(())
 }
 
 #[test]
 fn refused_link_parameters(rt: HostRuntime) -> Result<(), Fail> {
-    let count = "job: wrong number of links";
-    assert_no_links(
-        &rt,
-        r#""links":[null]"#,
-        &CliFault::Job(JobFault::LinkCount),
-        count,
-    )?;
-    assert_no_links(
-        &rt,
-        r#""links":[]"#,
-        &CliFault::Job(JobFault::LinkCount),
-        count,
-    )?;
-    assert_no_links(
-        &rt,
-        r#""links":[null,{"capacity":2,"labels":5}]"#,
-        &CliFault::Job(JobFault::LinkParams(NodeId::new(2), ParamsFault::LabelsTooFew)),
-        "job: too few labels",
-    )?;
-    assert_no_links(
-        &rt,
-        r#""links":[{"capacity":65,"labels":200},{"capacity":2,"labels":5}]"#,
-        &CliFault::Job(JobFault::LinkParams(NodeId::new(1), ParamsFault::CapacityOutOfRange)),
-        "job: capacity out of range",
-    )?;
-    for links in [r#""links":3"#, r#""links":null"#, r#""links":[null,3]"#] {
-        assert_no_links(
-            &rt,
-            links,
-            &CliFault::Job(JobFault::Shape),
+    let rows = [
+        (
+            r#""links":[null]"#,
+            CliFault::Job(JobFault::LinkCount),
+            "job: wrong number of links",
+        ),
+        (
+            r#""links":[]"#,
+            CliFault::Job(JobFault::LinkCount),
+            "job: wrong number of links",
+        ),
+        (
+            r#""links":[null,{"capacity":2,"labels":5}]"#,
+            CliFault::Job(JobFault::LinkParams(NodeId::new(2), ParamsFault::LabelsTooFew)),
+            "job: too few labels",
+        ),
+        (
+            r#""links":[{"capacity":65,"labels":200},{"capacity":2,"labels":5}]"#,
+            CliFault::Job(JobFault::LinkParams(NodeId::new(1), ParamsFault::CapacityOutOfRange)),
+            "job: capacity out of range",
+        ),
+        (
+            r#""links":3"#,
+            CliFault::Job(JobFault::Shape),
             "job: wrong shape",
-        )?;
+        ),
+        (
+            r#""links":null"#,
+            CliFault::Job(JobFault::Shape),
+            "job: wrong shape",
+        ),
+        (
+            r#""links":[null,3]"#,
+            CliFault::Job(JobFault::Shape),
+            "job: wrong shape",
+        ),
+    ];
+    for (links, fault, text) in &rows {
+        assert_no_links(&rt, &OF_TREES, links, fault)?;
+        assert_fault(&rt, fault, 1, text)?;
     }
     let not_one = CliFault::Run(RunFault::CapacityNotOne);
     assert_refused(&rt, WORDS, WIDER.as_bytes(), &not_one);
     assert_fault(&rt, &not_one, 3, "run: capacity is not one")?;
-    let both = ["stab", "run", "--words", "--mixed"];
-    assert_eq!(rt; parsed(rt.alloc(), &both)?, Err(CliFault::CommandLine));
-    assert_eq!(rt; CliFault::CommandLine.status(), 2);
+    assert!(rt; is_refused(rt.alloc(), &["stab", "run", "--words", "--mixed"])?);
+    assert!(rt; CliFault::CommandLine.status() == 2);
     Ok(())
 }
 
@@ -101,6 +122,19 @@ fn reports_the_chain<T: Threads + Wait + Send + Sync + Alloc<A = Global>>(
         && text.contains("\nb depth 2 received ")
 }
 
+/// Fails the test where a run over mixed links, or over links behind locks, gives no report of the
+/// chain with these links in place of the wider second one.
+fn assert_reported<T: Threads + Wait + Send + Sync + Abort + Alloc<A = Global>>(
+    rt: &T,
+    links: &str,
+) -> Result<(), AllocError> {
+    let job = WIDER.replace(rt.alloc(), LINKS, links)?;
+    for &task in &[MIXED, LOCKED] {
+        assert!(rt; reports_the_chain(rt, task, &job), "{links}");
+    }
+    Ok(())
+}
+
 #[test]
 fn mixed_runs(rt: HostRuntime) -> Result<(), Fail> {
     assert_answer(&rt, MIXED, LONE_ROOT, LONE_REPORT);
@@ -109,15 +143,10 @@ fn mixed_runs(rt: HostRuntime) -> Result<(), Fail> {
         r#""links":[{"capacity":1,"labels":4},{"capacity":3,"labels":8}]"#,
         r#""links":[{"capacity":3,"labels":8},{"capacity":2,"labels":6}]"#,
     ];
-    for links in wider {
-        let job = WIDER.replace(rt.alloc(), LINKS, links)?;
-        assert!(rt; reports_the_chain(&rt, MIXED, &job), "{links}");
-        assert!(rt; reports_the_chain(&rt, LOCKED, &job), "{links}");
+    for links in &wider {
+        assert_reported(&rt, links)?;
     }
-    let narrow = WIDER.replace(rt.alloc(), LINKS, r#""links":[null,null]"#)?;
     let fault = CliFault::Run(RunFault::Start(NodeId::new(2), StartFault::TooManyFrames));
-    for task in RUNS {
-        assert_refused(&rt, task, narrow.as_bytes(), &fault);
-    }
+    assert_no_links(&rt, &RUNS, r#""links":[null,null]"#, &fault)?;
     Ok(())
 }

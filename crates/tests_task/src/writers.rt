@@ -1,5 +1,12 @@
-use super::*;
+//! Writers that fail, are interrupted, or take less than they are handed.
+
+use crate::tasks::{WORKS, Work, assert_fault};
+use stab_task::{CliFault, act};
+use std::alloc::Global;
 use std::io::{self, ErrorKind, Write};
+use std::sync::Wait;
+use std::test::Fail;
+use std::thread::Threads;
 
 /// A writer that takes at most `most` bytes at a time. After as many bytes as its place says it
 /// fails `times` times, and then takes the others. Where it names no kind of failure, it says as
@@ -137,7 +144,7 @@ fn is_written_as_taken<T: Threads + Wait + Send + Sync + Alloc<A = Global>>(
 
 #[test]
 fn writers_that_fail(rt: HostRuntime) -> Result<(), Fail> {
-    for work in WORKS {
+    for &work in &WORKS {
         for count in 0..work.text.len() {
             assert!(rt; is_written_as_taken(&rt, work, count), "{count} bytes");
         }

@@ -1,6 +1,14 @@
-use super::*;
+//! Tasks over a whole tree under one schedule.
+
+use crate::tasks::{LONE_ROOT, LONE_TEXT, assert_answer, assert_fault, assert_refused};
+use stab_core::StartFault;
+use stab_run::JobFault;
 use stab_script::ScriptFault;
+use stab_task::{CliFault, Task};
 use stab_tree::TreeFault;
+use stab_treecore::{TreeStartFault, TreeStepFault};
+use std::alloc::{AllocError, Global};
+use std::test::Fail;
 
 /// The acts on the link into this node that begin at the worst start: one round that meets what the
 /// start holds, and then `rounds` more.
@@ -21,7 +29,7 @@ fn push_steps(schedule: &mut String, child: &str, rounds: usize) -> Result<(), A
         "send_ack",
         "recv_ack",
     ];
-    for act in worst {
+    for act in &worst {
         push_step(schedule, child, act)?;
     }
     for _ in 0..rounds {
@@ -31,16 +39,16 @@ fn push_steps(schedule: &mut String, child: &str, rounds: usize) -> Result<(), A
 }
 
 /// Adds one round of an item on the link into this node.
-pub(super) fn push_round(schedule: &mut String, child: &str) -> Result<(), AllocError> {
-    for act in ["offer", "send_frame", "recv_frame", "send_ack", "recv_ack"] {
+pub(crate) fn push_round(schedule: &mut String, child: &str) -> Result<(), AllocError> {
+    for act in &["offer", "send_frame", "recv_frame", "send_ack", "recv_ack"] {
         push_step(schedule, child, act)?;
     }
     Ok(())
 }
 
-/// Adds one act on the link into this node.
+/// Adds one act on the link into this node, after a comma where it is not the first of its list.
 fn push_step(schedule: &mut String, child: &str, act: &str) -> Result<(), AllocError> {
-    if !schedule.is_empty() {
+    if schedule.as_bytes().last() != Some(&b'[') {
         schedule.push_str(",")?;
     }
     for piece in ["[\"", child, "\",\"", act, "\"]"] {
@@ -49,17 +57,21 @@ fn push_step(schedule: &mut String, child: &str, act: &str) -> Result<(), AllocE
     Ok(())
 }
 
+/// A job of two links that both begin at the worst start, up to the acts of its schedule.
+const TWO_WORST_STARTS: &str =
+    r#"{"capacity":1,"labels":4,"tree":[{"name":"r"},{"name":"a","parent":"r"},{"name":"b","parent":"a"}],"items":[10,11,12,13,14,15,16],"starts":[{"frames":[[2,99]],"acks":[0],"send":0,"recv":1},{"frames":[[2,98]],"acks":[0],"send":0,"recv":1}],"schedule":["#;
+
+/// Adds the schedule of that job, and its end.
+fn push_schedule(job: &mut String) -> Result<(), AllocError> {
+    push_steps(job, "a", 3)?;
+    push_steps(job, "b", 1)?;
+    job.push_str("]}")
+}
+
 #[test]
 fn prints_two_links_under_one_schedule(rt: HostRuntime) -> Result<(), Fail> {
-    let mut schedule = String::new(rt.alloc());
-    push_steps(&mut schedule, "a", 3)?;
-    push_steps(&mut schedule, "b", 1)?;
-    let mut job = String::from_str(
-        rt.alloc(),
-        r#"{"capacity":1,"labels":4,"tree":[{"name":"r"},{"name":"a","parent":"r"},{"name":"b","parent":"a"}],"items":[10,11,12,13,14,15,16],"starts":[{"frames":[[2,99]],"acks":[0],"send":0,"recv":1},{"frames":[[2,98]],"acks":[0],"send":0,"recv":1}],"schedule":["#,
-    )?;
-    job.push_str(&schedule)?;
-    job.push_str("]}")?;
+    let mut job = String::from_str(rt.alloc(), TWO_WORST_STARTS)?;
+    push_schedule(&mut job)?;
     assert_answer(
         &rt,
         Task::Tree,
@@ -125,9 +137,9 @@ fn refuses_trees_and_schedules_by_name(rt: HostRuntime) -> Result<(), Fail> {
             "job: unknown version",
         ),
     ];
-    for (job, fault, status, text) in rows {
-        assert_refused(&rt, Task::Tree, job.as_bytes(), &fault);
-        assert_fault(&rt, &fault, status, text)?;
+    for (job, fault, status, text) in &rows {
+        assert_refused(&rt, Task::Tree, job.as_bytes(), fault);
+        assert_fault(&rt, fault, *status, text)?;
     }
     Ok(())
 }

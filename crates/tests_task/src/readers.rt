@@ -1,5 +1,12 @@
-use super::*;
-use std::io::{self, ErrorKind};
+//! Readers that fail, are interrupted, or give less or more than they are asked for.
+
+use crate::tasks::{PLAIN, WORKS, Work, assert_fault, assert_refused, not_json, outcome};
+use stab_task::{CliFault, Task, load};
+use std::alloc::Global;
+use std::io::{self, ErrorKind, Read};
+use std::sync::Wait;
+use std::test::Fail;
+use std::thread::Threads;
 
 const INTERRUPTED: Option<ErrorKind> = Some(ErrorKind::Interrupted);
 
@@ -188,7 +195,7 @@ fn is_read_on<T: Threads + Wait + Send + Sync + Alloc<A = Global>>(
 
 #[test]
 fn readers_that_fail(rt: HostRuntime) -> Result<(), Fail> {
-    for work in WORKS {
+    for &work in &WORKS {
         for place in 0..=work.job.len() {
             assert!(rt; is_read_on(&rt, work, place), "at byte {place}");
         }
@@ -213,7 +220,7 @@ fn is_read_as_given<T: Threads + Wait + Send + Sync + Alloc<A = Global>>(
 
 #[test]
 fn readers_that_give_less_or_more(rt: HostRuntime) {
-    for work in WORKS {
+    for &work in &WORKS {
         for count in 0..=work.job.len() {
             assert!(rt; is_read_as_given(&rt, work, count), "{count} bytes");
         }
@@ -223,16 +230,16 @@ fn readers_that_give_less_or_more(rt: HostRuntime) {
 #[test]
 fn readers_of_16777216_spaces(rt: HostRuntime) -> Result<(), Fail> {
     let mut spaces = vec![in rt.alloc(); b' '; 16_777_216]?;
-    for most in [1, 65_536] {
+    for &most in &[1, 65_536] {
         let bytes = spaces.as_slice();
         let reader = Pieces { bytes, most };
         assert!(rt; gives(rt.alloc(), reader, bytes), "pieces of {most} bytes");
     }
-    for task in [PLAIN, Task::Tree] {
+    for &task in &[PLAIN, Task::Tree] {
         assert_refused(&rt, task, &spaces, &not_json(task));
     }
     spaces.push(b' ')?;
-    for task in [PLAIN, Task::Tree] {
+    for &task in &[PLAIN, Task::Tree] {
         assert_refused(&rt, task, &spaces, &CliFault::TooLong);
     }
     assert!(rt; loaded(rt.alloc(), Endless).err() == Some(CliFault::TooLong));

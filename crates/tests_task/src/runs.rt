@@ -1,9 +1,18 @@
-use super::*;
-use stab_tree::TreeFault;
+//! Tasks that run the workers of a job.
+
+use crate::tasks::{
+    LONE_REPORT, LONE_ROOT, RUNS, WORDS, assert_answer, assert_fault, assert_refused,
+};
+use stab_core::StartFault;
+use stab_node::NodeFault;
+use stab_run::{JobFault, RunFault};
+use stab_task::CliFault;
+use stab_tree::{NodeId, TreeFault};
+use std::test::Fail;
 
 #[test]
 fn prints_the_report_of_a_lone_root(rt: HostRuntime) {
-    for task in RUNS {
+    for &task in &RUNS {
         assert_answer(&rt, task, LONE_ROOT, LONE_REPORT);
     }
 }
@@ -13,7 +22,7 @@ fn refuses_a_start_that_is_not_lawful(rt: HostRuntime) -> Result<(), Fail> {
     let job =
         br#"{"capacity":1,"labels":4,"tree":[{"name":"r"},{"name":"a","parent":"r"}],"items":[7],"starts":[{"frames":[[0,1],[1,2]],"send":0,"recv":1}]}"#;
     let fault = CliFault::Run(RunFault::Start(NodeId::new(1), StartFault::TooManyFrames));
-    for task in RUNS {
+    for &task in &RUNS {
         assert_refused(&rt, task, job, &fault);
     }
     assert_fault(&rt, &fault, 3, "start: too many frames")?;
@@ -28,7 +37,7 @@ fn words_need_capacity_one(rt: HostRuntime) -> Result<(), Fail> {
     assert_refused(&rt, WORDS, job, &fault);
     assert_fault(&rt, &fault, 3, "run: capacity is not one")?;
     let no_link = r#"{"capacity":2,"labels":6,"tree":[{"name":"r"}],"items":[7,8]}"#;
-    for task in RUNS {
+    for &task in &RUNS {
         assert_answer(&rt, task, no_link, LONE_REPORT);
     }
     Ok(())
@@ -39,7 +48,7 @@ fn refuses_a_cycle_beside_the_root(rt: HostRuntime) -> Result<(), Fail> {
     let job =
         br#"{"capacity":1,"labels":4,"tree":[{"name":"r"},{"name":"a","parent":"b"},{"name":"b","parent":"a"}],"items":[7]}"#;
     let fault = CliFault::Job(JobFault::Tree(TreeFault::Cycle));
-    for task in RUNS {
+    for &task in &RUNS {
         assert_refused(&rt, task, job, &fault);
     }
     assert_fault(&rt, &fault, 1, "tree: cycle")?;

@@ -1,5 +1,13 @@
-use super::*;
+//! Tasks over a single link.
+
+use crate::tasks::{
+    PLAIN, TRACED, WORST_START, WORST_TEXT, assert_answer, assert_fault, assert_refused,
+};
+use stab_core::StartFault;
 use stab_frames::ParamsFault;
+use stab_script::LinkJobFault;
+use stab_task::CliFault;
+use std::test::Fail;
 
 #[test]
 fn prints_the_worst_start_and_its_trace(rt: HostRuntime) -> Result<(), Fail> {
@@ -60,9 +68,9 @@ fn refuses_link_jobs_by_name(rt: HostRuntime) -> Result<(), Fail> {
             "start: too many acknowledgements",
         ),
     ];
-    for (job, fault, status, text) in rows {
-        assert_refused(&rt, PLAIN, job.as_bytes(), &fault);
-        assert_fault(&rt, &fault, status, text)?;
+    for (job, fault, status, text) in &rows {
+        assert_refused(&rt, PLAIN, job.as_bytes(), fault);
+        assert_fault(&rt, fault, *status, text)?;
     }
     Ok(())
 }

@@ -1,22 +1,10 @@
-//! The tasks at the values of the worked examples: command lines, files, and what each task writes
-//! or refuses.
+//! What the tests of tasks share: jobs, the text that each task writes for them, and how a task ends.
 
-mod bytes;
-mod files;
-mod limits;
-mod links;
-mod per_link;
-mod readers;
-mod runs;
-mod trees;
-mod words;
-mod writers;
-
-use super::*;
 use stab_core::StartFault;
 use stab_node::NodeFault;
 use stab_run::{JobFault, RunFault};
 use stab_script::LinkJobFault;
+use stab_task::{CliFault, Links, Task, act};
 use stab_tree::NodeId;
 use stab_treecore::{TreeStartFault, TreeStepFault};
 use std::alloc::{AllocError, Global};
@@ -26,51 +14,52 @@ use std::sync::Wait;
 use std::test::Fail;
 use std::thread::Threads;
 
-const PLAIN: Task = Task::Link { trace: false };
+pub(crate) const PLAIN: Task = Task::Link { trace: false };
 
-const TRACED: Task = Task::Link { trace: true };
+pub(crate) const TRACED: Task = Task::Link { trace: true };
 
-const LOCKED: Task = Task::Run {
+pub(crate) const LOCKED: Task = Task::Run {
     links: Links::Locked,
 };
 
-const WORDS: Task = Task::Run {
+pub(crate) const WORDS: Task = Task::Run {
     links: Links::Words,
 };
 
-const MIXED: Task = Task::Run {
+pub(crate) const MIXED: Task = Task::Run {
     links: Links::Mixed,
 };
 
-const WORST_START: &str =
+pub(crate) const WORST_START: &str =
     r#"{"capacity":1,"labels":4,"start":{"frames":[[2,99]],"acks":[0],"send":0,"recv":1},"events":[["offer",10],"recv_ack","send_ack",["offer",11],"recv_ack","recv_frame","send_ack",["offer",12],"recv_ack",["offer",13],"send_frame","recv_frame"]}"#;
 
-const WORST_TEXT: &str =
+pub(crate) const WORST_TEXT: &str =
     "delivered: 99 13\noffered: 10 11 12 13\nacked: 3\nsend label: 3\nrecv label: 3\nframes:\nacks:\nclosed: no\n";
 
-const LONE_ROOT: &str = r#"{"capacity":1,"labels":4,"tree":[{"name":"r"}],"items":[7,8]}"#;
+pub(crate) const LONE_ROOT: &str =
+    r#"{"capacity":1,"labels":4,"tree":[{"name":"r"}],"items":[7,8]}"#;
 
 /// The tasks that read a job of a tree.
-const OF_TREES: [Task; 4] = [Task::Tree, LOCKED, WORDS, MIXED];
+pub(crate) const OF_TREES: [Task; 4] = [Task::Tree, LOCKED, WORDS, MIXED];
 
 /// The tasks that run the workers of a job.
-const RUNS: [Task; 3] = [LOCKED, WORDS, MIXED];
+pub(crate) const RUNS: [Task; 3] = [LOCKED, WORDS, MIXED];
 
-const LONE_TEXT: &str = "r depth 0 received 2 acked -\nitems: 7 8\n";
+pub(crate) const LONE_TEXT: &str = "r depth 0 received 2 acked -\nitems: 7 8\n";
 
-const LONE_REPORT: &str = "r depth 0 received 2 acked - ended upstream\nitems: 7 8\n";
+pub(crate) const LONE_REPORT: &str = "r depth 0 received 2 acked - ended upstream\nitems: 7 8\n";
 
 /// A task with a job for it and the text that it writes, which no schedule of threads changes.
 #[derive(Clone, Copy)]
-struct Work {
-    task: Task,
-    job: &'static str,
-    text: &'static str,
+pub(crate) struct Work {
+    pub(crate) task: Task,
+    pub(crate) job: &'static str,
+    pub(crate) text: &'static str,
 }
 
 /// One work for each task, of which each reads and writes as the others do; of the runs, those over
 /// one kind of link.
-const WORKS: [Work; 4] = [
+pub(crate) const WORKS: [Work; 4] = [
     Work {
         task: PLAIN,
         job: WORST_START,
@@ -94,7 +83,7 @@ const WORKS: [Work; 4] = [
 ];
 
 /// What a task writes for the bytes of a reader, and how it ends.
-fn outcome<T: Threads + Wait + Send + Sync, R: Read + Copy>(
+pub(crate) fn outcome<T: Threads + Wait + Send + Sync, R: Read + Copy>(
     rt: &T,
     alloc: Global,
     task: Task,
@@ -107,7 +96,7 @@ fn outcome<T: Threads + Wait + Send + Sync, R: Read + Copy>(
 }
 
 /// The fault of bytes that are no JSON.
-fn not_json(task: Task) -> CliFault {
+pub(crate) fn not_json(task: Task) -> CliFault {
     match task {
         Task::Link { .. } => CliFault::LinkJob(LinkJobFault::Json),
         Task::Tree | Task::Run { .. } => CliFault::Job(JobFault::Json),
@@ -115,39 +104,43 @@ fn not_json(task: Task) -> CliFault {
 }
 
 /// Fails the test where the task does not write this text for the job.
-fn assert_answer<T: Threads + Wait + Send + Sync + Abort + Alloc<A = Global>>(
+pub(crate) fn assert_answer<T: Threads + Wait + Send + Sync + Abort + Alloc<A = Global>>(
     rt: &T,
     task: Task,
     job: &str,
     text: &str,
 ) {
     let (ended, written) = outcome(rt, rt.alloc(), task, job.as_bytes());
-    assert_eq!(rt; ended, Ok(()), "{job}");
-    assert!(rt; written.as_slice() == text.as_bytes(), "{job}");
+    assert!(rt;
+        ended == Ok(()) && written.as_slice() == text.as_bytes(),
+        "{job}"
+    );
 }
 
 /// Fails the test where the task does not refuse the bytes with this fault, or writes anything.
-fn assert_refused<T: Threads + Wait + Send + Sync + Abort + Alloc<A = Global>>(
+pub(crate) fn assert_refused<T: Threads + Wait + Send + Sync + Abort + Alloc<A = Global>>(
     rt: &T,
     task: Task,
     job: &[u8],
     fault: &CliFault,
 ) {
     let (ended, written) = outcome(rt, rt.alloc(), task, job);
-    let text = str::from_utf8(job).unwrap_or("a job that is not UTF-8");
-    assert_eq!(rt; ended, Err(*fault), "{text}");
-    assert!(rt; written.is_empty(), "{text}");
+    assert!(rt;
+        ended == Err(*fault) && written.is_empty(),
+        "{task:?}: {ended:?}"
+    );
 }
 
 /// Fails the test where the fault has another status or another text.
-fn assert_fault<T: Abort + Alloc<A = Global>>(
+pub(crate) fn assert_fault<T: Abort + Alloc<A = Global>>(
     rt: &T,
     fault: &CliFault,
     status: u8,
     text: &str,
 ) -> Result<(), AllocError> {
-    assert_eq!(rt; fault.status(), status, "{text}");
-    assert_eq!(rt; fault.to_string(rt.alloc())?.as_str(), text);
+    assert!(rt; fault.status() == status, "{text}");
+    let its_text = fault.to_string(rt.alloc())?;
+    assert!(rt; its_text.as_str() == text, "{its_text}");
     Ok(())
 }
 
@@ -164,8 +157,8 @@ fn prints_out_of_memory_with_no_prefix(rt: HostRuntime) -> Result<(), Fail> {
         CliFault::Run(RunFault::Start(NodeId::new(1), StartFault::Memory)),
         CliFault::Run(RunFault::Node(NodeId::new(0), NodeFault::Memory)),
     ];
-    for fault in faults {
-        assert_fault(&rt, &fault, 3, "out of memory")?;
+    for fault in &faults {
+        assert_fault(&rt, fault, 3, "out of memory")?;
     }
     Ok(())
 }
