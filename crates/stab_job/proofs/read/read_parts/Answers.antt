@@ -2,10 +2,10 @@
 use Rattle.std.proofs.Common.{refl}
 use Rattle.stab_job.specs.LentMembers.{members_lent}
 use Rattle.stab_job.proofs.Counts.{script_each}
-use Rattle.stab_job.proofs.read.job_on_tree.Goals as goal
+use Rattle.stab_job.proofs.read.read_parts.Goals as goal
 
-pub job_of_scripts-requires-clause-counted : goal.job_of_scripts-requires-clause-counted
-job_of_scripts-requires-clause-counted c =
+pub parts_with-requires-clause-counted : goal.parts_with-requires-clause-counted
+parts_with-requires-clause-counted c =
     let counted = rw c.link_count-links.ensures.value at c.in_ok-check_counts.ensures.counted in
     record {
       few_items = counted.few_items;
@@ -14,7 +14,7 @@ job_of_scripts-requires-clause-counted c =
       one_script_each = rw c.take.ensures.after refl;
     }
 
-pub job_of_scripts-requires-clause-one_script_each : goal.job_of_scripts-requires-clause-one_script_each
-job_of_scripts-requires-clause-one_script_each c =
-    script_each (members_lent c.args.members) c.args.tree c.link_count-links.result c.in_ok-scripts.scripts
+pub parts_with-requires-clause-one_script_each : goal.parts_with-requires-clause-one_script_each
+parts_with-requires-clause-one_script_each c =
+    script_each (members_lent c.args.members.now) c.args.tree.now c.link_count-links.result c.in_ok-scripts.scripts
     c.in_ok-check_counts.ensures.counted c.link_count-links.ensures.value (rw c.take.ensures.value at c.in_ok-scripts.ensures)
