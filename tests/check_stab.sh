@@ -305,7 +305,7 @@ holds 'a release runs at once, without the kit' gave 'released; one two words; i
 holds 'and says nothing' [ ! -s "$work/err" ]
 run env PATH="$work/without" "$house/stab"
 holds 'and again' gave 'released; ; in' 0
-for file in "$house"/out/release-*; do
+for file in "$house"/out/stab-release-*; do
     echo 'echo spoiled' >>"$file"
 done
 run "$house/stab"
@@ -347,6 +347,8 @@ holds 'once' all gave 'other; ; in' 0 and [ ! -s "$work/err" ]
 write_text stab_cli released
 run "$house/stab"
 holds 'and with the old ones the release runs' gave 'released; ; in' 0
+newest=$(ls -t "$house/out" | grep '^stab-' | head -n 1)
+holds 'whose file is then the newest program of out' [ "${newest%-*}" = stab-release ]
 run "$house/stab" --prove one
 holds 'with --prove, the program is built, and compared' all gave 'released; one; in' 1 and
     said 'the release is the same program, byte for byte'
