@@ -107,7 +107,7 @@ class Task:
 
     def __init__(self):
         self.crate = self.kind = ""
-        self.seconds = self.bytes = 0.0
+        self.seconds = 0.0
 
     def name(self):
         return f"{self.kind} of {self.crate}"
@@ -140,7 +140,7 @@ class Watch:
     def __init__(self, pid):
         self.pid, self.tasks, self.now = pid, {}, []
         self.start = first_number("/proc/meminfo", "MemAvailable:") or 0
-        self.used = self.peak = 0
+        self.used = self.peak = self.own = 0
         self.largest = (0, "")
 
     def look(self):
@@ -158,7 +158,7 @@ class Watch:
                 below[int(fields[1])].append(pid)
                 # (its own processor time, that of the processes that it has waited for, its start)
                 seen[pid] = sum(map(int, fields[11:15])), int(fields[21]) * PAGE, fields[19]
-        self.now = []
+        self.now, own = [], 0
         for pid in below[self.pid]:
             task = self.tasks.setdefault((pid, seen[pid][2]), Task())
             if not task.crate:
@@ -175,10 +175,11 @@ class Watch:
                 waiting += below[one]
                 ticks, held = ticks + seen[one][0], held + seen[one][1]
             task.seconds = max(task.seconds, ticks / TICK)
-            task.bytes = max(task.bytes, held)
+            own += held
             if task.crate:
                 self.now.append(task.name())
                 self.largest = max(self.largest, (held, task.name()))
+        self.own = max(self.own, own)
 
     def by_crate(self):
         """The processor seconds of each crate and kind."""
@@ -256,7 +257,7 @@ class Part:
         used = resource.getrusage(resource.RUSAGE_CHILDREN)
         note = {"part": " ".join(self.words), "wall": wall, "status": status}
         note.update(processor=used.ru_utime + used.ru_stime, peak=self.watch.peak,
-                    largest=self.watch.largest, crates=self.watch.by_crate(),
+                    own=self.watch.own, largest=self.watch.largest, crates=self.watch.by_crate(),
                     jobs=os.environ.get("RT_JOBS", ""))
         with open(notes, "a") as it:
             it.write(json.dumps(note) + "\n")
@@ -271,7 +272,7 @@ def rest(parts, wall, times):
     """What the gate took beside the parts that were measured: its cheap parts, together."""
     used = sum(60 * int(it[0]) + float(it[1]) for it in re.findall(r"([0-9]+)m([0-9.]+)s", times))
     return {"part": "the others", "wall": max(wall - sum(it["wall"] for it in parts), 0),
-            "processor": max(used - sum(it["processor"] for it in parts), 0), "peak": 0,
+            "processor": max(used - sum(it["processor"] for it in parts), 0), "peak": 0, "own": 0,
             "largest": (0, ""), "crates": {}, "jobs": ""}
 
 
@@ -305,7 +306,9 @@ def table(notes, to, wall, times):
               "| Crate | " + " | ".join(KINDS) + " | all |", "|---" * (len(KINDS) + 2) + "|"]
     lines += [row(f"`{name}`", [crates[name][it] for it in KINDS]) for name in names]
     lines += [row("all", [sum(crates[name][it] for name in names) for it in KINDS]), ""]
-    lines += [f"The processes of a crate had at most {gigabytes(largest[0])} together: "
+    own = max((part["own"] for part in parts), default=0)
+    lines += [f"All processes together held at most {gigabytes(own)}, and those of one task "
+              f"{gigabytes(largest[0])}, where pages that two share count twice: "
               f"{largest[1] or 'none was seen'}. The time and the processor time of a part are those "
               "of its processes, once they have ended. The peak is by how much the free memory of "
               "the machine went down, looked at once a second. What a crate costs is seen so as "
