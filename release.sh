@@ -62,9 +62,10 @@ has_two_files() {
         $'f MANIFEST\nf stab.gz' ]
 }
 
-# Unpacks the program of the release to a file.
+# Unpacks the program of the release to a file. The status says whether it is the one that the
+# manifest names, and nothing follows it.
 unpack_to() {
-    gzip -dc -- "$release/stab.gz" >"$1" 2>/dev/null
+    gzip -dc -- "$release/stab.gz" >"$1" 2>/dev/null && [ "$(digest_of "$1")" = "$released" ]
 }
 
 # Compares the release with a program that was just proved and built of the present sources.
@@ -78,9 +79,8 @@ check() {
         [ "$released_from" = "$sources" ]
     holds 'it names this kit' "the release was built by another kit: $released_by" \
         [ "$released_by" = "$(identity_of_kit)" ]
-    unpack_to "$work/stab"
     holds 'it names the program beside it' 'stab.gz is another program, or spoiled' \
-        [ "$(digest_of "$work/stab")" = "$released" ]
+        unpack_to "$work/stab"
     holds 'the program is the one that was just built, byte for byte' \
         "it differs from $made, or that was not built" cmp -s -- "$work/stab" "$made"
     if [ "$failed" -ne 0 ]; then
@@ -106,9 +106,9 @@ archive() {
     version=${version/ /-}
     folder=rignolda-$version-x86_64-linux
     to=$kept/$folder.tar.xz
-    mkdir -p -- "$kept" "$work/$folder/docs" "$work/$folder/examples" &&
-        unpack_to "$work/$folder/stab" || fail "the release cannot be unpacked to $work"
-    [ "$(digest_of "$work/$folder/stab")" = "$released" ] ||
+    mkdir -p -- "$kept" "$work/$folder/docs" "$work/$folder/examples" ||
+        fail "the folders $kept and $work cannot be written to"
+    unpack_to "$work/$folder/stab" ||
         fail 'the release is spoiled: its program is not the one that its MANIFEST names'
     chmod 755 -- "$work/$folder/stab"
     cp -- "$top/README.md" "$top/CHANGELOG.md" "$work/$folder/" &&

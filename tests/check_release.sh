@@ -166,6 +166,10 @@ run --check
 holds 'so does half a program' checked '4 passed, 2 failed' "$beside
 $equal"
 cp "$work/release/stab.gz" "$house/release/stab.gz"
+printf x >>"$house/release/stab.gz"
+run --check
+holds 'and so does more than the program' checked '5 passed, 1 failed' "$beside"
+cp "$work/release/stab.gz" "$house/release/stab.gz"
 sed -i 2d "$house/release/MANIFEST"
 run --check
 holds 'a manifest of two lines fails' grep -qx "OTHER  $manifest" "$work/out"

@@ -5,10 +5,10 @@
 # last line is 'N passed, M failed'.
 set -u
 top=$(dirname -- "$(dirname -- "$(readlink -f -- "${BASH_SOURCE[0]}")")")
+unset CDPATH TMPDIR RT_JOBS RT_BACKEND
 work=$(mktemp -d) || exit 1
 trap 'chmod -R u+w -- "$work"; rm -rf -- "$work"' EXIT
 chmod 711 "$work"
-unset CDPATH TMPDIR RT_JOBS RT_BACKEND
 house="$work/a house"
 passed=0
 failed=0
@@ -391,8 +391,7 @@ spoiled() {
 }
 printf x >>"$house/release/stab.gz"
 run env PATH="$work/without" "$house/stab"
-holds 'what follows the program in its file is no part of it, or refused' \
-    [ "$(cat "$work/out")" = 'released; ; in' -o "$status" -eq 3 ]
+holds 'what follows the program in its file is no part of it' gave 'released; ; in' 0
 rm -rf "$house/out"
 printf '#!/bin/sh\necho spoiled\n' | gzip -9n >"$house/release/stab.gz"
 spoiled 'another program'
