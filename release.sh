@@ -1,13 +1,13 @@
 #!/usr/bin/env bash
 # Makes the release: the program, compressed, and a manifest of what it was made from.
 #
-#   ./release.sh            makes the files of release/ from the present sources. It takes the program
-#                           that ./stab has proved and built, or has it built now.
+#   ./release.sh            makes the files of release/ from the present sources. It takes the
+#                           program that ./stab has proved and built, or has it built now.
 #   ./release.sh --prove    the same, with the program proved and built from nothing
-#   ./release.sh --check    compares release/ with the program that rt ci has just built, as the gate
-#                           does. The last line is 'N passed, M failed'.
-#   ./release.sh --archive  packs the release with the pages and the examples for users, as a file in
-#                           out/ that is the same, byte for byte, whoever packs it
+#   ./release.sh --check    compares release/ with the program that rt ci has just built, as the
+#                           gate does. The last line is 'N passed, M failed'.
+#   ./release.sh --archive  packs the release with the pages and the examples for users, as a file
+#                           in out/ that is the same, byte for byte, whoever packs it
 #
 # release/ has two files: stab.gz, and MANIFEST with three lines, which are the digest of the
 # unpacked program, the digest of its sources, and the line of the kit.
@@ -84,7 +84,8 @@ check() {
     holds 'the program is the one that was just built, byte for byte' \
         "it differs from $made, or that was not built" cmp -s -- "$work/stab" "$made"
     if [ "$failed" -ne 0 ]; then
-        printf 'release: run ./release.sh and commit what it makes; where it makes the same again, ./release.sh --prove\n'
+        printf 'release: %s\n' 'run ./release.sh and commit what it makes' \
+            'where it makes the same again, run ./release.sh --prove'
     fi
     printf '%s passed, %s failed\n' "$passed" "$failed"
     [ "$failed" -eq 0 ]

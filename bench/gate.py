@@ -114,7 +114,7 @@ class Task:
 
 
 def kind_of(words, folder):
-    """The crate and the kind of what a process does, by its words and folder, or two empty texts."""
+    """The crate and the kind of what a process does, by its words and folder, or empty texts."""
     is_edit = os.path.basename(folder).startswith("rt-edit-")
     if "--crate-name" in words[:-1]:
         crate = words[words.index("--crate-name") + 1]
@@ -284,12 +284,13 @@ def table(notes, to, wall, times):
     wall, used = (sum(part[of] for part in parts) for of in ("wall", "processor"))
     kit = subprocess.run(["rt", "version"], stdout=subprocess.PIPE, text=True).stdout.strip()
     tasks = next((part["jobs"] for part in parts if part["jobs"]), "")
+    peak = max(part["peak"] for part in parts)
     lines = ["# What the gate costs", ""]
     lines += [f"{time.strftime('%Y-%m-%d')}, {counted(processors(), 'processor')}, "
               f"{tasks or 'as many as rt chooses'} tasks at once, kit `{kit}`. "
-              "Written by `./gate`, which leaves such a page in `out/gate.md` after each whole run.",
+              "Written by `./gate`, which leaves such a page in `out/gate.md` after a whole run.",
               "", f"**{minutes(wall)} minutes, {minutes(used)} processor minutes, "
-              f"{gigabytes(max((part['peak'] for part in parts), default=0))} of memory at the peak.**",
+              f"{gigabytes(peak)} of memory at the peak.**",
               "", "| Part | minutes | processor minutes | peak |", "|---|---|---|---|"]
     lines += [f"| `{part['part']}` | {minutes(part['wall'])} | {minutes(part['processor'])} | "
               f"{gigabytes(part['peak'])} |" for part in parts]
@@ -306,11 +307,11 @@ def table(notes, to, wall, times):
               "| Crate | " + " | ".join(KINDS) + " | all |", "|---" * (len(KINDS) + 2) + "|"]
     lines += [row(f"`{name}`", [crates[name][it] for it in KINDS]) for name in names]
     lines += [row("all", [sum(crates[name][it] for name in names) for it in KINDS]), ""]
-    own = max((part["own"] for part in parts), default=0)
+    own = max(part["own"] for part in parts)
     lines += [f"All processes together held at most {gigabytes(own)}, and those of one task "
               f"{gigabytes(largest[0])}, where pages that two share count twice: "
-              f"{largest[1] or 'none was seen'}. The time and the processor time of a part are those "
-              "of its processes, once they have ended. The peak is by how much the free memory of "
+              f"{largest[1] or 'none was seen'}. The time and the processor time of a part are "
+              "those of its processes, once they have ended. The peak is by how much the free memory of "
               "the machine went down, looked at once a second. What a crate costs is seen so as "
               "well, so the last second of each process is not in it, nor is the work of `rt` "
               "itself. *Programs* are what the two compilers and the linker take for one, and its "

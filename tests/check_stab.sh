@@ -164,7 +164,8 @@ copied() {
         crates/mid/src/part.rt crates/other/src/lib.rt crates/stab_cli/src/main.rt \
         crates/stab_cli/stdin | LC_ALL=C sort)
     [ "$(cat "$work/files")" = "$wanted" ] &&
-        [ "$(cat "$work/lines")" = $'low: itoa\nmid: low itoa\nother:\nstab_cli may_wait=4: low mid other clap' ]
+        [ "$(cat "$work/lines")" = "$(printf '%s\n' 'low: itoa' 'mid: low itoa' 'other:' \
+            'stab_cli may_wait=4: low mid other clap')" ]
 }
 
 # Starts a build that does not end by itself, and sends it a signal.
