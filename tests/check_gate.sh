@@ -76,6 +76,12 @@ run_only() {
         [ \"\$1\" != must-fail ] || at=\$2
         echo \"\$1 \$at\" >>'$work/steps'
         echo \"what rt says of \$1 \$at\"
+        if [ \"\$1 \$at\" = 'run program' ] && [ '${1-}' != 'run program' ]; then
+            mkdir -p out
+            cp '$work/program' out/program
+            echo 'rt: running out/program; to give it other input, run that file yourself' >&2
+            exit 9
+        fi
         if [ \"\$1\" = must-fail ]; then
             echo \"rt: must-fail \$2/a.edit: refused, as it must be: x\"
             echo \"rt: must-fail \$2/b.edit: refused, as it must be: x\"
@@ -184,6 +190,7 @@ run_gate --other
 holds 'another word is refused' [ "$status" -eq 2 ]
 
 # The loop of a developer.
+write "$work/program" '[ "$#" -eq 0 ] || { echo "$*; $(cat); $(ls)"; exit 7; }'
 mkdir -p "$house"/crates/{low,mid,beside,program}/{src,must-fail}
 printf '%s\n' '#[test]' 'fn holds() {}' >"$house/crates/mid/src/tests.rt"
 : >"$house/crates/program/src/main.rt"
@@ -196,7 +203,28 @@ holds 'a crate, its tests and those above it, and then planted bugs' did 0 '5 pa
 holds 'with the time so far' grep -qE '^gate: 0 min  ?[0-9]+ s: mid is proved: well$' "$work/out"
 holds 'without what rt says' [ "$(grep -c 'what rt says' "$work/out")" -eq 0 ]
 run_only '' program beside
-holds 'two crates, and no more' did 0 '2 passed, 0 failed' $'lib beside\ncheck program'
+holds 'two crates, and no more' did 0 '3 passed, 0 failed' \
+    $'lib beside\ncheck program\nrun program'
+printf '%s\n' one 'two words' >"$house/crates/program/args"
+printf 'one two words; in; data.txt\n' >"$house/crates/program/stdout"
+printf in >"$house/crates/program/stdin"
+echo 7 >"$house/crates/program/status"
+mkdir "$house/crates/program/data"
+: >"$house/crates/program/data/data.txt"
+run_only '' program
+holds 'a program that is named is run on its data' did 0 '2 passed, 0 failed' \
+    $'check program\nrun program'
+echo 3 >"$house/crates/program/status"
+run_only '' program
+holds 'and fails with another status' did 1 '1 passed, 1 failed' $'check program\nrun program'
+echo 7 >"$house/crates/program/status"
+echo more >>"$house/crates/program/stdout"
+run_only '' program
+holds 'or where it prints something else' did 1 '1 passed, 1 failed' \
+    $'check program\nrun program'
+rm -r "$house"/crates/program/{args,stdin,stdout,status,data,out}
+run_only 'run program' program
+holds 'or is not built' did 1 '1 passed, 1 failed' $'check program\nrun program'
 run_only '' low
 LC_ALL=C sort "$work/steps" >"$work/sorted"
 mv "$work/sorted" "$work/steps"
