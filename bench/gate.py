@@ -312,10 +312,10 @@ def table(notes, to, wall, times):
               f"{gigabytes(largest[0])}, where pages that two share count twice: "
               f"{largest[1] or 'none was seen'}. The time and the processor time of a part are "
               "those of its processes, once they have ended. The peak is by how much the free "
-              "memory of the machine went down, looked at once a second. What a crate costs is seen so as "
-              "well, so the last second of each process is not in it, nor is the work of `rt` "
-              "itself. *Programs* are what the two compilers and the linker take for one, and its "
-              "runs."]
+              "memory of the machine went down, looked at once a second. What a crate costs is "
+              "seen so as well, so the last second of each process is not in it, nor is the work "
+              "of `rt` itself. *Programs* are what the two compilers and the linker take for one, "
+              "and its runs."]
     with open(to, "w") as it:
         it.write("\n".join(lines) + "\n")
     print(f"gate: {minutes(wall)} minutes, {minutes(used)} processor minutes; crate by crate in "
