@@ -1,8 +1,8 @@
 //! A run as a table: the link at its start and after each event.
 
 ghost use Rattle.std.specs.Prelude.{◌≡◌, ◌++◌, false, string_bytes, OnOk, IfErr};
-ghost use Rattle.stab_examples.specs.Tables.{delivered, effect_word, event_word, number_word};
-ghost use Rattle.stab_examples.specs.Tables.{IsRunFault};
+ghost use Rattle.stab_checks.specs.Tables.{delivered, effect_word, event_word, number_word};
+ghost use Rattle.stab_checks.specs.Tables.{IsRunFault};
 
 use stab_core::{Effect, Event, Link};
 use stab_script::read_link_job;

@@ -4,36 +4,18 @@
 //! what is expected, one a line: `NAME.out` and `NAME.err` are what a job prints, `NAME.run` is a
 //! link step by step. For each file it prints a line, and after a difference both texts. A file
 //! that is not in the list is a difference as well. The last line counts.
-#![tactic(auto)]
-
-mod answer;
-mod listing;
-mod table;
 
 use crate::answer::{Given, answer};
 use crate::listing::{expected_files, file_or_none, listed_files};
 use crate::table::{run_table, squeezed};
 use std::io;
-use std::process::ExitCode;
 use std::rt::Files;
 use std::sync::Wait;
 use std::thread::Threads;
 
-/// Compares all examples. The status is 0 if there are some and none is other than expected.
-fn main(rt: HostRuntime) -> ExitCode {
-    match compare_all(&rt) {
-        Ok(true) => ExitCode::SUCCESS,
-        Ok(false) => ExitCode::FAILURE,
-        Err(error) => {
-            let _ = eprintln!(rt; "stab_examples: {error}");
-            ExitCode::FAILURE
-        }
-    }
-}
-
 /// Compares the listed files and looks for files that are not listed; says whether all is as
 /// expected.
-fn compare_all<
+pub(crate) fn compare_all<
     R: Files + Input + Print + Threads + Wait + Send + Sync + AllocGlobal + Clone + Drop,
 >(rt: &R) -> io::Result<bool> {
     let listed = listed_files(rt)?;
