@@ -1,4 +1,9 @@
-use super::*;
+//! The worked examples of one link: what it is after its events, and how its start is refused.
+
+use stab_core::{
+    Effect, Event, Link, LinkAct, Origin, Receiver, Sender, Start, StartFault, link_text,
+    origins_text, run_link, trace,
+};
 use stab_frames::{Frame, Item, Label, Params, Sequence};
 use std::alloc::{AllocError, Global};
 use std::process::Abort;

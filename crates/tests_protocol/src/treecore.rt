@@ -1,14 +1,16 @@
+//! The worked examples of a tree under one schedule, and how starts, openings and steps are refused.
+
 ghost use Rattle.std.specs.Prelude.{◌≡◌, IfOk, length};
 ghost use Rattle.stab_treecore.specs.NodeOpenings.{FitTree};
 
-use crate::{
-    LinkAct, OpeningFault, Openings, TreeEvent, TreeStartFault, TreeState, TreeStepFault,
-    push_node_counts, run_schedule, schedule_text,
-};
 use serde_json::Value;
 use stab_core::{Effect, Start, StartFault};
 use stab_frames::{Frame, Item, Params, Sequence};
 use stab_tree::{NodeId, Tree, TreeFault, read_tree};
+use stab_treecore::{
+    LinkAct, OpeningFault, Openings, TreeEvent, TreeStartFault, TreeState, TreeStepFault,
+    push_node_counts, run_schedule, schedule_text,
+};
 use std::alloc::{AllocError, Global};
 use std::process::Abort;
 use std::test::Fail;
@@ -163,6 +165,22 @@ fn outcome(
     }
 }
 
+/// The text of a tree after a schedule from these starts and openings.
+fn text_after(
+    alloc: Global,
+    params: &[Params],
+    tree: &Tree,
+    published: &[Item],
+    starts: &[Start],
+    openings: &Openings,
+    events: &[TreeEvent],
+) -> Result<String, Fail>
+    requires { FitTree tree.now.parents openings.now }
+{
+    let state = run_schedule(alloc, params, tree, published, starts, openings, events)?;
+    Ok(schedule_text(alloc, tree, &state)?)
+}
+
 /// A clean link into a, and a link into b that holds two frames of nobody's items.
 fn starts_of_a_wider_second_link(alloc: Global) -> Result<[Start; 2], AllocError> {
     let strays = [Frame { label: 1, item: 20 }, Frame { label: 2, item: 21 }];
@@ -204,35 +222,48 @@ fn two_links_under_one_schedule_deliver_one_stray_each(rt: HostRuntime) -> Resul
     let tree = tree(&rt, rt.alloc(), CHAIN)?;
     let schedule = two_links(rt.alloc())?;
     let text = outcome(rt.alloc(), &tree, &WORST_STARTS, &schedule)??;
-    assert_eq!(rt; text.as_str(), TWO_LINKS);
+    assert!(rt; text.as_str() == TWO_LINKS);
     Ok(())
+}
+
+/// The text of the chain after this schedule of two published items, from these starts.
+fn chain_text(
+    rt: &impl Abort,
+    alloc: Global,
+    params: &[Params],
+    starts: &[Start],
+    events: &[TreeEvent],
+) -> Result<String, Fail> {
+    let tree = tree(rt, alloc, CHAIN)?;
+    let openings = Openings::none(alloc, &tree)?;
+    text_after(alloc, params, &tree, &[7, 8], starts, &openings, events)
 }
 
 #[test]
 fn a_wider_second_link_holds_two_strays(rt: HostRuntime) -> Result<(), Fail> {
-    let tree = tree(&rt, rt.alloc(), CHAIN)?;
     let params = [Params::new(1, 4)?, Params::new(2, 6)?];
     let starts = starts_of_a_wider_second_link(rt.alloc())?;
     let events = schedule_of_a_wider_second_link(rt.alloc())?;
-    let openings = Openings::none(rt.alloc(), &tree)?;
-    let state = run_schedule(
-        rt.alloc(),
-        &params,
-        &tree,
-        &[7, 8],
-        &starts,
-        &openings,
-        &events,
-    )?;
-    let text = schedule_text(rt.alloc(), &tree, &state)?;
-    assert_eq!(rt; text.as_str(), WIDER_SECOND_LINK);
+    let text = chain_text(&rt, rt.alloc(), &params, &starts, &events)?;
+    assert!(rt; text.as_str() == WIDER_SECOND_LINK);
     Ok(())
+}
+
+/// Why these starts are refused with these parameters, or `None` where the tree begins with them.
+fn refusal(
+    alloc: Global,
+    params: &[Params],
+    tree: &Tree,
+    starts: &[Start],
+    openings: &Openings,
+) -> Option<TreeStartFault>
+    requires { FitTree tree.now.parents openings.now }
+{
+    run_schedule(alloc, params, tree, &[7, 8], starts, openings, &[]).err()
 }
 
 #[test]
 fn each_link_is_held_to_its_own_capacity(rt: HostRuntime) -> Result<(), Fail> {
-    let tree = tree(&rt, rt.alloc(), CHAIN)?;
-    let starts = starts_of_a_wider_second_link(rt.alloc())?;
     let one = Params::new(1, 4)?;
     let two = Params::new(2, 6)?;
     let wide_second = [one, two, two];
@@ -246,10 +277,12 @@ fn each_link_is_held_to_its_own_capacity(rt: HostRuntime) -> Result<(), Fail> {
         (&wide_second[..1], Some(TreeStartFault::StartCount)),
         (wide_second.as_slice(), Some(TreeStartFault::StartCount)),
     ];
+    let tree = tree(&rt, rt.alloc(), CHAIN)?;
     let openings = Openings::none(rt.alloc(), &tree)?;
+    let starts = starts_of_a_wider_second_link(rt.alloc())?;
     for (params, want) in rows {
-        let state = run_schedule(rt.alloc(), params, &tree, &[7, 8], &starts, &openings, &[]);
-        assert_eq!(rt; state.err(), want);
+        let fault = refusal(rt.alloc(), params, &tree, &starts, &openings);
+        assert!(rt; fault == want, "{want:?}");
     }
     Ok(())
 }
@@ -272,6 +305,15 @@ fn openings(
     Ok(Openings::new(tree, hold, its_lists))
 }
 
+/// The openings of the chain in which a begins with 50 and 51.
+fn openings_at_a(rt: &impl Abort, alloc: Global, tree: &Tree) -> Result<Openings, AllocError>
+    ensures fit { IfOk result (FitTree tree.now.parents) }
+    ensures one_per_node { IfOk result (λ openings.
+        length openings.lists ≡ length tree.now.parents) }
+{
+    Ok(openings(alloc, tree, 2, &[&[], &[50, 51], &[]])?.expect(rt, "openings"))
+}
+
 /// Rounds on both links of the chain, first all on the upper one.
 fn rounds(alloc: Global, upper: u16, lower: u16) -> Result<Vec<TreeEvent>, AllocError> {
     let mut schedule = Vec::new(alloc);
@@ -283,25 +325,32 @@ fn rounds(alloc: Global, upper: u16, lower: u16) -> Result<Vec<TreeEvent>, Alloc
     Ok(schedule)
 }
 
+/// The text of the chain after this schedule of two published items, from clean starts, where a
+/// begins with 50 and 51.
+fn opened_chain_text(rt: &impl Abort, alloc: Global, events: &[TreeEvent]) -> Result<String, Fail> {
+    let params = [Params::new(1, 4)?; 2];
+    let starts = [Start::clean(alloc), Start::clean(alloc)];
+    let tree = tree(rt, alloc, CHAIN)?;
+    let openings = openings_at_a(rt, alloc, &tree)?;
+    text_after(alloc, &params, &tree, &[7, 8], &starts, &openings, events)
+}
+
 #[test]
 fn an_opening_passed_on(rt: HostRuntime) -> Result<(), Fail> {
-    let tree = tree(&rt, rt.alloc(), CHAIN)?;
-    let params = [Params::new(1, 4)?; 2];
-    let starts = [Start::clean(rt.alloc()), Start::clean(rt.alloc())];
-    let openings = openings(rt.alloc(), &tree, 2, &[&[], &[50, 51], &[]])?.expect(&rt, "openings");
     let events = rounds(rt.alloc(), 2, 4)?;
-    let state = run_schedule(
-        rt.alloc(),
-        &params,
-        &tree,
-        &[7, 8],
-        &starts,
-        &openings,
-        &events,
-    )?;
-    let text = schedule_text(rt.alloc(), &tree, &state)?;
-    assert_eq!(rt; text.as_str(), PASSED_ON);
+    let text = opened_chain_text(&rt, rt.alloc(), &events)?;
+    assert!(rt; text.as_str() == PASSED_ON);
     Ok(())
+}
+
+/// Why these lists are no openings, or `None` where they are.
+fn opening_fault(
+    alloc: Global,
+    tree: &Tree,
+    hold: u16,
+    lists: &[&[Item]],
+) -> Result<Option<OpeningFault>, AllocError> {
+    Ok(openings(alloc, tree, hold, lists)?.err())
 }
 
 #[test]
@@ -328,21 +377,36 @@ fn refused_openings(rt: HostRuntime) -> Result<(), Fail> {
         (2, fit.as_slice(), None),
     ];
     for (hold, lists, want) in rows {
-        assert_eq!(rt; openings(rt.alloc(), &tree, hold, lists)?.err(), want);
+        let fault = opening_fault(rt.alloc(), &tree, hold, lists)?;
+        assert!(rt; fault == want, "{want:?}");
     }
     Ok(())
+}
+
+/// Fails the test where openings have another hold, or a node has another opening.
+fn assert_opening(
+    rt: &impl Abort,
+    tree: &Tree,
+    openings: &Openings,
+    hold: u16,
+    place: u16,
+    items: &[Item],
+)
+    requires { length openings.now.lists ≡ length tree.now.parents }
+{
+    assert!(rt; place < tree.len());
+    assert!(rt; openings.hold() == hold);
+    assert!(rt; openings.list(NodeId::new(place)) == items);
 }
 
 #[test]
 fn openings_are_read_back(rt: HostRuntime) -> Result<(), Fail> {
     let tree = tree(&rt, rt.alloc(), CHAIN)?;
     assert!(rt; tree.len() == 3);
-    let openings = openings(rt.alloc(), &tree, 2, &[&[], &[50, 51], &[]])?.expect(&rt, "openings");
-    assert_eq!(rt; openings.hold(), 2);
-    assert!(rt; openings.list(NodeId::new(A)) == [50, 51].as_slice());
+    let openings = openings_at_a(&rt, rt.alloc(), &tree)?;
+    assert_opening(&rt, &tree, &openings, 2, A, &[50, 51]);
     let none = Openings::none(rt.alloc(), &tree)?;
-    assert_eq!(rt; none.hold(), 0);
-    assert!(rt; none.list(NodeId::new(B)).is_empty());
+    assert_opening(&rt, &tree, &none, 0, B, &[]);
     Ok(())
 }
 
@@ -361,7 +425,8 @@ fn refuses_the_first_unlawful_start_in_file_order(rt: HostRuntime) -> Result<(),
         (WORST_STARTS.as_slice(), None),
     ];
     for (links, want) in rows {
-        assert_eq!(rt; outcome(rt.alloc(), &tree, links, &[])?.err(), want);
+        let fault = outcome(rt.alloc(), &tree, links, &[])?.err();
+        assert!(rt; fault == want, "{want:?}");
     }
     Ok(())
 }
@@ -374,20 +439,37 @@ fn refuses_the_first_event_that_names_no_link(rt: HostRuntime) -> Result<(), Fai
         push_acts(&mut events, NodeId::new(child), &[LinkAct::Offer])?;
     }
     let fault = outcome(rt.alloc(), &tree, &WORST_STARTS, &events)?.err();
-    assert_eq!(rt;
-        fault,
-        Some(TreeStartFault::Step(TreeStepFault::NoSuchLink))
-    );
+    assert!(rt; fault == Some(TreeStartFault::Step(TreeStepFault::NoSuchLink)));
     Ok(())
+}
+
+/// Fails the test where an act on the link into a node has not the answer beside it.
+fn assert_acts(
+    rt: &impl Abort,
+    state: &mut TreeState,
+    steps: &[(u16, LinkAct, Result<Effect, TreeStepFault>)],
+) {
+    for (place, act, want) in steps {
+        let event = TreeEvent {
+            child: NodeId::new(*place),
+            act: *act,
+        };
+        assert!(rt; state.apply(event) == *want, "{place} {act:?}");
+    }
+}
+
+/// The chain that begins with the worst starts.
+fn worst_state(rt: &impl Abort, alloc: Global) -> Result<TreeState, Fail> {
+    let params = [Params::new(1, 4)?; 2];
+    let tree = tree(rt, alloc, CHAIN)?;
+    let openings = Openings::none(alloc, &tree)?;
+    let starts = starts(alloc, &WORST_STARTS)?;
+    Ok(TreeState::new(alloc, &params, &tree, &ITEMS, &starts, &openings)?)
 }
 
 #[test]
 fn an_offer_of_nothing_does_nothing(rt: HostRuntime) -> Result<(), Fail> {
-    let tree = tree(&rt, rt.alloc(), CHAIN)?;
-    let starts = starts(rt.alloc(), &WORST_STARTS)?;
-    let params = [Params::new(1, 4)?; 2];
-    let openings = Openings::none(rt.alloc(), &tree)?;
-    let mut state = TreeState::new(rt.alloc(), &params, &tree, &ITEMS, &starts, &openings)?;
+    let mut state = worst_state(&rt, rt.alloc())?;
     let steps = [
         (B, LinkAct::Offer, Ok(Effect::Nothing)),
         (A, LinkAct::RecvFrame { keep: true }, Ok(Effect::Fresh(99))),
@@ -398,14 +480,7 @@ fn an_offer_of_nothing_does_nothing(rt: HostRuntime) -> Result<(), Fail> {
         (ROOT, LinkAct::Offer, Err(TreeStepFault::NoSuchLink)),
         (STRANGER, LinkAct::Close, Err(TreeStepFault::NoSuchLink)),
     ];
-    for (place, act, want) in steps {
-        let child = NodeId::new(place);
-        assert_eq!(rt;
-            state.apply(TreeEvent { child, act }),
-            want,
-            "{place} {act:?}"
-        );
-    }
+    assert_acts(&rt, &mut state, &steps);
     assert!(rt; state.link(NodeId::new(ROOT)).is_none());
     assert!(rt; state.link(NodeId::new(STRANGER)).is_none());
     Ok(())
@@ -415,9 +490,8 @@ fn an_offer_of_nothing_does_nothing(rt: HostRuntime) -> Result<(), Fail> {
 fn a_lone_root_has_what_it_publishes(rt: HostRuntime) -> Result<(), Fail> {
     let tree = tree(&rt, rt.alloc(), r#"[{"name":"r"}]"#)?;
     let openings = Openings::none(rt.alloc(), &tree)?;
-    let state = run_schedule(rt.alloc(), &[], &tree, &[7, 8], &[], &openings, &[])?;
-    let text = schedule_text(rt.alloc(), &tree, &state)?;
-    assert_eq!(rt; text.as_str(), "r depth 0 received 2 acked -\nitems: 7 8\n");
+    let text = text_after(rt.alloc(), &[], &tree, &[7, 8], &[], &openings, &[])?;
+    assert!(rt; text.as_str() == "r depth 0 received 2 acked -\nitems: 7 8\n");
     Ok(())
 }
 
@@ -425,7 +499,7 @@ fn a_lone_root_has_what_it_publishes(rt: HostRuntime) -> Result<(), Fail> {
 fn the_counts_of_a_node_are_a_line_without_its_end(rt: HostRuntime) -> Result<(), Fail> {
     let mut text = String::new(rt.alloc());
     push_node_counts(&mut text, "a", 1, 5, Some(7))?;
-    assert_eq!(rt; text.as_str(), "a depth 1 received 5 acked 7");
+    assert!(rt; text.as_str() == "a depth 1 received 5 acked 7");
     Ok(())
 }
 
@@ -445,7 +519,7 @@ fn each_fault_prints_its_text(rt: HostRuntime) -> Result<(), Fail> {
         (TreeStartFault::Step(TreeStepFault::Memory), "out of memory"),
     ];
     for (fault, want) in texts {
-        assert_eq!(rt; fault.to_string(rt.alloc())?.as_str(), want);
+        assert!(rt; fault.to_string(rt.alloc())?.as_str() == want, "{want}");
     }
     let openings = [
         (OpeningFault::HoldOutOfRange, "job: h out of range"),
@@ -457,7 +531,7 @@ fn each_fault_prints_its_text(rt: HostRuntime) -> Result<(), Fail> {
         (OpeningFault::OpeningTooLong, "job: opening too long"),
     ];
     for (fault, want) in openings {
-        assert_eq!(rt; fault.to_string(rt.alloc())?.as_str(), want);
+        assert!(rt; fault.to_string(rt.alloc())?.as_str() == want, "{want}");
     }
     Ok(())
 }

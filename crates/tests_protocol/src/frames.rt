@@ -1,7 +1,11 @@
+//! Parameters at their limits, and the queue of frames beside a plainer one.
+
 ghost use Rattle.std.specs.Prelude.{◌≤◌};
 
-use super::*;
-use crate::plain::PlainQueue;
+mod plain;
+
+use plain::PlainQueue;
+use stab_frames::{FrameQueue, Params, ParamsFault, Sequence};
 use std::alloc::{AllocError, Global};
 use std::test::Fail;
 

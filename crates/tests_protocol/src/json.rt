@@ -1,8 +1,8 @@
 //! The small parts of a job at their limits.
 
-use crate::{item, label, pair, read_list, read_value, u16_member, u32_member};
 use serde_json::Value;
 use stab_frames::{Frame, Item};
+use stab_json::{item, label, pair, read_list, read_value, u16_member, u32_member};
 use std::test::Fail;
 
 #[test]

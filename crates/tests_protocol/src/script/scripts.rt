@@ -1,7 +1,7 @@
-use crate::{HalfScript, InAct, OutAct, Script, ScriptFault};
 use rand_core::utils::NextWord;
 use rand_core::{Rng, utils};
 use rand_pcg::Pcg32;
+use stab_script::{HalfScript, InAct, OutAct, Script, ScriptFault};
 use std::alloc::{AllocError, Global};
 use std::marker::Model;
 use std::process::Abort;
@@ -89,7 +89,7 @@ fn push_ins(text: &mut String, acts: &[InAct]) -> Result<(), AllocError> {
 
 /// The acts of a script in letters: frames out, frames in, acknowledgements out and
 /// acknowledgements in, a semicolon after each list.
-fn lettered(alloc: Global, script: &Script) -> Result<String, AllocError> {
+pub(super) fn lettered(alloc: Global, script: &Script) -> Result<String, AllocError> {
     let mut text = String::new(alloc);
     push_outs(&mut text, script.frames_out())?;
     push_ins(&mut text, script.frames_in())?;
@@ -98,28 +98,13 @@ fn lettered(alloc: Global, script: &Script) -> Result<String, AllocError> {
     Ok(text)
 }
 
-/// The four lists of a script have these letters.
-pub(super) fn assert_lists(
-    rt: &(impl Abort + Alloc<A = Global>),
-    script: &Script,
-    letters: &str,
-) -> Result<(), AllocError> {
-    let text = lettered(rt.alloc(), script)?;
-    assert!(rt; text.as_str() == letters, "{text}");
-    Ok(())
-}
-
-/// The two scripts have the same lists.
-pub(super) fn assert_same(
-    rt: &(impl Abort + Alloc<A = Global>),
-    first: &Script,
-    second: &Script,
-) -> Result<(), AllocError> {
-    assert_lists(rt, first, lettered(rt.alloc(), second)?.as_str())
+/// Fails the test where a script has other letters.
+pub(super) fn assert_letters(rt: &impl Abort, text: &str, letters: &str) {
+    assert!(rt; text == letters, "{text}");
 }
 
 /// The script drawn from a seed.
-pub(super) fn seeded(
+fn seeded(
     alloc: Global,
     state: u64,
     stream: u64,
@@ -128,6 +113,19 @@ pub(super) fn seeded(
     repeat: u16,
 ) -> Result<Script, ScriptFault> {
     Script::from_seed(alloc, state, stream, len, loss, repeat)
+}
+
+/// The letters of the script drawn from a seed.
+pub(super) fn seeded_letters(
+    alloc: Global,
+    state: u64,
+    stream: u64,
+    len: u32,
+    loss: u16,
+    repeat: u16,
+) -> Result<String, Fail> {
+    let script = seeded(alloc, state, stream, len, loss, repeat)?;
+    Ok(lettered(alloc, &script)?)
 }
 
 /// The script drawn from the words of a generator.
@@ -141,38 +139,39 @@ fn from_words<R: Rng>(
     Script::draw(alloc, words, len, loss, repeat)
 }
 
-/// The script drawn from the words of the worked example, and how many of them it took.
-fn from_few_words(
+/// The letters of the script drawn from the words of a generator.
+fn letters_from<R: Rng>(
     alloc: Global,
+    words: &mut R,
     len: u32,
     loss: u16,
     repeat: u16,
-) -> Result<(Script, u32), ScriptFault> {
-    let mut words = FewWords { given: 0 };
-    let script = from_words(alloc, &mut words, len, loss, repeat)?;
-    Ok((script, words.given))
+) -> Result<String, Fail> {
+    let script = from_words(alloc, words, len, loss, repeat)?;
+    Ok(lettered(alloc, &script)?)
 }
 
 #[test]
 fn six_acts_drawn_take_24_words(rt: HostRuntime) -> Result<(), Fail> {
-    let (script, given) = from_few_words(rt.alloc(), 6, 100, 0)?;
-    assert_lists(&rt, &script, "PDPPPP;TTTTTT;DDDDDD;TTTTTT;")?;
-    assert!(rt; given == 24);
+    let mut words = FewWords { given: 0 };
+    let text = letters_from(rt.alloc(), &mut words, 6, 100, 0)?;
+    assert_letters(&rt, text.as_str(), "PDPPPP;TTTTTT;DDDDDD;TTTTTT;");
+    assert!(rt; words.given == 24);
     Ok(())
 }
 
 #[test]
 fn a_seed_draws_what_its_generator_does(rt: HostRuntime) -> Result<(), Fail> {
-    let by_seed = seeded(rt.alloc(), 42, 54, 6, 100, 0)?;
-    let by_generator = from_words(rt.alloc(), &mut Pcg32::new(42, 54), 6, 100, 0)?;
-    assert_same(&rt, &by_seed, &by_generator)?;
+    let by_seed = seeded_letters(rt.alloc(), 42, 54, 6, 100, 0)?;
+    let by_generator = letters_from(rt.alloc(), &mut Pcg32::new(42, 54), 6, 100, 0)?;
+    assert_letters(&rt, by_seed.as_str(), by_generator.as_str());
     Ok(())
 }
 
 #[test]
 fn each_list_is_drawn_at_its_rate(rt: HostRuntime) -> Result<(), Fail> {
-    let (script, _given) = from_few_words(rt.alloc(), 1, 800, 100)?;
-    assert_lists(&rt, &script, "D;K;P;T;")?;
+    let text = letters_from(rt.alloc(), &mut FewWords { given: 0 }, 1, 800, 100)?;
+    assert_letters(&rt, text.as_str(), "D;K;P;T;");
     Ok(())
 }
 
@@ -221,8 +220,8 @@ fn refuses_100001_acts_and_then_rates_over_1000(rt: HostRuntime) {
 #[test]
 fn rates_of_1000_lose_and_keep_all(rt: HostRuntime) -> Result<(), Fail> {
     for (len, rate, letters) in [(0, 0, ";;;;"), (2, 1000, "DD;KK;DD;KK;")] {
-        let script = seeded(rt.alloc(), 42, 54, len, rate, rate)?;
-        assert_lists(&rt, &script, letters)?;
+        let text = seeded_letters(rt.alloc(), 42, 54, len, rate, rate)?;
+        assert_letters(&rt, text.as_str(), letters);
     }
     Ok(())
 }
@@ -291,11 +290,16 @@ fn some_acts(alloc: Global) -> Result<Script, Fail> {
     Ok(script)
 }
 
+/// The letters of a script and of its copy.
+fn letters_of_both(alloc: Global, script: &Script) -> Result<(String, String), AllocError> {
+    let copied = lettered(alloc, &script.copy(alloc)?)?;
+    Ok((lettered(alloc, script)?, copied))
+}
+
 #[test]
 fn a_copy_has_the_same_acts(rt: HostRuntime) -> Result<(), Fail> {
-    let script = some_acts(rt.alloc())?;
-    let copy = script.copy(rt.alloc())?;
-    assert_same(&rt, &script, &copy)?;
+    let (own, copied) = letters_of_both(rt.alloc(), &some_acts(rt.alloc())?)?;
+    assert_letters(&rt, copied.as_str(), own.as_str());
     Ok(())
 }
 

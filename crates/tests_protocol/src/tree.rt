@@ -1,5 +1,7 @@
-use crate::{NodeId, Tree, TreeFault, read_tree};
+//! Trees that are read and trees that are refused, and what a tree knows of its nodes and links.
+
 use serde_json::Value;
+use stab_tree::{NodeId, Tree, TreeFault, read_tree};
 use std::alloc::{AllocError, Global};
 use std::process::Abort;
 use std::test::Fail;

@@ -1,8 +1,8 @@
-use crate::events::event;
-use crate::{PartFault, loss_act, plain_act, read_start};
 use serde_json::Value;
 use stab_core::{Event, LinkAct};
 use stab_frames::Frame;
+use stab_script::{LinkJobFault, PartFault, loss_act, plain_act, read_link_job, read_start};
+use std::alloc::Global;
 use std::test::Fail;
 
 #[test]
@@ -47,6 +47,20 @@ fn refuses_starts_of_another_shape(rt: HostRuntime) -> Result<(), Fail> {
     Ok(())
 }
 
+/// The event that a link job with this alone as its events has, or how the job is refused.
+fn event(alloc: Global, text: &str) -> Result<Result<Event, LinkJobFault>, Fail> {
+    let mut job = String::from_str(
+        alloc,
+        r#"{"capacity":1,"labels":4,"start":{"send":0,"recv":3},"events":["#,
+    )?;
+    job.push_str(text)?;
+    job.push_str("]}")?;
+    match read_link_job(alloc, job.as_bytes()) {
+        Ok(job) => Ok(Ok(job.events.as_slice().first().copied().ok_or("an event")?)),
+        Err(fault) => Ok(Err(fault)),
+    }
+}
+
 #[test]
 fn each_word_is_its_event(rt: HostRuntime) -> Result<(), Fail> {
     let rows = [
@@ -78,8 +92,8 @@ fn each_word_is_its_event(rt: HostRuntime) -> Result<(), Fail> {
         ("7", None),
     ];
     for (row, want) in rows {
-        let value = Value::from_str(rt.alloc(), row)?;
-        assert!(rt; event(&value) == want, "{row}");
+        let want = want.ok_or(LinkJobFault::Event);
+        assert!(rt; event(rt.alloc(), row)? == want, "{row}");
     }
     Ok(())
 }

@@ -1,6 +1,6 @@
-use crate::{LinkJobFault, read_link_job};
 use stab_core::Event;
 use stab_frames::{Frame, ParamsFault};
+use stab_script::{LinkJobFault, read_link_job};
 use std::alloc::{AllocError, Global};
 use std::test::Fail;
 
