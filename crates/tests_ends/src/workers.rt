@@ -5,7 +5,6 @@ ghost use Rattle.std.specs.Prelude.{◌≡◌, ⊤, [], ◌∷◌, IfOk, All};
 ghost use Rattle.stab_lock.specs.Accounts.{new_sender, new_receiver};
 ghost use Rattle.stab_treecore.specs.NodeOpenings.{FitTree};
 
-use crate::{Gathered, WorkersFault, run_workers};
 use serde_json::Value;
 use stab_core::Start;
 use stab_frames::{Item, Params, Sequence};
@@ -15,6 +14,7 @@ use stab_node::{Ended, Gate, NodeFault};
 use stab_script::Script;
 use stab_tree::{Tree, TreeFault, read_tree};
 use stab_treecore::{OpeningFault, Openings};
+use stab_workers::{Gathered, WorkersFault, run_workers};
 use std::alloc::{AllocError, Global};
 use std::collections::VecDeque;
 use std::process::Abort;
@@ -80,30 +80,33 @@ fn sees(alloc: Global, item: Item) -> Result<PlainRecv, AllocError>
     Ok(PlainRecv::new(alloc, seen))
 }
 
-/// The lower ends of three links, which acknowledge at once.
+/// The lower ends of three links, each of which acknowledges at once or never.
 #[tactic(auto, using(crate::proofs::Three::three_hold))]
-fn plain_sends(alloc: Global) -> Result<Vec<PlainSend>, AllocError>
+fn plain_sends(alloc: Global, acknowledge: [bool; 3]) -> Result<Vec<PlainSend>, AllocError>
     ensures { IfOk result (λ v. All (λ d. ⟦<PlainSend as SendSide>⟧.sent d ≡ new_sender) v.items) }
 {
-    let a = PlainSend::new(alloc, true);
-    let b = PlainSend::new(alloc, true);
-    let c = PlainSend::new(alloc, true);
+    let a = PlainSend::new(alloc, acknowledge[0]);
+    let b = PlainSend::new(alloc, acknowledge[1]);
+    let c = PlainSend::new(alloc, acknowledge[2]);
     let sends = three(alloc, a, b, c)?;
     Ok(sends)
 }
 
-/// The upper ends of three links, which see 10, 20 and 30.
+/// The upper ends of three links, each of which sees one of these items.
 #[tactic(auto, using(crate::proofs::Three::three_hold))]
-fn plain_recvs(alloc: Global) -> Result<Vec<PlainRecv>, AllocError>
+fn plain_recvs(alloc: Global, seen: [Item; 3]) -> Result<Vec<PlainRecv>, AllocError>
     ensures { IfOk result (λ v.
         All (λ u. ⟦<PlainRecv as RecvSide>⟧.received u ≡ new_receiver) v.items) }
 {
-    let a = sees(alloc, 10)?;
-    let b = sees(alloc, 20)?;
-    let c = sees(alloc, 30)?;
+    let a = sees(alloc, seen[0])?;
+    let b = sees(alloc, seen[1])?;
+    let c = sees(alloc, seen[2])?;
     let recvs = three(alloc, a, b, c)?;
     Ok(recvs)
 }
+
+/// What a run leaves.
+type Left = Gathered<RecvAccount, SendAccount>;
 
 /// A run of a tree over ends without a link, one of each kind for each link, from these openings.
 fn run_plain_from<R: Threads + Wait + Sync + Abort>(
@@ -114,7 +117,7 @@ fn run_plain_from<R: Threads + Wait + Sync + Abort>(
     sends: Vec<PlainSend>,
     recvs: Vec<PlainRecv>,
     gate: &RefusesFrom,
-) -> Result<Gathered<RecvAccount, SendAccount>, WorkersFault>
+) -> Result<Left, WorkersFault>
     requires fits { FitTree tree.now.parents openings.now }
     requires lowers { All (λ d. ⟦<PlainSend as SendSide>⟧.sent d ≡ new_sender) sends.items }
     requires uppers { All (λ u. ⟦<PlainRecv as RecvSide>⟧.received u ≡ new_receiver) recvs.items }
@@ -143,7 +146,7 @@ fn run_plain<R: Threads + Wait + Sync + Abort>(
     sends: Vec<PlainSend>,
     recvs: Vec<PlainRecv>,
     gate: &RefusesFrom,
-) -> Result<Gathered<RecvAccount, SendAccount>, WorkersFault>
+) -> Result<Left, WorkersFault>
     requires lowers { All (λ d. ⟦<PlainSend as SendSide>⟧.sent d ≡ new_sender) sends.items }
     requires uppers { All (λ u. ⟦<PlainRecv as RecvSide>⟧.received u ≡ new_receiver) recvs.items }
 {
@@ -151,32 +154,104 @@ fn run_plain<R: Threads + Wait + Sync + Abort>(
     run_plain_from(rt, alloc, tree, &openings, sends, recvs, gate)
 }
 
+/// A run of the tree of three links: their upper ends see these items, and their lower ends
+/// acknowledge at once or never.
+fn run_links<R: Threads + Wait + Sync + Abort>(
+    rt: &R,
+    alloc: Global,
+    seen: [Item; 3],
+    acknowledge: [bool; 3],
+    gate: &RefusesFrom,
+) -> Result<Result<Left, WorkersFault>, Fail> {
+    let tree = tree(rt, alloc, TREE)?;
+    let sends = plain_sends(alloc, acknowledge)?;
+    let recvs = plain_recvs(alloc, seen)?;
+    Ok(run_plain(rt, alloc, &tree, sends, recvs, gate))
+}
+
+/// Fails the test where the nodes received other items, in file order.
+fn assert_received(rt: &impl Abort, left: &Left, want: &[&[Item]]) {
+    assert!(rt; left.received.len() == want.len(), "received");
+    for (items, want) in left.received.iter().zip(want) {
+        assert!(rt; items.as_slice() == *want, "received");
+    }
+}
+
+/// Fails the test where a worker of that many did not end with its upper end.
+fn assert_ended(rt: &impl Abort, left: &Left, count: usize) {
+    assert!(rt; left.ended.len() == count, "ended");
+    for ended in &left.ended {
+        assert!(rt; *ended == Ended::Upstream, "ended");
+    }
+}
+
+/// Fails the test where other items were offered on the links, or one of them was not acknowledged.
+fn assert_offered(rt: &impl Abort, left: &Left, want: &[&[Item]]) {
+    assert!(rt; left.sends.len() == want.len(), "offered");
+    for (send, want) in left.sends.iter().zip(want) {
+        assert!(rt; send.offered.as_slice() == *want && send.closed, "offered");
+        assert!(rt; send.acked == want.len() as u64, "acknowledged");
+    }
+}
+
+/// Fails the test where the links delivered other items.
+fn assert_delivered(rt: &impl Abort, left: &Left, want: &[&[Item]]) {
+    assert!(rt; left.recvs.len() == want.len(), "delivered");
+    for (recv, want) in left.recvs.iter().zip(want) {
+        assert!(rt;
+            recv.delivered.as_slice() == *want && recv.closed,
+            "delivered"
+        );
+    }
+}
+
 #[test]
 fn each_node_hands_on_what_it_received(rt: HostRuntime) -> Result<(), Fail> {
-    let alloc = rt.alloc();
-    let tree = tree(&rt, alloc, TREE)?;
-    let sends = plain_sends(alloc)?;
-    let recvs = plain_recvs(alloc)?;
-    let gathered = run_plain(&rt, alloc, &tree, sends, recvs, &RefusesFrom(4))?;
-    let received: [&[Item]; 4] = [&[10], PUBLISHED.as_slice(), &[20], &[30]];
-    assert_eq!(rt; gathered.received.len(), received.len());
-    for (items, want) in gathered.received.iter().zip(received) {
-        assert!(rt; items.as_slice() == want);
+    let left = run_links(&rt, rt.alloc(), [10, 20, 30], [true; 3], &RefusesFrom(4))??;
+    let published = PUBLISHED.as_slice();
+    assert_received(&rt, &left, &[&[10], published, &[20], &[30]]);
+    assert_ended(&rt, &left, 4);
+    assert_offered(&rt, &left, &[published, &[10], published]);
+    assert_delivered(&rt, &left, &[&[10], &[20], &[30]]);
+    Ok(())
+}
+
+/// Fails the test where the child of this link did not receive what the upper end of the link sees,
+/// or its parent offered something else than it received.
+fn assert_link(rt: &impl Abort, left: &Left, link: usize, seen: Item, child: usize, parent: usize) {
+    let received = left.received.get(child).map(|items| items.as_slice());
+    assert!(rt; received == Some([seen].as_slice()), "link {link}");
+    let offered = left.sends.get(link).map(|send| send.offered.as_slice());
+    let received = left.received.get(parent).map(|items| items.as_slice());
+    assert!(rt; offered.is_some() && offered == received, "link {link}");
+}
+
+#[test]
+fn the_ends_of_each_link_go_to_its_child_and_to_its_parent(rt: HostRuntime) -> Result<(), Fail> {
+    let left = run_links(&rt, rt.alloc(), [11, 21, 31], [true; 3], &RefusesFrom(4))??;
+    assert!(rt; left.received.len() == 4);
+    for (link, seen, child, parent) in [(0, 11, 0, 1), (1, 21, 2, 0), (2, 31, 3, 1)] {
+        assert_link(&rt, &left, link, seen, child, parent);
     }
-    assert_eq!(rt; gathered.ended.len(), received.len());
-    for ended in &gathered.ended {
-        assert!(rt; *ended == Ended::Upstream);
-    }
-    let offered: [&[Item]; 3] = [PUBLISHED.as_slice(), &[10], PUBLISHED.as_slice()];
-    assert_eq!(rt; gathered.sends.len(), offered.len());
-    for (send, want) in gathered.sends.iter().zip(offered) {
-        assert!(rt; send.offered.as_slice() == want && send.closed);
-        assert!(rt; send.acked == want.len() as u64);
-    }
-    let delivered: [&[Item]; 3] = [&[10], &[20], &[30]];
-    assert_eq!(rt; gathered.recvs.len(), delivered.len());
-    for (recv, want) in gathered.recvs.iter().zip(delivered) {
-        assert!(rt; recv.delivered.as_slice() == want && recv.closed);
+    Ok(())
+}
+
+/// Fails the test where the ends of a link are not those that see this item and have that many of
+/// their items acknowledged.
+fn assert_ends(rt: &impl Abort, left: &Left, link: usize, seen: Item, acked: u64) {
+    let of_link = left.recvs.get(link).map(|recv| recv.delivered.as_slice());
+    assert!(rt; of_link == Some([seen].as_slice()), "link {link}");
+    let of_link = left.sends.get(link).map(|send| send.acked);
+    assert!(rt; of_link == Some(acked), "link {link}");
+}
+
+#[test]
+fn what_is_dealt_out_is_gathered_again(rt: HostRuntime) -> Result<(), Fail> {
+    let acknowledge = [true, false, true];
+    let left = run_links(&rt, rt.alloc(), [11, 21, 31], acknowledge, &RefusesFrom(4))??;
+    assert!(rt; left.sends.len() == 3 && left.recvs.len() == 3);
+    for (link, seen, acked) in [(0, 11, 3), (1, 21, 0), (2, 31, 3)] {
+        assert_ends(&rt, &left, link, seen, acked);
     }
     Ok(())
 }
@@ -193,54 +268,57 @@ fn openings_at_a(alloc: Global, tree: &Tree) -> Result<Result<Openings, OpeningF
     Ok(Openings::new(tree, 2, lists))
 }
 
+/// A run of the tree of three links from those openings.
+fn run_from_an_opening<R: Threads + Wait + Sync + Abort>(
+    rt: &R,
+    alloc: Global,
+) -> Result<Left, Fail> {
+    let tree = tree(rt, alloc, TREE)?;
+    let openings = openings_at_a(alloc, &tree)??;
+    let sends = plain_sends(alloc, [true; 3])?;
+    let recvs = plain_recvs(alloc, [10, 20, 30])?;
+    Ok(run_plain_from(rt, alloc, &tree, &openings, sends, recvs, &RefusesFrom(4))?)
+}
+
 #[test]
 fn a_node_hands_on_its_opening_first(rt: HostRuntime) -> Result<(), Fail> {
-    let alloc = rt.alloc();
-    let tree = tree(&rt, alloc, TREE)?;
-    let sends = plain_sends(alloc)?;
-    let recvs = plain_recvs(alloc)?;
-    let openings = openings_at_a(alloc, &tree)??;
-    let gathered = run_plain_from(&rt, alloc, &tree, &openings, sends, recvs, &RefusesFrom(4))?;
-    let received: [&[Item]; 4] = [&[50, 51, 10], PUBLISHED.as_slice(), &[20], &[30]];
-    assert_eq!(rt; gathered.received.len(), received.len());
-    for (items, want) in gathered.received.iter().zip(received) {
-        assert!(rt; items.as_slice() == want);
-    }
-    for ended in &gathered.ended {
-        assert!(rt; *ended == Ended::Upstream);
-    }
-    let offered: [&[Item]; 3] = [PUBLISHED.as_slice(), &[50, 51, 10], PUBLISHED.as_slice()];
-    assert_eq!(rt; gathered.sends.len(), offered.len());
-    for (send, want) in gathered.sends.iter().zip(offered) {
-        assert!(rt; send.offered.as_slice() == want && send.closed);
-        assert!(rt; send.acked == want.len() as u64);
-    }
+    let left = run_from_an_opening(&rt, rt.alloc())?;
+    let published = PUBLISHED.as_slice();
+    assert_received(&rt, &left, &[&[50, 51, 10], published, &[20], &[30]]);
+    assert_ended(&rt, &left, 4);
+    assert_offered(&rt, &left, &[published, &[50, 51, 10], published]);
     Ok(())
 }
 
 #[test]
 fn the_first_node_in_file_order_is_reported(rt: HostRuntime) -> Result<(), Fail> {
-    let alloc = rt.alloc();
-    let tree = tree(&rt, alloc, TREE)?;
-    let sends = plain_sends(alloc)?;
-    let recvs = plain_recvs(alloc)?;
-    let refused = run_plain(&rt, alloc, &tree, sends, recvs, &RefusesFrom(2));
-    assert!(rt; matches!(refused, Err(WorkersFault::Node(2, NodeFault::Gate))));
+    let refused = run_links(&rt, rt.alloc(), [10, 20, 30], [true; 3], &RefusesFrom(2))?.err();
+    assert!(rt; matches!(refused, Some(WorkersFault::Node(2, NodeFault::Gate))));
     Ok(())
+}
+
+/// A run of a root alone.
+fn run_root_alone<R: Threads + Wait + Sync + Abort>(rt: &R, alloc: Global) -> Result<Left, Fail> {
+    let tree = tree(rt, alloc, r#"[{"name":"r"}]"#)?;
+    let sends: Vec<PlainSend> = Vec::new(alloc);
+    let recvs: Vec<PlainRecv> = Vec::new(alloc);
+    Ok(run_plain(rt, alloc, &tree, sends, recvs, &RefusesFrom(1))?)
 }
 
 #[test]
 fn a_root_alone_has_what_is_published(rt: HostRuntime) -> Result<(), Fail> {
-    let alloc = rt.alloc();
-    let tree = tree(&rt, alloc, r#"[{"name":"r"}]"#)?;
-    let sends: Vec<PlainSend> = Vec::new(alloc);
-    let recvs: Vec<PlainRecv> = Vec::new(alloc);
-    let gathered = run_plain(&rt, alloc, &tree, sends, recvs, &RefusesFrom(1))?;
-    assert_eq!(rt; gathered.received.len(), 1);
-    for items in &gathered.received {
-        assert!(rt; items.as_slice() == PUBLISHED.as_slice());
-    }
-    assert!(rt; gathered.sends.is_empty() && gathered.recvs.is_empty());
+    let left = run_root_alone(&rt, rt.alloc())?;
+    assert_received(&rt, &left, &[PUBLISHED.as_slice()]);
+    assert!(rt; left.sends.is_empty() && left.recvs.is_empty());
+    Ok(())
+}
+
+#[test]
+fn a_node_alone_has_no_end(rt: HostRuntime) -> Result<(), Fail> {
+    let left = run_root_alone(&rt, rt.alloc())?;
+    assert_ended(&rt, &left, 1);
+    assert_offered(&rt, &left, &[]);
+    assert_delivered(&rt, &left, &[]);
     Ok(())
 }
 
@@ -312,7 +390,7 @@ fn run_pair<R: Threads + Wait + Send + Sync + Abort>(
     alloc: Global,
     tree: &Tree,
     link: &LockLink,
-) -> Result<Gathered<RecvAccount, SendAccount>, WorkersFault> {
+) -> Result<Left, WorkersFault> {
     let (send, recv) = link.split::<R>(Script::none(alloc));
     let sends = one(alloc, send)?;
     let recvs = one(alloc, recv)?;
@@ -327,18 +405,21 @@ fn run_pair<R: Threads + Wait + Send + Sync + Abort>(
     )
 }
 
+/// A run of a root and its child over a new locked link.
+fn run_new_pair<R: Threads + Wait + Send + Sync + Abort>(
+    rt: &R,
+    alloc: Global,
+) -> Result<Left, Fail> {
+    let tree = tree(rt, alloc, r#"[{"name":"r"},{"name":"a","parent":"r"}]"#)?;
+    let link = LockLink::new(alloc, Params::new(1, 4)?, Start::clean(alloc))?;
+    Ok(run_pair(rt, alloc, &tree, &link)?)
+}
+
 #[test]
 fn a_parent_and_its_child_over_a_locked_link(rt: HostRuntime) -> Result<(), Fail> {
-    let alloc = rt.alloc();
-    let tree = tree(&rt, alloc, r#"[{"name":"r"},{"name":"a","parent":"r"}]"#)?;
-    let link = LockLink::new(alloc, Params::new(1, 4)?, Start::clean(alloc))?;
-    let gathered = run_pair(&rt, alloc, &tree, &link)?;
-    assert_eq!(rt; gathered.received.len(), 2);
-    for items in &gathered.received {
-        assert!(rt; items.as_slice() == PUBLISHED.as_slice());
-    }
-    for ended in &gathered.ended {
-        assert!(rt; *ended == Ended::Upstream);
-    }
+    let left = run_new_pair(&rt, rt.alloc())?;
+    let published = PUBLISHED.as_slice();
+    assert_received(&rt, &left, &[published, published]);
+    assert_ended(&rt, &left, 2);
     Ok(())
 }

@@ -2,11 +2,11 @@
 
 ghost use Rattle.std.specs.Prelude.{◌≡◌, ◌≤◌, ⊤};
 
-use super::*;
-use crate::plain::{PlainRecv, PlainSend};
 use stab_core::Start;
 use stab_frames::{Item, Params};
 use stab_lock::{FrameSeen, LockLink, LockRecv, LockSend, RecvAccount, SendAccount};
+use stab_node::plain::{PlainRecv, PlainSend};
+use stab_node::{Ended, Free, Gate, NodeAccount, NodeFault, work};
 use stab_script::Script;
 use std::alloc::{AllocError, Global};
 use std::collections::VecDeque;

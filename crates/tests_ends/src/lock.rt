@@ -1,9 +1,12 @@
 //! The worked examples of a locked link, each as a table of calls beside their answers. The same
 //! tables are walked by the ends of a locked link and by a book's own calls.
 
-use super::*;
 use stab_core::{Effect, Event, Start};
 use stab_frames::{Item, Params, Sequence};
+use stab_lock::{
+    FrameSeen, LinkBook, LockLink, RecvAccount, RecvSide, SendAccount, SendSide, SettleFault,
+    Settled,
+};
 use stab_script::{InAct, OutAct, Script};
 use std::alloc::{AllocError, Global};
 use std::process::Abort;

@@ -5,11 +5,11 @@ ghost use Rattle.std.specs.Prelude.{◌≡◌, IfOk};
 
 mod any_ends;
 
-use super::*;
 use stab_core::{Effect, Start, StartFault};
 use stab_frames::{Frame, Item, Label, Params, Sequence};
 use stab_lock::{FrameSeen, RecvSide, SendSide, Settled};
 use stab_script::{OutAct, Script};
+use stab_word::{WordFault, WordLink};
 use std::alloc::{AllocError, Global};
 use std::process::Abort;
 use std::test::Fail;
