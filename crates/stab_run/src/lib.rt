@@ -26,6 +26,3 @@ pub use report::{Report, report_text};
 pub use run_fault::RunFault;
 pub use stab_job::{Job, JobFault, read_job};
 pub use words::run_words;
-
-#[cfg(test)]
-mod tests;

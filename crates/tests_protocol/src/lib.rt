@@ -1,18 +1,13 @@
-//! The tests of the pure layers, from frames to the replay of a tree, by public calls alone.
+//! The tests of the protocol's layers without a thread: frames and queues, one link, and all links
+//! of a tree under one schedule, by public calls alone.
 //!
-//! There is one module for each crate below. The tests are a crate of their own because a crate is
-//! proved twice where it has tests, without them and with them: here nothing is proved again.
+//! There is one module for each crate below. Tests are crates of their own because a crate that has
+//! tests is proved twice, without them and with them: here nothing is proved again.
 #![tactic(auto)]
 
 #[cfg(test)]
 mod frames;
 #[cfg(test)]
-mod json;
-#[cfg(test)]
 mod link;
-#[cfg(test)]
-mod script;
-#[cfg(test)]
-mod tree;
 #[cfg(test)]
 mod treecore;
