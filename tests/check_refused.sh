@@ -13,7 +13,7 @@ kit=$(dirname -- "$(readlink -f -- "$(type -P rt)")")/../toolchain
 passed=0
 failed=0
 mkdir -p "$work/crate/out"
-printf 'List::push: 2 entries\n' >"$work/crate/stdout"
+printf 'List::push: 2 entries\nsame   an_example.out\n' >"$work/crate/stdout"
 printf '# calls\nList::new\nList::push\n' >"$work/calls"
 
 # Builds the program with a planted bug.
@@ -25,12 +25,12 @@ build() {
         "$kit/lib/libc_nonshared.a" "$kit/lib/crtn.o" -o "$work/crate/out/planted" || exit 1
 }
 
-# Checks the program as stab, or as stab_refused, and says whether the check ends as it should: its
+# Checks the program as stab, or as stab_checks, and says whether the check ends as it should: its
 # name, the number of the bug, which cases, the last line, and a text that is in what it writes.
 holds() {
     local planted=$work/crate/out/planted
     build "$2"
-    "$top/tests/refused/check.py" --stab "$planted" --refused "$planted" --calls "$work/calls" \
+    "$top/tests/refused/check.py" --stab "$planted" --checks "$planted" --calls "$work/calls" \
         --seconds 3 --only "$3" >"$work/out" 2>&1
     status=$?
     if [ "$(tail -n 1 "$work/out")" = "$4" ] && grep -qF -- "$5" "$work/out" &&
@@ -46,10 +46,10 @@ holds() {
 
 root=runs/a_lone_root
 thread='run of a chain of 1'
-calls=stab_refused
+calls=stab_checks
 holds 'a right stab passes' 0 "$root" '2 passed, 0 failed' '4 of 4 refusals end it'
 holds 'so do its threads' 0 "$thread" '1 passed, 0 failed' 'each thread refused'
-holds 'a right stab_refused passes' 0 "$calls" '3 passed, 0 failed' '2 refusals'
+holds 'a right stab_checks passes' 0 "$calls" '3 passed, 0 failed' '2 refusals'
 holds 'a text that is begun fails' 1 "$root" '0 passed, 2 failed' 'allocation 1: status 3'
 holds 'an abort fails' 2 "$root" '0 passed, 2 failed' 'allocation 1: status -6'
 holds 'a wrong text with status 0 fails' 3 "$root" '0 passed, 2 failed' 'allocation 1: status 0'
@@ -61,9 +61,9 @@ holds 'a program that hangs fails' 8 "$thread" '0 passed, 1 failed' 'had not end
 holds 'a thread that is missing fails' 9 "$thread" '0 passed, 1 failed' 'thread 1 of 1: status 0'
 holds 'a changed object fails' 10 "$calls" '2 passed, 1 failed' "is b'List::push: 3 entries'"
 holds 'a call that is never refused fails' 11 "$calls" '2 passed, 1 failed' \
-    'OTHER  stab_refused, List::new'
+    'OTHER  stab_checks, List::new'
 holds 'a call that is not in the list fails' 12 "$calls" '1 passed, 2 failed' \
-    'OTHER  stab_refused, refused once'
+    'OTHER  stab_checks, refused once'
 holds 'no such case fails' 0 'no such case' '0 passed, 0 failed' '0 runs'
 rm "$work/crate/out/planted"
 build() { :; }

@@ -5,9 +5,10 @@
 # last line is 'N passed, M failed'.
 set -u
 top=$(dirname -- "$(dirname -- "$(readlink -f -- "${BASH_SOURCE[0]}")")")
+unset CDPATH TMPDIR RT_JOBS RT_BACKEND
 work=$(mktemp -d) || exit 1
-trap 'rm -rf -- "$work"' EXIT
-unset CDPATH TMPDIR
+trap 'chmod -R u+w -- "$work"; rm -rf -- "$work"' EXIT
+chmod 711 "$work"
 house="$work/a house"
 passed=0
 failed=0
@@ -28,19 +29,23 @@ holds() {
 }
 
 # A command like rt. Its program prints the text of stab_cli's source, its words and its input, and
-# ends with status 7.
+# ends with status 7. It is the same however it is built, unless the text says that it differs.
 write_rt() {
     mkdir -p "$work/bin"
     cat >"$work/bin/rt" <<'END'
 #!/usr/bin/env bash
-if [ "$1" = version ]; then
-    cat "$WORK/kit"
-    exit
-fi
-crate=${PWD##*/}
-printf 'begin %s\n' "$crate" >>"$WORK/calls"
-text=$(cat src/*)
-case $text in
+case $1 in
+    version) cat "$WORK/kit"; exit ;;
+    ci) at=. ;;
+    run) at=../.. ;;
+    *) exit 9 ;;
+esac
+printf '%s\n' "$*" >>"$WORK/calls"
+pwd >"$WORK/place"
+(cd "$at" && find . -type f | LC_ALL=C sort) >"$WORK/files"
+cat "$at/crates.txt" >"$WORK/lines"
+text=$(cat "$at/crates/stab_cli/src/main.rt")
+case $(cat "$at"/crates/*/src/*) in
     *broken*) echo "not proved"; exit 1 ;;
     *slow*)
         trap 'kill $!; echo ended >"$WORK/ended"; exit 1' TERM
@@ -49,43 +54,51 @@ case $text in
         wait
         ;;
     *waits*) sleep 1 ;;
-    *changes*) echo after >src/text.rt ;;
-    *rewrites*) echo "'" >../../stab ;;
+    *changes*) echo after >"$WORK/a house/crates/stab_cli/src/main.rt" ;;
+    *rewrites*) echo "'" >"$WORK/a house/stab" ;;
 esac
-sleep 0.1
-if [ "$1" = run ]; then
-    mkdir -p out
-    printf '#!/bin/sh\necho "%s; $*; $(cat)"\nexit 7\n' "$text" >out/stab_cli
-    chmod +x out/stab_cli
-    out/stab_cli || true
-fi
-printf 'end %s\n' "$crate" >>"$WORK/calls"
+case $text in
+    *differs*) text="$text $1" ;;
+esac
+made=$at/crates/stab_cli/out/stab_cli
+mkdir -p "${made%/*}"
+printf '#!/bin/sh\necho "%s; $*; $(cat)"\nexit 7\n' "$text" >"$made"
+chmod +x "$made"
+sed -n 's/^\([a-z_]*\).*:.*/rt: \1 proved/p' "$at/crates.txt"
+echo '5 passed, 0 failed'
 END
     chmod +x "$work/bin/rt"
     echo kit-1 >"$work/kit"
 }
 
 # A house of five crates, of which the program needs four: two at the bottom, one over the first,
-# and its own.
+# and its own. One has tests.
 write_house() {
     local crate
     rm -rf -- "$house"
-    for crate in low other mid stab_cli unused; do
+    for crate in low other mid unused; do
         mkdir -p "$house/crates/$crate/src" "$house/crates/$crate/specs"
-        echo "$crate" >"$house/crates/$crate/src/text.rt"
+        echo "$crate" >"$house/crates/$crate/src/lib.rt"
     done
+    mkdir -p "$house/crates/stab_cli/src" "$house/crates/mid/src/tests"
+    echo stab_cli >"$house/crates/stab_cli/src/main.rt"
+    write_text mid $'mod part;\n\n#[cfg(test)]\nmod plain;\n#[cfg(test)]\nmod tests;'
+    echo 'a test' | tee "$house/crates/mid/src/plain.rt" "$house/crates/mid/src/tests.rt" \
+        "$house/crates/mid/src/tests/more.rt" >"$house/crates/mid/src/part.rt"
     echo input >"$house/crates/stab_cli/stdin"
     printf '%s\n' '# crates' 'low: itoa' 'other:' 'mid: low itoa' 'unused: low' '' \
         'stab_cli may_wait=4: low mid other clap' >"$house/crates.txt"
     echo 'Handles allowed: none.' >"$house/HANDLES"
-    cp -- "$top/stab" "$house/stab"
+    cp -- "$top/stab" "$top/release.sh" "$house/"
     : >"$work/calls"
 }
 
 # Changes the text of a crate, and leaves the times as if nothing had been changed.
 write_text() {
-    echo "$2" >"$house/crates/$1/src/text.rt"
-    touch -d '2001-01-01' "$house/crates/$1/src/text.rt"
+    local file=$house/crates/$1/src/lib.rt
+    [ "$1" != stab_cli ] || file=${file/lib/main}
+    echo "$2" >"$file"
+    touch -d '2001-01-01' "$file"
 }
 
 # Runs a command with the input 'in', and notes its status and what it writes.
@@ -95,13 +108,24 @@ run() {
     status=$?
 }
 
-# Whether the program ran and wrote so, and whether rt proved so many crates for it.
+# Runs ./stab as a user who may not write here, and without a kit.
+run_as_reader() {
+    local words=()
+    [ "$(id -u)" -ne 0 ] || words=(setpriv --reuid=65534 --regid=65534 --clear-groups)
+    chmod -R a-w,a+rX -- "$house"
+    mkdir -p "$work/temporary"
+    chmod 1777 "$work/temporary"
+    run "${words[@]}" env PATH="$work/without" TMPDIR="$work/temporary" "$house/stab" "$@"
+    chmod -R u+w -- "$house"
+}
+
+# Whether the program ran and wrote so, and whether rt was called so often for it.
 gave() {
     [ "$status" -eq 7 ] && [ "$(cat "$work/out")" = "$1" ] && calls "$2"
 }
 
 calls() {
-    [ "$(grep -c '^begin' "$work/calls")" -eq "$1" ]
+    [ "$(wc -l <"$work/calls")" -eq "$1" ]
 }
 
 # Whether ./stab ended with status 3, wrote nothing but on standard error, and there said so.
@@ -113,21 +137,35 @@ said() {
     grep -qF -- "$1" "$work/err"
 }
 
-both() {
-    "$1" "$2" "$3" && said "$4"
+# Whether several commands hold; they stand apart by the word 'and'.
+all() {
+    local words=()
+    while [ "$#" -gt 0 ]; do
+        if [ "$1" = and ]; then
+            "${words[@]}" || return
+            words=()
+        else
+            words+=("$1")
+        fi
+        shift
+    done
+    "${words[@]}"
 }
 
-# Whether the crates low and other were proved at the same time.
-side_by_side() {
-    [ "$(grep -E 'low|other' "$work/calls" | head -n 2 | grep -c begin)" -eq 2 ]
+# Makes the release of the present sources, as somebody does who has a kit.
+release() {
+    run "$house/release.sh" "$@"
 }
 
-# Whether mid was begun after low had ended.
-in_order() {
-    local low mid
-    low=$(grep -nx 'end low' "$work/calls" | cut -d: -f1)
-    mid=$(grep -nx 'begin mid' "$work/calls" | cut -d: -f1)
-    [ "$low" -lt "$mid" ]
+# Whether the copy for rt had just what the program needs, with no tests in it.
+copied() {
+    local wanted
+    wanted=$(printf './%s\n' HANDLES crates.txt crates/low/src/lib.rt crates/mid/src/lib.rt \
+        crates/mid/src/part.rt crates/other/src/lib.rt crates/stab_cli/src/main.rt \
+        crates/stab_cli/stdin | LC_ALL=C sort)
+    [ "$(cat "$work/files")" = "$wanted" ] &&
+        [ "$(cat "$work/lines")" = "$(printf '%s\n' 'low: itoa' 'mid: low itoa' 'other:' \
+            'stab_cli may_wait=4: low mid other clap')" ]
 }
 
 # Starts a build that does not end by itself, and sends it a signal.
@@ -150,17 +188,25 @@ interrupt() {
 
 # Whether a build was given up with this status, and what it had started was ended first.
 given_up() {
-    [ "$status" -eq "$1" ] && [ ! -s "$work/out" ] && said interrupted && [ -s "$work/ended" ]
+    [ "$status" -eq "$1" ] && [ ! -s "$work/out" ] && said interrupted &&
+        [ -s "$work/ended" ] && [ ! -e "$(cat "$work/place")" ]
 }
 
+mkdir "$work/without"
+for tool in bash cat chmod cp dirname env find flock gzip mkdir mktemp mv readlink rm sh sha256sum \
+    sort uname xargs; do
+    ln -s "$(type -P "$tool")" "$work/without/$tool"
+done
+
+# Without a release.
 write_rt
 write_house
 run "$house/stab" one 'two words'
 holds 'the first use builds, and hands on words, input and status' \
-    gave 'stab_cli; one two words; in' 4
+    all gave 'stab_cli; one two words; in' 1 and said 'there is no release'
 holds 'it says how far it is' said 'stab_cli is proved: 4 of 4 crates'
-holds 'crates that do not depend on each other are built side by side' side_by_side
-holds 'a crate is built after those below it' in_order
+holds 'what it builds is what the program needs, without tests' copied
+holds 'the folder of the build is gone' [ ! -e "$(cat "$work/place")" ]
 run "$house/stab"
 holds 'the second use builds nothing' gave 'stab_cli; ; in' 0
 holds 'and says nothing' [ ! -s "$work/err" ]
@@ -168,36 +214,46 @@ find "$house" -name '*.rt' -exec touch {} +
 run "$house/stab"
 holds 'new times of the same sources build nothing' gave 'stab_cli; ; in' 0
 write_text unused other
+echo 'last: unused' >>"$house/crates.txt"
 run "$house/stab"
-holds 'a crate that the program does not need builds nothing' gave 'stab_cli; ; in' 0
+holds 'crates that the program does not need build nothing' gave 'stab_cli; ; in' 0
 write_text stab_cli second
 run "$house/stab"
-holds 'changed sources with old times are built' gave 'second; ; in' 4
+holds 'changed sources with old times are built' gave 'second; ; in' 1
 echo 'pub mod Lib' >"$house/crates/low/specs/Lib.antt"
 run "$house/stab"
-holds 'a new file is built' gave 'second; ; in' 4
+holds 'a new file is built' gave 'second; ; in' 1
+sed -i 's/^other:/other: itoa/' "$house/crates.txt"
+run "$house/stab"
+holds 'another line of a crate that is needed is built' gave 'second; ; in' 1
+echo 'Handles allowed: Wait.' >"$house/HANDLES"
+run "$house/stab"
+holds 'and so are other handles' gave 'second; ; in' 1
 echo kit-2 >"$work/kit"
 run "$house/stab"
-holds 'another kit builds' gave 'second; ; in' 4
+holds 'another kit builds' gave 'second; ; in' 1
+for file in "$house"/out/stab-*; do
+    echo 'echo spoiled' >>"$file"
+done
+run "$house/stab"
+holds 'a built program that was spoiled is built again' gave 'second; ; in' 1
 write_text low broken
 run "$house/stab"
 holds 'a build that fails runs no program and names what rt said' \
-    refused "low failed, and what rt said is in $house/out/log/low"
+    refused "the program was not built, and what rt said is in $house/out/build.log"
+holds 'which is there' grep -qx 'not proved' "$house/out/build.log"
 run "$house/stab"
 holds 'nor does the use after it' refused 'the program was not built'
 write_text low low
 run "$house/stab"
 holds 'with the old sources the old program is right again' gave 'second; ; in' 0
-write_text stab_cli broken
-run "$house/stab"
-holds 'a program that is not proved never runs' refused 'stab_cli failed'
 write_text stab_cli changes
 run "$house/stab"
 holds 'sources that change during the build are built again' \
-    both gave 'after; ; in' 8 'the sources have changed during the build'
+    all gave 'after; ; in' 2 and said 'the sources have changed during the build'
 write_text stab_cli rewrites
 run "$house/stab"
-holds 'the script itself may change during a build' gave 'rewrites; ; in' 4
+holds 'the script itself may change during a build' gave 'rewrites; ; in' 1
 cp -- "$top/stab" "$house/stab"
 write_text stab_cli waits
 (run "$house/stab"; cp "$work/calls" "$work/calls_of_first"; cp "$work/out" "$work/out_of_first") &
@@ -207,7 +263,7 @@ status=$?
 wait
 holds 'of two at once the second waits' said 'another ./stab builds the program: waiting for it'
 holds 'and uses what the first has built' cmp -s "$work/out_of_first" "$work/out_of_second"
-holds 'which is built once' calls 4
+holds 'which is built once' calls 1
 for signal in TERM:143 INT:130 HUP:129; do
     interrupt "${signal%:*}"
     holds "a build ends at the signal ${signal%:*}, with all that it started" \
@@ -216,31 +272,160 @@ done
 write_text mid mid
 write_text stab_cli again
 run "$house/stab"
-holds 'the use after an interrupt builds' gave 'again; ; in' 4
+holds 'the use after an interrupt builds' gave 'again; ; in' 1
+mkdir -p "$house/crates/stab_cli/out/incremental"
+write_text stab_cli kept
+run "$house/stab"
+holds 'over what checks have kept, the program is built in its folder' \
+    all gave 'kept; ; in' 1 and said 'over what was kept' and
+    [ "$(cat "$work/calls")" = 'run --backend llvm' ]
+rm -r "$house/crates/stab_cli/out"
 run env CDPATH="$work:/" bash -c 'cd -- "$0/.." && "./a house/stab" one' "$house"
-holds 'CDPATH changes nothing' gave 'again; one; in' 0
+holds 'CDPATH changes nothing' gave 'kept; one; in' 0
 ln -s "$house/stab" "$work/bin/linked"
 run env -C / linked two
-holds 'a symbolic link on the path leads to the program' gave 'again; two; in' 0
+holds 'a symbolic link on the path leads to the program' gave 'kept; two; in' 0
 write_text stab_cli far
 run env CDPATH="$work:$house:/" TMPDIR=/no/such/folder \
     bash -c 'cd / && "$0" three' "$work/bin/linked"
 holds 'a build from another folder, with CDPATH and with no temporary folder' \
-    gave 'far; three; in' 4
-mkdir "$work/without"
-for tool in bash cat chmod cp dirname env find flock mkdir mv nproc readlink rm sh sha256sum sleep \
-    sort xargs; do
-    ln -s "$(type -P "$tool")" "$work/without/$tool"
-done
+    gave 'far; three; in' 1
 run env PATH="$work/without" "$house/stab"
-holds 'without rt a program of these sources runs' gave 'far; ; in' 0
+holds 'without rt a program that was built of these sources runs' gave 'far; ; in' 0
 write_text stab_cli new
 run env PATH="$work/without" "$house/stab"
-holds 'without rt nothing is built' refused 'the command rt of the Rattle kit is needed'
+holds 'without rt nothing is built' \
+    refused 'there is no release: the command rt of the Rattle kit is needed'
+
+# With a release.
+write_text stab_cli released
+release
 rm -rf "$house/out"
+run env PATH="$work/without" "$house/stab" one 'two words'
+holds 'a release runs at once, without the kit' gave 'released; one two words; in' 0
+holds 'and says nothing' [ ! -s "$work/err" ]
+run env PATH="$work/without" "$house/stab"
+holds 'and again' gave 'released; ; in' 0
+for file in "$house"/out/stab-release-*; do
+    echo 'echo spoiled' >>"$file"
+done
+run "$house/stab"
+holds 'an unpacked program that was spoiled is unpacked again' gave 'released; ; in' 0
+rm -rf "$house/out"
+run_as_reader one
+holds 'in a clone that cannot be written to, it runs' gave 'released; one; in' 0
+holds 'and leaves nothing' all [ -z "$(ls -A "$work/temporary")" ] and [ ! -e "$house/out" ]
 : >"$house/out"
 run "$house/stab"
-holds 'a folder that cannot be made is named' refused "the folder $house/out/log cannot be made"
+holds 'and where out is no folder' gave 'released; ; in' 0
+run env TMPDIR=/no/such/folder "$house/stab"
+holds 'where it can be unpacked nowhere, that is said' refused 'set TMPDIR to a folder'
+rm "$house/out"
+cp -r "$work/without" "$work/no_run"
+rm "$work/no_run/chmod"
+printf '#!/bin/sh\ncase $3 in *house*) ;; *) exec %s "$@" ;; esac\n' "$(type -P chmod)" \
+    >"$work/no_run/chmod"
+chmod +x "$work/no_run/chmod"
+run env PATH="$work/no_run" "$house/stab"
+holds 'where no file of out/ can be run, it runs from elsewhere' gave 'released; ; in' 0
+for count in 1 2 3 4 5 6 7 8; do
+    (printf in | PATH=$work/without "$house/stab" "$count" >"$work/out_$count" 2>&1
+        echo "$?" >>"$work/out_$count") &
+done
+wait
+holds 'of several that unpack at once each runs' [ "$(cat "$work"/out_[1-8])" = \
+    "$(for count in 1 2 3 4 5 6 7 8; do printf 'released; %s; in\n7\n' "$count"; done)" ]
+echo kit-3 >"$work/kit"
+run "$house/stab"
+holds 'another kit changes nothing' gave 'released; ; in' 0
+echo kit-2 >"$work/kit"
+write_text stab_cli other
+run "$house/stab"
+holds 'of other sources the program is built, and that is said' \
+    all gave 'other; ; in' 1 and said 'the sources are not those of the release'
+run "$house/stab"
+holds 'once' all gave 'other; ; in' 0 and [ ! -s "$work/err" ]
+write_text stab_cli released
+run "$house/stab"
+holds 'and with the old ones the release runs' gave 'released; ; in' 0
+newest=$(ls -t "$house/out" | grep '^stab-' | head -n 1)
+holds 'whose file is then the newest program of out' [ "${newest%-*}" = stab-release ]
+run "$house/stab" --prove one
+holds 'with --prove, the program is built, and compared' all gave 'released; one; in' 1 and
+    said 'the release is the same program, byte for byte'
+run "$house/stab" --prove
+holds 'each time' gave 'released; ; in' 1
+run "$house/stab" one --prove
+holds 'as the first word alone' gave 'released; one --prove; in' 0
+echo kit-3 >"$work/kit"
+run "$house/stab" --prove
+holds 'with another kit as well' all gave 'released; ; in' 1 and said 'byte for byte'
+echo kit-2 >"$work/kit"
+write_text stab_cli other
+run "$house/stab" --prove
+holds 'of other sources nothing is compared' \
+    all gave 'other; ; in' 1 and said 'nothing was compared: the release was made from other'
+run env PATH="$work/without" "$house/stab" --prove
+holds 'without rt nothing is proved' refused 'the command rt of the Rattle kit is needed'
+mkdir -p "$house/crates/stab_cli/out/incremental"
+write_text stab_cli differs
+release
+run "$house/stab"
+holds 'the release runs, whatever it is' gave 'differs run; ; in' 0
+run "$house/stab" --prove
+holds 'what differs from the release is said, and what was built runs' \
+    all gave 'differs ci; ; in' 1 and said 'the release is ANOTHER program'
+write_text stab_cli released
+release
+rm -rf "$house/out" "$house/crates/stab_cli/out"
+cp -r "$house/release" "$work/release"
+
+# Spoils a file of the release, and runs ./stab: without the kit nothing runs, and with it the
+# program is built.
+spoiled() {
+    run env PATH="$work/without" "$house/stab"
+    holds "$1: nothing runs without the kit" refused 'the release is spoiled'
+    run "$house/stab"
+    holds "$1: it is built" all gave 'released; ; in' 1 and said 'the release is spoiled'
+    rm -rf "$house/release" "$house/out"
+    cp -r "$work/release" "$house/release"
+}
+printf x >>"$house/release/stab.gz"
+run env PATH="$work/without" "$house/stab"
+holds 'what follows the program in its file is no part of it' gave 'released; ; in' 0
+rm -rf "$house/out"
+printf '#!/bin/sh\necho spoiled\n' | gzip -9n >"$house/release/stab.gz"
+spoiled 'another program'
+head -c 40 "$work/release/stab.gz" >"$house/release/stab.gz"
+spoiled 'half a program'
+rm "$house/release/stab.gz"
+spoiled 'no program'
+sed -i 's/^program ./program x/' "$house/release/MANIFEST"
+spoiled 'a manifest without a digest'
+sed -i 's/^program [0-9a-f]/program 0123/' "$house/release/MANIFEST"
+spoiled 'a manifest with a long digest'
+echo 'more' >>"$house/release/MANIFEST"
+spoiled 'a manifest with a fourth line'
+: >"$house/release/MANIFEST"
+spoiled 'an empty manifest'
+sed -i "s/^program .*/program $(printf 'another' | sha256sum | cut -c1-64)/" \
+    "$house/release/MANIFEST"
+spoiled 'the digest of another program'
+rm "$house/release/MANIFEST"
+run env PATH="$work/without" "$house/stab"
+holds 'no manifest: nothing runs without the kit' refused 'there is no release'
+cp "$work/release/MANIFEST" "$house/release/MANIFEST"
+rm "$work/without/gzip"
+run env PATH="$work/without" "$house/stab"
+holds 'without gzip that is said' refused 'the command gzip is needed'
+rm "$work/without/uname"
+printf '#!/bin/sh\necho Darwin arm64\n' >"$work/without/uname"
+chmod +x "$work/without/uname"
+for word in '' --prove; do
+    run env PATH="$work/without:$work/bin" "$house/stab" $word
+    holds "on another system it is said what is needed ($word)" \
+        all refused 'for Linux on x86-64, and this is Darwin arm64' and calls 0
+done
 
 printf '%s passed, %s failed\n' "$passed" "$failed"
 [ "$failed" -eq 0 ]

@@ -38,7 +38,7 @@ import time
 
 HERE = os.path.dirname(os.path.realpath(__file__))
 TOP = os.path.dirname(os.path.dirname(HERE))
-EXAMPLES = os.path.join(TOP, "crates", "stab_examples", "data")
+EXAMPLES = os.path.join(TOP, "crates", "stab_checks", "data")
 BUILD = os.path.join(HERE, "build")
 SECONDS = 20
 PART = 500  # so many cases one lane runs before it takes the next ones

@@ -3,9 +3,10 @@
 
 It builds refuse.c, an object for LD_PRELOAD, by the kit's own clang, and runs under it
 
-  (a) stab_refused, once for every N with its Nth allocation refused: it must print what its file
-      `stdout` has, end with status 0, and name on standard error only calls of the file `calls`;
-      each of these must have been refused at least once;
+  (a) stab_checks with the word `calls`, once for every N with its Nth allocation refused: it must
+      print the first part of its file `stdout`, before the examples, end with status 0, and name on
+      standard error only calls of the file `calls`; each of these must have been refused at least
+      once;
   (b) stab on some examples and two runs, once for every N with the Nth allocation refused, and once
       with every allocation from the Nth on: it must give the whole text with status 0, or the line
       `stab: out of memory` with status 3 and nothing else;
@@ -30,7 +31,7 @@ import tempfile
 
 HERE = os.path.dirname(os.path.realpath(__file__))
 TOP = os.path.dirname(os.path.dirname(HERE))
-EXAMPLES = f"{TOP}/crates/stab_examples/data"
+EXAMPLES = f"{TOP}/crates/stab_checks/data"
 
 # A program that has not ended after so many seconds hangs.
 SECONDS = 60.0
@@ -225,18 +226,18 @@ class Check:
 
     def refused(self, program, calls):
         """Part (a): the program that makes every call again."""
-        if self.only not in "stab_refused":
+        if self.only not in "stab_checks":
             return
         with open(f"{os.path.dirname(os.path.dirname(program))}/stdout", "rb") as it:
-            right = (0, it.read())
-        program = self.room.copy(program)
+            right = (0, b"".join(itertools.takewhile(is_of_calls, it)))
+        command = [self.room.copy(program), "calls"]
         with open(calls) as it:
             wanted = {line.strip() for line in it if line.strip() and not line.startswith("#")}
         is_right = lambda ended: (ended.status, ended.out) == right
-        if not self.undisturbed("stab_refused", [program], os.devnull, is_right):
+        if not self.undisturbed("stab_checks", command, os.devnull, is_right):
             return
         faults, seen, last = [], set(), 0
-        walk = lambda: self.every("REFUSE_ALLOCATION", [program], os.devnull)
+        walk = lambda: self.every("REFUSE_ALLOCATION", command, os.devnull)
         walks = (walk() for _ in range(WALKS) if not wanted <= seen)
         for number, ended in itertools.chain.from_iterable(walks):
             names = set()
@@ -247,10 +248,10 @@ class Check:
             seen |= names
             if ended.refused:
                 last = max(last, number)
-        self.tell("stab_refused, refused once", faults, f": {last} refusals")
+        self.tell("stab_checks, refused once", faults, f": {last} refusals")
         for name in sorted(wanted):
             faults = [] if name in seen else ["no allocation of this call was ever refused"]
-            self.tell(f"stab_refused, {name} is refused", faults)
+            self.tell(f"stab_checks, {name} is refused", faults)
 
     def threads(self, name, command, input, is_right, nodes):
         """Part (c): the start of each thread is refused in its turn."""
@@ -279,6 +280,11 @@ class Check:
         if must_refuse and refused == 0:
             faults.append("under no limit a worker could not be started")
         self.tell(name, faults, f": {refused} of {len(limits)} limits refuse a worker")
+
+
+def is_of_calls(line):
+    """Whether a line of the expected text is of the calls: no example is compared before it."""
+    return not line.startswith(b"same   ")
 
 
 def first_difference(right, ended):
@@ -400,11 +406,11 @@ def check_stab(check, room, program, all_examples):
 def main():
     parser = argparse.ArgumentParser(description="refuses memory and threads to the built programs")
     parser.add_argument("--stab", default=f"{TOP}/crates/stab_cli/out/stab_cli")
-    parser.add_argument("--refused", default=f"{TOP}/crates/stab_refused/out/stab_refused")
+    parser.add_argument("--checks", default=f"{TOP}/crates/stab_checks/out/stab_checks")
     parser.add_argument("--lanes", type=int, default=4, help="how many programs run at a time")
     parser.add_argument("--all", action="store_true", help="every example, and not some of them")
     parser.add_argument("--only", default="", help="the cases that have this in their names")
-    parser.add_argument("--calls", default=f"{HERE}/calls", help="the calls of stab_refused")
+    parser.add_argument("--calls", default=f"{HERE}/calls", help="the calls of stab_checks")
     parser.add_argument("--seconds", type=float, default=SECONDS, help="how long one may run")
     given = parser.parse_args()
     with tempfile.TemporaryDirectory(prefix="stab-refused-") as folder:
@@ -413,7 +419,7 @@ def main():
         with concurrent.futures.ThreadPoolExecutor(given.lanes) as lanes:
             check = Check(room, lanes, given.only)
             for program, part in (
-                (given.refused, lambda it: check.refused(it, given.calls)),
+                (given.checks, lambda it: check.refused(it, given.calls)),
                 (given.stab, lambda it: check_stab(check, room, it, given.all)),
             ):
                 if os.path.isfile(program):

@@ -2,8 +2,8 @@
  * A small program with a planted bug, for tests/check_refused.sh. It includes no header.
  *
  * As `stab` it prints the report of a lone root: BUG says what it does wrong where memory, or its
- * thread, is refused. As stab_refused, it makes two calls, again where one is refused. With BUG 0
- * it does all of it right.
+ * thread, is refused. As stab_checks with the word `calls`, it makes two calls, again where one is
+ * refused. With BUG 0 it does all of it right.
  */
 
 #ifndef BUG
@@ -131,6 +131,5 @@ static int calls(void) {
 }
 
 int main(int count, char **words) {
-    (void)words;
-    return count > 1 ? stab() : calls();
+    return count > 1 && strstr(words[1], "calls") ? calls() : stab();
 }

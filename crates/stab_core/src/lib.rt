@@ -30,6 +30,3 @@ pub use text::{
     link_text, origins_text, push_items_line, push_link_text, push_number, push_origins_text,
 };
 pub use tracer::{run_traced, trace};
-
-#[cfg(test)]
-mod tests;

@@ -16,8 +16,3 @@ pub use frame::{Frame, Item, Label};
 pub use params::{Params, ParamsFault};
 pub use queue::FrameQueue;
 pub use sequence::Sequence;
-
-#[cfg(test)]
-mod plain;
-#[cfg(test)]
-mod tests;

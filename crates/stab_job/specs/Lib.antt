@@ -8,3 +8,4 @@ pub mod LinkParams
 pub mod JobMembers
 pub mod LentMembers
 pub mod Jobs
+pub mod ReadParts

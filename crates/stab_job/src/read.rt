@@ -1,13 +1,14 @@
-ghost use Rattle.std.specs.Prelude.{◌≡◌, ◌≢◌, ◌<◌, codes, true, false, length, IfErr, MatchResult, None, Ok, Err};
+ghost use Rattle.std.specs.Prelude.{◌≡◌, ◌≢◌, ◌<◌, codes, true, false, length, IfErr, IfOk, MatchResult, None, Ok, Err};
 ghost use Rattle.serde_json.specs.Find.{get};
 ghost use Rattle.serde_json.specs.View.{view};
 ghost use Rattle.stab_json.specs.Values.{value_of};
 ghost use Rattle.stab_job.specs.JobLinks.{are_miscounted};
-ghost use Rattle.stab_job.specs.JobValues.{links};
+ghost use Rattle.stab_job.specs.JobValues.{IsJob, links};
 ghost use Rattle.stab_job.specs.Jobs.{AreCounted, are_out_of_range};
 ghost use Rattle.stab_job.specs.Jobs.{job, job_on_tree, job_of_scripts};
 ghost use Rattle.stab_job.specs.LinkParams.{link_params};
 ghost use Rattle.stab_job.specs.LentMembers.{members_lent};
+ghost use Rattle.stab_job.specs.ReadParts.{job_read};
 ghost use Rattle.stab_job.specs.Refusals.{is_of_value};
 ghost use Rattle.stab_tree.specs.Nodes.{Nodes};
 
@@ -20,11 +21,24 @@ use crate::opened::openings_of;
 use crate::schedule::read_schedule;
 use crate::version::version_of;
 use serde_json::Value;
+use stab_core::Start;
 use stab_frames::{Params, Sequence};
 use stab_json::read_value;
 use stab_script::{Script, ScriptFault};
 use stab_tree::{Tree, TreeFault, read_tree};
+use stab_treecore::{Openings, TreeEvent};
 use std::alloc::Global;
+
+/// The parts of a job that are read once there is a tree.
+#[derive(Drop)]
+pub(crate) struct ReadParts {
+    params: Sequence<Params>,
+    starts: Sequence<Start>,
+    scripts: Sequence<Script>,
+    turns: u32,
+    schedule: Sequence<TreeEvent>,
+    openings: Openings,
+}
 
 /// The most items that a job may have.
 const MAX_ITEMS: usize = 10_000;
@@ -64,7 +78,6 @@ pub fn read_job(alloc: Global, bytes: &[u8]) -> Result<Job, JobFault>
 }
 
 /// The job of these members on their tree, or the first check that they fail.
-#[tactic(auto, using(crate::proofs::Refused::script_fault_is_of_value))]
 fn job_on_tree(
     alloc: Global,
     params: Params,
@@ -79,47 +92,81 @@ fn job_on_tree(
         → job_on_tree tree (members_lent members.entry) ≡ Err fault) }
     ensures reported { IfErr result (λ fault. is_of_value fault ≡ true) }
 {
-    let links = tree.link_count();
-    check_counts(links, &members)?;
-    let scripts = make_scripts(alloc, links, members.scripts.take())?;
-    job_of_scripts(alloc, params, tree, members, scripts)
+    let read = read_parts(alloc, params, &tree, &mut members)?;
+    Ok(Job::from_parts(
+        read.params,
+        tree,
+        members.items,
+        read.starts,
+        read.scripts,
+        read.turns,
+        read.schedule,
+        read.openings,
+    ))
 }
 
-/// The job of these scripts and of the other members, whose numbers of entries are right; or the
-/// first check that the turns and the schedule fail.
-fn job_of_scripts(
+/// The parts of the job of these members on their tree, beside the tree and the items; or the first
+/// check that they fail. The starts, the scripts and the openings are taken out of the members.
+#[tactic(auto, using(crate::proofs::Refused::script_fault_is_of_value))]
+fn read_parts(
     alloc: Global,
     params: Params,
-    tree: Tree,
-    members: LentMembers<'_>,
-    scripts: Sequence<Script>,
-) -> Result<Job, JobFault>
-    requires capacity { params.capacity ≡ members.capacity }
-    requires labels { params.labels ≡ members.labels }
-    requires counted { AreCounted (links tree) (members_lent members) }
-    requires one_script_each { length scripts ≡ links tree }
+    tree: &Tree,
+    members: &mut LentMembers<'_>,
+) -> Result<ReadParts, JobFault>
+    requires capacity { params.capacity ≡ members.old.capacity }
+    requires labels { params.labels ≡ members.old.labels }
+    ensures items { members.new.items ≡ members.old.items }
     ensures job { MatchResult result
-        (λ its_job. job_of_scripts tree (members_lent members.entry) scripts ≡ Ok its_job)
+        (λ read. job_on_tree tree.now (members_lent members.old)
+        ≡ Ok (job_read tree.now members.old.items read))
         (λ fault. fault ≢ JobFault.Memory
-        → job_of_scripts tree (members_lent members.entry) scripts ≡ Err fault) }
+        → job_on_tree tree.now (members_lent members.old) ≡ Err fault) }
+    ensures lawful { IfOk result (λ read. IsJob (job_read tree.now members.old.items read)) }
+    ensures reported { IfErr result (λ fault. is_of_value fault ≡ true) }
+{
+    let links = tree.link_count();
+    check_counts(links, members)?;
+    let scripts = make_scripts(alloc, links, members.scripts.take())?;
+    parts_with(alloc, params, tree, members, scripts)
+}
+
+/// The parts of the job of these scripts and of the other members, whose numbers of entries are
+/// right; or the first check that the turns and the schedule fail.
+fn parts_with(
+    alloc: Global,
+    params: Params,
+    tree: &Tree,
+    members: &mut LentMembers<'_>,
+    scripts: Sequence<Script>,
+) -> Result<ReadParts, JobFault>
+    requires capacity { params.capacity ≡ members.old.capacity }
+    requires labels { params.labels ≡ members.old.labels }
+    requires counted { AreCounted (links tree.now) (members_lent members.old) }
+    requires one_script_each { length scripts ≡ links tree.now }
+    ensures items { members.new.items ≡ members.old.items }
+    ensures job { MatchResult result
+        (λ read. job_of_scripts tree.now (members_lent members.old) scripts
+        ≡ Ok (job_read tree.now members.old.items read))
+        (λ fault. fault ≢ JobFault.Memory
+        → job_of_scripts tree.now (members_lent members.old) scripts ≡ Err fault) }
+    ensures lawful { IfOk result (λ read. IsJob (job_read tree.now members.old.items read)) }
     ensures reported { IfErr result (λ fault. is_of_value fault ≡ true) }
 {
     let _lawful = params.capacity();
     let turns = turns_in_range(members.turns)?;
-    let schedule = read_schedule(alloc, &tree, members.schedule)?;
-    let params = link_params(alloc, &tree, params, &members.links)?;
-    let openings = openings_of(alloc, &tree, members.hold, members.openings)?;
-    let starts = starts_of(alloc, tree.link_count(), members.starts)?;
-    Ok(Job::from_parts(
+    let schedule = read_schedule(alloc, tree, members.schedule)?;
+    let params = link_params(alloc, tree, params, &members.links)?;
+    let openings = openings_of(alloc, tree, members.hold, members.openings.take())?;
+    let starts = starts_of(alloc, tree.link_count(), members.starts.take())?;
+    Ok(ReadParts {
         params,
-        tree,
-        members.items,
         starts,
         scripts,
         turns,
         schedule,
         openings,
-    ))
+    })
 }
 
 /// These turns, where they are 1 to 1,000,000.

@@ -13,6 +13,3 @@ mod value;
 
 pub use list::{Entry, read_entries, read_list};
 pub use value::{item, label, pair, read_value, u16_member, u32_member};
-
-#[cfg(test)]
-mod tests;

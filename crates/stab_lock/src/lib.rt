@@ -27,6 +27,3 @@ pub use seen::FrameSeen;
 pub use send::LockSend;
 pub use settle::{SettleFault, Settled};
 pub use side::{RecvSide, SendSide};
-
-#[cfg(test)]
-mod tests;

@@ -23,6 +23,3 @@ pub use fault::NodeFault;
 pub use free::Free;
 pub use gate::Gate;
 pub use worker::work;
-
-#[cfg(test)]
-mod tests;

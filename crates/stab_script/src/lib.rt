@@ -28,6 +28,3 @@ pub use link_job::{LinkJob, LinkJobFault, read_link_job};
 pub use script::Script;
 pub use script_entry::{ScriptEntry, read_script};
 pub use start::{StartEntry, read_start};
-
-#[cfg(test)]
-mod tests;

@@ -97,14 +97,18 @@ MayDiffer Words job child = ⊥
 MayDiffer Mixed job child =
     HoldsInto IsLarge job.tree.parents (all_given job.params job.starts) child
 
--- these bytes are a job, and this is the text of some report of a run of it
-pub record IsRunAnswer (links : Links) (input text : List ℕ) : Type 0 where
-  pub job : JobValue
-  pub read : whole_job input ≡ Ok job
+-- this is the text of some report of a run of this job
+pub record IsRunText (links : Links) (job : JobValue) (text : List ℕ) : Type 0 where
   pub one_place : HasOnePlace links job
   pub report : Reported
   pub holds : IsReport job report
   pub the_text : text ≡ report_text job.tree report
+
+-- these bytes are a job, and this is the text of some report of a run of it
+pub record IsRunAnswer (links : Links) (input text : List ℕ) : Type 0 where
+  pub job : JobValue
+  pub read : whole_job input ≡ Ok job
+  pub run : IsRunText links job text
 
 -- the text of a task for these bytes
 abbrev pub IsAnswer : Task → List ℕ → List ℕ → Type 0

@@ -8,7 +8,7 @@ ghost use Rattle.stab_treecore.specs.Refusals.{IsScheduleReason, NamesLink};
 ghost use Rattle.stab_treecore.specs.TreeReplay.{tree_opening, tree_replay};
 ghost use Rattle.stab_task.specs.Answers.{IsLinkAnswer, IsTreeAnswer, IsRunAnswer};
 ghost use Rattle.stab_task.specs.Answers.{HasOnePlace, IsAnswer, IsFault, IsReport};
-ghost use Rattle.stab_task.specs.Answers.{IsRunReason};
+ghost use Rattle.stab_task.specs.Answers.{IsRunReason, IsRunText, link_answer, tree_answer};
 
 use crate::command::{Links, Task};
 use crate::fault::CliFault;
@@ -90,8 +90,18 @@ fn answer_link(alloc: Global, with_trace: bool, bytes: &[u8]) -> Result<String, 
     ensures no_write { IfErr result (λ fault. fault ≢ CliFault.Write) }
 {
     let job = read_link_job(alloc, bytes)?;
+    let text = job_text(alloc, with_trace, &job)?;
+    Ok(text)
+}
+
+/// The text of a link job that was read.
+fn job_text(alloc: Global, with_trace: bool, job: &LinkJob) -> Result<String, StartFault>
+    ensures text { IfOk result (λ text. string_bytes text ≡ link_answer with_trace job.now) }
+    ensures lawful { OnOk result (IsLawful job.now.params job.now.start) }
+    ensures refused { IfErr result (IsReason job.now.params job.now.start) }
+{
     if !with_trace {
-        let link = replay_link(alloc, &job)?;
+        let link = replay_link(alloc, job)?;
         return Ok(link_text(alloc, &link)?);
     }
     let (link, origins) = run_traced(alloc, job.params, &job.start, job.events.as_slice())?;
@@ -117,7 +127,19 @@ fn answer_tree(alloc: Global, bytes: &[u8]) -> Result<String, CliFault>
     ensures no_write { IfErr result (λ fault. fault ≢ CliFault.Write) }
 {
     let job = read_job(alloc, bytes)?;
-    let state = replay_tree(alloc, &job)?;
+    let text = tree_text(alloc, &job)?;
+    Ok(text)
+}
+
+/// The text of the whole tree of a job after its schedule.
+fn tree_text(alloc: Global, job: &Job) -> Result<String, TreeStartFault>
+    ensures text { IfOk result (λ text. string_bytes text ≡ tree_answer job.now) }
+    ensures lawful { OnOk result (AllZip IsLawful job.now.params job.now.starts) }
+    ensures named { OnOk result (All (NamesLink job.now.tree.parents) job.now.schedule) }
+    ensures refused { IfErr result (IsScheduleReason job.now.params job.now.openings
+        job.now.tree.parents job.now.items job.now.starts job.now.schedule) }
+{
+    let state = replay_tree(alloc, job)?;
     Ok(schedule_text(alloc, job.tree(), &state)?)
 }
 
@@ -155,7 +177,21 @@ fn answer_run<T: Threads + Wait + Send + Sync>(
     ensures no_write { IfErr result (λ fault. fault ≢ CliFault.Write) }
 {
     let job = read_job(alloc, bytes)?;
-    let report = run_job(rt, alloc, links, &job)?;
+    let text = run_text(rt, alloc, links, &job)?;
+    Ok(text)
+}
+
+/// The text of the report of a run of a job that was read.
+fn run_text<T: Threads + Wait + Send + Sync>(
+    rt: &T,
+    alloc: Global,
+    links: Links,
+    job: &Job,
+) -> Result<String, RunFault>
+    ensures text { IfOk result (λ text. IsRunText links job.now (string_bytes text)) }
+    ensures reason { IfErr result (IsRunReason links job.now) }
+{
+    let report = run_job(rt, alloc, links, job)?;
     Ok(report_text(alloc, job.tree(), &report)?)
 }
 

@@ -80,14 +80,11 @@ fn matches_of<'a>(alloc: Global, words: &'a [String]) -> Result<ArgMatches<'a>, 
 fn stab<'a>(alloc: Global) -> Result<Command<'a>, AllocError>
     ensures { IfOk result (λ command. app_of command ≡ stab_line) }
 {
-    let link = link(alloc)?;
-    let tree = tree(alloc)?;
-    let run = run(alloc)?;
     let stab = Command::new(alloc, "stab")
         .disable_help_subcommand(true)
-        .subcommand(link)?
-        .subcommand(tree)?
-        .subcommand(run)?;
+        .subcommand(link(alloc)?)?
+        .subcommand(tree(alloc)?)?
+        .subcommand(run(alloc)?)?;
     Ok(stab)
 }
 

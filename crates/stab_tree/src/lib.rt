@@ -17,8 +17,6 @@ mod names;
 mod node;
 mod parents;
 mod read;
-#[cfg(test)]
-mod tests;
 mod tree;
 
 pub use fault::TreeFault;

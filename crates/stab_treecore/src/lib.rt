@@ -25,6 +25,3 @@ pub use schedule::run_schedule;
 pub use stab_core::LinkAct;
 pub use state::TreeState;
 pub use text::{push_node_counts, schedule_text};
-
-#[cfg(test)]
-mod tests;

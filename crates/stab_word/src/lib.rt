@@ -28,6 +28,3 @@ pub use fault::WordFault;
 pub use link::{WordLink, WordOpening};
 pub use recv::{RecvDone, WordRecv};
 pub use send::{SendDone, WordSend};
-
-#[cfg(test)]
-mod tests;

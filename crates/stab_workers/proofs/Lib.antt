@@ -5,4 +5,3 @@ pub mod Gathering
 pub mod ForCallers
 pub mod Worked
 pub mod HandedOn
-pub mod Three

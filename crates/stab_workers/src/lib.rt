@@ -28,8 +28,3 @@ mod workers;
 pub use fault::WorkersFault;
 pub use gathered::Gathered;
 pub use run::run_workers;
-
-#[cfg(test)]
-mod run_tests;
-#[cfg(test)]
-mod tests;

@@ -1,0 +1,65 @@
+//! A gate that counts.
+
+ghost use Rattle.std.specs.Prelude.{⊤};
+
+use stab_node::{Free, Gate};
+use std::array;
+use std::sync::atomic::{AtomicU64, Ordering};
+
+/// How many nodes a chain has.
+pub const NODES: usize = 3;
+
+/// A gate that refuses no turn, and counts how often each node asked for one, and how often it said
+/// that it is done.
+#[derive(Drop)]
+pub struct CountingGate {
+    free: Free,
+    asked: [AtomicU64; NODES],
+    done: [AtomicU64; NODES],
+}
+
+impl CountingGate {
+    /// The gate of one run.
+    pub fn new() -> CountingGate {
+        CountingGate {
+            free: Free::for_nodes(NODES as u16),
+            asked: array::from_fn(|_| AtomicU64::new(0)),
+            done: array::from_fn(|_| AtomicU64::new(0)),
+        }
+    }
+
+    /// Whether each node that asked for a turn was done once, and no other node more often; and,
+    /// where all must have asked, each did.
+    pub fn is_done_once(&self, must_ask: bool) -> bool {
+        for (asked, done) in self.asked.iter().zip(&self.done) {
+            let asked = asked.load(Ordering::SeqCst) > 0;
+            let done = done.load(Ordering::SeqCst);
+            if done > 1 || (asked && done == 0) || (must_ask && !asked) {
+                return false;
+            }
+        }
+        true
+    }
+}
+
+impl Gate for CountingGate {
+    ghost may_refuse = { λ gate node turn. ⊥ };
+
+    ghost has_passed = { λ gate node turn. ⊤ };
+
+    ghost is_done = { λ gate node. ⊤ };
+
+    fn pass(&self, node: u16, turn: u32) -> bool {
+        if let Some(asked) = self.asked.get(node as usize) {
+            asked.fetch_add(1, Ordering::SeqCst);
+        }
+        self.free.pass(node, turn)
+    }
+
+    fn done(&self, node: u16) {
+        if let Some(done) = self.done.get(node as usize) {
+            done.fetch_add(1, Ordering::SeqCst);
+        }
+        self.free.done(node)
+    }
+}

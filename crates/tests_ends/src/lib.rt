@@ -1,0 +1,10 @@
+//! The tests of the two kinds of link, behind a lock and of two words, by public calls alone.
+//!
+//! There is one module for each crate below. They are a crate of their own for the same reason as
+//! those of `tests_protocol`.
+#![tactic(auto)]
+
+#[cfg(test)]
+mod lock;
+#[cfg(test)]
+mod word;

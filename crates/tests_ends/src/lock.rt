@@ -1,0 +1,441 @@
+//! The worked examples of a locked link, each as a table of calls beside their answers. The same
+//! tables are walked by the ends of a locked link and by a book's own calls.
+
+use stab_core::{Effect, Event, Start};
+use stab_frames::{Item, Params, Sequence};
+use stab_lock::{
+    FrameSeen, LinkBook, LockLink, RecvAccount, RecvSide, SendAccount, SendSide, SettleFault,
+    Settled,
+};
+use stab_script::{InAct, OutAct, Script};
+use std::alloc::{AllocError, Global};
+use std::process::Abort;
+use std::sync::Wait;
+use std::test::Fail;
+use std::thread;
+use std::thread::Threads;
+
+/// A call of one of the two ends, beside the answer that it must give.
+#[derive(Clone, Copy, Debug)]
+enum Ask {
+    Offer(Item, bool),
+    Send(Effect),
+    PollAck(Effect),
+    Close(Effect),
+    PollFrame(FrameSeen),
+    SendAck(Effect),
+}
+
+/// A round with 7, and the close.
+const ROUND_AND_CLOSE: [Ask; 13] = [
+    Ask::Offer(7, true),
+    Ask::Offer(8, false),
+    Ask::Send(Effect::Sent),
+    Ask::PollFrame(FrameSeen::Fresh(7)),
+    Ask::PollFrame(FrameSeen::Nothing),
+    Ask::SendAck(Effect::Sent),
+    Ask::PollAck(Effect::Acked),
+    Ask::PollAck(Effect::Nothing),
+    Ask::Close(Effect::Closed),
+    Ask::PollFrame(FrameSeen::Closed),
+    Ask::SendAck(Effect::Nothing),
+    Ask::Offer(8, false),
+    Ask::Close(Effect::Nothing),
+];
+
+/// What the round and the close note.
+const ROUND_AND_CLOSE_HISTORY: [Event; 6] = [
+    Event::Offer(7),
+    Event::SendFrame,
+    Event::RecvFrame { keep: false },
+    Event::SendAck,
+    Event::RecvAck { keep: false },
+    Event::Close,
+];
+
+/// Frames out under Drop, Pass and Evict, and then past the end; frames in under Keep, and then
+/// past the end.
+const SCRIPTED: [Ask; 8] = [
+    Ask::Offer(7, true),
+    Ask::Send(Effect::Lost),
+    Ask::Send(Effect::Sent),
+    Ask::Send(Effect::Sent),
+    Ask::Send(Effect::Lost),
+    Ask::PollFrame(FrameSeen::Fresh(7)),
+    Ask::PollFrame(FrameSeen::Old),
+    Ask::PollFrame(FrameSeen::Nothing),
+];
+
+/// What the scripted calls note.
+const SCRIPTED_HISTORY: [Event; 7] = [
+    Event::Offer(7),
+    Event::SendFrame,
+    Event::LoseFrame(0),
+    Event::SendFrame,
+    Event::SendFrame,
+    Event::RecvFrame { keep: true },
+    Event::RecvFrame { keep: false },
+];
+
+/// A start with empty queues, the send label 0 and the receive label 3.
+fn start_at_three(alloc: Global) -> Start {
+    Start {
+        frames: Sequence::new(alloc),
+        acks: Sequence::new(alloc),
+        send_label: 0,
+        recv_label: 3,
+    }
+}
+
+/// A locked link of capacity 1 with 4 labels at that start.
+fn link_at_three(alloc: Global) -> Result<LockLink, Fail> {
+    Ok(LockLink::new(alloc, Params::new(1, 4)?, start_at_three(alloc))?)
+}
+
+/// The book of such a link.
+fn book_at_three(alloc: Global) -> Result<LinkBook, Fail> {
+    Ok(LinkBook::new(alloc, Params::new(1, 4)?, start_at_three(alloc))?)
+}
+
+/// Frames out Drop, Pass, Evict; frames in Keep.
+fn script_of_losses(alloc: Global) -> Result<Script, Fail> {
+    let outs = Vec::from_slice(alloc, &[OutAct::Drop, OutAct::Pass, OutAct::Evict])?;
+    let ins = Vec::from_slice(alloc, &[InAct::Keep])?;
+    Ok(Script::new(outs, ins, Vec::new(alloc), Vec::new(alloc))?)
+}
+
+/// Makes the calls on both ends, in their order, and compares the answers.
+fn ask_ends<S: SendSide, T: RecvSide<Pass = S::Pass>, R: Abort>(
+    rt: &R,
+    pass: &S::Pass,
+    send: &mut S,
+    recv: &mut T,
+    asks: &[Ask],
+) -> Result<(), AllocError> {
+    for ask in asks {
+        match *ask {
+            Ask::Offer(item, taken) => assert!(rt; send.offer(pass, item)? == taken, "{ask:?}"),
+            Ask::Send(effect) => assert!(rt; send.send(pass)? == effect, "{ask:?}"),
+            Ask::PollAck(effect) => assert!(rt; send.poll_ack(pass)? == effect, "{ask:?}"),
+            Ask::Close(effect) => assert!(rt; send.close(pass)? == effect, "{ask:?}"),
+            Ask::PollFrame(seen) => assert!(rt; recv.poll_frame(pass)? == seen, "{ask:?}"),
+            Ask::SendAck(effect) => assert!(rt; recv.send_ack(pass)? == effect, "{ask:?}"),
+        }
+    }
+    Ok(())
+}
+
+/// Makes the calls on a book, each end's with its own half of the script, and compares the answers.
+fn ask_book<R: Abort>(
+    rt: &R,
+    book: &mut LinkBook,
+    script: Script,
+    asks: &[Ask],
+) -> Result<(), AllocError> {
+    let (mut sender, mut receiver) = script.split();
+    for ask in asks {
+        match *ask {
+            Ask::Offer(item, taken) => assert!(rt; book.offer(item)? == taken, "{ask:?}"),
+            Ask::Send(effect) => assert!(rt; book.send(&mut sender)? == effect, "{ask:?}"),
+            Ask::PollAck(effect) => assert!(rt; book.poll_ack(&mut sender)? == effect, "{ask:?}"),
+            Ask::Close(effect) => assert!(rt; book.close()? == effect, "{ask:?}"),
+            Ask::PollFrame(seen) => assert!(rt; book.poll_frame(&mut receiver)? == seen, "{ask:?}"),
+            Ask::SendAck(effect) => {
+                assert!(rt; book.send_ack(&mut receiver)? == effect, "{ask:?}")
+            }
+        }
+    }
+    Ok(())
+}
+
+/// Fails the test where the book has another history.
+fn assert_history<R: Abort>(rt: &R, book: &LinkBook, events: &[Event]) {
+    assert!(rt;
+        book.history_len() == events.len() as u64,
+        "the length of the history"
+    );
+    for place in 0..events.len() {
+        assert!(rt;
+            book.event_at(place as u64) == Some(events[place]),
+            "event {place}"
+        );
+    }
+    assert!(rt;
+        book.event_at(events.len() as u64).is_none(),
+        "past the end"
+    );
+}
+
+/// The accounts of both ends of a link after these calls.
+fn accounts<R: Wait + Abort>(
+    rt: &R,
+    link: &LockLink,
+    script: Script,
+    asks: &[Ask],
+) -> Result<(SendAccount, RecvAccount), AllocError> {
+    let (mut send, mut recv) = link.split::<R>(script);
+    ask_ends(rt, rt, &mut send, &mut recv, asks)?;
+    Ok((send.finish(), recv.finish()))
+}
+
+/// The book of a locked link after these calls.
+fn book_of_ends<R: Wait + Abort>(
+    rt: &R,
+    link: LockLink,
+    script: Script,
+    asks: &[Ask],
+) -> Result<LinkBook, AllocError> {
+    accounts(rt, &link, script, asks)?;
+    Ok(link.into_book())
+}
+
+#[test]
+fn a_round_and_a_close_locked(rt: HostRuntime) -> Result<(), Fail> {
+    let alloc = rt.alloc();
+    let link = link_at_three(alloc)?;
+    let book = book_of_ends(&rt, link, Script::none(alloc), &ROUND_AND_CLOSE)?;
+    assert_history(&rt, &book, &ROUND_AND_CLOSE_HISTORY);
+    Ok(())
+}
+
+/// Fails the test where these are not the accounts of one round with 7 and its close.
+fn assert_round<R: Abort>(rt: &R, settled: &Settled) {
+    assert!(rt;
+        settled.send.offered.as_slice() == [7].as_slice(),
+        "offered"
+    );
+    assert!(rt; settled.send.acked == 1, "acknowledged");
+    assert!(rt;
+        settled.recv.delivered.as_slice() == [7].as_slice(),
+        "delivered"
+    );
+    assert!(rt; settled.send.closed && settled.recv.closed, "closed");
+}
+
+#[test]
+fn a_round_and_a_close_settled(rt: HostRuntime) -> Result<(), Fail> {
+    let alloc = rt.alloc();
+    let link = link_at_three(alloc)?;
+    let (send, recv) = accounts(&rt, &link, Script::none(alloc), &ROUND_AND_CLOSE)?;
+    assert_round(&rt, &link.settle(send, recv)?);
+    Ok(())
+}
+
+#[test]
+fn a_script_on_a_locked_link(rt: HostRuntime) -> Result<(), Fail> {
+    let alloc = rt.alloc();
+    let link = link_at_three(alloc)?;
+    let book = book_of_ends(&rt, link, script_of_losses(alloc)?, &SCRIPTED)?;
+    assert_history(&rt, &book, &SCRIPTED_HISTORY);
+    Ok(())
+}
+
+#[test]
+fn a_round_and_a_close_by_the_book(rt: HostRuntime) -> Result<(), Fail> {
+    let alloc = rt.alloc();
+    let mut book = book_at_three(alloc)?;
+    ask_book(&rt, &mut book, Script::none(alloc), &ROUND_AND_CLOSE)?;
+    assert_history(&rt, &book, &ROUND_AND_CLOSE_HISTORY);
+    Ok(())
+}
+
+#[test]
+fn a_script_by_the_book(rt: HostRuntime) -> Result<(), Fail> {
+    let alloc = rt.alloc();
+    let mut book = book_at_three(alloc)?;
+    ask_book(&rt, &mut book, script_of_losses(alloc)?, &SCRIPTED)?;
+    assert_history(&rt, &book, &SCRIPTED_HISTORY);
+    Ok(())
+}
+
+/// Notes events, and compares their effects.
+fn note_all<R: Abort>(
+    rt: &R,
+    book: &mut LinkBook,
+    notes: &[(Event, Effect)],
+) -> Result<(), AllocError> {
+    for (event, effect) in notes {
+        assert!(rt; book.note(*event)? == *effect, "{event:?}");
+    }
+    Ok(())
+}
+
+#[test]
+fn a_noted_event_without_effect(rt: HostRuntime) -> Result<(), Fail> {
+    let mut book = book_at_three(rt.alloc())?;
+    let notes = [
+        (Event::Offer(7), Effect::Held),
+        (Event::Offer(8), Effect::Nothing),
+    ];
+    note_all(&rt, &mut book, &notes)?;
+    assert_history(&rt, &book, &[Event::Offer(7), Event::Offer(8)]);
+    assert!(rt; book.link().offered() == [7].as_slice());
+    Ok(())
+}
+
+/// Notes an event so many times, and compares the effect of each.
+fn note_repeated<R: Abort>(
+    rt: &R,
+    book: &mut LinkBook,
+    event: Event,
+    effect: Effect,
+    times: u32,
+) -> Result<(), AllocError> {
+    for _ in 0..times {
+        assert!(rt; book.note(event)? == effect, "{event:?}");
+    }
+    Ok(())
+}
+
+/// Fails the test where the event at a place is another one.
+fn assert_event<R: Abort>(rt: &R, book: &LinkBook, place: u64, event: Option<Event>) {
+    assert!(rt; book.event_at(place) == event, "event {place}");
+}
+
+#[test]
+fn a_thousand_equal_events(rt: HostRuntime) -> Result<(), Fail> {
+    let mut book = book_at_three(rt.alloc())?;
+    note_repeated(&rt, &mut book, Event::SendAck, Effect::Sent, 1)?;
+    note_repeated(&rt, &mut book, Event::SendAck, Effect::Lost, 999)?;
+    assert!(rt; book.history_len() == 1000);
+    note_repeated(&rt, &mut book, Event::Offer(7), Effect::Held, 1)?;
+    assert_event(&rt, &book, 999, Some(Event::SendAck));
+    assert_event(&rt, &book, 1000, Some(Event::Offer(7)));
+    assert_event(&rt, &book, 1001, None);
+    Ok(())
+}
+
+/// Accounts of a round with 7 that is closed, changed as the flags say.
+fn changed_accounts(
+    alloc: Global,
+    offered: bool,
+    acked: bool,
+    delivered: bool,
+    closed: bool,
+) -> Result<(SendAccount, RecvAccount), AllocError> {
+    let mut send = SendAccount::new(alloc);
+    if !offered {
+        send.offered.push(7)?;
+    }
+    send.acked = if acked { 0 } else { 1 };
+    send.closed = !closed;
+    let mut recv = RecvAccount::new(alloc);
+    if !delivered {
+        recv.delivered.push(7)?;
+    }
+    recv.closed = true;
+    Ok((send, recv))
+}
+
+/// What is changed in the accounts, beside the answer of the comparison.
+const DIFFERENCES: [(bool, bool, bool, bool, Result<(), SettleFault>); 6] = [
+    (false, false, false, false, Ok(())),
+    (true, false, false, false, Err(SettleFault::OfferedDiffer)),
+    (false, true, false, false, Err(SettleFault::AckedDiffer)),
+    (false, false, true, false, Err(SettleFault::DeliveredDiffer)),
+    (false, false, false, true, Err(SettleFault::ClosedDiffer)),
+    (true, true, true, true, Err(SettleFault::OfferedDiffer)),
+];
+
+#[test]
+fn accounts_that_differ(rt: HostRuntime) -> Result<(), Fail> {
+    let alloc = rt.alloc();
+    for (offered, acked, delivered, closed, answer) in DIFFERENCES {
+        let link = link_at_three(alloc)?;
+        accounts(&rt, &link, Script::none(alloc), &ROUND_AND_CLOSE)?;
+        let (send, recv) = changed_accounts(alloc, offered, acked, delivered, closed)?;
+        let settled = link.settle(send, recv).map(|_| ());
+        assert!(rt; settled == answer, "{answer:?}");
+    }
+    Ok(())
+}
+
+#[test]
+fn accounts_that_differ_from_a_book(rt: HostRuntime) -> Result<(), Fail> {
+    let alloc = rt.alloc();
+    let mut book = book_at_three(alloc)?;
+    ask_book(&rt, &mut book, Script::none(alloc), &ROUND_AND_CLOSE)?;
+    for (offered, acked, delivered, closed, answer) in DIFFERENCES {
+        let (send, recv) = changed_accounts(alloc, offered, acked, delivered, closed)?;
+        assert!(rt; book.check(&send, &recv) == answer, "{answer:?}");
+    }
+    Ok(())
+}
+
+/// How many items the two threads exchange.
+const ITEMS: u32 = 1000;
+
+/// How often the sender tries to send one item, before it gives up.
+const TRIES: u32 = 1000;
+
+/// How often the receiver looks for a frame.
+const LOOKS: u32 = 1_000_000;
+
+/// Sends one item until it is acknowledged; false where it was not within all tries.
+fn hand_over<S: SendSide>(pass: &S::Pass, send: &mut S, item: Item) -> Result<bool, AllocError> {
+    send.offer(pass, item)?;
+    for _ in 0..TRIES {
+        send.send(pass)?;
+        if send.poll_ack(pass)? == Effect::Acked {
+            return Ok(true);
+        }
+        thread::yield_now();
+    }
+    Ok(false)
+}
+
+/// The sender's part: the items in their order, and the close.
+fn send_all<S: SendSide>(pass: &S::Pass, mut send: S) -> Result<S::Done, AllocError> {
+    for item in 1..=ITEMS {
+        if !hand_over(pass, &mut send, item)? {
+            break;
+        }
+    }
+    send.close(pass)?;
+    Ok(send.finish())
+}
+
+/// The receiver's part: it looks for frames and acknowledges, until it is shown the close.
+fn recv_all<T: RecvSide>(pass: &T::Pass, mut recv: T) -> Result<T::Done, AllocError> {
+    for _ in 0..LOOKS {
+        if recv.poll_frame(pass)? == FrameSeen::Closed {
+            break;
+        }
+        recv.send_ack(pass)?;
+        thread::yield_now();
+    }
+    Ok(recv.finish())
+}
+
+/// Both parts, each in a thread of its own.
+fn both<S, T, R>(rt: &R, send: S, recv: T) -> Result<(S::Done, T::Done), AllocError>
+where
+    S: SendSide<Pass = R> + Send,
+    T: RecvSide<Pass = R> + Send,
+    S::Done: Send,
+    T::Done: Send,
+    R: Threads + Wait + Sync,
+{
+    let (sent, received) = thread::join(rt, || send_all(rt, send), || recv_all(rt, recv));
+    Ok((sent?, received?))
+}
+
+/// Fails the test where the items are not 1, 2, 3 and so on.
+fn assert_counted<R: Abort>(rt: &R, items: &[Item]) {
+    for place in 0..items.len() {
+        assert!(rt; items[place] as usize == place + 1, "place {place}");
+    }
+}
+
+#[test]
+fn two_threads_settle(rt: HostRuntime) -> Result<(), Fail> {
+    let alloc = rt.alloc();
+    let link = LockLink::new(alloc, Params::new(1, 4)?, Start::clean(alloc))?;
+    let script = Script::from_seed(alloc, 42, 54, 200, 300, 300)?;
+    let (send, recv) = link.split(script);
+    let (sent, received) = both(&rt, send, recv)?;
+    let settled = link.settle(sent, received)?;
+    assert_counted(&rt, settled.recv.delivered.as_slice());
+    assert!(rt; settled.recv.delivered.len() as u64 >= settled.send.acked);
+    Ok(())
+}

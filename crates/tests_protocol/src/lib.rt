@@ -1,0 +1,13 @@
+//! The tests of the protocol's layers without a thread: frames and queues, one link, and all links
+//! of a tree under one schedule, by public calls alone.
+//!
+//! There is one module for each crate below. Tests are crates of their own because a crate that has
+//! tests is proved twice, without them and with them: here nothing is proved again.
+#![tactic(auto)]
+
+#[cfg(test)]
+mod frames;
+#[cfg(test)]
+mod link;
+#[cfg(test)]
+mod treecore;

@@ -1,0 +1,537 @@
+//! The worked examples of a tree under one schedule, and how starts, openings and steps are refused.
+
+ghost use Rattle.std.specs.Prelude.{◌≡◌, IfOk, length};
+ghost use Rattle.stab_treecore.specs.NodeOpenings.{FitTree};
+
+use serde_json::Value;
+use stab_core::{Effect, Start, StartFault};
+use stab_frames::{Frame, Item, Params, Sequence};
+use stab_tree::{NodeId, Tree, TreeFault, read_tree};
+use stab_treecore::{
+    LinkAct, OpeningFault, Openings, TreeEvent, TreeStartFault, TreeState, TreeStepFault,
+    push_node_counts, run_schedule, schedule_text,
+};
+use std::alloc::{AllocError, Global};
+use std::process::Abort;
+use std::test::Fail;
+
+/// The chain r, a, b.
+const CHAIN: &str = r#"[{"name":"r"},{"name":"a","parent":"r"},{"name":"b","parent":"a"}]"#;
+
+/// The places of the chain's nodes, and one place past them.
+const ROOT: u16 = 0;
+
+const A: u16 = 1;
+
+const B: u16 = 2;
+
+const STRANGER: u16 = 3;
+
+/// The published items of the chain's tests.
+const ITEMS: [Item; 7] = [10, 11, 12, 13, 14, 15, 16];
+
+/// The acts of the worst start, and the two after which the sender is idle.
+const WORST: [LinkAct; 14] = [
+    LinkAct::Offer,
+    LinkAct::RecvAck { keep: false },
+    LinkAct::SendAck,
+    LinkAct::Offer,
+    LinkAct::RecvAck { keep: false },
+    LinkAct::RecvFrame { keep: false },
+    LinkAct::SendAck,
+    LinkAct::Offer,
+    LinkAct::RecvAck { keep: false },
+    LinkAct::Offer,
+    LinkAct::SendFrame,
+    LinkAct::RecvFrame { keep: false },
+    LinkAct::SendAck,
+    LinkAct::RecvAck { keep: false },
+];
+
+/// The worst start of each of the chain's two links: its frames, and the number of its
+/// acknowledgements.
+const WORST_STARTS: [(&[Frame], usize); 2] = [(&[STRAY_99], 1), (&[STRAY_98], 1)];
+
+const STRAY_99: Frame = Frame { label: 2, item: 99 };
+
+const STRAY_98: Frame = Frame { label: 2, item: 98 };
+
+/// What the whole tree is after that schedule.
+const TWO_LINKS: &str = "\
+r depth 0 received 7 acked -
+items: 10 11 12 13 14 15 16
+a depth 1 received 5 acked 7
+items: 99 13 14 15 16
+b depth 2 received 3 acked 5
+items: 98 15 16
+";
+
+/// What the chain is after two items, where the second link has capacity two.
+const WIDER_SECOND_LINK: &str = "\
+r depth 0 received 2 acked -
+items: 7 8
+a depth 1 received 2 acked 2
+items: 7 8
+b depth 2 received 4 acked 2
+items: 20 21 7 8
+";
+
+/// What the chain is after four rounds on each of its links, of two published items and two that
+/// the node between begins with.
+const PASSED_ON: &str = "\
+r depth 0 received 2 acked -
+items: 7 8
+a depth 1 received 4 acked 2
+items: 50 51 7 8
+b depth 2 received 4 acked 4
+items: 50 51 7 8
+";
+
+/// One item goes from the parent to the child, undisturbed.
+const ROUND: [LinkAct; 5] = [
+    LinkAct::Offer,
+    LinkAct::SendFrame,
+    LinkAct::RecvFrame { keep: false },
+    LinkAct::SendAck,
+    LinkAct::RecvAck { keep: false },
+];
+
+fn tree(rt: &impl Abort, alloc: Global, text: &str) -> Result<Tree, TreeFault> {
+    let value = Value::from_str(alloc, text).expect(rt, "JSON");
+    read_tree(alloc, &value)
+}
+
+/// A start with these frames, and this number of acknowledgements, each 0.
+fn start(alloc: Global, frames: &[Frame], acks: usize) -> Result<Start, AllocError> {
+    Ok(Start {
+        frames: Sequence::from_vec(Vec::from_slice(alloc, frames)?),
+        acks: Sequence::from_vec(vec![in alloc; 0; acks]?),
+        send_label: 0,
+        recv_label: 1,
+    })
+}
+
+/// A start for each link, from its frames and the number of its acknowledgements.
+fn starts(alloc: Global, links: &[(&[Frame], usize)]) -> Result<Vec<Start>, AllocError> {
+    let mut starts = Vec::new(alloc);
+    for (frames, acks) in links {
+        starts.push(start(alloc, *frames, *acks)?)?;
+    }
+    Ok(starts)
+}
+
+/// Adds these acts on the link into a node.
+fn push_acts(
+    schedule: &mut Vec<TreeEvent>,
+    child: NodeId,
+    acts: &[LinkAct],
+) -> Result<(), AllocError> {
+    for act in acts {
+        schedule.push(TreeEvent { child, act: *act })?;
+    }
+    Ok(())
+}
+
+/// The schedule of two links: each link meets the worst start, and then items go on undisturbed.
+fn two_links(alloc: Global) -> Result<Vec<TreeEvent>, AllocError> {
+    let mut schedule = Vec::new(alloc);
+    for (child, acts) in [
+        (A, WORST.as_slice()),
+        (A, ROUND.as_slice()),
+        (A, ROUND.as_slice()),
+        (A, ROUND.as_slice()),
+        (B, WORST.as_slice()),
+        (B, ROUND.as_slice()),
+    ] {
+        push_acts(&mut schedule, NodeId::new(child), acts)?;
+    }
+    Ok(schedule)
+}
+
+/// The text of the chain after a schedule from these starts, with two links of capacity one; or why
+/// the schedule is refused.
+fn outcome(
+    alloc: Global,
+    tree: &Tree,
+    links: &[(&[Frame], usize)],
+    events: &[TreeEvent],
+) -> Result<Result<String, TreeStartFault>, Fail> {
+    let params = [Params::new(1, 4)?; 2];
+    let starts = starts(alloc, links)?;
+    let openings = Openings::none(alloc, tree)?;
+    match run_schedule(alloc, &params, tree, &ITEMS, &starts, &openings, events) {
+        Ok(state) => Ok(Ok(schedule_text(alloc, tree, &state)?)),
+        Err(fault) => Ok(Err(fault)),
+    }
+}
+
+/// The text of a tree after a schedule from these starts and openings.
+fn text_after(
+    alloc: Global,
+    params: &[Params],
+    tree: &Tree,
+    published: &[Item],
+    starts: &[Start],
+    openings: &Openings,
+    events: &[TreeEvent],
+) -> Result<String, Fail>
+    requires { FitTree tree.now.parents openings.now }
+{
+    let state = run_schedule(alloc, params, tree, published, starts, openings, events)?;
+    Ok(schedule_text(alloc, tree, &state)?)
+}
+
+/// A clean link into a, and a link into b that holds two frames of nobody's items.
+fn starts_of_a_wider_second_link(alloc: Global) -> Result<[Start; 2], AllocError> {
+    let strays = [Frame { label: 1, item: 20 }, Frame { label: 2, item: 21 }];
+    Ok([
+        Start {
+            frames: Sequence::from_vec(Vec::new(alloc)),
+            acks: Sequence::from_vec(Vec::new(alloc)),
+            send_label: 0,
+            recv_label: 65535,
+        },
+        Start {
+            frames: Sequence::from_vec(Vec::from_slice(alloc, &strays)?),
+            acks: Sequence::from_vec(Vec::new(alloc)),
+            send_label: 0,
+            recv_label: 0,
+        },
+    ])
+}
+
+/// Two items go on undisturbed, after the two strays of the second link.
+fn schedule_of_a_wider_second_link(alloc: Global) -> Result<Vec<TreeEvent>, AllocError> {
+    let recv_frame = [LinkAct::RecvFrame { keep: false }];
+    let mut schedule = Vec::new(alloc);
+    for (child, acts) in [
+        (A, ROUND.as_slice()),
+        (A, ROUND.as_slice()),
+        (B, recv_frame.as_slice()),
+        (B, recv_frame.as_slice()),
+        (B, ROUND.as_slice()),
+        (B, ROUND.as_slice()),
+    ] {
+        push_acts(&mut schedule, NodeId::new(child), acts)?;
+    }
+    Ok(schedule)
+}
+
+#[test]
+fn two_links_under_one_schedule_deliver_one_stray_each(rt: HostRuntime) -> Result<(), Fail> {
+    let tree = tree(&rt, rt.alloc(), CHAIN)?;
+    let schedule = two_links(rt.alloc())?;
+    let text = outcome(rt.alloc(), &tree, &WORST_STARTS, &schedule)??;
+    assert!(rt; text.as_str() == TWO_LINKS);
+    Ok(())
+}
+
+/// The text of the chain after this schedule of two published items, from these starts.
+fn chain_text(
+    rt: &impl Abort,
+    alloc: Global,
+    params: &[Params],
+    starts: &[Start],
+    events: &[TreeEvent],
+) -> Result<String, Fail> {
+    let tree = tree(rt, alloc, CHAIN)?;
+    let openings = Openings::none(alloc, &tree)?;
+    text_after(alloc, params, &tree, &[7, 8], starts, &openings, events)
+}
+
+#[test]
+fn a_wider_second_link_holds_two_strays(rt: HostRuntime) -> Result<(), Fail> {
+    let params = [Params::new(1, 4)?, Params::new(2, 6)?];
+    let starts = starts_of_a_wider_second_link(rt.alloc())?;
+    let events = schedule_of_a_wider_second_link(rt.alloc())?;
+    let text = chain_text(&rt, rt.alloc(), &params, &starts, &events)?;
+    assert!(rt; text.as_str() == WIDER_SECOND_LINK);
+    Ok(())
+}
+
+/// Why these starts are refused with these parameters, or `None` where the tree begins with them.
+fn refusal(
+    alloc: Global,
+    params: &[Params],
+    tree: &Tree,
+    starts: &[Start],
+    openings: &Openings,
+) -> Option<TreeStartFault>
+    requires { FitTree tree.now.parents openings.now }
+{
+    run_schedule(alloc, params, tree, &[7, 8], starts, openings, &[]).err()
+}
+
+#[test]
+fn each_link_is_held_to_its_own_capacity(rt: HostRuntime) -> Result<(), Fail> {
+    let one = Params::new(1, 4)?;
+    let two = Params::new(2, 6)?;
+    let wide_second = [one, two, two];
+    let narrow = [one, one];
+    let wide_first = [two, one];
+    let frames = TreeStartFault::Start(StartFault::TooManyFrames);
+    let rows = [
+        (&wide_second[..2], None),
+        (narrow.as_slice(), Some(frames)),
+        (wide_first.as_slice(), Some(frames)),
+        (&wide_second[..1], Some(TreeStartFault::StartCount)),
+        (wide_second.as_slice(), Some(TreeStartFault::StartCount)),
+    ];
+    let tree = tree(&rt, rt.alloc(), CHAIN)?;
+    let openings = Openings::none(rt.alloc(), &tree)?;
+    let starts = starts_of_a_wider_second_link(rt.alloc())?;
+    for (params, want) in rows {
+        let fault = refusal(rt.alloc(), params, &tree, &starts, &openings);
+        assert!(rt; fault == want, "{want:?}");
+    }
+    Ok(())
+}
+
+/// The openings of these lists of items.
+fn openings(
+    alloc: Global,
+    tree: &Tree,
+    hold: u16,
+    lists: &[&[Item]],
+) -> Result<Result<Openings, OpeningFault>, AllocError>
+    ensures fit { IfOk result (λ made. IfOk made (FitTree tree.now.parents)) }
+    ensures one_per_node { IfOk result (λ made. IfOk made (λ openings.
+        length openings.lists ≡ length tree.now.parents)) }
+{
+    let mut its_lists = Vec::new(alloc);
+    for list in lists {
+        its_lists.push(Sequence::from_vec(Vec::from_slice(alloc, *list)?))?;
+    }
+    Ok(Openings::new(tree, hold, its_lists))
+}
+
+/// The openings of the chain in which a begins with 50 and 51.
+fn openings_at_a(rt: &impl Abort, alloc: Global, tree: &Tree) -> Result<Openings, AllocError>
+    ensures fit { IfOk result (FitTree tree.now.parents) }
+    ensures one_per_node { IfOk result (λ openings.
+        length openings.lists ≡ length tree.now.parents) }
+{
+    Ok(openings(alloc, tree, 2, &[&[], &[50, 51], &[]])?.expect(rt, "openings"))
+}
+
+/// Rounds on both links of the chain, first all on the upper one.
+fn rounds(alloc: Global, upper: u16, lower: u16) -> Result<Vec<TreeEvent>, AllocError> {
+    let mut schedule = Vec::new(alloc);
+    for (child, count) in [(A, upper), (B, lower)] {
+        for _ in 0..count {
+            push_acts(&mut schedule, NodeId::new(child), &ROUND)?;
+        }
+    }
+    Ok(schedule)
+}
+
+/// The text of the chain after this schedule of two published items, from clean starts, where a
+/// begins with 50 and 51.
+fn opened_chain_text(rt: &impl Abort, alloc: Global, events: &[TreeEvent]) -> Result<String, Fail> {
+    let params = [Params::new(1, 4)?; 2];
+    let starts = [Start::clean(alloc), Start::clean(alloc)];
+    let tree = tree(rt, alloc, CHAIN)?;
+    let openings = openings_at_a(rt, alloc, &tree)?;
+    text_after(alloc, &params, &tree, &[7, 8], &starts, &openings, events)
+}
+
+#[test]
+fn an_opening_passed_on(rt: HostRuntime) -> Result<(), Fail> {
+    let events = rounds(rt.alloc(), 2, 4)?;
+    let text = opened_chain_text(&rt, rt.alloc(), &events)?;
+    assert!(rt; text.as_str() == PASSED_ON);
+    Ok(())
+}
+
+/// Why these lists are no openings, or `None` where they are.
+fn opening_fault(
+    alloc: Global,
+    tree: &Tree,
+    hold: u16,
+    lists: &[&[Item]],
+) -> Result<Option<OpeningFault>, AllocError> {
+    Ok(openings(alloc, tree, hold, lists)?.err())
+}
+
+#[test]
+fn refused_openings(rt: HostRuntime) -> Result<(), Fail> {
+    let tree = tree(&rt, rt.alloc(), CHAIN)?;
+    let few: [&[Item]; 2] = [&[], &[50, 51]];
+    let fit: [&[Item]; 3] = [&[], &[50, 51], &[]];
+    let at_the_root: [&[Item]; 3] = [&[1], &[], &[]];
+    let at_a_leaf: [&[Item]; 3] = [&[], &[], &[1]];
+    let long: [&[Item]; 3] = [&[], &[1, 2, 3], &[]];
+    let long_at_the_root: [&[Item]; 3] = [&[1, 2, 3], &[], &[]];
+    let rows = [
+        (65, few.as_slice(), Some(OpeningFault::HoldOutOfRange)),
+        (2, few.as_slice(), Some(OpeningFault::OpeningCount)),
+        (2, at_the_root.as_slice(), Some(OpeningFault::OpeningPlace)),
+        (2, at_a_leaf.as_slice(), Some(OpeningFault::OpeningPlace)),
+        (
+            2,
+            long_at_the_root.as_slice(),
+            Some(OpeningFault::OpeningPlace),
+        ),
+        (2, long.as_slice(), Some(OpeningFault::OpeningTooLong)),
+        (64, fit.as_slice(), None),
+        (2, fit.as_slice(), None),
+    ];
+    for (hold, lists, want) in rows {
+        let fault = opening_fault(rt.alloc(), &tree, hold, lists)?;
+        assert!(rt; fault == want, "{want:?}");
+    }
+    Ok(())
+}
+
+/// Fails the test where openings have another hold, or a node has another opening.
+fn assert_opening(
+    rt: &impl Abort,
+    tree: &Tree,
+    openings: &Openings,
+    hold: u16,
+    place: u16,
+    items: &[Item],
+)
+    requires { length openings.now.lists ≡ length tree.now.parents }
+{
+    assert!(rt; place < tree.len());
+    assert!(rt; openings.hold() == hold);
+    assert!(rt; openings.list(NodeId::new(place)) == items);
+}
+
+#[test]
+fn openings_are_read_back(rt: HostRuntime) -> Result<(), Fail> {
+    let tree = tree(&rt, rt.alloc(), CHAIN)?;
+    assert!(rt; tree.len() == 3);
+    let openings = openings_at_a(&rt, rt.alloc(), &tree)?;
+    assert_opening(&rt, &tree, &openings, 2, A, &[50, 51]);
+    let none = Openings::none(rt.alloc(), &tree)?;
+    assert_opening(&rt, &tree, &none, 0, B, &[]);
+    Ok(())
+}
+
+#[test]
+fn refuses_the_first_unlawful_start_in_file_order(rt: HostRuntime) -> Result<(), Fail> {
+    let tree = tree(&rt, rt.alloc(), CHAIN)?;
+    let frames = Some(TreeStartFault::Start(StartFault::TooManyFrames));
+    let acks = Some(TreeStartFault::Start(StartFault::TooManyAcks));
+    let one: [(&[Frame], usize); 1] = [(&[STRAY_99], 1)];
+    let second: [(&[Frame], usize); 2] = [(&[STRAY_99], 1), (&[STRAY_98, STRAY_99], 1)];
+    let both: [(&[Frame], usize); 2] = [(&[STRAY_99], 2), (&[STRAY_98, STRAY_99], 1)];
+    let rows = [
+        (one.as_slice(), Some(TreeStartFault::StartCount)),
+        (second.as_slice(), frames),
+        (both.as_slice(), acks),
+        (WORST_STARTS.as_slice(), None),
+    ];
+    for (links, want) in rows {
+        let fault = outcome(rt.alloc(), &tree, links, &[])?.err();
+        assert!(rt; fault == want, "{want:?}");
+    }
+    Ok(())
+}
+
+#[test]
+fn refuses_the_first_event_that_names_no_link(rt: HostRuntime) -> Result<(), Fail> {
+    let tree = tree(&rt, rt.alloc(), CHAIN)?;
+    let mut events = Vec::new(rt.alloc());
+    for child in [A, ROOT, A] {
+        push_acts(&mut events, NodeId::new(child), &[LinkAct::Offer])?;
+    }
+    let fault = outcome(rt.alloc(), &tree, &WORST_STARTS, &events)?.err();
+    assert!(rt; fault == Some(TreeStartFault::Step(TreeStepFault::NoSuchLink)));
+    Ok(())
+}
+
+/// Fails the test where an act on the link into a node has not the answer beside it.
+fn assert_acts(
+    rt: &impl Abort,
+    state: &mut TreeState,
+    steps: &[(u16, LinkAct, Result<Effect, TreeStepFault>)],
+) {
+    for (place, act, want) in steps {
+        let event = TreeEvent {
+            child: NodeId::new(*place),
+            act: *act,
+        };
+        assert!(rt; state.apply(event) == *want, "{place} {act:?}");
+    }
+}
+
+/// The chain that begins with the worst starts.
+fn worst_state(rt: &impl Abort, alloc: Global) -> Result<TreeState, Fail> {
+    let params = [Params::new(1, 4)?; 2];
+    let tree = tree(rt, alloc, CHAIN)?;
+    let openings = Openings::none(alloc, &tree)?;
+    let starts = starts(alloc, &WORST_STARTS)?;
+    Ok(TreeState::new(alloc, &params, &tree, &ITEMS, &starts, &openings)?)
+}
+
+#[test]
+fn an_offer_of_nothing_does_nothing(rt: HostRuntime) -> Result<(), Fail> {
+    let mut state = worst_state(&rt, rt.alloc())?;
+    let steps = [
+        (B, LinkAct::Offer, Ok(Effect::Nothing)),
+        (A, LinkAct::RecvFrame { keep: true }, Ok(Effect::Fresh(99))),
+        (B, LinkAct::Offer, Ok(Effect::Held)),
+        (B, LinkAct::LoseFrame(0), Ok(Effect::Lost)),
+        (B, LinkAct::LoseAck(1), Ok(Effect::Nothing)),
+        (B, LinkAct::Close, Ok(Effect::Closed)),
+        (ROOT, LinkAct::Offer, Err(TreeStepFault::NoSuchLink)),
+        (STRANGER, LinkAct::Close, Err(TreeStepFault::NoSuchLink)),
+    ];
+    assert_acts(&rt, &mut state, &steps);
+    assert!(rt; state.link(NodeId::new(ROOT)).is_none());
+    assert!(rt; state.link(NodeId::new(STRANGER)).is_none());
+    Ok(())
+}
+
+#[test]
+fn a_lone_root_has_what_it_publishes(rt: HostRuntime) -> Result<(), Fail> {
+    let tree = tree(&rt, rt.alloc(), r#"[{"name":"r"}]"#)?;
+    let openings = Openings::none(rt.alloc(), &tree)?;
+    let text = text_after(rt.alloc(), &[], &tree, &[7, 8], &[], &openings, &[])?;
+    assert!(rt; text.as_str() == "r depth 0 received 2 acked -\nitems: 7 8\n");
+    Ok(())
+}
+
+#[test]
+fn the_counts_of_a_node_are_a_line_without_its_end(rt: HostRuntime) -> Result<(), Fail> {
+    let mut text = String::new(rt.alloc());
+    push_node_counts(&mut text, "a", 1, 5, Some(7))?;
+    assert!(rt; text.as_str() == "a depth 1 received 5 acked 7");
+    Ok(())
+}
+
+#[test]
+fn each_fault_prints_its_text(rt: HostRuntime) -> Result<(), Fail> {
+    let texts = [
+        (TreeStartFault::StartCount, "start: wrong number of starts"),
+        (
+            TreeStartFault::Start(StartFault::TooManyFrames),
+            "start: too many frames",
+        ),
+        (TreeStartFault::Start(StartFault::Memory), "out of memory"),
+        (
+            TreeStartFault::Step(TreeStepFault::NoSuchLink),
+            "step: no such link",
+        ),
+        (TreeStartFault::Step(TreeStepFault::Memory), "out of memory"),
+    ];
+    for (fault, want) in texts {
+        assert!(rt; fault.to_string(rt.alloc())?.as_str() == want, "{want}");
+    }
+    let openings = [
+        (OpeningFault::HoldOutOfRange, "job: h out of range"),
+        (OpeningFault::OpeningCount, "job: wrong number of openings"),
+        (
+            OpeningFault::OpeningPlace,
+            "job: opening at the root or a leaf",
+        ),
+        (OpeningFault::OpeningTooLong, "job: opening too long"),
+    ];
+    for (fault, want) in openings {
+        assert!(rt; fault.to_string(rt.alloc())?.as_str() == want, "{want}");
+    }
+    Ok(())
+}

@@ -1,0 +1,223 @@
+#!/usr/bin/env bash
+# Tests the script ./release.sh in a copy of its own, with small commands in the place of rt.
+#
+# Nothing is proved, and nothing of this repository is touched. The test takes some seconds. Its
+# last line is 'N passed, M failed'. What ./stab makes of a release is tested by check_stab.sh.
+set -u
+top=$(dirname -- "$(dirname -- "$(readlink -f -- "${BASH_SOURCE[0]}")")")
+work=$(mktemp -d) || exit 1
+trap 'rm -rf -- "$work"' EXIT
+unset CDPATH TMPDIR
+house="$work/a house"
+made=$house/crates/stab_cli/out/stab_cli
+passed=0
+failed=0
+
+# Says whether a case holds: its name, and a command.
+holds() {
+    local name=$1
+    shift
+    if "$@"; then
+        passed=$((passed + 1))
+        printf 'same   %s\n' "$name"
+    else
+        failed=$((failed + 1))
+        printf 'OTHER  %s\n' "$name"
+        printf '       status %s, and it wrote:\n' "$status"
+        sed 's/^/       /' "$work/out" "$work/err"
+    fi
+}
+
+# A command like rt, whose program is the text of stab_cli's source.
+mkdir -p "$work/bin" "$work/temporary"
+cat >"$work/bin/rt" <<'END'
+#!/usr/bin/env bash
+case $1 in
+    version) cat "$WORK/kit"; exit ;;
+    ci) at=. ;;
+    run) at=../.. ;;
+esac
+printf '%s\n' "$*" >>"$WORK/calls"
+mkdir -p "$at/crates/stab_cli/out"
+cat "$at/crates/stab_cli/src/main.rt" >"$at/crates/stab_cli/out/stab_cli"
+grep -q proved "$at/crates/stab_cli/src/main.rt"
+END
+chmod +x "$work/bin/rt"
+echo 'kit-1 logic 1' >"$work/kit"
+
+# A house of two crates, the pages and the examples.
+mkdir -p "$house"/crates/{low,stab_cli}/src "$house/docs" "$house/crates/low/data/runs"
+echo low >"$house/crates/low/src/lib.rt"
+echo 'proved 1' >"$house/crates/stab_cli/src/main.rt"
+printf 'low:\nstab_cli: low\n' >"$house/crates.txt"
+echo 'Handles allowed: none.' >"$house/HANDLES"
+for file in README.md docs/A.md docs/B.md crates/low/data/job.json crates/low/data/runs/a.json; do
+    echo "$file" >"$house/$file"
+done
+ln -s crates/low/data "$house/examples"
+printf '# Changelog\n\nText.\n\n## 2026-11-23, evening: a release\n\n## 2026-11-22: before\n' \
+    >"$house/CHANGELOG.md"
+cp -- "$top/stab" "$top/release.sh" "$house/"
+
+# Runs ./release.sh, and notes its status and what it writes.
+run() {
+    : >"$work/calls"
+    WORK=$work TMPDIR="$work/temporary" PATH=$work/bin:$PATH "$house/release.sh" "$@" \
+        >"$work/out" 2>"$work/err"
+    status=$?
+}
+
+# Whether ./release.sh ended well, and left nothing, after so many calls of rt.
+well() {
+    [ "$status" -eq 0 ] && [ "$(wc -l <"$work/calls")" -eq "$1" ] &&
+        [ -z "$(ls -A "$work/temporary")" ]
+}
+
+# Whether it ended with status 3, and said so.
+refused() {
+    [ "$status" -eq 3 ] && grep -qF -- "$1" "$work/err" && [ -z "$(ls -A "$work/temporary")" ]
+}
+
+# Whether the check ended with this last line, and named just these cases as other ones.
+checked() {
+    local found
+    found=$(sed -n 's/^OTHER  //p' "$work/out")
+    [ "$(tail -n 1 "$work/out")" = "$1" ] && [ "$found" = "$2" ] &&
+        [ "$status" -eq "$([[ $1 == *' 0 failed' ]]; echo $?)" ] &&
+        [ -z "$(ls -A "$work/temporary")" ]
+}
+
+digest() {
+    sha256sum <"$1" | cut -d' ' -f1
+}
+
+# Whether the release has the program, and a manifest of three right lines.
+is_release() {
+    local lines=()
+    mapfile -t lines <"$house/release/MANIFEST"
+    [ "$(ls -A "$house/release")" = $'MANIFEST\nstab.gz' ] && [ "${#lines[@]}" -eq 3 ] &&
+        gzip -dc "$house/release/stab.gz" | cmp -s - "$house/crates/stab_cli/src/main.rt" &&
+        [ "${lines[0]}" = "program $(digest "$house/crates/stab_cli/src/main.rt")" ] &&
+        [[ ${lines[1]} =~ ^sources\ [0-9a-f]{64}$ ]] && [ "${lines[2]}" = 'kit kit-1 logic 1' ]
+}
+
+whole='release/ has a program and a manifest'
+manifest='the manifest is one'
+sources='it names these sources'
+kit='it names this kit'
+beside='it names the program beside it'
+equal='the program is the one that was just built, byte for byte'
+
+run --check
+holds 'without a release the check fails' \
+    checked '0 passed, 6 failed' "$whole
+$manifest
+$sources
+$kit
+$beside
+$equal"
+holds 'and says what to do' grep -qF 'run ./release.sh and commit' "$work/out"
+run --archive
+holds 'nor is there an archive' refused 'there is no release: run ./release.sh first'
+run
+holds 'a release is built where nothing was' well 1
+holds 'and is one' is_release
+cp -r "$house/release" "$work/release"
+run
+holds 'a second one takes what was built' well 0
+holds 'and is the same' diff -r "$work/release" "$house/release"
+run --prove
+holds 'with --prove everything is built again' well 1
+holds 'and the same again' diff -r "$work/release" "$house/release"
+run --check
+holds 'before the gate has built the program the check fails' \
+    checked '5 passed, 1 failed' "$equal"
+mkdir -p "${made%/*}"
+cp "$house/crates/stab_cli/src/main.rt" "$made"
+run --check
+holds 'a release that is the program that was built passes' checked '6 passed, 0 failed' ''
+printf x >>"$made"
+run --check
+holds 'another program fails' checked '5 passed, 1 failed' "$equal"
+cp "$house/crates/stab_cli/src/main.rt" "$made"
+echo more >>"$house/crates/low/src/lib.rt"
+run --check
+holds 'other sources fail, also where the program is the same' \
+    checked '5 passed, 1 failed' "$sources"
+run --archive
+holds 'and are not packed' refused 'the release was made from other sources'
+echo low >"$house/crates/low/src/lib.rt"
+echo 'kit-2 logic 1' >"$work/kit"
+run --check
+holds 'another kit fails' checked '5 passed, 1 failed' "$kit"
+echo 'kit-1 logic 1' >"$work/kit"
+echo more >"$house/release/notes"
+run --check
+holds 'a third file fails' checked '5 passed, 1 failed' "$whole"
+rm "$house/release/notes"
+echo 'proved 2' | gzip -9n >"$house/release/stab.gz"
+run --check
+holds 'another program beside the manifest fails' checked '4 passed, 2 failed' "$beside
+$equal"
+run --archive
+holds 'and is not packed' refused 'the release is spoiled'
+head -c 10 "$work/release/stab.gz" >"$house/release/stab.gz"
+run --check
+holds 'so does half a program' checked '4 passed, 2 failed' "$beside
+$equal"
+cp "$work/release/stab.gz" "$house/release/stab.gz"
+printf x >>"$house/release/stab.gz"
+run --check
+holds 'and so does more than the program' checked '5 passed, 1 failed' "$beside"
+cp "$work/release/stab.gz" "$house/release/stab.gz"
+sed -i 2d "$house/release/MANIFEST"
+run --check
+holds 'a manifest of two lines fails' grep -qx "OTHER  $manifest" "$work/out"
+cp "$work/release/MANIFEST" "$house/release/MANIFEST"
+sed -i '1s/$/0/' "$house/release/MANIFEST"
+run --check
+holds 'and so does one with a long digest' grep -qx "OTHER  $manifest" "$work/out"
+cp "$work/release/MANIFEST" "$house/release/MANIFEST"
+echo 'not done' >"$house/crates/stab_cli/src/main.rt"
+run
+holds 'what is not proved is not released' refused 'the program was not built'
+holds 'and the release stays' diff -r "$work/release" "$house/release"
+echo 'proved 1' >"$house/crates/stab_cli/src/main.rt"
+run --archive
+archive=$house/out/rignolda-2026-11-23-evening-x86_64-linux.tar.xz
+holds 'an archive is packed' well 0
+cp "$archive" "$work/first.tar.xz"
+holds 'with the program, the pages, the examples and their digests' \
+    [ "$(tar -tf "$work/first.tar.xz")" = 'rignolda-2026-11-23-evening-x86_64-linux/
+rignolda-2026-11-23-evening-x86_64-linux/CHANGELOG.md
+rignolda-2026-11-23-evening-x86_64-linux/README.md
+rignolda-2026-11-23-evening-x86_64-linux/SHA256SUMS
+rignolda-2026-11-23-evening-x86_64-linux/docs/
+rignolda-2026-11-23-evening-x86_64-linux/docs/A.md
+rignolda-2026-11-23-evening-x86_64-linux/docs/B.md
+rignolda-2026-11-23-evening-x86_64-linux/examples/
+rignolda-2026-11-23-evening-x86_64-linux/examples/job.json
+rignolda-2026-11-23-evening-x86_64-linux/examples/runs/
+rignolda-2026-11-23-evening-x86_64-linux/examples/runs/a.json
+rignolda-2026-11-23-evening-x86_64-linux/stab' ]
+tar -C "$work" -xf "$work/first.tar.xz"
+holds 'its digests are right' \
+    bash -c 'cd "$0"/rignolda-* && sha256sum -c --quiet SHA256SUMS' "$work"
+cp -r "$house" "$work/b"
+rm -r "$work/b/out"
+chmod -R go-rwx "$work/b"
+find "$work/b" -exec touch -d 2001-01-01 {} +
+(umask 077 && house=$work/b && run --archive)
+holds 'packed elsewhere, with other times and rights, it is the same' \
+    cmp -s "$work/first.tar.xz" "$work/b/out/${archive##*/}"
+echo licence >"$house/LICENSE"
+run --archive
+holds 'a licence is packed, if there is one' grep -q '/LICENSE$' <(tar -tf "$archive")
+sed -i 's/^## .*/## No date/' "$house/CHANGELOG.md"
+run --archive
+holds 'without a date there is no version' refused 'the first heading of CHANGELOG.md has no date'
+run --other
+holds 'another word is refused' [ "$status" -eq 2 ]
+
+printf '%s passed, %s failed\n' "$passed" "$failed"
+[ "$failed" -eq 0 ]
