@@ -287,6 +287,19 @@ fn note_repeated<R: Abort>(
     Ok(())
 }
 
+/// Notes each event so many times, and compares its effect and the length of the history after it.
+fn note_rows<R: Abort>(
+    rt: &R,
+    book: &mut LinkBook,
+    rows: &[(Event, Effect, u32, u64)],
+) -> Result<(), AllocError> {
+    for (event, effect, times, len) in rows {
+        note_repeated(rt, book, *event, *effect, *times)?;
+        assert!(rt; book.history_len() == *len, "{event:?}");
+    }
+    Ok(())
+}
+
 /// Fails the test where the event at a place is another one.
 fn assert_event<R: Abort>(rt: &R, book: &LinkBook, place: u64, event: Option<Event>) {
     assert!(rt; book.event_at(place) == event, "event {place}");
@@ -295,10 +308,12 @@ fn assert_event<R: Abort>(rt: &R, book: &LinkBook, place: u64, event: Option<Eve
 #[test]
 fn a_thousand_equal_events(rt: HostRuntime) -> Result<(), Fail> {
     let mut book = book_at_three(rt.alloc())?;
-    note_repeated(&rt, &mut book, Event::SendAck, Effect::Sent, 1)?;
-    note_repeated(&rt, &mut book, Event::SendAck, Effect::Lost, 999)?;
-    assert!(rt; book.history_len() == 1000);
-    note_repeated(&rt, &mut book, Event::Offer(7), Effect::Held, 1)?;
+    let rows = [
+        (Event::SendAck, Effect::Sent, 1, 1),
+        (Event::SendAck, Effect::Lost, 999, 1000),
+        (Event::Offer(7), Effect::Held, 1, 1001),
+    ];
+    note_rows(&rt, &mut book, &rows)?;
     assert_event(&rt, &book, 999, Some(Event::SendAck));
     assert_event(&rt, &book, 1000, Some(Event::Offer(7)));
     assert_event(&rt, &book, 1001, None);
@@ -350,14 +365,27 @@ fn accounts_that_differ(rt: HostRuntime) -> Result<(), Fail> {
     Ok(())
 }
 
+/// What a book says of accounts of that round that are changed as the flags say.
+fn check_changed(
+    alloc: Global,
+    book: &LinkBook,
+    offered: bool,
+    acked: bool,
+    delivered: bool,
+    closed: bool,
+) -> Result<Result<(), SettleFault>, AllocError> {
+    let (send, recv) = changed_accounts(alloc, offered, acked, delivered, closed)?;
+    Ok(book.check(&send, &recv))
+}
+
 #[test]
 fn accounts_that_differ_from_a_book(rt: HostRuntime) -> Result<(), Fail> {
     let alloc = rt.alloc();
     let mut book = book_at_three(alloc)?;
     ask_book(&rt, &mut book, Script::none(alloc), &ROUND_AND_CLOSE)?;
     for (offered, acked, delivered, closed, answer) in DIFFERENCES {
-        let (send, recv) = changed_accounts(alloc, offered, acked, delivered, closed)?;
-        assert!(rt; book.check(&send, &recv) == answer, "{answer:?}");
+        let checked = check_changed(alloc, &book, offered, acked, delivered, closed)?;
+        assert!(rt; checked == answer, "{answer:?}");
     }
     Ok(())
 }
@@ -427,13 +455,22 @@ fn assert_counted<R: Abort>(rt: &R, items: &[Item]) {
     }
 }
 
+/// The accounts of both ends of a link, after each has worked in a thread of its own.
+fn both_ends<R: Threads + Wait + Send + Sync>(
+    rt: &R,
+    link: &LockLink,
+    script: Script,
+) -> Result<(SendAccount, RecvAccount), AllocError> {
+    let (send, recv) = link.split(script);
+    both(rt, send, recv)
+}
+
 #[test]
 fn two_threads_settle(rt: HostRuntime) -> Result<(), Fail> {
     let alloc = rt.alloc();
-    let link = LockLink::new(alloc, Params::new(1, 4)?, Start::clean(alloc))?;
     let script = Script::from_seed(alloc, 42, 54, 200, 300, 300)?;
-    let (send, recv) = link.split(script);
-    let (sent, received) = both(&rt, send, recv)?;
+    let link = LockLink::new(alloc, Params::new(1, 4)?, Start::clean(alloc))?;
+    let (sent, received) = both_ends(&rt, &link, script)?;
     let settled = link.settle(sent, received)?;
     assert_counted(&rt, settled.recv.delivered.as_slice());
     assert!(rt; settled.recv.delivered.len() as u64 >= settled.send.acked);

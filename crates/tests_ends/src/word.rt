@@ -136,10 +136,16 @@ fn ask_and_finish<S: SendSide, T: RecvSide<Pass = S::Pass>, R: Abort>(
     Ok((send.finish(), recv.finish()))
 }
 
-/// The accounts of both ends of a link without losses after these calls.
-fn settled<R: Abort>(rt: &R, alloc: Global, start: &Start, asks: &[Ask]) -> Result<Settled, Fail> {
+/// The accounts of both ends of a link under this script after these calls.
+fn settled<R: Abort>(
+    rt: &R,
+    alloc: Global,
+    start: &Start,
+    script: Script,
+    asks: &[Ask],
+) -> Result<Settled, Fail> {
     let (link, opening) = WordLink::new(alloc, Params::new(1, 4)?, start)?;
-    let (send, recv) = link.split(alloc, opening, Script::none(alloc))?;
+    let (send, recv) = link.split(alloc, opening, script)?;
     let (sent, received) = ask_and_finish(rt, &(), send, recv, asks)?;
     Ok(link.settle(sent, received))
 }
@@ -148,7 +154,7 @@ fn settled<R: Abort>(rt: &R, alloc: Global, start: &Start, asks: &[Ask]) -> Resu
 fn the_worst_start_in_words(rt: HostRuntime) -> Result<(), Fail> {
     let alloc = rt.alloc();
     let start = start_with(alloc, 1, 1, (0, 1))?;
-    let settled = settled(&rt, alloc, &start, &WORST_START)?;
+    let settled = settled(&rt, alloc, &start, Script::none(alloc), &WORST_START)?;
     assert!(rt; settled.send.offered.as_slice() == [10, 11, 12, 13].as_slice());
     assert!(rt; settled.send.acked == 3);
     assert!(rt; !settled.send.closed && !settled.recv.closed);
@@ -160,7 +166,7 @@ fn the_worst_start_in_words(rt: HostRuntime) -> Result<(), Fail> {
 fn a_round_and_a_close_in_words(rt: HostRuntime) -> Result<(), Fail> {
     let alloc = rt.alloc();
     let start = start_with(alloc, 0, 0, (0, 3))?;
-    let settled = settled(&rt, alloc, &start, &ROUND_AND_CLOSE)?;
+    let settled = settled(&rt, alloc, &start, Script::none(alloc), &ROUND_AND_CLOSE)?;
     assert!(rt; settled.send.offered.as_slice() == [7].as_slice());
     assert!(rt; settled.send.acked == 1);
     assert!(rt; settled.send.closed && settled.recv.closed);
@@ -251,9 +257,7 @@ fn drop_then_evict(alloc: Global) -> Result<Vec<OutAct>, AllocError> {
 fn a_script_in_words(rt: HostRuntime) -> Result<(), Fail> {
     let alloc = rt.alloc();
     let start = start_with(alloc, 0, 0, (0, 3))?;
-    let (link, opening) = WordLink::new(alloc, Params::new(1, 4)?, &start)?;
-    let (send, recv) = link.split(alloc, opening, script_of_losses(alloc)?)?;
-    ask_and_finish(&rt, &(), send, recv, &SCRIPTED)?;
+    settled(&rt, alloc, &start, script_of_losses(alloc)?, &SCRIPTED)?;
     Ok(())
 }
 

@@ -101,6 +101,24 @@ fn tree(rt: &impl Abort, alloc: Global, text: &str) -> Result<Tree, TreeFault> {
     read_tree(alloc, &value)
 }
 
+/// A tree, and what its nodes begin with.
+#[derive(Drop)]
+struct Opened {
+    tree: Tree,
+    openings: Openings,
+}
+
+/// The tree that this text describes, whose nodes begin with nothing.
+fn unopened(rt: &impl Abort, alloc: Global, text: &str) -> Result<Opened, Fail>
+    ensures fit { IfOk result (λ made. FitTree made.tree.parents made.openings) }
+    ensures one_per_node { IfOk result (λ made.
+        length made.openings.lists ≡ length made.tree.parents) }
+{
+    let tree = tree(rt, alloc, text)?;
+    let openings = Openings::none(alloc, &tree)?;
+    Ok(Opened { tree, openings })
+}
+
 /// A start with these frames, and this number of acknowledgements, each 0.
 fn start(alloc: Global, frames: &[Frame], acks: usize) -> Result<Start, AllocError> {
     Ok(Start {
@@ -151,32 +169,32 @@ fn two_links(alloc: Global) -> Result<Vec<TreeEvent>, AllocError> {
 /// The text of the chain after a schedule from these starts, with two links of capacity one; or why
 /// the schedule is refused.
 fn outcome(
+    rt: &impl Abort,
     alloc: Global,
-    tree: &Tree,
     links: &[(&[Frame], usize)],
     events: &[TreeEvent],
 ) -> Result<Result<String, TreeStartFault>, Fail> {
     let params = [Params::new(1, 4)?; 2];
     let starts = starts(alloc, links)?;
-    let openings = Openings::none(alloc, tree)?;
-    match run_schedule(alloc, &params, tree, &ITEMS, &starts, &openings, events) {
+    let Opened { tree, openings } = &unopened(rt, alloc, CHAIN)?;
+    match run_schedule(alloc, &params, tree, &ITEMS, &starts, openings, events) {
         Ok(state) => Ok(Ok(schedule_text(alloc, tree, &state)?)),
         Err(fault) => Ok(Err(fault)),
     }
 }
 
-/// The text of a tree after a schedule from these starts and openings.
+/// The text of a tree after a schedule from these starts.
 fn text_after(
     alloc: Global,
     params: &[Params],
-    tree: &Tree,
+    opened: &Opened,
     published: &[Item],
     starts: &[Start],
-    openings: &Openings,
     events: &[TreeEvent],
 ) -> Result<String, Fail>
-    requires { FitTree tree.now.parents openings.now }
+    requires { FitTree opened.now.tree.parents opened.now.openings }
 {
+    let Opened { tree, openings } = opened;
     let state = run_schedule(alloc, params, tree, published, starts, openings, events)?;
     Ok(schedule_text(alloc, tree, &state)?)
 }
@@ -219,9 +237,8 @@ fn schedule_of_a_wider_second_link(alloc: Global) -> Result<Vec<TreeEvent>, Allo
 
 #[test]
 fn two_links_under_one_schedule_deliver_one_stray_each(rt: HostRuntime) -> Result<(), Fail> {
-    let tree = tree(&rt, rt.alloc(), CHAIN)?;
     let schedule = two_links(rt.alloc())?;
-    let text = outcome(rt.alloc(), &tree, &WORST_STARTS, &schedule)??;
+    let text = outcome(&rt, rt.alloc(), &WORST_STARTS, &schedule)??;
     assert!(rt; text.as_str() == TWO_LINKS);
     Ok(())
 }
@@ -234,9 +251,8 @@ fn chain_text(
     starts: &[Start],
     events: &[TreeEvent],
 ) -> Result<String, Fail> {
-    let tree = tree(rt, alloc, CHAIN)?;
-    let openings = Openings::none(alloc, &tree)?;
-    text_after(alloc, params, &tree, &[7, 8], starts, &openings, events)
+    let chain = unopened(rt, alloc, CHAIN)?;
+    text_after(alloc, params, &chain, &[7, 8], starts, events)
 }
 
 #[test]
@@ -249,17 +265,15 @@ fn a_wider_second_link_holds_two_strays(rt: HostRuntime) -> Result<(), Fail> {
     Ok(())
 }
 
-/// Why these starts are refused with these parameters, or `None` where the tree begins with them.
+/// Why the chain is refused with these parameters and these starts, or `None` where it begins.
 fn refusal(
+    rt: &impl Abort,
     alloc: Global,
     params: &[Params],
-    tree: &Tree,
     starts: &[Start],
-    openings: &Openings,
-) -> Option<TreeStartFault>
-    requires { FitTree tree.now.parents openings.now }
-{
-    run_schedule(alloc, params, tree, &[7, 8], starts, openings, &[]).err()
+) -> Result<Option<TreeStartFault>, Fail> {
+    let Opened { tree, openings } = &unopened(rt, alloc, CHAIN)?;
+    Ok(run_schedule(alloc, params, tree, &[7, 8], starts, openings, &[]).err())
 }
 
 #[test]
@@ -277,11 +291,9 @@ fn each_link_is_held_to_its_own_capacity(rt: HostRuntime) -> Result<(), Fail> {
         (&wide_second[..1], Some(TreeStartFault::StartCount)),
         (wide_second.as_slice(), Some(TreeStartFault::StartCount)),
     ];
-    let tree = tree(&rt, rt.alloc(), CHAIN)?;
-    let openings = Openings::none(rt.alloc(), &tree)?;
     let starts = starts_of_a_wider_second_link(rt.alloc())?;
     for (params, want) in rows {
-        let fault = refusal(rt.alloc(), params, &tree, &starts, &openings);
+        let fault = refusal(&rt, rt.alloc(), params, &starts)?;
         assert!(rt; fault == want, "{want:?}");
     }
     Ok(())
@@ -305,13 +317,15 @@ fn openings(
     Ok(Openings::new(tree, hold, its_lists))
 }
 
-/// The openings of the chain in which a begins with 50 and 51.
-fn openings_at_a(rt: &impl Abort, alloc: Global, tree: &Tree) -> Result<Openings, AllocError>
-    ensures fit { IfOk result (FitTree tree.now.parents) }
-    ensures one_per_node { IfOk result (λ openings.
-        length openings.lists ≡ length tree.now.parents) }
+/// The chain in which a begins with 50 and 51.
+fn opened_chain(rt: &impl Abort, alloc: Global) -> Result<Opened, Fail>
+    ensures fit { IfOk result (λ made. FitTree made.tree.parents made.openings) }
+    ensures one_per_node { IfOk result (λ made.
+        length made.openings.lists ≡ length made.tree.parents) }
 {
-    Ok(openings(alloc, tree, 2, &[&[], &[50, 51], &[]])?.expect(rt, "openings"))
+    let tree = tree(rt, alloc, CHAIN)?;
+    let openings = openings(alloc, &tree, 2, &[&[], &[50, 51], &[]])?.expect(rt, "openings");
+    Ok(Opened { tree, openings })
 }
 
 /// Rounds on both links of the chain, first all on the upper one.
@@ -330,9 +344,8 @@ fn rounds(alloc: Global, upper: u16, lower: u16) -> Result<Vec<TreeEvent>, Alloc
 fn opened_chain_text(rt: &impl Abort, alloc: Global, events: &[TreeEvent]) -> Result<String, Fail> {
     let params = [Params::new(1, 4)?; 2];
     let starts = [Start::clean(alloc), Start::clean(alloc)];
-    let tree = tree(rt, alloc, CHAIN)?;
-    let openings = openings_at_a(rt, alloc, &tree)?;
-    text_after(alloc, &params, &tree, &[7, 8], &starts, &openings, events)
+    let chain = opened_chain(rt, alloc)?;
+    text_after(alloc, &params, &chain, &[7, 8], &starts, events)
 }
 
 #[test]
@@ -383,36 +396,25 @@ fn refused_openings(rt: HostRuntime) -> Result<(), Fail> {
     Ok(())
 }
 
-/// Fails the test where openings have another hold, or a node has another opening.
-fn assert_opening(
-    rt: &impl Abort,
-    tree: &Tree,
-    openings: &Openings,
-    hold: u16,
-    place: u16,
-    items: &[Item],
-)
-    requires { length openings.now.lists ≡ length tree.now.parents }
+/// Fails the test where the openings have another hold, or a node has another opening.
+fn assert_opening(rt: &impl Abort, opened: &Opened, hold: u16, place: u16, items: &[Item])
+    requires { length opened.now.openings.lists ≡ length opened.now.tree.parents }
 {
-    assert!(rt; place < tree.len());
-    assert!(rt; openings.hold() == hold);
-    assert!(rt; openings.list(NodeId::new(place)) == items);
+    assert!(rt; opened.tree.len() == 3);
+    assert!(rt; place < opened.tree.len());
+    assert!(rt; opened.openings.hold() == hold);
+    assert!(rt; opened.openings.list(NodeId::new(place)) == items);
 }
 
 #[test]
 fn openings_are_read_back(rt: HostRuntime) -> Result<(), Fail> {
-    let tree = tree(&rt, rt.alloc(), CHAIN)?;
-    assert!(rt; tree.len() == 3);
-    let openings = openings_at_a(&rt, rt.alloc(), &tree)?;
-    assert_opening(&rt, &tree, &openings, 2, A, &[50, 51]);
-    let none = Openings::none(rt.alloc(), &tree)?;
-    assert_opening(&rt, &tree, &none, 0, B, &[]);
+    assert_opening(&rt, &opened_chain(&rt, rt.alloc())?, 2, A, &[50, 51]);
+    assert_opening(&rt, &unopened(&rt, rt.alloc(), CHAIN)?, 0, B, &[]);
     Ok(())
 }
 
 #[test]
 fn refuses_the_first_unlawful_start_in_file_order(rt: HostRuntime) -> Result<(), Fail> {
-    let tree = tree(&rt, rt.alloc(), CHAIN)?;
     let frames = Some(TreeStartFault::Start(StartFault::TooManyFrames));
     let acks = Some(TreeStartFault::Start(StartFault::TooManyAcks));
     let one: [(&[Frame], usize); 1] = [(&[STRAY_99], 1)];
@@ -425,7 +427,7 @@ fn refuses_the_first_unlawful_start_in_file_order(rt: HostRuntime) -> Result<(),
         (WORST_STARTS.as_slice(), None),
     ];
     for (links, want) in rows {
-        let fault = outcome(rt.alloc(), &tree, links, &[])?.err();
+        let fault = outcome(&rt, rt.alloc(), links, &[])?.err();
         assert!(rt; fault == want, "{want:?}");
     }
     Ok(())
@@ -433,12 +435,11 @@ fn refuses_the_first_unlawful_start_in_file_order(rt: HostRuntime) -> Result<(),
 
 #[test]
 fn refuses_the_first_event_that_names_no_link(rt: HostRuntime) -> Result<(), Fail> {
-    let tree = tree(&rt, rt.alloc(), CHAIN)?;
     let mut events = Vec::new(rt.alloc());
     for child in [A, ROOT, A] {
         push_acts(&mut events, NodeId::new(child), &[LinkAct::Offer])?;
     }
-    let fault = outcome(rt.alloc(), &tree, &WORST_STARTS, &events)?.err();
+    let fault = outcome(&rt, rt.alloc(), &WORST_STARTS, &events)?.err();
     assert!(rt; fault == Some(TreeStartFault::Step(TreeStepFault::NoSuchLink)));
     Ok(())
 }
@@ -458,18 +459,16 @@ fn assert_acts(
     }
 }
 
-/// The chain that begins with the worst starts.
-fn worst_state(rt: &impl Abort, alloc: Global) -> Result<TreeState, Fail> {
+/// The chain that begins with these starts.
+fn state_of(rt: &impl Abort, alloc: Global, starts: &[Start]) -> Result<TreeState, Fail> {
     let params = [Params::new(1, 4)?; 2];
-    let tree = tree(rt, alloc, CHAIN)?;
-    let openings = Openings::none(alloc, &tree)?;
-    let starts = starts(alloc, &WORST_STARTS)?;
-    Ok(TreeState::new(alloc, &params, &tree, &ITEMS, &starts, &openings)?)
+    let Opened { tree, openings } = &unopened(rt, alloc, CHAIN)?;
+    Ok(TreeState::new(alloc, &params, tree, &ITEMS, starts, openings)?)
 }
 
 #[test]
 fn an_offer_of_nothing_does_nothing(rt: HostRuntime) -> Result<(), Fail> {
-    let mut state = worst_state(&rt, rt.alloc())?;
+    let mut state = state_of(&rt, rt.alloc(), &starts(rt.alloc(), &WORST_STARTS)?)?;
     let steps = [
         (B, LinkAct::Offer, Ok(Effect::Nothing)),
         (A, LinkAct::RecvFrame { keep: true }, Ok(Effect::Fresh(99))),
@@ -488,9 +487,8 @@ fn an_offer_of_nothing_does_nothing(rt: HostRuntime) -> Result<(), Fail> {
 
 #[test]
 fn a_lone_root_has_what_it_publishes(rt: HostRuntime) -> Result<(), Fail> {
-    let tree = tree(&rt, rt.alloc(), r#"[{"name":"r"}]"#)?;
-    let openings = Openings::none(rt.alloc(), &tree)?;
-    let text = text_after(rt.alloc(), &[], &tree, &[7, 8], &[], &openings, &[])?;
+    let lone = unopened(&rt, rt.alloc(), r#"[{"name":"r"}]"#)?;
+    let text = text_after(rt.alloc(), &[], &lone, &[7, 8], &[], &[])?;
     assert!(rt; text.as_str() == "r depth 0 received 2 acked -\nitems: 7 8\n");
     Ok(())
 }

@@ -389,8 +389,11 @@ fn run_pair<R: Threads + Wait + Send + Sync + Abort>(
     rt: &R,
     alloc: Global,
     tree: &Tree,
+    openings: &Openings,
     link: &LockLink,
-) -> Result<Left, WorkersFault> {
+) -> Result<Left, WorkersFault>
+    requires { FitTree tree.now.parents openings.now }
+{
     let (send, recv) = link.split::<R>(Script::none(alloc));
     let sends = one(alloc, send)?;
     let recvs = one(alloc, recv)?;
@@ -399,9 +402,8 @@ fn run_pair<R: Threads + Wait + Send + Sync + Abort>(
     let gate = Pace {
         turns: [AtomicU64::new(0), AtomicU64::new(0)],
     };
-    let openings = Openings::none(alloc, tree)?;
     run_workers(
-        rt, rt, alloc, tree, sends, recvs, &PUBLISHED, &openings, TURNS, &gate,
+        rt, rt, alloc, tree, sends, recvs, &PUBLISHED, openings, TURNS, &gate,
     )
 }
 
@@ -411,8 +413,9 @@ fn run_new_pair<R: Threads + Wait + Send + Sync + Abort>(
     alloc: Global,
 ) -> Result<Left, Fail> {
     let tree = tree(rt, alloc, r#"[{"name":"r"},{"name":"a","parent":"r"}]"#)?;
+    let openings = Openings::none(alloc, &tree)?;
     let link = LockLink::new(alloc, Params::new(1, 4)?, Start::clean(alloc))?;
-    Ok(run_pair(rt, alloc, &tree, &link)?)
+    Ok(run_pair(rt, alloc, &tree, &openings, &link)?)
 }
 
 #[test]

@@ -34,9 +34,12 @@ fn settled_with_a_lock<R: Wait + Abort>(rt: &R, alloc: Global) -> Result<Settled
 
 /// The accounts of a link of two words after that round, which its ends make as ends of either
 /// kind.
-fn settled_with_two_words<R: Wait + Abort>(rt: &R, alloc: Global) -> Result<Settled, Fail> {
-    let start = start_with(alloc, 0, 0, (0, 3))?;
-    let (link, opening) = WordLink::new(alloc, Params::new(1, 4)?, &start)?;
+fn settled_with_two_words<R: Wait + Abort>(
+    rt: &R,
+    alloc: Global,
+    start: &Start,
+) -> Result<Settled, Fail> {
+    let (link, opening) = WordLink::new(alloc, Params::new(1, 4)?, start)?;
     let (send, recv) = link.split(alloc, opening, Script::none(alloc))?;
     let (send, recv) = (AnySend::<R>::Word(send), AnyRecv::<R>::Word(recv));
     let (sent, received) = ask_and_finish(rt, rt, send, recv, &EITHER_KIND)?;
@@ -62,6 +65,7 @@ fn a_round_and_a_close_over_a_lock(rt: HostRuntime) -> Result<(), Fail> {
 
 #[test]
 fn a_round_and_a_close_over_two_words(rt: HostRuntime) -> Result<(), Fail> {
-    assert_round(&rt, &settled_with_two_words(&rt, rt.alloc())?);
+    let start = start_with(rt.alloc(), 0, 0, (0, 3))?;
+    assert_round(&rt, &settled_with_two_words(&rt, rt.alloc(), &start)?);
     Ok(())
 }

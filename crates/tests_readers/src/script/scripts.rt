@@ -290,10 +290,16 @@ fn some_acts(alloc: Global) -> Result<Script, Fail> {
     Ok(script)
 }
 
+/// The letters of a copy of this script.
+fn letters_of_a_copy(alloc: Global, script: &Script) -> Result<String, AllocError> {
+    let copy = script.copy(alloc)?;
+    lettered(alloc, &copy)
+}
+
 /// The letters of a script and of its copy.
 fn letters_of_both(alloc: Global, script: &Script) -> Result<(String, String), AllocError> {
-    let copied = lettered(alloc, &script.copy(alloc)?)?;
-    Ok((lettered(alloc, script)?, copied))
+    let own = lettered(alloc, script)?;
+    Ok((own, letters_of_a_copy(alloc, script)?))
 }
 
 #[test]
