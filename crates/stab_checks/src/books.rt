@@ -112,16 +112,15 @@ impl Books {
     /// be made twice.
     fn new(alloc: Global, row: &Row<'_>) -> anyhow::Result<Books> {
         let params = params()?;
-        let mut starts = Vec::with_capacity(alloc, 4)?;
-        for _ in 0..4 {
-            starts.push(start_of(alloc, row)?)?;
-        }
-        let (sender, receiver) = script_of(alloc, row)?.split();
+        let script = script_of(alloc, row)?;
+        let starts = starts_of(alloc, row)?;
+        let book = LinkBook::new(alloc, params, start_of(alloc, row)?)?;
+        let (sender, receiver) = script.split();
         Ok(Books {
             alloc,
             params,
             starts,
-            book: LinkBook::new(alloc, params, start_of(alloc, row)?)?,
+            book,
             sender,
             receiver,
         })
@@ -181,6 +180,15 @@ impl Calls for Books {
             BookCall::Of(call) => self.make_of(call, text),
         }
     }
+}
+
+/// Starts for two calls that may each be made twice.
+fn starts_of(alloc: Global, row: &Row<'_>) -> Result<Vec<Start>, AllocError> {
+    let mut starts = Vec::new(alloc);
+    for _ in 0..4 {
+        starts.push(start_of(alloc, row)?)?;
+    }
+    Ok(starts)
 }
 
 /// Adds what a book holds: its link, and its history in a line.
