@@ -51,10 +51,11 @@ fn push_step(schedule: &mut String, child: &str, act: &str) -> Result<(), AllocE
     if schedule.as_bytes().last() != Some(&b'[') {
         schedule.push_str(",")?;
     }
-    for piece in ["[\"", child, "\",\"", act, "\"]"] {
-        schedule.push_str(piece)?;
-    }
-    Ok(())
+    schedule.push_str("[\"")?;
+    schedule.push_str(child)?;
+    schedule.push_str("\",\"")?;
+    schedule.push_str(act)?;
+    schedule.push_str("\"]")
 }
 
 /// A job of two links that both begin at the worst start, up to the acts of its schedule.
