@@ -12,9 +12,9 @@ ghost use Rattle.stab_tree.specs.Links.{links_of};
 ghost use Rattle.stab_workers.specs.ByNode.{ended_at};
 ghost use Rattle.stab_workers.specs.FirstFault.{IsFirstToGiveUp, IsFirstUnstarted};
 
-use stab_job::Job;
 use crate::link::SplitLink;
 use crate::run_fault::RunFault;
+use stab_job::Job;
 use stab_lock::{RecvSide, SendSide};
 use stab_node::{Gate, NodeFault};
 use stab_script::Script;

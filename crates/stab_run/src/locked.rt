@@ -17,7 +17,6 @@ ghost use Rattle.stab_workers.specs.ByNode.{ended_at, received_at};
 ghost use Rattle.stab_workers.specs.FirstFault.{IsFirstToGiveUp, IsFirstUnstarted};
 
 use crate::ends::{run_ends, split_all};
-use stab_job::Job;
 use crate::link::{RunLink, SplitLink};
 use crate::report::Report;
 use crate::run::report_of;
@@ -25,6 +24,7 @@ use crate::run_fault::RunFault;
 use crate::starts::{check_starts, make_links};
 use stab_core::Start;
 use stab_frames::Params;
+use stab_job::Job;
 use stab_lock::{LockLink, LockRecv, LockSend, RecvAccount, SendAccount, SettleFault, Settled};
 use stab_node::{Gate, NodeFault};
 use stab_script::Script;

@@ -20,11 +20,11 @@ ghost use Rattle.stab_workers.specs.FirstFault.{IsFirstToGiveUp, IsFirstUnstarte
 
 use crate::any_link::AnyLink;
 use crate::ends::{run_ends, split_all};
-use stab_job::Job;
 use crate::report::Report;
 use crate::run::report_of;
 use crate::run_fault::RunFault;
 use crate::starts::{check_starts, make_links};
+use stab_job::Job;
 use stab_node::Gate;
 use std::alloc::Global;
 use std::sync::Wait;

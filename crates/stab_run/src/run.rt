@@ -12,12 +12,12 @@ ghost use Rattle.stab_run.specs.Runs.{AreExplained, CompleteBelowEnded, HandsOn,
 ghost use Rattle.stab_treecore.specs.NodeLaws.{HalfTreeLawAtNodes, TreeLawAtNodes};
 ghost use Rattle.stab_workers.specs.ByNode.{received_at};
 
-use stab_job::Job;
 use crate::laws;
 use crate::link::RunLink;
 use crate::report::Report;
 use crate::run_fault::RunFault;
 use crate::settle::settle_all;
+use stab_job::Job;
 use stab_workers::Gathered;
 use std::alloc::Global;
 

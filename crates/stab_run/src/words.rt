@@ -17,7 +17,6 @@ ghost use Rattle.stab_workers.specs.ByNode.{ended_at, received_at};
 ghost use Rattle.stab_workers.specs.FirstFault.{IsFirstToGiveUp, IsFirstUnstarted};
 
 use crate::ends::{run_ends, split_all};
-use stab_job::Job;
 use crate::laws;
 use crate::link::{RunLink, SplitLink};
 use crate::report::Report;
@@ -26,6 +25,7 @@ use crate::run_fault::RunFault;
 use crate::starts::{check_starts, make_links};
 use stab_core::Start;
 use stab_frames::Params;
+use stab_job::Job;
 use stab_lock::{SettleFault, Settled};
 use stab_node::{Gate, NodeFault};
 use stab_script::Script;
