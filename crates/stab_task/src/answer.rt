@@ -41,6 +41,8 @@ pub fn act<T: Threads + Wait + Send + Sync, R: Read, W: Write>(
         IfSome (R.remaining reader.old) (λ input. IsFault task input fault)) }
     ensures nothing { IfErr result (λ fault.
         fault ≢ CliFault.Write → Keeps (W.contents writer.old) (W.contents writer.new)) }
+    ensures opened { IfErr result (λ fault. fault ≢ CliFault.Open) }
+    ensures named { IfErr result (λ fault. fault ≢ CliFault.CommandLine) }
 {
     let text = text_of(rt, alloc, task, reader)?;
     write_text(writer, &text)?;
@@ -59,6 +61,8 @@ fn text_of<T: Threads + Wait + Send + Sync, R: Read>(
     ensures fault { IfErr result (λ fault.
         IfSome (R.remaining reader.old) (λ input. IsFault task input fault)) }
     ensures no_write { IfErr result (λ fault. fault ≢ CliFault.Write) }
+    ensures opened { IfErr result (λ fault. fault ≢ CliFault.Open) }
+    ensures named { IfErr result (λ fault. fault ≢ CliFault.CommandLine) }
 {
     let bytes = load(alloc, reader)?;
     let text = answer_bytes(rt, alloc, task, &bytes)?;

@@ -1,4 +1,4 @@
-ghost use Rattle.std.specs.Prelude.{◌≡◌, ◌≢◌, ◌⊎◌, IfErr};
+ghost use Rattle.std.specs.Prelude.{◌≡◌, ◌≢◌, ◌⊎◌, None, IfErr};
 ghost use Rattle.std.specs.IoError.{error_kind};
 
 use crate::answer::act;
@@ -33,7 +33,10 @@ pub fn perform<R: Files + Input + Print + Threads + Wait + Send + Sync + AllocGl
     rt: &R,
     task: Task,
     path: Option<String>,
-) -> Result<(), CliFault> {
+) -> Result<(), CliFault>
+    ensures opened { path ≡ None → IfErr result (λ fault. fault ≢ CliFault.Open) }
+    ensures named { IfErr result (λ fault. fault ≢ CliFault.CommandLine) }
+{
     let Some(path) = path else {
         return act(rt, rt.alloc(), task, &mut rt.reader(), &mut io::writer(rt));
     };
