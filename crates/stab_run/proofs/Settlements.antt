@@ -9,7 +9,7 @@ use Rattle.stab_tree.specs.Links.{links_from, links_of}
 use Rattle.stab_tree.specs.Nodes.{parent_at}
 use Rattle.stab_treecore.specs.ByChild.{by_child}
 use Rattle.stab_workers.specs.ByNode.{entry_into}
-use Rattle.stab_run.specs.LinkRuns.{AreSettled, AreSettledBefore, HoldsInto, HoldsOfFirst, IsSettled, acked_of}
+use Rattle.stab_run.specs.LinkRuns.{AreSettled, HoldsInto, HoldsOfFirst, IsSettled, acked_of}
 
 -- there is no link into a node without a parent
 pub no_link_into : {A : Type 0} (parents : List (Option ℕ)) (xs : List A) (node : ℕ) → parent_at parents node ≡ None
@@ -233,11 +233,3 @@ child_settled parents links sends recvs acked node parent link send recv links_b
       sends_from_here = left_past_child parents sends node within parent is sends_before send sends_left first_send before.sends_from_here;
       recvs_from_here = left_past_child parents recvs node within parent is recvs_before recv recvs_left first_recv before.recvs_from_here;
     }
-
--- at a child the links before it are settled
-pub settled_before : (parents : List (Option ℕ)) (links : List Given) (sends : List Sender) (recvs : List Receiver) (acked : List (Option ℕ))
-    (node parent : ℕ) (links_left : List Given) (sends_left : List Sender) (recvs_left : List Receiver)
-    → SettledSoFar parents links sends recvs acked links_left sends_left recvs_left node → parent_at parents node ≡ Some parent
-    → AreSettledBefore parents links sends recvs node
-settled_before parents links sends recvs acked node parent links_left sends_left recvs_left so_far is =
-    record { parent = parent; is_child = is; before = so_far.before }

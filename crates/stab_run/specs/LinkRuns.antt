@@ -1,7 +1,7 @@
 -- A run of workers over links: what the workers leave, and what settling the links shows.
 -- Source: this project's own.
 use Rattle.std.specs.List.{zip}
-use Rattle.std.specs.Prelude.{◌≡◌, ◌<◌, ℕ, List, [], ◌∷◌, ◌++◌, length, map, Option, Some}
+use Rattle.std.specs.Prelude.{◌≡◌, ℕ, List, [], ◌∷◌, ◌++◌, length, map, Option, Some}
 use Rattle.stab_core.specs.declared.event.Event.{Event}
 use Rattle.stab_core.specs.declared.start.Start.{Start}
 use Rattle.stab_core.specs.Replay.{opening, replay}
@@ -49,14 +49,9 @@ AreSettled (link ∷ links) (send ∷ sends) [] = ⊥
 AreSettled (link ∷ links) (send ∷ sends) (recv ∷ recvs) =
     IsSettled link send recv × AreSettled links sends recvs
 
--- A link leads into this node, and the accounts of each link into a node before it are settled.
-pub record AreSettledBefore (parents : List (Option ℕ)) (links : List Given) (sends : List Sender)
-    (recvs : List Receiver) (child : ℕ) : Type 0 where
-  pub parent : ℕ
-  pub is_child : parent_at parents child ≡ Some parent
-  pub before : (earlier : ℕ) (link : Given) (send : Sender) (recv : Receiver) → earlier < child
-      → entry_into parents links earlier ≡ Some link → entry_into parents sends earlier ≡ Some send
-      → entry_into parents recvs earlier ≡ Some recv → IsSettled link send recv
+-- a link leads into this node
+abbrev pub LeadsInto : List (Option ℕ) → ℕ → Type 0
+LeadsInto parents child = (parent : ℕ) × (parent_at parents child ≡ Some parent)
 
 -- A link leads into this node, and this holds of what it was given.
 pub record HoldsInto (P : Given → Type 0) (parents : List (Option ℕ)) (links : List Given)
@@ -91,18 +86,6 @@ pub record IsRun (openings : OpeningsValue) (parents : List (Option ℕ)) (publi
   pub handed_on : (child parent : ℕ) (send : Sender) → parent_at parents child ≡ Some parent
       → entry_into parents sends child ≡ Some send → ended_at ended parent ≡ Upstream
       → HasAll (received_at received parent) send
-
--- What the workers left, where it is not settled: all of them answered, a link leads into this
--- node, and the links into the nodes before it are settled.
-pub record IsFirstUnsettled (params : List Parameters) (openings : OpeningsValue)
-    (parents : List (Option ℕ)) (starts : List Start) (published : List ℕ) (child : ℕ)
-    : Type 0 where
-  pub received : List (List ℕ)
-  pub ended : List Ended
-  pub sends : List Sender
-  pub recvs : List Receiver
-  pub run : IsRun openings parents published received ended sends recvs
-  pub before : AreSettledBefore parents (all_given params starts) sends recvs child
 
 -- The first of these links is settled with the first account of each side, and so many items are
 -- acknowledged on it; the others are left.

@@ -7,7 +7,7 @@ ghost use Rattle.stab_core.specs.declared.start.StartFault.{StartFault};
 ghost use Rattle.stab_lock.specs.declared.settle.SettleFault.{SettleFault};
 ghost use Rattle.stab_node.specs.declared.fault.NodeFault.{NodeFault};
 ghost use Rattle.stab_node.specs.Turns.{IsOver, IsRefused};
-ghost use Rattle.stab_run.specs.LinkRuns.{IsFirstUnsettled};
+ghost use Rattle.stab_run.specs.LinkRuns.{LeadsInto};
 ghost use Rattle.stab_run.specs.Reports.{OnePerNode};
 ghost use Rattle.stab_run.specs.RunFaults.{AllAreOver, comes_after_starts};
 ghost use Rattle.stab_run.specs.Runs.{RootHas, AreExplained, HandsOn, IsFirstUnlawful};
@@ -159,8 +159,7 @@ pub fn run_locked<R: Threads + Wait + Send + Sync, G: Gate + Sync>(
         (G.is_done gate.now) job.now.turns node) }
     ensures unsettled { IfErr result (λ fault. (child : ℕ) (why : SettleFault)
         → fault ≡ RunFault.Settle child why
-        → IsFirstUnsettled job.now.params job.now.openings job.now.tree.parents job.now.starts
-        job.now.items child) }
+        → LeadsInto job.now.tree.parents child) }
     ensures settled_last { IfErr result (λ fault. (child : ℕ) (why : SettleFault)
         → fault ≡ RunFault.Settle child why
         → AllAreOver (length job.now.tree.parents) (G.has_passed gate.now) (G.is_done gate.now)

@@ -9,7 +9,7 @@ ghost use Rattle.stab_lock.specs.declared.settle.SettleFault.{SettleFault};
 ghost use Rattle.stab_node.specs.declared.fault.NodeFault.{NodeFault};
 ghost use Rattle.stab_node.specs.Turns.{IsOver, IsRefused};
 ghost use Rattle.stab_run.specs.LinkKinds.{IsLarge};
-ghost use Rattle.stab_run.specs.LinkRuns.{HoldsInto, IsFirstUnsettled, all_given};
+ghost use Rattle.stab_run.specs.LinkRuns.{HoldsInto, LeadsInto, all_given};
 ghost use Rattle.stab_run.specs.Reports.{OnePerNode};
 ghost use Rattle.stab_run.specs.RunFaults.{AllAreOver, comes_after_starts};
 ghost use Rattle.stab_run.specs.Runs.{RootHas, AreExplained, HandsOn, IsFirstUnlawful};
@@ -93,8 +93,7 @@ pub fn run_mixed<R: Threads + Wait + Send + Sync, G: Gate + Sync>(
         (G.is_done gate.now) job.now.turns node) }
     ensures unsettled { IfErr result (λ fault. (child : ℕ) (why : SettleFault)
         → fault ≡ RunFault.Settle child why
-        → IsFirstUnsettled job.now.params job.now.openings job.now.tree.parents job.now.starts
-        job.now.items child) }
+        → LeadsInto job.now.tree.parents child) }
     ensures only_large { IfErr result (λ fault. (child : ℕ) (why : SettleFault)
         → fault ≡ RunFault.Settle child why
         → HoldsInto IsLarge job.now.tree.parents (all_given job.now.params job.now.starts) child) }

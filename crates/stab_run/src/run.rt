@@ -5,7 +5,7 @@ ghost use Rattle.std.specs.List.{AllZip};
 ghost use Rattle.std.specs.Prelude.{◌≡◌, ℕ, true, IfErr, IfOk, map};
 ghost use Rattle.stab_core.specs.Replay.{IsLawful};
 ghost use Rattle.stab_lock.specs.declared.settle.SettleFault.{SettleFault};
-ghost use Rattle.stab_run.specs.LinkRuns.{HoldsInto, IsFirstUnsettled, IsRun, all_given};
+ghost use Rattle.stab_run.specs.LinkRuns.{HoldsInto, IsRun, LeadsInto, all_given};
 ghost use Rattle.stab_run.specs.Reports.{OnePerNode};
 ghost use Rattle.stab_run.specs.RunFaults.{comes_of_settling};
 ghost use Rattle.stab_run.specs.Runs.{AreExplained, CompleteBelowEnded, HandsOn, RootHas};
@@ -54,8 +54,7 @@ pub(crate) fn report_of<L: RunLink>(
         job.now.items report) }
     ensures unsettled { IfErr result (λ fault. (child : ℕ) (why : SettleFault)
         → fault ≡ RunFault.Settle child why
-        → IsFirstUnsettled job.now.params job.now.openings job.now.tree.parents job.now.starts
-        job.now.items child) }
+        → LeadsInto job.now.tree.parents child) }
     ensures refused { IfErr result (λ fault. (child : ℕ) (why : SettleFault)
         → fault ≡ RunFault.Settle child why
         → HoldsInto L.may_differ job.now.tree.parents
@@ -94,8 +93,7 @@ fn settled_report<L: RunLink>(
     ensures handed_on { IfOk result (λ report. HandsOn job.now.tree.parents report) }
     ensures unsettled { IfErr result (λ fault. (child : ℕ) (why : SettleFault)
         → fault ≡ RunFault.Settle child why
-        → IsFirstUnsettled job.now.params job.now.openings job.now.tree.parents job.now.starts
-        job.now.items child) }
+        → LeadsInto job.now.tree.parents child) }
     ensures refused { IfErr result (λ fault. (child : ℕ) (why : SettleFault)
         → fault ≡ RunFault.Settle child why
         → HoldsInto L.may_differ job.now.tree.parents

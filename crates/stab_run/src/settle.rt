@@ -3,8 +3,8 @@
 ghost use Rattle.std.specs.List.{AllZip};
 ghost use Rattle.std.specs.Prelude.{◌≡◌, ℕ, ◌<◌, ◌∷◌, true, IfErr, IfOk, OnOk, length, map};
 ghost use Rattle.stab_lock.specs.declared.settle.SettleFault.{SettleFault};
-ghost use Rattle.stab_run.specs.LinkRuns.{AreSettled, AreSettledBefore, IsFirstSettled};
-ghost use Rattle.stab_run.specs.LinkRuns.{HoldsInto, HoldsOfFirst, acked_of};
+ghost use Rattle.stab_run.specs.LinkRuns.{AreSettled, IsFirstSettled};
+ghost use Rattle.stab_run.specs.LinkRuns.{HoldsInto, HoldsOfFirst, LeadsInto, acked_of};
 ghost use Rattle.stab_run.specs.RunFaults.{comes_of_settling};
 ghost use Rattle.stab_tree.specs.Links.{links_of};
 ghost use Rattle.stab_treecore.specs.ByChild.{by_child};
@@ -64,10 +64,8 @@ pub(crate) fn settle_all<L: RunLink>(
         acked.items ≡ by_child tree.now.parents (map acked_of (map L.sent sends.items))) }
     ensures settled { OnOk result (AreSettled (map L.given links.items)
         (map L.sent sends.items) (map L.received recvs.items)) }
-    ensures settled_before { IfErr result (λ fault. (child : ℕ) (why : SettleFault)
-        → fault ≡ RunFault.Settle child why
-        → AreSettledBefore tree.now.parents (map L.given links.items)
-        (map L.sent sends.items) (map L.received recvs.items) child) }
+    ensures unsettled { IfErr result (λ fault. (child : ℕ) (why : SettleFault)
+        → fault ≡ RunFault.Settle child why → LeadsInto tree.now.parents child) }
     ensures refused { IfErr result (λ fault. (child : ℕ) (why : SettleFault)
         → fault ≡ RunFault.Settle child why
         → HoldsInto L.may_differ tree.now.parents (map L.given links.items) child) }

@@ -17,7 +17,7 @@ use Rattle.stab_job.specs.declared.fault.JobFault.TheVariants.{Memory as no_memo
 use Rattle.stab_job.specs.JobValues.{JobValue}
 use Rattle.stab_job.specs.Jobs.{job as whole_job}
 use Rattle.stab_run.specs.LinkKinds.{IsLarge}
-use Rattle.stab_run.specs.LinkRuns.{HoldsInto, IsFirstUnsettled, all_given}
+use Rattle.stab_run.specs.LinkRuns.{HoldsInto, LeadsInto, all_given}
 use Rattle.stab_run.specs.Reports.{OnePerNode, Reported, report_text}
 use Rattle.stab_run.specs.Runs.{AreExplained, CompleteBelowEnded, HandsOn, IsFirstUnlawful}
 use Rattle.stab_run.specs.Runs.{RootHas}
@@ -146,7 +146,7 @@ IsTreeFault (RunTask links) input refusal = ⊥
 -- Why a run of a job gives no report. The capacities are looked at first, and by a run over words
 -- alone. A start is the first that is not lawful, and the faults after it come only where all are.
 -- A worker's fault names a node, and no turn was refused. Accounts that differ are those of the
--- link into a child, the first that is not settled.
+-- link into a child.
 abbrev pub IsRunReason : Links → JobValue → RunFault → Type 0
 IsRunReason links job run.CapacityNotOne = (links ≡ Words) × ¬ All (λ p. p.capacity ≡ 1) job.params
 IsRunReason links job (run.Start child reason) = HasOnePlace links job
@@ -157,7 +157,7 @@ IsRunReason links job (run.Node node refusal) = HasOnePlace links job
     × AllZip IsLawful job.params job.starts × (node < length job.tree.parents) × (refusal ≢ Gate)
 IsRunReason links job (run.Settle child refusal) = MayDiffer links job child
     × AllZip IsLawful job.params job.starts
-    × IsFirstUnsettled job.params job.openings job.tree.parents job.starts job.items child
+    × LeadsInto job.tree.parents child
 IsRunReason links job run.Memory = HasOnePlace links job × AllZip IsLawful job.params job.starts
 
 -- a run has no answer where the bytes are a job of which the run is refused

@@ -4,7 +4,7 @@ use Rattle.stab_tree.specs.Nodes.{parent_at, root_of}
 use Rattle.stab_treecore.specs.ByChild.{by_child}
 use Rattle.stab_lock.specs.declared.settle.SettleFault.{SettleFault}
 use Rattle.stab_workers.proofs.ForCallers.{at_error}
-use Rattle.stab_run.specs.LinkRuns.{AreSettled, HoldsInto, IsFirstUnsettled, acked_of, all_given}
+use Rattle.stab_run.specs.LinkRuns.{AreSettled, HoldsInto, LeadsInto, acked_of, all_given}
 use Rattle.stab_run.specs.declared.run_fault.RunFault.TheVariants.{Settle}
 use Rattle.stab_run.specs.Reports.{OnePerNode}
 use Rattle.stab_run.specs.Runs.{AreExplained, HandsOn, RootHas}
@@ -76,26 +76,13 @@ returns-clause-handed_on g c =
     (hands_on job.openings job.tree.parents job.items ran.received.items ran.ended.items sent delivered c.requires.run job.params job.starts
     c.tree-tree.ensures.job.one_params_each c.tree-tree.ensures.job.one_start_each settled)
 
--- what the workers left is not settled at this child
+-- the node that is named is a child of the job's tree
 pub returns-in_err-acked-clause-unsettled : goal.returns-in_err-acked-clause-unsettled
 returns-in_err-acked-clause-unsettled g c =
-    let job = c.args.job.now in
-    let ran = c.args.gathered in
-    let sent = map g.L.RunLink.sent ran.sends.items in
-    let delivered = map g.L.RunLink.received ran.recvs.items in
     at_error _ _
-    (λ fault. (child : ℕ) (why : SettleFault) → fault ≡ Settle child why
-    → IsFirstUnsettled job.params job.openings job.tree.parents job.starts job.items child)
+    (λ fault. (child : ℕ) (why : SettleFault) → fault ≡ Settle child why → LeadsInto c.args.job.now.tree.parents child)
     c.from_residual.ensures.1
-    (λ child why is. record {
-      received = ran.received.items;
-      ended = ran.ended.items;
-      sends = sent;
-      recvs = delivered;
-      run = c.requires.run;
-      before =
-          rw (c.tree-tree.ensures.tree, c.requires.given) at c.in_err-acked.ensures.settled_before child why is;
-    })
+    (λ child why is. rw c.tree-tree.ensures.tree at c.in_err-acked.ensures.unsettled child why is)
 
 -- what is known of the refused link is known of the job's link into this child
 pub returns-in_err-acked-clause-refused : goal.returns-in_err-acked-clause-refused

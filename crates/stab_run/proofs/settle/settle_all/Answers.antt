@@ -1,8 +1,8 @@
 use Rattle.std.proofs.Common.{rules, ◌≡◌, ◌<◌, ◌+◌, length, map, Some, None, ap, sym, ◌∙◌, subst}
 use Rattle.std.proofs.lemmas.List.{length-map}
 use Rattle.stab_tree.specs.Nodes.{parent_at}
-use Rattle.stab_run.specs.LinkRuns.{AreSettledBefore, HoldsInto}
-use Rattle.stab_run.proofs.Settlements.{none_settled, root_settled, child_settled, settled_before, holds_into}
+use Rattle.stab_run.specs.LinkRuns.{HoldsInto, LeadsInto}
+use Rattle.stab_run.proofs.Settlements.{none_settled, root_settled, child_settled, holds_into}
 use Rattle.stab_run.proofs.Paired.{as_many_paired}
 use Rattle.stab_run.proofs.settle.settle_all.Goals as goal
 use Rattle.stab_run.proofs.settle.settle_all.Goals.{in-None, in-Some+in-Ok}
@@ -69,20 +69,11 @@ nodes-preserved g c =
           }
     ]
 
--- the links into the nodes before this child are settled
-pub returns-in-Err-clause-settled_before : goal.returns-in-Err-clause-settled_before
-returns-in-Err-clause-settled_before g c = λ child why is.
-    let parents = c.args.tree.now.parents in
-    let given = map g.L.RunLink.given in
-    let sent = map g.L.RunLink.sent in
-    let received = map g.L.RunLink.received in
+-- the node that is named is a child
+pub returns-in-Err-clause-unsettled : goal.returns-in-Err-clause-unsettled
+returns-in-Err-clause-unsettled g c = λ child why is.
     let same : c.new-node.result ≡ child = cc in
-    let is_child : parent_at parents c.nodes.place ≡ Some c.in-Some.field-0 =
-    ap (λ n. parent_at parents n) (sym c.new-node.ensures) ∙ (sym c.parent.ensures.value ∙ c.in-Some.is) in
-    subst (AreSettledBefore parents (given c.args.links.items) (sent c.args.sends.items) (received c.args.recvs.items))
-    (sym c.new-node.ensures ∙ same)
-    (settled_before parents (given c.args.links.items) (sent c.args.sends.items) (received c.args.recvs.items) c.nodes.acked.items c.nodes.place
-    c.in-Some.field-0 (given c.nodes.links.items) (sent c.nodes.sends.items) (received c.nodes.recvs.items) c.nodes.invariant.so_far is_child)
+    subst (LeadsInto c.args.tree.now.parents) same (c.in-Some.field-0, sym c.parent.ensures.value ∙ c.in-Some.is)
 
 -- the link into this child, which is refused, is the first that is left
 pub returns-in-Err-clause-refused : goal.returns-in-Err-clause-refused
