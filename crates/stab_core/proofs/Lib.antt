@@ -15,3 +15,4 @@ pub mod Kept
 pub mod Events
 pub mod LinkLaws
 pub mod CounterExamples
+pub mod WorstStart

@@ -1,9 +1,10 @@
 -- Why the link is as it is: event lists that break its laws where one rule of it is left out, and
--- one that reaches its bounds where none is. The capacity is 1, for which four labels are the
--- fewest lawful ones.
+-- one for each capacity that reaches the bounds where none is. Where a rule is left out the
+-- capacity is 1, for which four labels are the fewest lawful ones.
 -- Source: this project's own.
-use Rattle.std.specs.Prelude.{ℕ, Bool, true, false, List, [], ◌∷◌, slice_get, if◌then◌else◌}
-use Rattle.std.specs.Prelude.{Option, Some, None}
+use Rattle.std.specs.Prelude.{ℕ, zero, suc, ◌+◌, ◌*◌, Bool, true, false, List, [], ◌∷◌, ◌++◌}
+use Rattle.std.specs.Prelude.{slice_get, if◌then◌else◌, Option, Some, None}
+use Rattle.std.specs.List.{range_with_len}
 use Rattle.stab_frames.specs.declared.frame.Frame.{Frame}
 use Rattle.stab_frames.specs.Parameters.{Parameters}
 use Rattle.stab_core.specs.declared.event.Event.{Event}
@@ -95,21 +96,49 @@ any_frame_start = record { frames = []; acks = []; send_label = 0; recv_label = 
 abbrev pub any_frame_events : List Event
 any_frame_events = Offer 10 ∷ SendFrame ∷ keep_frame ∷ take_frame ∷ []
 
--- No rule is left out: the stray is delivered, three items are acknowledged by the start's
--- acknowledgement and by labels that the receiver remembered before it took an item, and then a
--- fourth item is delivered.
-abbrev pub worst_start : Start
-worst_start =
+-- From here on no rule is left out, and the capacity c is any.
+
+-- this many frames, whose labels and items count up from these
+abbrev pub counted_frames : ℕ → ℕ → ℕ → List Frame
+counted_frames label item zero = []
+counted_frames label item (suc count) =
+    record { label = label; item = item } ∷ counted_frames (label + 1) (item + 1) count
+
+-- The worst start. The labels 0 to 2c come to the sender in the order in which it waits for them:
+-- the acknowledgements have 0 to c - 1, the receiver remembers c, and the frames have c + 1 to 2c.
+-- The frames' items, the strays, count up from this one.
+abbrev pub worst_start : ℕ → ℕ → Start
+worst_start c stray =
     record {
-      frames = record { label = 2; item = 99 } ∷ [];
-      acks = 0 ∷ [];
+      frames = counted_frames (c + 1) stray c;
+      acks = range_with_len 0 c;
       send_label = 0;
-      recv_label = 1;
+      recv_label = c;
     }
 
-abbrev pub worst_events : List Event
-worst_events =
-    Offer 10 ∷ take_ack ∷ SendAck
-    ∷ Offer 11 ∷ take_ack ∷ take_frame ∷ SendAck
-    ∷ Offer 12 ∷ take_ack
-    ∷ Offer 13 ∷ SendFrame ∷ take_frame ∷ []
+-- This many rounds, with items that count up from this one: an item is offered, and the next
+-- acknowledgement of the start acknowledges it, though it was never sent.
+abbrev pub acked_by_start : ℕ → ℕ → List Event
+acked_by_start item zero = []
+acked_by_start item (suc rounds) = Offer item ∷ take_ack ∷ acked_by_start (item + 1) rounds
+
+-- This many rounds, with items that count up from this one: the label that the receiver remembers
+-- acknowledges an item that was never sent, and then the receiver takes the next stray, which has
+-- the label of the item after it.
+abbrev pub acked_by_receiver : ℕ → ℕ → List Event
+acked_by_receiver item zero = []
+acked_by_receiver item (suc rounds) =
+    SendAck ∷ Offer item ∷ take_ack ∷ take_frame ∷ acked_by_receiver (item + 1) rounds
+
+-- The last stray's label acknowledges this item. Now no label of the start is left, and the item
+-- after it is sent and delivered.
+abbrev pub delivered_at_last : ℕ → List Event
+delivered_at_last item =
+    SendAck ∷ Offer item ∷ take_ack ∷ Offer (item + 1) ∷ SendFrame ∷ take_frame ∷ []
+
+-- The worst events, with items that count up from this one: c items are acknowledged by the start,
+-- the next c by labels that the receiver remembers, one more by the last of these labels, and the
+-- item after them is the first that is delivered.
+abbrev pub worst_events : ℕ → ℕ → List Event
+worst_events c item =
+    acked_by_start item c ++ acked_by_receiver (item + c) c ++ delivered_at_last (item + 2 * c)

@@ -2,12 +2,14 @@
 //! layer above may use them for whatever runs the same steps. Each is a function with an empty
 //! body; its contract is the law.
 
-ghost use Rattle.std.specs.Prelude.{◌≡◌, ℕ, ◌+◌, ◌≤◌, List, [], ◌∷◌, ◌++◌, length, fold};
+ghost use Rattle.std.specs.Prelude.{◌≡◌, ℕ, ◌+◌, ◌*◌, ◌≤◌, List, [], ◌∷◌, ◌++◌, length, fold};
+ghost use Rattle.std.specs.List.{range_with_len};
 ghost use Rattle.stab_core.specs.CounterExamples.{two_labels, two_labels_start, two_labels_events};
 ghost use Rattle.stab_core.specs.CounterExamples.{any_ack_step, any_ack_start, any_ack_events};
 ghost use Rattle.stab_core.specs.CounterExamples.{any_frame_step, any_frame_start};
 ghost use Rattle.stab_core.specs.CounterExamples.{any_frame_events};
 ghost use Rattle.stab_core.specs.CounterExamples.{four_labels, worst_start, worst_events};
+ghost use Rattle.stab_core.specs.CounterExamples.{take_frame, take_ack};
 ghost use Rattle.stab_core.specs.LinkLaw.{HalfLaw, LinkLaw, LinkLawWithin};
 ghost use Rattle.stab_core.specs.LinkState.{LinkState};
 ghost use Rattle.stab_core.specs.Reachable.{IsReachable};
@@ -99,18 +101,61 @@ pub fn every_frame_breaks_the_half_law()
         ¬ HalfLaw four_labels.capacity (start_items any_frame_start) s.offered s.acked s.delivered }
 {}
 
-/// The bounds of the link law are reached for the capacity 1: after this event list a stray was
-/// delivered and the first three acknowledged items were not. So no smaller bound holds, on strays
-/// or on missing items.
+/// The bounds of the link law are the least ones, for all lawful parameters. The worst start has
+/// `c` strays. After the worst events all of them were delivered, and `2c + 1` items are
+/// acknowledged, of which none was delivered where the strays are other items than the offered
+/// ones. So no smaller bound holds of this replay, neither on strays nor on missing items, and none
+/// of every replay.
 pub fn bounds_are_reached()
-    ensures parameters { AreLawful four_labels }
-    ensures lawful { IsLawful four_labels worst_start }
-    ensures reached { let s = replay four_labels (opening worst_start) worst_events in
-        (s.offered ≡ 10 ∷ 11 ∷ 12 ∷ 13 ∷ []) × (s.acked ≡ 3) × (s.delivered ≡ 99 ∷ 13 ∷ []) }
-    ensures one_stray { (most_missing : ℕ)
-        → let s = replay four_labels (opening worst_start) worst_events in
-        ¬ LinkLawWithin 0 most_missing (start_items worst_start) s.offered s.acked s.delivered }
-    ensures three_missing { (most_strays : ℕ)
-        → let s = replay four_labels (opening worst_start) worst_events in
-        ¬ LinkLawWithin most_strays 2 (start_items worst_start) s.offered s.acked s.delivered }
+    ensures lawful { (p : Parameters) (stray : ℕ) → IsLawful p (worst_start p.capacity stray) }
+    ensures as_many_strays { (c stray : ℕ) → length (start_items (worst_start c stray)) ≡ c }
+    ensures reached { (p : Parameters) (item stray : ℕ)
+        → AreLawful p → let c = p.capacity in
+        let start = worst_start c stray in
+        let s = replay p (opening start) (worst_events c item) in
+        (s.offered ≡ range_with_len item (2 * c + 2)) × (s.acked ≡ 2 * c + 1)
+        × (s.delivered ≡ start_items start ++ (item + 2 * c + 1) ∷ []) }
+    ensures no_smaller { (p : Parameters) (item stray most_strays most_missing : ℕ)
+        → AreLawful p → let c = p.capacity in
+        item + 2 * c + 2 ≤ stray → let start = worst_start c stray in
+        let s = replay p (opening start) (worst_events c item) in
+        LinkLawWithin most_strays most_missing (start_items start) s.offered s.acked s.delivered
+        → (c ≤ most_strays) × (2 * c + 1 ≤ most_missing) }
+    ensures least { (p : Parameters) (most_strays most_missing : ℕ)
+        → AreLawful p
+        → ((start : Start) (events : List Event)
+        → IsLawful p start → let s = replay p (opening start) events in
+        LinkLawWithin most_strays most_missing (start_items start) s.offered s.acked s.delivered)
+        → (p.capacity ≤ most_strays) × (2 * p.capacity + 1 ≤ most_missing) }
+{}
+
+/// The worst start and the worst events, written out for the capacities 1 and 2. For 1 they are
+/// those of the example `worst_start`. For 2 they are those of the example
+/// `links/worst_start_of_capacity_two` up to its first sent frame, which is then received.
+pub fn worst_events_written_out()
+    ensures start_of_one { worst_start 1 99 ≡
+        record {
+          frames = record { label = 2; item = 99 } ∷ [];
+          acks = 0 ∷ [];
+          send_label = 0;
+          recv_label = 1;
+        } }
+    ensures events_of_one { worst_events 1 10 ≡
+        Event.Offer 10 ∷ take_ack
+        ∷ Event.SendAck ∷ Event.Offer 11 ∷ take_ack ∷ take_frame
+        ∷ Event.SendAck ∷ Event.Offer 12 ∷ take_ack
+        ∷ Event.Offer 13 ∷ Event.SendFrame ∷ take_frame ∷ [] }
+    ensures start_of_two { worst_start 2 98 ≡
+        record {
+          frames = record { label = 3; item = 98 } ∷ record { label = 4; item = 99 } ∷ [];
+          acks = 0 ∷ 1 ∷ [];
+          send_label = 0;
+          recv_label = 2;
+        } }
+    ensures events_of_two { worst_events 2 10 ≡
+        Event.Offer 10 ∷ take_ack ∷ Event.Offer 11 ∷ take_ack
+        ∷ Event.SendAck ∷ Event.Offer 12 ∷ take_ack ∷ take_frame
+        ∷ Event.SendAck ∷ Event.Offer 13 ∷ take_ack ∷ take_frame
+        ∷ Event.SendAck ∷ Event.Offer 14 ∷ take_ack
+        ∷ Event.Offer 15 ∷ Event.SendFrame ∷ take_frame ∷ [] }
 {}
