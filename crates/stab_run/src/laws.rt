@@ -1,16 +1,17 @@
 //! Laws over the definitions alone: they name no job, report or link of the code, so that they hold
 //! of whatever ran the workers. Each is a function with an empty body; its contract is the law.
 
-ghost use Rattle.std.specs.Prelude.{◌≡◌, ℕ, All, List};
+ghost use Rattle.std.specs.Prelude.{◌≡◌, ℕ, All, List, Option, Some};
 ghost use Rattle.stab_core.specs.declared.start.Start.{Start};
 ghost use Rattle.stab_frames.specs.Parameters.{AreLawful, Parameters};
 ghost use Rattle.stab_run.specs.Reports.{Reported};
 ghost use Rattle.stab_run.specs.Runs.{AreExplained, CompleteBelowEnded, HandsOn, RootHas};
 ghost use Rattle.stab_run.specs.Runs.{TreeLawByDepth};
 ghost use Rattle.stab_tree.specs.IsTree.{IsTree};
-ghost use Rattle.stab_tree.specs.Nodes.{Nodes};
+ghost use Rattle.stab_tree.specs.Nodes.{Nodes, parent_at};
 ghost use Rattle.stab_treecore.specs.NodeLaws.{HalfTreeLawAtNodes, TreeLawAtNodes};
-ghost use Rattle.stab_treecore.specs.NodeOpenings.{FitTree, OpeningsValue};
+ghost use Rattle.stab_treecore.specs.NodeLaws.{LinkLawPastOpening, capacity_into, garbage_into};
+ghost use Rattle.stab_treecore.specs.NodeOpenings.{FitTree, OpeningsValue, opening_at};
 ghost use Rattle.stab_treecore.specs.Refusals.{OnePerLink};
 ghost use Rattle.stab_workers.specs.ByNode.{received_at};
 
@@ -34,6 +35,20 @@ pub fn explained_reports_obey_the_tree_law()
 {
     stab_treecore::laws::tree_law_of_edges();
     stab_treecore::laws::half_tree_law_at_every_node();
+}
+
+/// Where every link of a report is explained, each obeys the link law: between what the parent
+/// received and what the child received after its opening.
+pub fn explained_links_obey_the_link_law()
+    ensures { (params : List Parameters) (openings : OpeningsValue) (parents : List (Option ℕ))
+        (starts : List Start) (report : Reported)
+        → All AreLawful params → AreExplained params openings parents starts report
+        → (child parent : ℕ) → parent_at parents child ≡ Some parent
+        → LinkLawPastOpening (opening_at openings.lists child)
+        (capacity_into parents params child) (garbage_into parents starts child)
+        (received_at report.received parent) (received_at report.received child) }
+{
+    stab_treecore::laws::link_law_of_an_edge();
 }
 
 /// Where also what a node received whose worker ended with its upstream is acknowledged on the link

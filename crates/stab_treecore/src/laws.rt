@@ -21,7 +21,7 @@ ghost use Rattle.stab_treecore.specs.NodeLaws.{strays_bound, opened_strays_bound
 ghost use Rattle.stab_treecore.specs.NodeLaws.{most_strays, most_missing, garbage_past};
 ghost use Rattle.stab_treecore.specs.NodeLaws.{LinkLawBetween, LinkLawPastOpening};
 ghost use Rattle.stab_treecore.specs.NodeLaws.{HalfTreeLawOfNodes, TreeLawOfNodes, TreeLawAtNodes};
-ghost use Rattle.stab_treecore.specs.NodeOpenings.{FitTree, OpeningsValue};
+ghost use Rattle.stab_treecore.specs.NodeOpenings.{FitTree, OpeningsValue, opening_at};
 ghost use Rattle.stab_treecore.specs.Refusals.{OnePerLink};
 ghost use Rattle.stab_treecore.specs.TreeLaw.{HalfTreeLaw, TreeLaw, CompleteLaw};
 ghost use Rattle.stab_treecore.specs.TreeReplay.{tree_opening, tree_replay};
@@ -135,12 +135,18 @@ pub fn tree_law_at_every_opened_node()
         (opened_path_garbage nodes.parents starts opening_of) nodes.parents published received }
 {}
 
-/// From the edge law that a run tells of a link to the link law between the lists at its two ends.
+/// From the edge law that a run tells of a link to the link law between the lists at its two ends:
+/// the parent's list and what the link delivered, which in the child's list comes after its opening.
 pub fn link_law_of_an_edge()
-    ensures { (p : Parameters) (start : Start) (above : List ℕ) (acked : ℕ) (delivered : List ℕ)
+    ensures delivered { (p : Parameters) (start : Start) (above : List ℕ) (acked : ℕ) (delivered : List ℕ)
         → AreLawful p → IsLawful p start
         → EdgeLaw p start above acked delivered
         → LinkLawBetween p.capacity (start_items start) above delivered }
+    ensures past_opening { (params : List Parameters) (openings : OpeningsValue)
+        (parents : List (Option ℕ)) (starts : List Start) (child : ℕ) (above below : List ℕ)
+        → EdgeInto params openings parents starts child above below
+        → LinkLawPastOpening (opening_at openings.lists child)
+        (capacity_into parents params child) (garbage_into parents starts child) above below }
 {
     stab_core::laws::every_replay_obeys_the_link_law();
 }

@@ -1,5 +1,8 @@
-use Rattle.stab_treecore.proofs.Edges.{edge_obeys}
+use Rattle.stab_treecore.proofs.Edges.{edge_into_obeys, edge_obeys}
 use Rattle.stab_treecore.proofs.laws.link_law_of_an_edge.Goals as goal
 
-pub returns : goal.returns
-returns c = edge_obeys c.every_replay_obeys_the_link_law.ensures
+pub returns-clause-delivered : goal.returns-clause-delivered
+returns-clause-delivered c = edge_obeys c.every_replay_obeys_the_link_law.ensures
+
+pub returns-clause-past_opening : goal.returns-clause-past_opening
+returns-clause-past_opening c = edge_into_obeys c.every_replay_obeys_the_link_law.ensures
