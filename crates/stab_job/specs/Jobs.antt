@@ -1,8 +1,8 @@
 -- Jobs: what the bytes of a job mean, or the first check, in the stated order, that they fail.
 -- Source: this project's profile. Each line of the lists below is a check beside its fault: `job`
--- has the first five, `job_on_tree` those that follow once there is a tree, `job_of_scripts` the one
--- after the scripts, `schedule` the two after that, `link_params` the next two, and `openings_of`
--- those of the openings.
+-- has the first three, `job_of_members` the next two, `job_on_tree` those that follow once there is
+-- a tree, `job_of_scripts` the one after the scripts, `schedule` the two after that, `link_params`
+-- the next two, and `openings_of` those of the openings.
 use Rattle.std.specs.Prelude.{ℕ, codes, ◌≡◌, List, length, ◌||◌, Bool, false, nat_lt, option_map, Result, Ok}
 use Rattle.serde_json.specs.Data.{Items}
 use Rattle.serde_json.specs.Find.{get}
@@ -65,15 +65,20 @@ job_on_tree t m = do
   scripts ← scripts_of (links t) m.scripts refused_as fault.Script
   job_of_scripts t m scripts
 
+-- the job of these members
+abbrev pub job_of_members : Members → Result JobValue JobFault
+job_of_members m = do
+  option_map fault.Params (fault_of m.capacity m.labels)
+  t ← tree_of m.tree refused_as fault.Tree
+  job_on_tree t m
+
 -- the job of these bytes
 abbrev pub job : List ℕ → Result JobValue JobFault
 job bytes = do
   value ← value_of bytes or fault.Json
   version ← version_of (get (codes "version") value) or fault.Version
   m ← members version value or fault.Shape
-  option_map fault.Params (fault_of m.capacity m.labels)
-  t ← tree_of m.tree refused_as fault.Tree
-  job_on_tree t m
+  job_of_members m
 
 -- the numbers of entries of these members are right over that many links
 pub record AreCounted (links : ℕ) (m : Members) : Type 0 where

@@ -1,10 +1,15 @@
-ghost use Rattle.std.specs.Prelude.{◌≡◌, codes, IfOk, option_map, option_and_then};
+ghost use Rattle.std.specs.Prelude.{◌≡◌, ◌≢◌, codes, true, IfOk, IfErr, MatchResult, Ok, Some, None, option_map, option_and_then};
 ghost use Rattle.serde_json.specs.Find.{get};
 ghost use Rattle.serde_json.specs.View.{view, items_view};
 ghost use Rattle.stab_json.specs.Values.{item_number, list_of};
 ghost use Rattle.stab_job.specs.JobMembers.{members, if_there, turns_of, entries_of};
 ghost use Rattle.stab_job.specs.LentMembers.{members_lent};
+ghost use Rattle.stab_job.specs.LinkEntries.{link_entry};
+ghost use Rattle.stab_job.specs.Refusals.{is_of_value};
+ghost use Rattle.stab_script.specs.ScriptEntries.{script_entry};
+ghost use Rattle.stab_script.specs.Starts.{start};
 
+use crate::fault::JobFault;
 use crate::link_entry::LinkEntry;
 use crate::opened::{hold_of, lists_given};
 use crate::version::Version;
@@ -86,47 +91,81 @@ fn items_of(alloc: Global, value: &Value) -> Result<Option<Sequence<Item>>, Allo
     Ok(list_member::<Item>(alloc, value, "items")?.flatten())
 }
 
-/// The members of a job of this version, or `None` where one of them has another shape; only memory
-/// can be refused.
+/// What was read, where it has its shape; and else the refusal.
+fn of_shape<T>(read: Result<Option<T>, AllocError>) -> Result<T, JobFault>
+    ensures shape { MatchResult result
+        (λ what. read ≡ Ok (Some what))
+        (λ fault. fault ≢ JobFault.Memory → (fault ≡ JobFault.Shape) × (read ≡ Ok None)) }
+    ensures reported { IfErr result (λ fault. is_of_value fault ≡ true) }
+{
+    read?.ok_or(JobFault::Shape)
+}
+
+/// The lists that have an entry for each link, where they are given.
+#[derive(Drop)]
+struct LinkLists {
+    starts: Option<Sequence<Start>>,
+    scripts: Option<Sequence<ScriptEntry>>,
+    links: Option<Sequence<LinkEntry>>,
+}
+
+/// The lists of the links, or that one of them has another shape.
+#[tactic(auto, using(crate::proofs::Needed::starts_needed, crate::proofs::Needed::scripts_needed, crate::proofs::Needed::links_needed))]
+fn read_link_lists(alloc: Global, value: &Value) -> Result<LinkLists, JobFault>
+    ensures lists { MatchResult result
+        (λ lists. (if_there (list_of start) (get (codes "starts") (view value.now)) ≡ Some lists.starts)
+        × (if_there (list_of script_entry) (get (codes "scripts") (view value.now)) ≡ Some lists.scripts)
+        × (if_there (list_of link_entry) (get (codes "links") (view value.now)) ≡ Some lists.links))
+        (λ fault. fault ≢ JobFault.Memory → (fault ≡ JobFault.Shape)
+        × ((version : Version) → members version (view value.now) ≡ None)) }
+    ensures reported { IfErr result (λ fault. is_of_value fault ≡ true) }
+{
+    let starts = of_shape(list_member::<StartEntry>(alloc, value, "starts"))?;
+    let scripts = of_shape(list_member::<ScriptEntry>(alloc, value, "scripts"))?;
+    let links = of_shape(list_member::<LinkEntry>(alloc, value, "links"))?;
+    Ok(LinkLists {
+        starts,
+        scripts,
+        links,
+    })
+}
+
+/// The members of a job of this version, or that one of them has another shape.
+#[tactic(auto, using(crate::proofs::Needed::hold_needed, crate::proofs::Needed::openings_needed))]
 pub(crate) fn read_members<'v>(
     alloc: Global,
     version: Version,
     value: &'v Value,
-) -> Result<Option<LentMembers<'v>>, AllocError>
-    ensures { IfOk result (λ lent.
-        option_map members_lent lent ≡ members version (view value.now)) }
+) -> Result<LentMembers<'v>, JobFault>
+    ensures members { MatchResult result
+        (λ lent. members version (view value.now) ≡ Some (members_lent lent))
+        (λ fault. fault ≢ JobFault.Memory
+        → (fault ≡ JobFault.Shape) × (members version (view value.now) ≡ None)) }
+    ensures reported { IfErr result (λ fault. is_of_value fault ≡ true) }
 {
     let (Some(capacity), Some(labels)) = (
         u16_member(value, "capacity"),
         u16_member(value, "labels"),
     ) else {
-        return Ok(None);
+        return Err(JobFault::Shape);
     };
     let (Some(tree), Some(turns)) = (value.get("tree"), turns_of(value)) else {
-        return Ok(None);
+        return Err(JobFault::Shape);
     };
     let Some(schedule) = schedule_of(value) else {
-        return Ok(None);
-    };
-    let Some(items) = items_of(alloc, value)? else {
-        return Ok(None);
-    };
-    let Some(starts) = list_member::<StartEntry>(alloc, value, "starts")? else {
-        return Ok(None);
-    };
-    let Some(scripts) = list_member::<ScriptEntry>(alloc, value, "scripts")? else {
-        return Ok(None);
-    };
-    let Some(links) = list_member::<LinkEntry>(alloc, value, "links")? else {
-        return Ok(None);
+        return Err(JobFault::Shape);
     };
     let Some(hold) = hold_of(version, value) else {
-        return Ok(None);
+        return Err(JobFault::Shape);
     };
-    let Some(openings) = lists_given(alloc, version, value)? else {
-        return Ok(None);
-    };
-    Ok(Some(LentMembers {
+    let items = of_shape(items_of(alloc, value))?;
+    let openings = of_shape(lists_given(alloc, version, value))?;
+    let LinkLists {
+        starts,
+        scripts,
+        links,
+    } = read_link_lists(alloc, value)?;
+    Ok(LentMembers {
         capacity,
         labels,
         tree,
@@ -138,5 +177,5 @@ pub(crate) fn read_members<'v>(
         links,
         hold,
         openings,
-    }))
+    })
 }

@@ -1,11 +1,11 @@
-ghost use Rattle.std.specs.Prelude.{◌≡◌, ◌≢◌, ◌<◌, codes, true, false, length, IfErr, IfOk, MatchResult, None, Ok, Err};
+ghost use Rattle.std.specs.Prelude.{◌≡◌, ◌≢◌, ◌<◌, ℕ, List, true, false, length, IfErr, IfOk, MatchResult, Some, None, Ok, Err};
 ghost use Rattle.serde_json.specs.Find.{get};
 ghost use Rattle.serde_json.specs.View.{view};
 ghost use Rattle.stab_json.specs.Values.{value_of};
 ghost use Rattle.stab_job.specs.JobLinks.{are_miscounted};
 ghost use Rattle.stab_job.specs.JobValues.{IsJob, links};
 ghost use Rattle.stab_job.specs.Jobs.{AreCounted, are_out_of_range};
-ghost use Rattle.stab_job.specs.Jobs.{job, job_on_tree, job_of_scripts};
+ghost use Rattle.stab_job.specs.Jobs.{job, job_of_members, job_on_tree, job_of_scripts};
 ghost use Rattle.stab_job.specs.LinkParams.{link_params};
 ghost use Rattle.stab_job.specs.LentMembers.{members_lent};
 ghost use Rattle.stab_job.specs.ReadParts.{job_read};
@@ -51,7 +51,7 @@ const MAX_TURNS: u64 = 1_000_000;
 
 /// The job that these bytes mean, or the first check that they fail; memory may be refused before a
 /// later check.
-#[tactic(auto, using(stab_json::proofs::ForCallers::some_bytes, crate::proofs::Refused::tree_fault_is_of_value))]
+#[tactic(auto, using(stab_json::proofs::ForCallers::some_bytes))]
 pub fn read_job(alloc: Global, bytes: &[u8]) -> Result<Job, JobFault>
     ensures job { MatchResult result
         (λ its_job. job bytes.now ≡ Ok its_job)
@@ -66,33 +66,23 @@ pub fn read_job(alloc: Global, bytes: &[u8]) -> Result<Job, JobFault>
     let Some(value) = read_value(alloc, bytes)? else {
         return Err(JobFault::Json);
     };
-    let Some(version) = version_of(&value) else {
-        return Err(JobFault::Version);
-    };
-    let Some(members) = read_members(alloc, version, &value)? else {
-        return Err(JobFault::Shape);
-    };
-    let params = Params::new(members.capacity, members.labels)?;
-    let tree = read_tree(alloc, members.tree)?;
-    job_on_tree(alloc, params, tree, members)
+    job_of_value(alloc, &value)
 }
 
-/// The job of these members on their tree, or the first check that they fail.
-fn job_on_tree(
-    alloc: Global,
-    params: Params,
-    tree: Tree,
-    mut members: LentMembers<'_>,
-) -> Result<Job, JobFault>
-    requires capacity { params.capacity ≡ members.capacity }
-    requires labels { params.labels ≡ members.labels }
+/// The job that this value means, or the first check that it fails.
+fn job_of_value(alloc: Global, value: &Value) -> Result<Job, JobFault>
     ensures job { MatchResult result
-        (λ its_job. job_on_tree tree (members_lent members.entry) ≡ Ok its_job)
-        (λ fault. fault ≢ JobFault.Memory
-        → job_on_tree tree (members_lent members.entry) ≡ Err fault) }
+        (λ its_job. (bytes : List ℕ) → value_of bytes ≡ Some (view value.now)
+        → job bytes ≡ Ok its_job)
+        (λ fault. fault ≢ JobFault.Memory → (bytes : List ℕ)
+        → value_of bytes ≡ Some (view value.now) → job bytes ≡ Err fault) }
     ensures reported { IfErr result (λ fault. is_of_value fault ≡ true) }
 {
-    let read = read_parts(alloc, params, &tree, &mut members)?;
+    let Some(version) = version_of(value) else {
+        return Err(JobFault::Version);
+    };
+    let mut members = read_members(alloc, version, value)?;
+    let (tree, read) = read_tree_and_parts(alloc, &mut members)?;
     Ok(Job::from_parts(
         read.params,
         tree,
@@ -103,6 +93,28 @@ fn job_on_tree(
         read.schedule,
         read.openings,
     ))
+}
+
+/// The tree of these members, and the parts of their job beside the items; or the first check that
+/// they fail. The starts, the scripts and the openings are taken out of the members.
+#[tactic(auto, using(crate::proofs::Refused::tree_fault_is_of_value))]
+fn read_tree_and_parts(
+    alloc: Global,
+    members: &mut LentMembers<'_>,
+) -> Result<(Tree, ReadParts), JobFault>
+    ensures items { members.new.items ≡ members.old.items }
+    ensures job { MatchResult result
+        (λ both. job_of_members (members_lent members.old)
+        ≡ Ok (job_read both.0 members.old.items both.1))
+        (λ fault. fault ≢ JobFault.Memory
+        → job_of_members (members_lent members.old) ≡ Err fault) }
+    ensures lawful { IfOk result (λ both. IsJob (job_read both.0 members.old.items both.1)) }
+    ensures reported { IfErr result (λ fault. is_of_value fault ≡ true) }
+{
+    let params = Params::new(members.capacity, members.labels)?;
+    let tree = read_tree(alloc, members.tree)?;
+    let read = read_parts(alloc, params, &tree, members)?;
+    Ok((tree, read))
 }
 
 /// The parts of the job of these members on their tree, beside the tree and the items; or the first

@@ -1,6 +1,6 @@
 -- The tree that a JSON value describes, or the fault of the first check that fails. Each check is
 -- made over the whole list before the next (this project's profile).
-use Rattle.std.specs.Prelude.{◌≡◌, List, length, not, true, false, ◌==◌, nat_lt, Result, Ok}
+use Rattle.std.specs.Prelude.{◌≡◌, ℕ, List, length, not, true, false, ◌==◌, nat_lt, Option, Some, Result, Ok}
 use Rattle.std.specs.List.{list_all}
 use Rattle.serde_json.specs.Data.{Data}
 use Rattle.stab_json.specs.Checks.{◌>>=◌, ◌>>◌, ◌or◌, ◌when◌}
@@ -29,3 +29,8 @@ pub record AreNamed (entries : List Entry) : Type 0 where
   pub few : nat_lt most_nodes (length entries) ≡ false
   pub lawful : list_all is_name (names_of entries) ≡ true
   pub own : has_same_name (names_of entries) ≡ false
+
+-- the parents that these entries name among these names, where one alone has none
+pub record AreParents (names : List (List ℕ)) (entries : List Entry) (parents : List (Option ℕ)) : Type 0 where
+  pub found : parents_of names entries ≡ Some parents
+  pub one_root : root_count parents ≡ 1
