@@ -13,6 +13,7 @@ use Rattle.stab_script.specs.Scripts.{Acts}
 use Rattle.stab_tree.specs.Nodes.{Nodes}
 use Rattle.stab_tree.specs.Read.{tree_of}
 use Rattle.stab_treecore.specs.declared.event.TreeEvent.{TreeEvent}
+use Rattle.stab_script.specs.LinkJobs.{most_events}
 use Rattle.stab_job.specs.declared.fault.JobFault.{JobFault}
 use Rattle.stab_job.specs.declared.fault.JobFault.TheVariants as fault
 use Rattle.stab_job.specs.JobLinks.{are_miscounted, starts_of, scripts_of}
@@ -20,7 +21,7 @@ use Rattle.stab_job.specs.JobMembers.{Members, members}
 use Rattle.stab_job.specs.JobOpenings.{openings_of, version_of}
 use Rattle.stab_job.specs.JobValues.{JobValue, links, most_items, most_turns}
 use Rattle.stab_job.specs.LinkParams.{link_params}
-use Rattle.stab_job.specs.ScheduleEntries.{most_events, named_act, events_of}
+use Rattle.stab_job.specs.ScheduleEntries.{named_act, events_of}
 
 -- the events of a schedule over the nodes of these names: every entry is an act, and only then does
 -- every act name a node

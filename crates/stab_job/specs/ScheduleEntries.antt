@@ -9,10 +9,6 @@ use Rattle.stab_script.specs.Events.{plain_act, loss_act}
 use Rattle.stab_tree.specs.Nodes.{place_of}
 use Rattle.stab_treecore.specs.declared.event.TreeEvent.{TreeEvent}
 
--- the most entries that a schedule may have
-abbrev pub most_events : ℕ
-most_events = 1000000
-
 -- an act on the link into the node of a name
 pub record NamedAct : Type 0 where
   pub child : List ℕ

@@ -24,7 +24,7 @@ use serde_json::Value;
 use stab_core::Start;
 use stab_frames::{Params, Sequence};
 use stab_json::read_value;
-use stab_script::{Script, ScriptFault};
+use stab_script::{MAX_EVENTS, Script, ScriptFault};
 use stab_tree::{Tree, TreeFault, read_tree};
 use stab_treecore::{Openings, TreeEvent};
 use std::alloc::Global;
@@ -42,9 +42,6 @@ pub(crate) struct ReadParts {
 
 /// The most items that a job may have.
 const MAX_ITEMS: usize = 10_000;
-
-/// The most entries that a schedule may have.
-const MAX_EVENTS: usize = 1_000_000;
 
 /// The most turns that a job may name.
 const MAX_TURNS: u64 = 1_000_000;

@@ -3,11 +3,9 @@
 ghost use Rattle.std.specs.Prelude.{⊤};
 
 use crate::gate::Gate;
+use stab_tree::MAX_NODES;
 use std::sync::atomic::{AtomicU64, Ordering};
 use std::{array, thread};
-
-/// How many nodes of a run keep pace with each other; a node of a higher number runs by itself.
-const MAX_NODES: usize = 64;
 
 /// A worker looks at the others once in so many turns.
 const LOOKS_EVERY: u32 = 16;
@@ -32,7 +30,8 @@ const LEFT_OUT: u64 = u64::MAX;
 /// One value is for one run.
 #[derive(Drop)]
 pub struct Free {
-    /// The turn that each node was last seen in.
+    /// The turn that each node was last seen in. A node of a higher number, which no tree has, runs
+    /// by itself.
     turns: [AtomicU64; MAX_NODES],
 }
 

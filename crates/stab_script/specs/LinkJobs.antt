@@ -11,7 +11,7 @@ use Rattle.stab_script.specs.declared.link_job.LinkJobFault.TheVariants as fault
 use Rattle.stab_script.specs.Events.{event}
 use Rattle.stab_script.specs.LinkMembers.{members}
 
--- the most events that a link job may have
+-- the most events of a link job, and the most entries of a tree's schedule
 abbrev pub most_events : ℕ
 most_events = 1000000
 

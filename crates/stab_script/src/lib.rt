@@ -24,7 +24,7 @@ pub use act::{InAct, OutAct};
 pub use events::{loss_act, plain_act};
 pub use fault::{PartFault, ScriptFault};
 pub use half::HalfScript;
-pub use link_job::{LinkJob, LinkJobFault, read_link_job};
+pub use link_job::{LinkJob, LinkJobFault, MAX_EVENTS, read_link_job};
 pub use script::Script;
 pub use script_entry::{ScriptEntry, read_script};
 pub use start::{StartEntry, read_start};

@@ -17,8 +17,8 @@ use stab_json::{Entry, read_value, u16_member};
 use std::alloc::{AllocError, Global};
 use thiserror::Error;
 
-/// The most events that a link job may have.
-const MAX_EVENTS: usize = 1_000_000;
+/// The most events of a link job, and the most entries of a tree's schedule.
+pub const MAX_EVENTS: usize = 1_000_000;
 
 /// Why bytes are no link job, in the order of the checks.
 #[derive(Clone, Copy, Debug, PartialEq, Eq, Hash, Error)]

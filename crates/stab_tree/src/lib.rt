@@ -20,6 +20,7 @@ mod read;
 mod tree;
 
 pub use fault::TreeFault;
+pub use names::MAX_NODES;
 pub use node::NodeId;
 pub use read::read_tree;
 pub use tree::Tree;

@@ -12,7 +12,7 @@ use indexmap::IndexSet;
 use std::alloc::{AllocError, Global};
 
 /// The most nodes that a tree has.
-pub(crate) const MAX_NODES: usize = 64;
+pub const MAX_NODES: usize = 64;
 
 /// Whether each entry has a lawful name.
 pub(crate) fn have_lawful_names(entries: &[EntryRef<'_>]) -> bool
