@@ -10,8 +10,9 @@ use stab_lock::{FrameSeen, LockRecv, RecvAccount, RecvSide};
 use std::alloc::AllocError;
 use std::sync::Wait;
 
-/// The receiver's end of a link of either kind. Each call is the call of its name of the end
-/// inside; that of a link of two words takes no runtime value and waits for nothing.
+/// The receiver's end of a link of either kind. Each call makes the call of its name of the end
+/// inside. Over two words contracts say so: it makes the loads and stores that [`WordRecv`] makes
+/// in that call, and no other; it takes no runtime value and waits for nothing.
 pub enum AnyRecv<'a, R> {
     /// The end of a link with a lock.
     Lock(LockRecv<'a, R>),

@@ -12,8 +12,9 @@ use stab_lock::{LockSend, SendAccount, SendSide};
 use std::alloc::AllocError;
 use std::sync::Wait;
 
-/// The sender's end of a link of either kind. Each call is the call of its name of the end inside;
-/// that of a link of two words takes no runtime value and waits for nothing.
+/// The sender's end of a link of either kind. Each call makes the call of its name of the end
+/// inside. Over two words contracts say so: it makes the loads and stores that [`WordSend`] makes
+/// in that call, and no other; it takes no runtime value and waits for nothing.
 pub enum AnySend<'a, R> {
     /// The end of a link with a lock.
     Lock(LockSend<'a, R>),
