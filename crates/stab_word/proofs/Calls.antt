@@ -8,7 +8,7 @@ use Rattle.stab_lock.specs.Book.{Given}
 use Rattle.stab_word.specs.Plays.{Sitter}
 use Rattle.stab_word.specs.Rule.{Keeps}
 use Rattle.stab_word.specs.Seats.{LinkId, SeatedSender, SeatedReceiver, link_of_sender, link_of_receiver}
-use Rattle.stab_word.specs.Views.{current_frame, sender_of, receiver_of, given_of, sender_part, receiver_part, joined, offered_to, after_ack, closed_by, after_frame, after_look}
+use Rattle.stab_word.specs.Views.{current_frame, sender_of, receiver_of, given_of, sender_part, receiver_part, joined, offered_to, stored_by, answered_by, after_ack, closed_by, after_frame, after_look}
 use Rattle.stab_word.specs.Words.{IsFrameCode, IsAckCode}
 use Rattle.stab_word.specs.declared.words.FrameWord.{FrameWord}
 use Rattle.stab_word.specs.declared.words.FrameWord.TheVariants as frame
@@ -94,9 +94,11 @@ module _ {link : LinkId} {seat : SeatedSender} {z t : TableId} {g : Given} {me :
       (turns.ack_load g (sender_of me.0) (ap (λ (v : SendView). v.account.closed) sender_view ∙ is_open))
 
   pub frame_store_asks : (id : ℕ) (f : Frame) (n : ℕ) → IsFrameCode n (frame.Full f) → f ≡ current_frame seat.view
-      → Waits seat.view.account → Asks t z g id me 0 (λ _. n) (λ _ after. after ≡ me)
+      → Waits seat.view.account
+      → Asks t z g id me 0 (λ _. n) (λ _ after. after ≡ (Sending (stored_by (sender_of me.0)), []))
   frame_store_asks id f n code current waits =
-      sender_asks id 0 (λ _. n) (λ _ after. after ≡ sender_of me.0) (λ m _ after. after ≡ m) (omega arith)
+      sender_asks id 0 (λ _. n) (λ _ after. after ≡ stored_by (sender_of me.0))
+      (λ m _ after. after ≡ (Sending (stored_by (sender_of m.0)), [])) (omega arith)
       (λ _ after is. ap (λ (v : SendView). (Sending v, [])) is)
       (turns.frame_store g (sender_of me.0) f n code (current ∙ sym (ap current_frame sender_view))
       (subst (λ (v : SendView). Waits v.account) (sym sender_view) waits))
@@ -158,9 +160,10 @@ module _ {link : LinkId} {seat : SeatedReceiver} {z t : TableId} {g : Given} {me
       (turns.frame_look g (receiver_of me.0))
 
   pub ack_store_asks : (id label n : ℕ) → IsAckCode n (ack.Full label) → label ≡ seat.view.label
-      → Asks t z g id me 1 (λ _. n) (λ _ after. after ≡ me)
+      → Asks t z g id me 1 (λ _. n) (λ _ after. after ≡ (Receiving (answered_by (receiver_of me.0)), []))
   ack_store_asks id label n code current =
-      receiver_asks id 1 (λ _. n) (λ _ after. after ≡ receiver_of me.0) (λ m _ after. after ≡ m) (omega arith)
+      receiver_asks id 1 (λ _. n) (λ _ after. after ≡ answered_by (receiver_of me.0))
+      (λ m _ after. after ≡ (Receiving (answered_by (receiver_of m.0)), [])) (omega arith)
       (λ _ after is. ap (λ (v : RecvView). (Receiving v, [])) is)
       (turns.ack_store g (receiver_of me.0) label n code
       (current ∙ sym (ap (λ (v : RecvView). v.label) receiver_view)))

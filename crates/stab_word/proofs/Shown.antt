@@ -8,19 +8,51 @@ use Rattle.stab_lock.specs.Accounts.{MayOffer, Waits}
 use Rattle.stab_lock.specs.Book.{Given}
 use Rattle.stab_lock.specs.Settling.{Agree}
 use Rattle.stab_word.specs.Rule.{Shows}
+use Rattle.stab_word.specs.Interleaving.{Interleaved}
 use Rattle.stab_word.specs.Views as views
-use Rattle.stab_word.specs.Views.{is_waiting, offered_to, acknowledged, after_ack, closed_by, taken_by, close_seen_by, after_frame, after_look, first_sender, first_receiver, sender_part, receiver_part}
+use Rattle.stab_word.specs.Views.{is_waiting, offered_to, acknowledged, after_ack, closed_by, taken_by, close_seen_by, after_frame, after_look, sender_makes, receiver_makes, first_sender, first_receiver, sender_part, receiver_part}
 use Rattle.stab_word.specs.Words.{frames_of, is_shut, acks_of}
 use Rattle.stab_word.specs.declared.words.FrameWord.{FrameWord}
 use Rattle.stab_word.specs.declared.words.FrameWord.TheVariants as frame
 use Rattle.stab_word.specs.declared.words.AckWord.{AckWord}
 use Rattle.stab_word.specs.declared.words.AckWord.TheVariants as ack
+use Rattle.stab_word.specs.declared.view.SendStep.{SendStep}
+use Rattle.stab_word.specs.declared.view.SendStep.TheVariants as send_step
+use Rattle.stab_word.specs.declared.view.RecvStep.{RecvStep}
+use Rattle.stab_word.specs.declared.view.RecvStep.TheVariants as recv_step
 use Rattle.stab_word.specs.declared.view.SendView.{SendView}
 use Rattle.stab_word.specs.declared.view.RecvView.{RecvView}
 use Rattle.stab_word.proofs.States as states
-use Rattle.stab_word.proofs.States.{Reached}
 
 module _ (g : Given) (words : List ℕ) (x : SendView) (y : RecvView) (s : LinkState) (shows : Shows g words x y s) where
+  -- an end makes a step that leaves the state
+  pub sender_made : (step : SendStep) → Interleaved g (x.steps ++ step ∷ []) y.steps s → Shows g words (sender_makes x step) y s
+  sender_made step interleaved =
+      record {
+        one_place = shows.one_place;
+        interleaved = interleaved;
+        in_words = shows.in_words;
+        sender_given = shows.sender_given;
+        receiver_given = shows.receiver_given;
+        send_label = shows.send_label;
+        recv_label = shows.recv_label;
+        accounts = shows.accounts;
+      }
+
+  pub receiver_made : (step : RecvStep) → Interleaved g x.steps (y.steps ++ step ∷ []) s
+      → Shows g words x (receiver_makes y step) s
+  receiver_made step interleaved =
+      record {
+        one_place = shows.one_place;
+        interleaved = interleaved;
+        in_words = shows.in_words;
+        sender_given = shows.sender_given;
+        receiver_given = shows.receiver_given;
+        send_label = shows.send_label;
+        recv_label = shows.recv_label;
+        accounts = shows.accounts;
+      }
+
   -- a link whose sender has not closed it is open
   pub still_open : x.account.closed ≡ false → s.closed ≡ false
   still_open is_open = sym shows.accounts.closed.by_sender ∙ is_open
@@ -62,13 +94,15 @@ module _ (g : Given) (words : List ℕ) (x : SendView) (y : RecvView) (s : LinkS
       }
 
   -- an acknowledgement that is waited for counts in the state and in the view
-  ack_counts : (b : Bool) → Reached g (if b then goes_on g.params s else s)
-      → Shows g words (if b then acknowledged x else x) y (if b then goes_on g.params s else s)
-  ack_counts false reached = shows
-  ack_counts true reached =
+  ack_counts : (step : SendStep) (b : Bool)
+      → Interleaved g (x.steps ++ step ∷ []) y.steps (if b then goes_on g.params s else s)
+      → Shows g words (if b then acknowledged (sender_makes x step) else sender_makes x step) y
+      (if b then goes_on g.params s else s)
+  ack_counts step false reached = sender_made step reached
+  ack_counts step true reached =
       record {
         one_place = shows.one_place;
-        reachable = reached;
+        interleaved = reached;
         in_words = shows.in_words;
         sender_given = shows.sender_given;
         receiver_given = shows.receiver_given;
@@ -86,13 +120,15 @@ module _ (g : Given) (words : List ℕ) (x : SendView) (y : RecvView) (s : LinkS
       }
 
   -- a frame with another label is delivered in the state and in the view
-  frame_counts : (f : Frame) (b : Bool) → Reached g (if b then s else takes s f)
-      → Shows g words x (if b then y else taken_by y f) (if b then s else takes s f)
-  frame_counts f true reached = shows
-  frame_counts f false reached =
+  frame_counts : (step : RecvStep) (f : Frame) (b : Bool)
+      → Interleaved g x.steps (y.steps ++ step ∷ []) (if b then s else takes s f)
+      → Shows g words x (if b then receiver_makes y step else taken_by (receiver_makes y step) f)
+      (if b then s else takes s f)
+  frame_counts step f true reached = receiver_made step reached
+  frame_counts step f false reached =
       record {
         one_place = shows.one_place;
-        reachable = reached;
+        interleaved = reached;
         in_words = shows.in_words;
         sender_given = shows.sender_given;
         receiver_given = shows.receiver_given;
@@ -110,11 +146,12 @@ module _ (g : Given) (words : List ℕ) (x : SendView) (y : RecvView) (s : LinkS
       }
 
   -- the receiver sees the close of a closed state
-  close_seen : s.closed ≡ true → Shows g words x (close_seen_by y) s
-  close_seen closed =
+  close_seen : (step : RecvStep) → s.closed ≡ true → Interleaved g x.steps (y.steps ++ step ∷ []) s
+      → Shows g words x (close_seen_by (receiver_makes y step)) s
+  close_seen step closed reached =
       record {
         one_place = shows.one_place;
-        reachable = shows.reachable;
+        interleaved = reached;
         in_words = shows.in_words;
         sender_given = shows.sender_given;
         receiver_given = shows.receiver_given;
@@ -131,26 +168,39 @@ module _ (g : Given) (words : List ℕ) (x : SendView) (y : RecvView) (s : LinkS
   -- what the sender sees in the acknowledgement word, and what the receiver sees in the frame word
   pub ack_seen : (word : AckWord) → s.closed ≡ false → s.acks ≡ acks_of word
       → (t : LinkState) × Shows g words (after_ack x word) y t
-  ack_seen ack.Empty still shown = (s, shows)
-  ack_seen (ack.Full label) still shown = (
-    sees_ack g.params s label,
-    subst (λ (b : Bool). Shows g words (if b then acknowledged x else x) y (sees_ack g.params s label))
-        (sym (same_test label))
-        (ack_counts (is_holding s && (label == s.send_label)) (states.ack_load g s label still shown shows.reachable)),
-  )
+  ack_seen ack.Empty still shown =
+      (s, sender_made (send_step.AckLoad ack.Empty) (states.ack_unseen g x.steps y.steps s shows.interleaved shown))
+  ack_seen (ack.Full label) still shown =
+      let step = send_step.AckLoad (ack.Full label) in (
+        sees_ack g.params s label,
+        subst (λ (b : Bool). Shows g words (if b then acknowledged (sender_makes x step) else sender_makes x step) y
+            (sees_ack g.params s label))
+            (sym (same_test label))
+            (ack_counts step (is_holding s && (label == s.send_label))
+            (states.ack_load g x.steps y.steps s shows.interleaved label still shown)),
+      )
 
   pub frame_seen : (word : FrameWord) → s.frames ≡ frames_of word → s.closed ≡ is_shut word
       → (t : LinkState) × Shows g words x (after_frame y word) t
-  frame_seen frame.Empty shown closed = (s, shows)
-  frame_seen (frame.Full f) shown closed = (
-    sees_frame s f,
-    subst (λ (label : ℕ). Shows g words x (if f.label == label then y else taken_by y f) (sees_frame s f))
-        (sym shows.recv_label)
-        (frame_counts f (f.label == s.recv_label) (states.frame_load g s f closed shown shows.reachable)),
-  )
-  frame_seen frame.Shut shown closed = (s, close_seen closed)
+  frame_seen frame.Empty shown closed =
+      (s, receiver_made (recv_step.FrameLoad frame.Empty) (states.frame_unseen g x.steps y.steps s shows.interleaved shown closed))
+  frame_seen (frame.Full f) shown closed =
+      let step = recv_step.FrameLoad (frame.Full f) in (
+        sees_frame s f,
+        subst (λ (label : ℕ). Shows g words x
+            (if f.label == label then receiver_makes y step else taken_by (receiver_makes y step) f) (sees_frame s f))
+            (sym shows.recv_label)
+            (frame_counts step f (f.label == s.recv_label)
+            (states.frame_load g x.steps y.steps s shows.interleaved f closed shown)),
+      )
+  frame_seen frame.Shut shown closed =
+      (s, close_seen (recv_step.FrameLoad frame.Shut) closed (states.close_seen g x.steps y.steps s shows.interleaved shown closed))
 
-  pub frame_looked_at : (word : FrameWord) → s.closed ≡ is_shut word → Shows g words x (after_look y word) s
-  frame_looked_at frame.Empty closed = shows
-  frame_looked_at (frame.Full f) closed = shows
-  frame_looked_at frame.Shut closed = close_seen closed
+  pub frame_looked_at : (word : FrameWord) → s.frames ≡ frames_of word → s.closed ≡ is_shut word
+      → Shows g words x (after_look y word) s
+  frame_looked_at frame.Empty shown closed =
+      receiver_made (recv_step.FrameLook frame.Empty) (states.frame_look g x.steps y.steps s shows.interleaved frame.Empty shown closed)
+  frame_looked_at (frame.Full f) shown closed =
+      receiver_made (recv_step.FrameLook (frame.Full f)) (states.frame_look g x.steps y.steps s shows.interleaved (frame.Full f) shown closed)
+  frame_looked_at frame.Shut shown closed =
+      close_seen (recv_step.FrameLook frame.Shut) closed (states.frame_look g x.steps y.steps s shows.interleaved frame.Shut shown closed)

@@ -11,7 +11,8 @@ use Rattle.stab_lock.specs.Accounts.{MayOffer, Waits}
 use Rattle.stab_lock.specs.Book.{Given}
 use Rattle.stab_word.specs.Rule.{Shows, Stands, Keeps}
 use Rattle.stab_word.specs.Views as views
-use Rattle.stab_word.specs.Views.{offered_to, after_ack, closed_by, after_frame, after_look, first_sender, first_receiver, sender_part, receiver_part}
+use Rattle.stab_word.specs.Views.{offered_to, stored_by, after_ack, closed_by, after_frame, after_look, answered_by, first_sender, first_receiver, sender_part, receiver_part}
+use Rattle.stab_word.specs.Interleaving.{Interleaved}
 use Rattle.stab_word.specs.Words.{IsFrameCode, IsAckCode, frames_of, acks_of, WordsShow}
 use Rattle.stab_word.specs.declared.words.FrameWord.{FrameWord}
 use Rattle.stab_word.specs.declared.words.FrameWord.TheVariants as frame
@@ -24,7 +25,6 @@ use Rattle.stab_word.specs.declared.view.View.TheVariants.{Opening, Sending, Rec
 use Rattle.stab_word.proofs.Shown.{still_open, idle_state, waiting_state, same_frame, accounts_stay, ack_seen, frame_seen, frame_looked_at}
 use Rattle.stab_word.proofs.Seating.{SendTurn, RecvTurn, opener_sits, sender_sits, other_sits, first_replaced, second_replaced, parted}
 use Rattle.stab_word.proofs.States as states
-use Rattle.stab_word.proofs.States.{Reached}
 
 -- ---- what the words show
 
@@ -56,9 +56,9 @@ offer_load g x item may words y s shows =
       t,
       record {
         one_place = shows.one_place;
-        reachable =
-            states.offer_load g s item (still_open g words x y s shows may.is_open) (idle_state g words x y s shows may)
-            shows.reachable;
+        interleaved =
+            states.offer_load g x.steps y.steps s shows.interleaved item (still_open g words x y s shows may.is_open)
+            (idle_state g words x y s shows may);
         in_words = (frame_word, ack_word, kept_words words 0 ∙ are, frames, acks);
         sender_given = shows.sender_given;
         receiver_given = shows.receiver_given;
@@ -109,7 +109,7 @@ pub frame_look : (g : Given) (y : RecvView)
     → RecvTurn g y 0 (λ n. n) (λ n after. (word : FrameWord) × IsFrameCode n word × (after ≡ after_look y word))
 frame_look g y words x s shows =
     let (frame_word, ack_word, are, (word, code, shown, closed), acks) = shows.in_words in
-    let seen = frame_looked_at g words x y s shows word closed in
+    let seen = frame_looked_at g words x y s shows word shown closed in
     let found : slice_index words 0 ≡ frame_word = rw are in (
       after_look y word,
       s,
@@ -121,19 +121,20 @@ frame_look g y words x s shows =
 
 -- the frame store
 pub frame_store : (g : Given) (x : SendView) (f : Frame) (n : ℕ) → IsFrameCode n (frame.Full f)
-    → f ≡ views.current_frame x → Waits x.account → SendTurn g x 0 (λ _. n) (λ _ after. after ≡ x)
+    → f ≡ views.current_frame x → Waits x.account → SendTurn g x 0 (λ _. n) (λ _ after. after ≡ stored_by x)
 frame_store g x f n code current waits words y s shows =
     let (frame_word, ack_word, are, frames, acks) = shows.in_words in
     let still = still_open g words x y s shows waits.is_open in
     let lone : without 0 s.frames ≡ [] = ap (λ fs. without 0 fs) frames.2 ∙ lone_frame frames.0 in
     let t : LinkState = record s { frames = current_frame s ∷ [] } in
     let shown : t.frames ≡ f ∷ [] = ap (λ h. h ∷ []) (sym (current ∙ same_frame g words x y s shows)) in (
-      x,
+      stored_by x,
       t,
       record {
         one_place = shows.one_place;
-        reachable =
-            states.frame_store g s shows.one_place still (waiting_state g words x y s shows waits) lone shows.reachable;
+        interleaved =
+            states.frame_store g x.steps y.steps s shows.interleaved (views.current_frame x) (same_frame g words x y s shows) shows.one_place still
+            (waiting_state g words x y s shows waits) lone;
         in_words = (n, ack_word, rw are, (frame.Full f, code, shown, still), acks);
         sender_given = shows.sender_given;
         receiver_given = shows.receiver_given;
@@ -156,7 +157,7 @@ close_store g x n code is_open words y s shows =
       t,
       record {
         one_place = shows.one_place;
-        reachable = states.close_store g s still lone shows.reachable;
+        interleaved = states.close_store g x.steps y.steps s shows.interleaved still lone;
         in_words = (
           n,
           ack_word,
@@ -180,16 +181,16 @@ close_store g x n code is_open words y s shows =
 
 -- the acknowledgement store: on a closed link the state stays
 pub ack_store : (g : Given) (y : RecvView) (label n : ℕ) → IsAckCode n (ack.Full label) → label ≡ y.label
-    → RecvTurn g y 1 (λ _. n) (λ _ after. after ≡ y)
+    → RecvTurn g y 1 (λ _. n) (λ _ after. after ≡ answered_by y)
 ack_store g y label n code current words x s shows = by_state s.closed refl
   where
-    with_acks : (labels : List ℕ) → Reached g (record s { acks = labels }) → (s.closed ≡ false → labels ≡ label ∷ [])
-        → Shows g (slice_set words 1 n) x y (record s { acks = labels })
+    with_acks : (labels : List ℕ) → Interleaved g x.steps (answered_by y).steps (record s { acks = labels }) → (s.closed ≡ false → labels ≡ label ∷ [])
+        → Shows g (slice_set words 1 n) x (answered_by y) (record s { acks = labels })
     with_acks labels reached shown =
         let (frame_word, ack_word, are, frames, acks) = shows.in_words in
         record {
           one_place = shows.one_place;
-          reachable = reached;
+          interleaved = reached;
           in_words = (frame_word, n, rw are, frames, (ack.Full label, code, shown));
           sender_given = shows.sender_given;
           receiver_given = shows.receiver_given;
@@ -199,17 +200,17 @@ ack_store g y label n code current words x s shows = by_state s.closed refl
         }
 
     by_state : (b : Bool) → s.closed ≡ b
-        → (after : RecvView) × (t : LinkState) × Shows g (slice_set words 1 n) x after t × (after ≡ y)
+        → (after : RecvView) × (t : LinkState) × Shows g (slice_set words 1 n) x after t × (after ≡ answered_by y)
     by_state true closed =
         let never_open : s.closed ≡ false → s.acks ≡ label ∷ [] = λ still. absurd (true≢false (sym closed ∙ still)) in
-        (y, s, with_acks s.acks shows.reachable never_open, refl)
+        (answered_by y, s, with_acks s.acks (states.late_ack_store g x.steps y.steps s shows.interleaved y.label shows.recv_label closed) never_open, refl)
     by_state false still =
         let (frame_word, ack_word, are, frames, (word, was, shown)) = shows.in_words in
         let lone : without 0 s.acks ≡ [] = ap (λ labels. without 0 labels) (shown still) ∙ lone_ack word in
-        let reached = states.ack_store g s shows.one_place still lone shows.reachable in
+        let reached = states.ack_store g x.steps y.steps s shows.interleaved y.label shows.recv_label shows.one_place still lone in
         let same_label : s.recv_label ≡ label = sym (current ∙ shows.recv_label) in
         let shown_now : s.recv_label ∷ [] ≡ label ∷ [] = ap (λ l. l ∷ []) same_label in
-        (y, record s { acks = s.recv_label ∷ [] }, with_acks (s.recv_label ∷ []) reached (λ _. shown_now), refl)
+        (answered_by y, record s { acks = s.recv_label ∷ [] }, with_acks (s.recv_label ∷ []) reached (λ _. shown_now), refl)
 
 -- ---- the split of a seat
 
@@ -219,7 +220,7 @@ begun : (g : Given) (words : List ℕ) → g.params.capacity ≡ 1 → WordsShow
 begun g words one in_words =
     record {
       one_place = one;
-      reachable = states.seat_split g;
+      interleaved = states.seat_split g;
       in_words = in_words;
       sender_given = refl;
       receiver_given = refl;
@@ -258,5 +259,5 @@ seat_join g x y id other table stands at apart there =
     subst (Stands g table.words) (sym spent) (
       s,
       subst (λ (u : RecvView). Shows g table.words x u s) same
-          (record shows { reachable = states.seat_join g s shows.reachable }),
+          shows,
     )

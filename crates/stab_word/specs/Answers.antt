@@ -2,7 +2,8 @@
 -- a word goes by the account of the end and the next act of its script. What a load shows is the
 -- other end's doing, so there the answer is free, and the rest goes by it.
 -- Source: this project's profile.
-use Rattle.std.specs.Prelude.{◌≡◌, ◌≢◌, ℕ, ◌+◌, ◌==◌, ◌&&◌, not, Bool, length, if◌then◌else◌}
+use Rattle.std.specs.Prelude.{ℕ, ◌+◌, ◌==◌, ◌&&◌, not, Bool, List, [], ◌∷◌, length}
+use Rattle.std.specs.Prelude.{if◌then◌else◌}
 use Rattle.stab_core.specs.declared.event.Effect.{Effect}
 use Rattle.stab_core.specs.declared.event.Effect.TheVariants.{Nothing, Held, Sent, Fresh, Old}
 use Rattle.stab_core.specs.declared.event.Effect.TheVariants.{Acked, Ignored, Lost, Closed}
@@ -27,21 +28,18 @@ put_where test acts = if test then put_under (out_act acts.outs) else Nothing
 abbrev pub acts_put_where : Bool → ActsRemaining → ActsRemaining
 acts_put_where test acts = if test then after_out acts else acts
 
+-- its steps: what is put into a word is one store, and what is dropped is none
+abbrev pub steps_under : {S : Type 0} → OutAct → S → List S
+steps_under Pass store = store ∷ []
+steps_under Drop store = []
+steps_under Evict store = store ∷ []
+
+abbrev pub steps_where : {S : Type 0} → Bool → ActsRemaining → S → List S
+steps_where test acts store = if test then steps_under (out_act acts.outs) store else []
+
 -- the end did not close the link, and its last item waits for an acknowledgement
 abbrev pub has_frame : Sender → Bool
 has_frame s = not s.closed && (length s.offered == s.acked + 1)
-
--- the answers of a look for an acknowledgement
-abbrev pub IsAckAnswer : Effect → Type 0
-IsAckAnswer Nothing = Unit {0}
-IsAckAnswer Held = ⊥
-IsAckAnswer Sent = ⊥
-IsAckAnswer (Fresh item) = ⊥
-IsAckAnswer Old = ⊥
-IsAckAnswer Acked = Unit {0}
-IsAckAnswer Ignored = Unit {0}
-IsAckAnswer Lost = ⊥
-IsAckAnswer Closed = ⊥
 
 -- the sender goes on to the next label where its item is acknowledged
 abbrev pub label_after_effect : Parameters → ℕ → Effect → ℕ
@@ -66,13 +64,6 @@ acts_after_effect acts Acked = after_in acts
 acts_after_effect acts Ignored = after_in acts
 acts_after_effect acts Lost = acts
 acts_after_effect acts Closed = acts
-
--- the receiver takes another label with a fresh item, and keeps its own otherwise
-abbrev pub LabelAfterSeen : ℕ → ℕ → FrameSeen → Type 0
-LabelAfterSeen old new seen.Nothing = new ≡ old
-LabelAfterSeen old new seen.Old = new ≡ old
-LabelAfterSeen old new (seen.Fresh item) = new ≢ old
-LabelAfterSeen old new seen.Closed = new ≡ old
 
 -- a frame that is shown takes an act; an empty word and the close take none
 abbrev pub acts_after_seen : ActsRemaining → FrameSeen → ActsRemaining

@@ -1,8 +1,11 @@
 -- What contracts see of an end of either kind of link, and of what remains of it once it is
--- finished. The kind is part of what names a link, so an end that keeps its link keeps its kind.
+-- finished; and when a call over a link of two words is the call of the end inside. The kind is
+-- part of what names a link, so an end that keeps its link keeps its kind.
 -- Source: this project's own.
+use Rattle.std.specs.Prelude.{◌≡◌}
 use Rattle.stab_lock.specs.Accounts.{Sender, Receiver}
 use Rattle.stab_script.specs.Scripts.{ActsRemaining}
+use Rattle.stab_word.specs.Ends.{SendEnd, RecvEnd}
 use Rattle.stab_word.specs.Seats.{LinkId}
 use Rattle.stab_word.specs.declared.any_send.AnySend.{AnySend}
 use Rattle.stab_word.specs.declared.any_send.AnySend.TheVariants as send
@@ -17,11 +20,6 @@ use Rattle.stab_word.specs.declared.any_recv.AnyRecvDone.TheVariants as recv_don
 pub data AnyLinkId : Type 0 where
   locked : AnyLinkId
   of_words : LinkId → AnyLinkId
-
--- it is a link of two words
-abbrev pub IsOfWords : AnyLinkId → Type 0
-IsOfWords locked = ⊥
-IsOfWords (of_words link) = Unit {0}
 
 -- the sender's end: its link, its account, and the acts that remain
 pub record AnySendEnd : Type 0 where
@@ -63,3 +61,31 @@ abbrev pub any_recv_finished : AnyRecvDone → AnyRecvFinished
 any_recv_finished (recv_done.Lock done) = record { link = locked; account = done }
 any_recv_finished (recv_done.Word done) =
     record { link = of_words done.link; account = done.received }
+
+-- over two words a call is this call of the end inside; over a lock this says nothing
+abbrev pub OfWordSend : {R : Type 0} → (SendEnd → SendEnd → Type 0) → AnySend R → AnySend R
+    → Type 0
+OfWordSend IsCall (send.Lock old) (send.Lock new) = Unit {0}
+OfWordSend IsCall (send.Lock old) (send.Word new) = ⊥
+OfWordSend IsCall (send.Word old) (send.Lock new) = ⊥
+OfWordSend IsCall (send.Word old) (send.Word new) = IsCall old new
+
+abbrev pub OfWordRecv : {R : Type 0} → (RecvEnd → RecvEnd → Type 0) → AnyRecv R → AnyRecv R
+    → Type 0
+OfWordRecv IsCall (recv.Lock old) (recv.Lock new) = Unit {0}
+OfWordRecv IsCall (recv.Lock old) (recv.Word new) = ⊥
+OfWordRecv IsCall (recv.Word old) (recv.Lock new) = ⊥
+OfWordRecv IsCall (recv.Word old) (recv.Word new) = IsCall old new
+
+-- a finished end of a link of two words made the steps that the end made before
+abbrev pub SameSendSteps : {R : Type 0} → AnySend R → AnySendDone → Type 0
+SameSendSteps (send.Lock end) (send_done.Lock done) = Unit {0}
+SameSendSteps (send.Lock end) (send_done.Word done) = ⊥
+SameSendSteps (send.Word end) (send_done.Lock done) = ⊥
+SameSendSteps (send.Word end) (send_done.Word done) = done.steps ≡ end.steps
+
+abbrev pub SameRecvSteps : {R : Type 0} → AnyRecv R → AnyRecvDone → Type 0
+SameRecvSteps (recv.Lock end) (recv_done.Lock done) = Unit {0}
+SameRecvSteps (recv.Lock end) (recv_done.Word done) = ⊥
+SameRecvSteps (recv.Word end) (recv_done.Lock done) = ⊥
+SameRecvSteps (recv.Word end) (recv_done.Word done) = done.steps ≡ end.steps

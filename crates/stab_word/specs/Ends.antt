@@ -1,35 +1,43 @@
 -- What contracts see of a link of two words, of its opening, of its two ends, and of what remains
 -- of an end that is finished.
 -- Source: this project's own.
-use Rattle.std.specs.Prelude.{ℕ}
+use Rattle.std.specs.Prelude.{ℕ, List, []}
 use Rattle.stab_lock.specs.Accounts.{Sender, Receiver, new_sender, new_receiver}
 use Rattle.stab_script.specs.Scripts.{ActsRemaining}
 use Rattle.stab_word.specs.Seats.{LinkId, SeatedSender, SeatedReceiver}
+use Rattle.stab_word.specs.declared.view.SendStep.{SendStep}
+use Rattle.stab_word.specs.declared.view.RecvStep.{RecvStep}
 
--- the sender's end: its link, its account, its label, and the acts that remain
+-- the sender's end: its link, its account, its label, the acts that remain, and the steps that it
+-- made
 pub record SendEnd : Type 0 where
   pub link : LinkId
   pub sent : Sender
   pub label : ℕ
   pub acts : ActsRemaining
+  pub steps : List SendStep
 
--- the receiver's end: its link, its account, the label that it took last, and the acts that remain
+-- the receiver's end: its link, its account, the label that it took last, the acts that remain,
+-- and the steps that it made
 pub record RecvEnd : Type 0 where
   pub link : LinkId
   pub received : Receiver
   pub label : ℕ
   pub acts : ActsRemaining
+  pub steps : List RecvStep
 
--- a finished end: its link and its account
+-- a finished end: its link, its account, and the steps that it made
 pub record SendFinished : Type 0 where
   pub link : LinkId
   pub sent : Sender
+  pub steps : List SendStep
 
 pub record RecvFinished : Type 0 where
   pub link : LinkId
   pub received : Receiver
+  pub steps : List RecvStep
 
--- the ends that have made no call: empty accounts, the start's labels, and these acts
+-- the ends that have made no call: empty accounts, the start's labels, these acts, and no step
 abbrev pub new_send_end : LinkId → ActsRemaining → SendEnd
 new_send_end link acts =
     record {
@@ -37,6 +45,7 @@ new_send_end link acts =
       sent = new_sender;
       label = link.given.start.send_label;
       acts = acts;
+      steps = [];
     }
 
 abbrev pub new_recv_end : LinkId → ActsRemaining → RecvEnd
@@ -46,19 +55,20 @@ new_recv_end link acts =
       received = new_receiver;
       label = link.given.start.recv_label;
       acts = acts;
+      steps = [];
     }
 
--- the seats of ends with this label and this account: a seat knows what its end keeps
-abbrev pub sender_seat : LinkId → ℕ → Sender → SeatedSender
-sender_seat link label account =
+-- the seats of ends with this label, this account and these steps: a seat knows what its end keeps
+abbrev pub sender_seat : LinkId → ℕ → Sender → List SendStep → SeatedSender
+sender_seat link label account steps =
     record {
       table = link.table;
-      view = record { given = link.given; label = label; account = account };
+      view = record { given = link.given; label = label; account = account; steps = steps };
     }
 
-abbrev pub receiver_seat : LinkId → ℕ → Receiver → SeatedReceiver
-receiver_seat link label account =
+abbrev pub receiver_seat : LinkId → ℕ → Receiver → List RecvStep → SeatedReceiver
+receiver_seat link label account steps =
     record {
       table = link.table;
-      view = record { given = link.given; label = label; account = account };
+      view = record { given = link.given; label = label; account = account; steps = steps };
     }

@@ -5,7 +5,7 @@ use Rattle.std.specs.Prelude.{◌≡◌, ℕ, []}
 use Rattle.atomic_table.specs.Table.{Me, Step}
 use Rattle.stab_word.specs.Words.{IsAckCode, IsFrameCode}
 use Rattle.stab_word.specs.Views.{sender_of, receiver_of, offered_to, after_ack, closed_by}
-use Rattle.stab_word.specs.Views.{after_frame, after_look}
+use Rattle.stab_word.specs.Views.{stored_by, answered_by, after_frame, after_look}
 use Rattle.stab_word.specs.declared.words.FrameWord.{FrameWord}
 use Rattle.stab_word.specs.declared.words.AckWord.{AckWord}
 use Rattle.stab_word.specs.declared.view.View.{View}
@@ -19,9 +19,13 @@ Sitter = Me (Unit {0}) View
 abbrev pub OfferLoad : ℕ → Step (Unit {0}) → Sitter → ℕ → Sitter → Type 0
 OfferLoad item st me n after = after ≡ (Sending (offered_to (sender_of me.0) item), [])
 
--- a frame or an acknowledgement is stored, and the view stays
-abbrev pub Stored : Step (Unit {0}) → Sitter → ℕ → Sitter → Type 0
-Stored st me n after = after ≡ me
+-- the sender stores its frame
+abbrev pub FrameStore : Step (Unit {0}) → Sitter → ℕ → Sitter → Type 0
+FrameStore st me n after = after ≡ (Sending (stored_by (sender_of me.0)), [])
+
+-- the receiver stores the acknowledgement of its label
+abbrev pub AckStore : Step (Unit {0}) → Sitter → ℕ → Sitter → Type 0
+AckStore st me n after = after ≡ (Receiving (answered_by (receiver_of me.0)), [])
 
 -- the sender sees the acknowledgement word
 abbrev pub AckLoad : Step (Unit {0}) → Sitter → ℕ → Sitter → Type 0

@@ -1,13 +1,14 @@
--- The rule of a link of two words, which holds between any two atomic steps: there is a state that
--- can be reached from the link's start, and the words and the views of both ends show it.
+-- The rule of a link of two words, which holds between any two atomic steps: the steps that its
+-- ends made, in some order, lead from the link's start to a state that the words and both views
+-- show.
 -- Source: this project's own.
 use Rattle.std.specs.Prelude.{◌≡◌, ℕ, List, [], ◌∷◌}
 use Rattle.atomic_table.specs.Table.{State}
 use Rattle.stab_core.specs.LinkState.{LinkState}
-use Rattle.stab_core.specs.Reachable.{IsReachable}
 use Rattle.stab_core.specs.Replay.{opening}
 use Rattle.stab_lock.specs.Book.{Given}
 use Rattle.stab_lock.specs.Settling.{Agree}
+use Rattle.stab_word.specs.Interleaving.{Interleaved}
 use Rattle.stab_word.specs.Words.{WordsShow}
 use Rattle.stab_word.specs.declared.view.SendView.{SendView}
 use Rattle.stab_word.specs.declared.view.RecvView.{RecvView}
@@ -15,11 +16,11 @@ use Rattle.stab_word.specs.declared.view.View.{View}
 use Rattle.stab_word.specs.declared.view.View.TheVariants.{Opening, Sending, Receiving}
 use Rattle.stab_word.specs.declared.view.View.TheVariants.{Joined, Spent}
 
--- the words and both views show this state, which can be reached from the link's start
+-- the words and both views show this state, to which the steps of both views lead
 pub record Shows (g : Given) (words : List ℕ) (x : SendView) (y : RecvView)
     (s : LinkState) : Type 0 where
   pub one_place : g.params.capacity ≡ 1
-  pub reachable : IsReachable g.params g.start s
+  pub interleaved : Interleaved g x.steps y.steps s
   pub in_words : WordsShow words s
   -- both views keep the parameters and the start
   pub sender_given : x.given ≡ g

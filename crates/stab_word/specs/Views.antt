@@ -1,5 +1,5 @@
--- What the ends of a link of two words know of it, and how it changes with what they see. A view
--- holds the account of its end, so an account is what its view says.
+-- What the ends of a link of two words know of it, and how it changes with what they do and see. A
+-- view holds the account of its end and the steps that it made, so these are what its view says.
 -- Source: this project's own.
 use Rattle.std.specs.Prelude.{ℕ, ◌+◌, ◌==◌, ◌&&◌, Bool, true, [], ◌∷◌, ◌++◌, length}
 use Rattle.std.specs.Prelude.{slice_index, if◌then◌else◌}
@@ -13,6 +13,10 @@ use Rattle.stab_word.specs.declared.words.AckWord.{AckWord}
 use Rattle.stab_word.specs.declared.words.AckWord.TheVariants as ack
 use Rattle.stab_word.specs.declared.view.SendView.{SendView}
 use Rattle.stab_word.specs.declared.view.RecvView.{RecvView}
+use Rattle.stab_word.specs.declared.view.SendStep.{SendStep}
+use Rattle.stab_word.specs.declared.view.SendStep.TheVariants as send_step
+use Rattle.stab_word.specs.declared.view.RecvStep.{RecvStep}
+use Rattle.stab_word.specs.declared.view.RecvStep.TheVariants as recv_step
 use Rattle.stab_word.specs.declared.view.View.{View}
 use Rattle.stab_word.specs.declared.view.View.TheVariants.{Opening, Sending, Receiving}
 use Rattle.stab_word.specs.declared.view.View.TheVariants.{Joined, Spent}
@@ -21,10 +25,12 @@ use Rattle.stab_word.specs.declared.view.View.TheVariants.{Joined, Spent}
 
 -- the sender's and the receiver's view at the start
 abbrev pub first_sender : Given → SendView
-first_sender g = record { given = g; label = g.start.send_label; account = new_sender }
+first_sender g =
+    record { given = g; label = g.start.send_label; account = new_sender; steps = [] }
 
 abbrev pub first_receiver : Given → RecvView
-first_receiver g = record { given = g; label = g.start.recv_label; account = new_receiver }
+first_receiver g =
+    record { given = g; label = g.start.recv_label; account = new_receiver; steps = [] }
 
 -- ---- how a sender's view changes
 
@@ -32,15 +38,29 @@ first_receiver g = record { given = g; label = g.start.recv_label; account = new
 abbrev pub is_waiting : Sender → Bool
 is_waiting account = length account.offered == account.acked + 1
 
--- the frame of the item that waits, under the sender's label
+-- the frame of the item that waits, under this label of the sender
+abbrev pub waiting_frame : ℕ → Sender → Frame
+waiting_frame label account =
+    record { label = label; item = slice_index account.offered account.acked }
+
 abbrev pub current_frame : SendView → Frame
-current_frame v =
-    record { label = v.label; item = slice_index v.account.offered v.account.acked }
+current_frame v = waiting_frame v.label v.account
+
+-- it makes a step
+abbrev pub sender_makes : SendView → SendStep → SendView
+sender_makes v step = record v { steps = v.steps ++ step ∷ [] }
 
 -- it takes an item
 abbrev pub offered_to : SendView → ℕ → SendView
 offered_to v item =
-    record v { account = record v.account { offered = v.account.offered ++ item ∷ [] } }
+    record v {
+      account = record v.account { offered = v.account.offered ++ item ∷ [] };
+      steps = v.steps ++ send_step.OfferLoad item ∷ [];
+    }
+
+-- it stores its frame
+abbrev pub stored_by : SendView → SendView
+stored_by v = sender_makes v (send_step.FrameStore (current_frame v))
 
 -- the item that waits is acknowledged: it counts, and the label is the next one
 abbrev pub acknowledged : SendView → SendView
@@ -50,17 +70,33 @@ acknowledged v =
       account = record v.account { acked = v.account.acked + 1 };
     }
 
--- it sees the acknowledgement word: only the label that it waits for counts
-abbrev pub after_ack : SendView → AckWord → SendView
-after_ack v ack.Empty = v
-after_ack v (ack.Full label) =
+-- of what it sees in the acknowledgement word only the label that it waits for counts
+abbrev pub counted : SendView → AckWord → SendView
+counted v ack.Empty = v
+counted v (ack.Full label) =
     if is_waiting v.account && (label == v.label) then acknowledged v else v
+
+-- it sees the acknowledgement word
+abbrev pub after_ack : SendView → AckWord → SendView
+after_ack v word = counted (sender_makes v (send_step.AckLoad word)) word
 
 -- it closes the link
 abbrev pub closed_by : SendView → SendView
-closed_by v = record v { account = record v.account { closed = true } }
+closed_by v =
+    record v {
+      account = record v.account { closed = true };
+      steps = v.steps ++ send_step.CloseStore ∷ [];
+    }
 
 -- ---- how a receiver's view changes
+
+-- it makes a step
+abbrev pub receiver_makes : RecvView → RecvStep → RecvView
+receiver_makes v step = record v { steps = v.steps ++ step ∷ [] }
+
+-- it stores the acknowledgement of its label
+abbrev pub answered_by : RecvView → RecvView
+answered_by v = receiver_makes v (recv_step.AckStore v.label)
 
 -- it takes a frame: it remembers the label and delivers the item
 abbrev pub taken_by : RecvView → Frame → RecvView
@@ -74,18 +110,26 @@ taken_by v f =
 abbrev pub close_seen_by : RecvView → RecvView
 close_seen_by v = record v { account = record v.account { closed = true } }
 
--- it sees the frame word, with a place for an item: it takes a frame exactly if the label is not
--- the one that it remembers
-abbrev pub after_frame : RecvView → FrameWord → RecvView
-after_frame v frame.Empty = v
-after_frame v (frame.Full f) = if f.label == v.label then v else taken_by v f
-after_frame v frame.Shut = close_seen_by v
+-- of what it sees in the frame word, with a place for an item, it takes a frame exactly if the
+-- label is not the one that it remembers
+abbrev pub taken_from : RecvView → FrameWord → RecvView
+taken_from v frame.Empty = v
+taken_from v (frame.Full f) = if f.label == v.label then v else taken_by v f
+taken_from v frame.Shut = close_seen_by v
 
--- it looks at the frame word, with no place for an item: it takes no frame
+-- it sees the frame word, with a place for an item
+abbrev pub after_frame : RecvView → FrameWord → RecvView
+after_frame v word = taken_from (receiver_makes v (recv_step.FrameLoad word)) word
+
+-- with no place for an item it takes no frame
+abbrev pub looked_at : RecvView → FrameWord → RecvView
+looked_at v frame.Empty = v
+looked_at v (frame.Full f) = v
+looked_at v frame.Shut = close_seen_by v
+
+-- it looks at the frame word, with no place for an item
 abbrev pub after_look : RecvView → FrameWord → RecvView
-after_look v frame.Empty = v
-after_look v (frame.Full f) = v
-after_look v frame.Shut = close_seen_by v
+after_look v word = looked_at (receiver_makes v (recv_step.FrameLook word)) word
 
 -- ---- views of all kinds
 

@@ -1,7 +1,8 @@
-ghost use Rattle.std.specs.Prelude.{◌≡◌, true, not, IfOk, OnErr};
+ghost use Rattle.std.specs.Prelude.{◌≡◌, IfOk, OnErr};
 ghost use Rattle.stab_lock.specs.Accounts.{IsOpenFor, after_poll_frame};
-ghost use Rattle.stab_word.specs.AnyEnds.{AnyLinkId, IsOfWords, any_recv_end, any_recv_finished};
-ghost use Rattle.stab_word.specs.Answers.{put_where};
+ghost use Rattle.stab_word.specs.AnyEnds.{AnyLinkId, OfWordRecv, SameRecvSteps, any_recv_end};
+ghost use Rattle.stab_word.specs.AnyEnds.{any_recv_finished};
+ghost use Rattle.stab_word.specs.Calls.{PollFrameCall, SendAckCall};
 
 use crate::recv::{RecvDone, WordRecv};
 use stab_core::Effect;
@@ -9,8 +10,9 @@ use stab_lock::{FrameSeen, LockRecv, RecvAccount, RecvSide};
 use std::alloc::AllocError;
 use std::sync::Wait;
 
-/// The receiver's end of a link of either kind. Each call is the call of its name of the end
-/// inside; that of a link of two words takes no runtime value and waits for nothing.
+/// The receiver's end of a link of either kind. Each call makes the call of its name of the end
+/// inside. Over two words contracts say so: it makes the loads and stores that [`WordRecv`] makes
+/// in that call, and no other; it takes no runtime value and waits for nothing.
 pub enum AnyRecv<'a, R> {
     /// The end of a link with a lock.
     Lock(LockRecv<'a, R>),
@@ -59,8 +61,7 @@ impl<'a, R: Wait> RecvSide for AnyRecv<'a, R> {
         ensures link { (any_recv_end self.new).link ≡ (any_recv_end self.old).link }
 
         ensures unchanged { OnErr result (any_recv_end self.new ≡ any_recv_end self.old) }
-        ensures closed { IsOfWords (any_recv_end self.old).link
-            → (any_recv_end self.old).account.closed ≡ true → result ≡ Ok FrameSeen.Closed }
+        ensures of_words { OfWordRecv (PollFrameCall result) self.old self.new }
     {
         match self {
             AnyRecv::Lock(end) => end.poll_frame(pass),
@@ -73,9 +74,7 @@ impl<'a, R: Wait> RecvSide for AnyRecv<'a, R> {
         ensures link { (any_recv_end self.new).link ≡ (any_recv_end self.old).link }
 
         ensures unchanged { OnErr result (any_recv_end self.new ≡ any_recv_end self.old) }
-        ensures answer { IsOfWords (any_recv_end self.old).link
-            → result ≡ Ok (put_where (not (any_recv_end self.old).account.closed)
-            (any_recv_end self.old).acts) }
+        ensures of_words { OfWordRecv (SendAckCall result) self.old self.new }
     {
         match self {
             AnyRecv::Lock(end) => end.send_ack(pass),
@@ -90,7 +89,12 @@ impl<'a, R: Wait> RecvSide for AnyRecv<'a, R> {
         }
     }
 
-    fn finish(self) -> AnyRecvDone {
+    fn finish(self) -> AnyRecvDone
+        ensures account { (any_recv_finished result).account ≡ (any_recv_end self.entry).account }
+        ensures link { (any_recv_finished result).link ≡ (any_recv_end self.entry).link }
+
+        ensures of_words { SameRecvSteps self.entry result }
+    {
         match self {
             AnyRecv::Lock(end) => AnyRecvDone::Lock(end.finish()),
             AnyRecv::Word(end) => AnyRecvDone::Word(end.finish()),

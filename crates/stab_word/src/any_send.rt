@@ -1,9 +1,9 @@
-ghost use Rattle.std.specs.Prelude.{◌≡◌, ◌+◌, ◌⊎◌, true, false, length, IsOk, IfOk, OnErr};
-ghost use Rattle.std.specs.Prelude.{if◌then◌else◌};
+ghost use Rattle.std.specs.Prelude.{◌≡◌, true, IfOk, OnErr};
 ghost use Rattle.stab_lock.specs.Accounts.{MayOffer, Waits, after_offer, after_poll_ack};
 ghost use Rattle.stab_lock.specs.Accounts.{after_close};
-ghost use Rattle.stab_word.specs.AnyEnds.{AnyLinkId, IsOfWords, any_send_end, any_send_finished};
-ghost use Rattle.stab_word.specs.Answers.{has_frame, put_where};
+ghost use Rattle.stab_word.specs.AnyEnds.{AnyLinkId, OfWordSend, SameSendSteps, any_send_end};
+ghost use Rattle.stab_word.specs.AnyEnds.{any_send_finished};
+ghost use Rattle.stab_word.specs.Calls.{OfferCall, SendCall, PollAckCall, CloseCall};
 
 use crate::send::{SendDone, WordSend};
 use stab_core::Effect;
@@ -12,8 +12,9 @@ use stab_lock::{LockSend, SendAccount, SendSide};
 use std::alloc::AllocError;
 use std::sync::Wait;
 
-/// The sender's end of a link of either kind. Each call is the call of its name of the end inside;
-/// that of a link of two words takes no runtime value and waits for nothing.
+/// The sender's end of a link of either kind. Each call makes the call of its name of the end
+/// inside. Over two words contracts say so: it makes the loads and stores that [`WordSend`] makes
+/// in that call, and no other; it takes no runtime value and waits for nothing.
 pub enum AnySend<'a, R> {
     /// The end of a link with a lock.
     Lock(LockSend<'a, R>),
@@ -63,11 +64,7 @@ impl<'a, R: Wait> SendSide for AnySend<'a, R> {
         ensures link { (any_send_end self.new).link ≡ (any_send_end self.old).link }
 
         ensures unchanged { OnErr result (any_send_end self.new ≡ any_send_end self.old) }
-        ensures not_taken { IsOfWords (any_send_end self.old).link
-            → IfOk result (λ taken. taken ≡ false
-            → ((any_send_end self.old).account.closed ≡ true)
-            ⊎ (length (any_send_end self.old).account.offered
-            ≡ (any_send_end self.old).account.acked + 1)) }
+        ensures of_words { OfWordSend (OfferCall item result) self.old self.new }
     {
         match self {
             AnySend::Lock(end) => end.offer(pass, item),
@@ -80,9 +77,7 @@ impl<'a, R: Wait> SendSide for AnySend<'a, R> {
         ensures link { (any_send_end self.new).link ≡ (any_send_end self.old).link }
 
         ensures unchanged { OnErr result (any_send_end self.new ≡ any_send_end self.old) }
-        ensures answer { IsOfWords (any_send_end self.old).link
-            → result ≡ Ok (put_where (has_frame (any_send_end self.old).account)
-            (any_send_end self.old).acts) }
+        ensures of_words { OfWordSend (SendCall result) self.old self.new }
     {
         match self {
             AnySend::Lock(end) => end.send(pass),
@@ -98,7 +93,7 @@ impl<'a, R: Wait> SendSide for AnySend<'a, R> {
         ensures link { (any_send_end self.new).link ≡ (any_send_end self.old).link }
 
         ensures unchanged { OnErr result (any_send_end self.new ≡ any_send_end self.old) }
-        ensures always { IsOfWords (any_send_end self.old).link → IsOk result }
+        ensures of_words { OfWordSend (PollAckCall result) self.old self.new }
     {
         match self {
             AnySend::Lock(end) => end.poll_ack(pass),
@@ -112,9 +107,7 @@ impl<'a, R: Wait> SendSide for AnySend<'a, R> {
         ensures link { (any_send_end self.new).link ≡ (any_send_end self.old).link }
 
         ensures unchanged { OnErr result (any_send_end self.new ≡ any_send_end self.old) }
-        ensures answer { IsOfWords (any_send_end self.old).link
-            → result ≡ Ok (if (any_send_end self.old).account.closed
-            then Effect.Nothing else Effect.Closed) }
+        ensures of_words { OfWordSend (CloseCall result) self.old self.new }
     {
         match self {
             AnySend::Lock(end) => end.close(pass),
@@ -129,7 +122,12 @@ impl<'a, R: Wait> SendSide for AnySend<'a, R> {
         }
     }
 
-    fn finish(self) -> AnySendDone {
+    fn finish(self) -> AnySendDone
+        ensures account { (any_send_finished result).account ≡ (any_send_end self.entry).account }
+        ensures link { (any_send_finished result).link ≡ (any_send_end self.entry).link }
+
+        ensures of_words { SameSendSteps self.entry result }
+    {
         match self {
             AnySend::Lock(end) => AnySendDone::Lock(end.finish()),
             AnySend::Word(end) => AnySendDone::Word(end.finish()),

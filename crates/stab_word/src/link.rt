@@ -5,6 +5,7 @@ ghost use Rattle.stab_core.specs.declared.event.Event.{Event};
 ghost use Rattle.stab_lock.specs.Settling.{Agree};
 ghost use Rattle.stab_script.specs.Scripts.{sender_half, receiver_half};
 ghost use Rattle.stab_word.specs.Ends.{new_send_end, new_recv_end};
+ghost use Rattle.stab_word.specs.Interleaving.{AnInterleavingExplains};
 ghost use Rattle.stab_word.specs.WordFaults.{IsWordReason};
 
 use crate::fault::WordFault;
@@ -124,7 +125,8 @@ impl WordLink {
         ))
     }
 
-    /// Hands back the accounts of both finished ends, which one list of events explains. It
+    /// Hands back the accounts of both finished ends, which one list of events explains: the events
+    /// of all steps that the ends made, in some order that keeps the order of each end's own. It
     /// compares nothing, takes no memory and always answers.
     pub fn settle(self, send: SendDone, recv: RecvDone) -> Settled
         requires send { send.link ≡ self }
@@ -134,6 +136,8 @@ impl WordLink {
         ensures replay { (events : List Event)
             × Agree (replay self.given.params (opening self.given.start) events)
             send.sent recv.received }
+        ensures interleaved { AnInterleavingExplains self.given send.steps send.sent recv.steps
+            recv.received }
         ensures law { LinkLaw 1 (start_items self.given.start)
             send.sent.offered send.sent.acked recv.received.delivered }
     {

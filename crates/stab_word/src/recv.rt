@@ -1,7 +1,6 @@
-ghost use Rattle.std.specs.Prelude.{◌≡◌, true, not, IfOk, OnErr};
+ghost use Rattle.std.specs.Prelude.{◌≡◌, [], IfOk};
 ghost use Rattle.stab_lock.specs.Accounts.{IsOpenFor, after_poll_frame};
-ghost use Rattle.stab_word.specs.Answers.{put_where, acts_put_where, LabelAfterSeen};
-ghost use Rattle.stab_word.specs.Answers.{acts_after_seen};
+ghost use Rattle.stab_word.specs.Calls.{PollFrameCall, SendAckCall};
 ghost use Rattle.stab_word.specs.Ends.{receiver_seat};
 ghost use Rattle.stab_word.specs.Seats.{LinkId, link_of_receiver};
 
@@ -15,9 +14,10 @@ use stab_script::{HalfScript, OutAct};
 use std::alloc::AllocError;
 use std::marker::Model;
 
-/// The receiver's end of a link of two words. A call makes at most two atomic steps, and waits for
-/// nothing. Contracts see its link, its account, the label that it took last, and the acts of its
-/// script that remain.
+/// The receiver's end of a link of two words. A call makes at most two atomic steps, each a load
+/// or a store, and waits for nothing. Contracts see its link, its account, the label that it took
+/// last, the acts of its script that remain, and the steps that it made, which no value at run time
+/// holds.
 #[derive(Drop)]
 pub struct WordRecv<'a> {
     table: &'a WordTable,
@@ -33,10 +33,16 @@ impl<'a> Model for WordRecv<'a> {
 
     ghost Value = { RecvEnd };
 
-    ghost view = { λ e.
-        record { link = e.table.now; received = e.account; label = e.label; acts = e.acts } };
+    ghost view = { λ e. record {
+      link = e.table.now;
+      received = e.account;
+      label = e.label;
+      acts = e.acts;
+      steps = e.seat.view.steps;
+    } };
 
-    ghost invariant = { λ e. e.seat ≡ receiver_seat e.table.now e.label e.account };
+    ghost invariant = { λ e.
+        e.seat ≡ receiver_seat e.table.now e.label e.account e.seat.view.steps };
 }
 
 impl<'a> WordRecv<'a> {
@@ -48,9 +54,14 @@ impl<'a> WordRecv<'a> {
         account: RecvAccount,
         acts: HalfScript,
     ) -> WordRecv<'a>
-        requires { seat ≡ receiver_seat table.now label account }
-        ensures { result
-            ≡ record { link = table.now; received = account; label = label; acts = acts } }
+        requires { seat ≡ receiver_seat table.now label account [] }
+        ensures { result ≡ record {
+          link = table.now;
+          received = account;
+          label = label;
+          acts = acts;
+          steps = [];
+        } }
     {
         WordRecv {
             table,
@@ -63,7 +74,7 @@ impl<'a> WordRecv<'a> {
 }
 
 /// A finished receiver's end, which borrows nothing: what its link needs to settle it. Contracts
-/// see its link and its account.
+/// see its link, its account, and the steps that it made.
 #[derive(Drop)]
 pub struct RecvDone {
     seat: RecvSeat,
@@ -77,16 +88,21 @@ impl Model for RecvDone {
 
     ghost Value = { RecvFinished };
 
-    ghost view = { λ d. record { link = link_of_receiver d.seat; received = d.account } };
+    ghost view = { λ d. record {
+      link = link_of_receiver d.seat;
+      received = d.account;
+      steps = d.seat.view.steps;
+    } };
 
     ghost invariant = { λ d. d.seat.view.account ≡ d.account };
 }
 
 impl RecvDone {
-    /// The seat and the account, which is what the seat's view says.
+    /// The seat and the account. The seat's view says the account and the steps.
     pub(crate) fn into_parts(self) -> (RecvSeat, RecvAccount)
         ensures link { link_of_receiver result.0 ≡ self.link }
         ensures view { result.0.view.account ≡ self.received }
+        ensures steps { result.0.view.steps ≡ self.steps }
         ensures account { result.1 ≡ self.received }
     {
         let RecvDone { seat, account } = self;
@@ -109,23 +125,26 @@ impl<'a> RecvSide for WordRecv<'a> {
 
     ghost done_received = { λ done. done.received };
 
-    /// It takes memory only where a load shows a frame with another label, and the account has no
-    /// place for its item; then it loads once more, and takes whatever that load shows.
+    /// One load of the frame word, where the account has a place for an item. Where it has none,
+    /// the load only looks; where that shows a frame with another label, and nowhere else, the call
+    /// takes memory for a place, loads once more, and takes whatever that load shows. Once the
+    /// close was seen, no step. An act is taken where the last load shows a frame, unless memory is
+    /// refused.
     fn poll_frame(&mut self, _pass: &()) -> Result<FrameSeen, AllocError>
         ensures account { self.new.received ≡ after_poll_frame self.old.received result }
         ensures open { IfOk result (IsOpenFor self.old.received) }
         ensures link { self.new.link ≡ self.old.link }
 
-        ensures unchanged { OnErr result (self.new ≡ self.old) }
-        ensures closed { self.old.received.closed ≡ true → result ≡ Ok FrameSeen.Closed }
-        ensures label { IfOk result (LabelAfterSeen self.old.label self.new.label) }
-        ensures acts { IfOk result (λ seen. self.new.acts ≡ acts_after_seen self.old.acts seen) }
+        ensures call { PollFrameCall result self.old self.new }
     {
         if self.account.closed {
             return Ok(FrameSeen::Closed);
         }
         if self.account.delivered.len() == self.account.delivered.capacity() {
-            match self.table.frame_look(&mut self.seat) {
+            match self
+                .table
+                .frame_look(&mut self.seat, &self.account.delivered)
+            {
                 FrameWord::Empty => return Ok(FrameSeen::Nothing),
                 FrameWord::Shut => {
                     self.account.closed = true;
@@ -158,14 +177,13 @@ impl<'a> RecvSide for WordRecv<'a> {
         }
     }
 
+    /// Until the close was seen, the next act says whether the label is stored: one store under
+    /// pass and evict, and none under drop. After it, no step, and no act is taken.
     fn send_ack(&mut self, _pass: &()) -> Result<Effect, AllocError>
         ensures account { self.new.received ≡ self.old.received }
         ensures link { self.new.link ≡ self.old.link }
 
-        ensures answer { result ≡ Ok (put_where (not self.old.received.closed) self.old.acts) }
-        ensures acts { self.new.acts
-            ≡ acts_put_where (not self.old.received.closed) self.old.acts }
-        ensures label { self.new.label ≡ self.old.label }
+        ensures call { SendAckCall result self.old self.new }
     {
         if self.account.closed {
             return Ok(Effect::Nothing);
@@ -183,7 +201,13 @@ impl<'a> RecvSide for WordRecv<'a> {
         &self.account
     }
 
-    fn finish(self) -> RecvDone {
+    /// No step.
+    fn finish(self) -> RecvDone
+        ensures account { result.received ≡ self.entry.received }
+        ensures link { result.link ≡ self.entry.link }
+
+        ensures steps { result.steps ≡ self.entry.steps }
+    {
         let WordRecv { seat, account, .. } = self;
         RecvDone { seat, account }
     }

@@ -39,13 +39,22 @@ impl<O: Offering> Play<(), View> for Offers<O> {
     ghost then = { OfferLoad O.item };
 }
 
-/// The frame store and the acknowledgement store: the end's view stays.
-pub(crate) struct Stores;
+/// The frame store.
+pub(crate) struct StoresFrame;
 
-impl Play<(), View> for Stores {
-    ghost use Rattle.stab_word.specs.Plays.{Stored};
+impl Play<(), View> for StoresFrame {
+    ghost use Rattle.stab_word.specs.Plays.{FrameStore};
 
-    ghost then = { Stored };
+    ghost then = { FrameStore };
+}
+
+/// The acknowledgement store.
+pub(crate) struct StoresAck;
+
+impl Play<(), View> for StoresAck {
+    ghost use Rattle.stab_word.specs.Plays.{AckStore};
+
+    ghost then = { AckStore };
 }
 
 /// The acknowledgement load.

@@ -1,9 +1,8 @@
-ghost use Rattle.std.specs.Prelude.{◌≡◌, ◌↔◌, ◌+◌, ◌⊎◌, true, false, length, IsTrue, IsOk, IfOk};
-ghost use Rattle.std.specs.Prelude.{OnErr, if◌then◌else◌};
+ghost use Rattle.std.specs.Prelude.{◌≡◌, ◌↔◌, true, [], IsTrue, IfOk};
 ghost use Rattle.stab_lock.specs.Accounts.{MayOffer, Waits, after_offer, after_poll_ack};
 ghost use Rattle.stab_lock.specs.Accounts.{after_close, new_sender};
-ghost use Rattle.stab_word.specs.Answers.{has_frame, put_where, acts_put_where, IsAckAnswer};
-ghost use Rattle.stab_word.specs.Answers.{label_after_effect, acts_after_effect};
+ghost use Rattle.stab_word.specs.Answers.{has_frame};
+ghost use Rattle.stab_word.specs.Calls.{OfferCall, SendCall, PollAckCall, CloseCall};
 ghost use Rattle.stab_word.specs.Ends.{sender_seat};
 ghost use Rattle.stab_word.specs.Seats.{LinkId, link_of_sender};
 
@@ -34,8 +33,9 @@ fn waits(account: &SendAccount) -> bool
     !account.closed && account.is_waiting()
 }
 
-/// The sender's end of a link of two words. A call makes at most one atomic step, and waits for
-/// nothing. Contracts see its link, its account, its label, and the acts of its script that remain.
+/// The sender's end of a link of two words. A call makes at most one atomic step, a load or a
+/// store, and waits for nothing. Contracts see its link, its account, its label, the acts of its
+/// script that remain, and the steps that it made, which no value at run time holds.
 #[derive(Drop)]
 pub struct WordSend<'a> {
     table: &'a WordTable,
@@ -52,13 +52,18 @@ impl<'a> Model for WordSend<'a> {
 
     ghost Value = { SendEnd };
 
-    ghost view = { λ e.
-        record { link = e.table.now; sent = e.account; label = e.label; acts = e.acts } };
+    ghost view = { λ e. record {
+      link = e.table.now;
+      sent = e.account;
+      label = e.label;
+      acts = e.acts;
+      steps = e.seat.view.steps;
+    } };
 
     ghost invariant = { λ e. (e.params ≡ e.table.now.given.params)
         × (e.account.acked ≤ length e.account.offered)
         × (length e.account.offered ≤ e.account.acked + 1)
-        × (e.seat ≡ sender_seat e.table.now e.label e.account) };
+        × (e.seat ≡ sender_seat e.table.now e.label e.account e.seat.view.steps) };
 }
 
 impl<'a> WordSend<'a> {
@@ -73,9 +78,14 @@ impl<'a> WordSend<'a> {
     ) -> WordSend<'a>
         requires params { params ≡ table.now.given.params }
         requires account { account ≡ new_sender }
-        requires seat { seat ≡ sender_seat table.now label account }
-        ensures { result
-            ≡ record { link = table.now; sent = account; label = label; acts = acts } }
+        requires seat { seat ≡ sender_seat table.now label account [] }
+        ensures { result ≡ record {
+          link = table.now;
+          sent = account;
+          label = label;
+          acts = acts;
+          steps = [];
+        } }
     {
         WordSend {
             table,
@@ -89,7 +99,7 @@ impl<'a> WordSend<'a> {
 }
 
 /// A finished sender's end, which borrows nothing: what its link needs to settle it. Contracts see
-/// its link and its account.
+/// its link, its account, and the steps that it made.
 #[derive(Drop)]
 pub struct SendDone {
     seat: SendSeat,
@@ -103,16 +113,18 @@ impl Model for SendDone {
 
     ghost Value = { SendFinished };
 
-    ghost view = { λ d. record { link = link_of_sender d.seat; sent = d.account } };
+    ghost view = { λ d.
+        record { link = link_of_sender d.seat; sent = d.account; steps = d.seat.view.steps } };
 
     ghost invariant = { λ d. d.seat.view.account ≡ d.account };
 }
 
 impl SendDone {
-    /// The seat and the account, which is what the seat's view says.
+    /// The seat and the account. The seat's view says the account and the steps.
     pub(crate) fn into_parts(self) -> (SendSeat, SendAccount)
         ensures link { link_of_sender result.0 ≡ self.link }
         ensures view { result.0.view.account ≡ self.sent }
+        ensures steps { result.0.view.steps ≡ self.steps }
         ensures account { result.1 ≡ self.sent }
     {
         let SendDone { seat, account } = self;
@@ -135,17 +147,14 @@ impl<'a> SendSide for WordSend<'a> {
 
     ghost done_sent = { λ done. done.sent };
 
-    /// It takes memory only where it would take the item.
+    /// It takes memory only where it would take the item. An item that is taken is one load of the
+    /// frame word, whatever it shows; an item that is not taken is no step.
     fn offer(&mut self, _pass: &(), item: Item) -> Result<bool, AllocError>
         ensures account { self.new.sent ≡ after_offer self.old.sent item result }
         ensures taken { IfOk result (λ taken. taken ≡ true → MayOffer self.old.sent) }
         ensures link { self.new.link ≡ self.old.link }
 
-        ensures not_taken { IfOk result (λ taken. taken ≡ false
-            → (self.old.sent.closed ≡ true)
-            ⊎ (length self.old.sent.offered ≡ self.old.sent.acked + 1)) }
-        ensures memory { OnErr result (MayOffer self.old.sent) }
-        ensures rest { self.new ≡ record self.old { sent = self.new.sent } }
+        ensures call { OfferCall item result self.old self.new }
     {
         if !may_offer(&self.account) {
             return Ok(false);
@@ -156,13 +165,14 @@ impl<'a> SendSide for WordSend<'a> {
         Ok(true)
     }
 
+    /// Where an item waits and the link is open, the next act says whether its frame is stored: one
+    /// store under pass and evict, and none under drop. Otherwise it makes no step and takes no
+    /// act.
     fn send(&mut self, _pass: &()) -> Result<Effect, AllocError>
         ensures account { self.new.sent ≡ self.old.sent }
         ensures link { self.new.link ≡ self.old.link }
 
-        ensures answer { result ≡ Ok (put_where (has_frame self.old.sent) self.old.acts) }
-        ensures acts { self.new.acts ≡ acts_put_where (has_frame self.old.sent) self.old.acts }
-        ensures label { self.new.label ≡ self.old.label }
+        ensures call { SendCall result self.old self.new }
     {
         if !waits(&self.account) {
             return Ok(Effect::Nothing);
@@ -181,18 +191,15 @@ impl<'a> SendSide for WordSend<'a> {
         }
     }
 
+    /// One load of the acknowledgement word, also where no item waits; once the end closed the
+    /// link, no step. The answer goes by the word that the load shows. An act is taken where the
+    /// word shows an acknowledgement.
     fn poll_ack(&mut self, _pass: &()) -> Result<Effect, AllocError>
         ensures account { self.new.sent ≡ after_poll_ack self.old.sent result }
         ensures acked { IfOk result (λ effect. effect ≡ Effect.Acked → Waits self.old.sent) }
         ensures link { self.new.link ≡ self.old.link }
 
-        ensures always { IsOk result }
-        ensures answer { IfOk result IsAckAnswer }
-        ensures closed { self.old.sent.closed ≡ true → result ≡ Ok Effect.Nothing }
-        ensures label { IfOk result (λ effect. self.new.label
-            ≡ label_after_effect self.old.link.given.params self.old.label effect) }
-        ensures acts { IfOk result (λ effect.
-            self.new.acts ≡ acts_after_effect self.old.acts effect) }
+        ensures call { PollAckCall result self.old self.new }
     {
         let waits = waits(&self.account);
         if self.account.closed {
@@ -210,13 +217,12 @@ impl<'a> SendSide for WordSend<'a> {
         Ok(Effect::Acked)
     }
 
+    /// One store, the first time; no step after it.
     fn close(&mut self, _pass: &()) -> Result<Effect, AllocError>
         ensures account { self.new.sent ≡ after_close self.old.sent result }
         ensures link { self.new.link ≡ self.old.link }
 
-        ensures answer { result
-            ≡ Ok (if self.old.sent.closed then Effect.Nothing else Effect.Closed) }
-        ensures rest { self.new ≡ record self.old { sent = self.new.sent } }
+        ensures call { CloseCall result self.old self.new }
     {
         if self.account.closed {
             return Ok(Effect::Nothing);
@@ -230,7 +236,13 @@ impl<'a> SendSide for WordSend<'a> {
         &self.account
     }
 
-    fn finish(self) -> SendDone {
+    /// No step.
+    fn finish(self) -> SendDone
+        ensures account { result.sent ≡ self.entry.sent }
+        ensures link { result.link ≡ self.entry.link }
+
+        ensures steps { result.steps ≡ self.entry.steps }
+    {
         let WordSend { seat, account, .. } = self;
         SendDone { seat, account }
     }

@@ -2,7 +2,7 @@
 //! one store of one word, and says which kind of step it is and which events of the link it stands
 //! for.
 
-ghost use Rattle.std.specs.Prelude.{◌≡◌, ◌≤◌, List, length, false, IfOk};
+ghost use Rattle.std.specs.Prelude.{◌≡◌, ◌≤◌, List, length, vec_len, vec_capacity, false, IfOk};
 ghost use Rattle.stab_core.specs.LinkLaw.{LinkLaw};
 ghost use Rattle.stab_core.specs.Replay.{IsLawful, opening, replay, start_items};
 ghost use Rattle.stab_core.specs.declared.event.Event.{Event};
@@ -11,11 +11,14 @@ ghost use Rattle.stab_lock.specs.Accounts.{MayOffer, Waits};
 ghost use Rattle.stab_lock.specs.Settling.{Agree};
 ghost use Rattle.stab_word.specs.Seats.{link_of_sender, link_of_receiver};
 ghost use Rattle.stab_word.specs.Views.{first_sender, first_receiver, current_frame};
-ghost use Rattle.stab_word.specs.Views.{offered_to, after_ack, closed_by, after_frame, after_look};
+ghost use Rattle.stab_word.specs.Views.{offered_to, stored_by, after_ack, closed_by};
+ghost use Rattle.stab_word.specs.Views.{after_frame, after_look, answered_by};
+ghost use Rattle.stab_word.specs.Interleaving.{AnInterleavingExplains};
 ghost use Rattle.stab_word.specs.Words.{frames_of, acks_of, is_shut};
 
 use crate::rule::{
-    Closes, Looks, Meets, Offering, Offers, Parts, SeesAck, SeesFrame, Stores, WordRule,
+    Closes, Looks, Meets, Offering, Offers, Parts, SeesAck, SeesFrame, StoresAck, StoresFrame,
+    WordRule,
 };
 use crate::seats::{OpeningSeat, RecvSeat, SendSeat};
 use crate::view::{Setting, View};
@@ -140,12 +143,12 @@ impl WordTable {
         requires own { link_of_sender seat.old ≡ self.now }
         requires waits { Waits seat.old.view.account }
         requires current { frame ≡ current_frame seat.old.view }
-        ensures { seat.new ≡ seat.old }
+        ensures { seat.new ≡ record seat.old { view = stored_by seat.old.view } }
     {
         let word = FrameWord::Full(frame).code();
         self.table
             .shared
-            .store::<Stores>(&mut seat.seat, FRAMES, word);
+            .store::<StoresFrame>(&mut seat.seat, FRAMES, word);
     }
 
     /// The acknowledgement load: the sender sees the acknowledgement word. It stands for RecvAck
@@ -180,12 +183,14 @@ impl WordTable {
         FrameWord::read(self.table.shared.load::<SeesFrame>(&mut seat.seat, FRAMES))
     }
 
-    /// The frame load of a receiver that has no place for an item: it takes no frame, and sees the
-    /// close. It stands for no event.
-    pub(crate) fn frame_look(&self, seat: &mut RecvSeat) -> FrameWord
-        requires { link_of_receiver seat.old ≡ self.now }
+    /// The frame load of a receiver that has no place for an item, as its items show: it takes no
+    /// frame, and sees the close. It stands for no event.
+    pub(crate) fn frame_look(&self, seat: &mut RecvSeat, items: &Vec<Item>) -> FrameWord
+        requires own { link_of_receiver seat.old ≡ self.now }
+        requires full { vec_len items.now ≡ vec_capacity items.now }
         ensures { seat.new ≡ record seat.old { view = after_look seat.old.view result } }
     {
+        let _ = items;
         FrameWord::read(self.table.shared.load::<Looks>(&mut seat.seat, FRAMES))
     }
 
@@ -196,12 +201,12 @@ impl WordTable {
         requires own { link_of_receiver seat.old ≡ self.now }
         requires unseen { seat.old.view.account.closed ≡ false }
         requires current { label ≡ seat.old.view.label }
-        ensures { seat.new ≡ seat.old }
+        ensures { seat.new ≡ record seat.old { view = answered_by seat.old.view } }
     {
         let word = AckWord::Full(label).code();
         self.table
             .shared
-            .store::<Stores>(&mut seat.seat, ACKS, word);
+            .store::<StoresAck>(&mut seat.seat, ACKS, word);
     }
 
     /// The join of a seat: the sender's seat takes in the receiver's, and the table ends. It stands
@@ -209,6 +214,8 @@ impl WordTable {
     pub(crate) fn join(self, sender: SendSeat, receiver: RecvSeat)
         requires sender { link_of_sender sender ≡ self }
         requires receiver { link_of_receiver receiver ≡ self }
+        ensures interleaved { AnInterleavingExplains self.given sender.view.steps
+            sender.view.account receiver.view.steps receiver.view.account }
         ensures replay { (events : List Event) × Agree
             (replay self.given.params (opening self.given.start) events)
             sender.view.account receiver.view.account }
@@ -226,9 +233,8 @@ impl WordTable {
         ensures one_place { self.given.params.capacity ≡ 1 }
         ensures params { AreLawful self.given.params }
         ensures start { IsLawful self.given.params self.given.start }
-        ensures replay { (events : List Event) × Agree
-            (replay self.given.params (opening self.given.start) events)
-            sender.view.account receiver.view.account }
+        ensures interleaved { AnInterleavingExplains self.given sender.view.steps
+            sender.view.account receiver.view.steps receiver.view.account }
     {
         let WordTable { table } = self;
         let SendSeat { mut seat } = sender;

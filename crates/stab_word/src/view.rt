@@ -1,8 +1,9 @@
 //! What the ends of a link know of it. No value of a view is ever made: a view is the part of a
 //! seat that only proofs see.
 
+use crate::words::{AckWord, FrameWord};
 use stab_core::Start;
-use stab_frames::{Label, Params};
+use stab_frames::{Frame, Item, Label, Params};
 use stab_lock::{RecvAccount, SendAccount};
 use std::marker::Model;
 use std::snapshot::Snapshot;
@@ -36,18 +37,71 @@ impl Setting {
     }
 }
 
-/// What the sender's end knows: its label, and all that its account says.
+/// An atomic step of the sender's end.
+pub(crate) enum SendStep {
+    /// A load of the frame word, whatever it shows, at which the end takes this item.
+    OfferLoad(Item),
+    /// A store of this frame.
+    FrameStore(Frame),
+    /// A load of the acknowledgement word, which shows this.
+    AckLoad(AckWord),
+    /// A store of the close.
+    CloseStore,
+}
+
+/// An atomic step of the receiver's end.
+pub(crate) enum RecvStep {
+    /// A load of the frame word, which shows this, with a place for an item.
+    FrameLoad(FrameWord),
+    /// A load of the frame word, which shows this, with no place for an item.
+    FrameLook(FrameWord),
+    /// A store of the acknowledgement of this label.
+    AckStore(Label),
+}
+
+/// The steps that the sender's end made, in their order.
+pub(crate) struct SendSteps {
+    list: Vec<SendStep>,
+}
+
+impl Model for SendSteps {
+    ghost use Rattle.std.specs.Prelude.{List};
+    ghost use Rattle.stab_word.specs.declared.view.SendStep.{SendStep};
+
+    ghost Value = { List SendStep };
+
+    ghost view = { λ s. s.list.items };
+}
+
+/// The steps that the receiver's end made, in their order.
+pub(crate) struct RecvSteps {
+    list: Vec<RecvStep>,
+}
+
+impl Model for RecvSteps {
+    ghost use Rattle.std.specs.Prelude.{List};
+    ghost use Rattle.stab_word.specs.declared.view.RecvStep.{RecvStep};
+
+    ghost Value = { List RecvStep };
+
+    ghost view = { λ s. s.list.items };
+}
+
+/// What the sender's end knows: its label, all that its account says, and the steps that it made.
 pub(crate) struct SendView {
     pub(crate) given: Setting,
     pub(crate) label: Label,
     pub(crate) account: SendAccount,
+    pub(crate) steps: SendSteps,
 }
 
-/// What the receiver's end knows: the label that it remembers, and all that its account says.
+/// What the receiver's end knows: the label that it remembers, all that its account says, and the
+/// steps that it made.
 pub(crate) struct RecvView {
     pub(crate) given: Setting,
     pub(crate) label: Label,
     pub(crate) account: RecvAccount,
+    pub(crate) steps: RecvSteps,
 }
 
 /// What the seats of a link know, one view each.

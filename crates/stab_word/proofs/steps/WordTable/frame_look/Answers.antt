@@ -9,5 +9,5 @@ load-requires c =
       two_words = c.self.invariant.0;
       seat_is = c.seat.view_is;
       receives = c.seat.invariant;
-      own = c.requires;
+      own = c.requires.own;
     }) _
