@@ -1,4 +1,4 @@
-ghost use Rattle.std.specs.Prelude.{◌≡◌, IfOk, map};
+ghost use Rattle.std.specs.Prelude.{◌≡◌, [], ◌∷◌, ◌++◌, IfOk, OnOk, map};
 
 use crate::row::Row;
 use stab_frames::{Item, Sequence};
@@ -12,6 +12,47 @@ pub(crate) struct Columns<A: Drop, B: Drop> {
     pub(crate) ended: Vec<Ended>,
     pub(crate) ups: Vec<Option<A>>,
     pub(crate) downs: Vec<Row<B>>,
+}
+
+impl<A: Drop, B: Drop> Columns<A, B> {
+    /// The columns of no node, with room for those of that many.
+    fn with_capacity(alloc: Global, nodes: usize) -> Result<Columns<A, B>, AllocError>
+        ensures received { IfOk result (λ columns. columns.received.items ≡ []) }
+        ensures ended { IfOk result (λ columns. columns.ended.items ≡ []) }
+        ensures ups { IfOk result (λ columns. columns.ups.items ≡ []) }
+        ensures downs { IfOk result (λ columns. columns.downs.items ≡ []) }
+    {
+        Ok(Columns {
+            received: Vec::with_capacity(alloc, nodes)?,
+            ended: Vec::with_capacity(alloc, nodes)?,
+            ups: Vec::with_capacity(alloc, nodes)?,
+            downs: Vec::with_capacity(alloc, nodes)?,
+        })
+    }
+
+    /// Adds each part of an account to its column. Where memory is refused, the columns are of no
+    /// further use.
+    fn push(&mut self, account: NodeAccount<A, B>) -> Result<(), AllocError>
+        ensures received { OnOk result
+            (self.new.received.items ≡ self.old.received.items ++ account.received.items ∷ []) }
+        ensures ended { OnOk result
+            (self.new.ended.items ≡ self.old.ended.items ++ account.ended ∷ []) }
+        ensures ups { OnOk result (self.new.ups.items ≡ self.old.ups.items ++ account.up ∷ []) }
+        ensures downs { OnOk result
+            (self.new.downs.items ≡ self.old.downs.items ++ account.downs.items ∷ []) }
+    {
+        let NodeAccount {
+            received,
+            up,
+            downs,
+            ended,
+        } = account;
+        self.received.push(Sequence::from_vec(received))?;
+        self.ended.push(ended)?;
+        self.ups.push(up)?;
+        self.downs.push(Row::from_vec(downs))?;
+        Ok(())
+    }
 }
 
 /// Takes the accounts of all nodes apart.
@@ -28,26 +69,9 @@ pub(crate) fn take_apart<A: Drop, B: Drop>(
     ensures downs { IfOk result (λ columns.
         columns.downs.items ≡ map (λ a. a.downs.items) accounts.items) }
 {
-    let mut all_received = Vec::with_capacity(alloc, accounts.len())?;
-    let mut all_ended = Vec::with_capacity(alloc, accounts.len())?;
-    let mut ups = Vec::with_capacity(alloc, accounts.len())?;
-    let mut downs_of_all = Vec::with_capacity(alloc, accounts.len())?;
+    let mut columns = Columns::with_capacity(alloc, accounts.len())?;
     for account in accounts {
-        let NodeAccount {
-            received,
-            up,
-            downs,
-            ended,
-        } = account;
-        all_received.push(Sequence::from_vec(received))?;
-        all_ended.push(ended)?;
-        ups.push(up)?;
-        downs_of_all.push(Row::from_vec(downs))?;
+        columns.push(account)?;
     }
-    Ok(Columns {
-        received: all_received,
-        ended: all_ended,
-        ups,
-        downs: downs_of_all,
-    })
+    Ok(columns)
 }
