@@ -1,12 +1,12 @@
 //! Openings of a job: what the members of the second version mean, and how they are refused.
 
-use crate::jobs::{assert_misshapen, assert_refused, look_at_pieces};
+use crate::jobs::{Fault, assert_each_refused, assert_refused, look_at_pieces};
 use stab_frames::{Item, ParamsFault};
 use stab_job::{Job, JobFault};
 use stab_tree::NodeId;
 use stab_treecore::OpeningFault;
+use std::alloc::AllocError;
 use std::process::Abort;
-use std::test::Fail;
 
 /// A chain of three nodes, up to the members that a test adds.
 const CHAIN_WITH: &str = r#"{"capacity":1,"labels":4,"items":[7,8],
@@ -32,9 +32,8 @@ fn opening_at<'j>(rt: &impl Abort, job: &'j Job, place: u16) -> &'j [Item] {
 /// root and its leaf.
 fn assert_openings(rt: &impl Abort, job: &Job, hold: u16, inner: &[Item]) {
     assert!(rt; job.openings().hold() == hold);
-    assert!(rt; opening_at(rt, job, 0).is_empty());
+    assert!(rt; opening_at(rt, job, 0).is_empty() && opening_at(rt, job, 2).is_empty());
     assert!(rt; opening_at(rt, job, 1) == inner);
-    assert!(rt; opening_at(rt, job, 2).is_empty());
 }
 
 /// These are the openings and the items of a chain whose inner node begins with two items.
@@ -44,68 +43,61 @@ fn assert_passed_on(rt: &impl Abort, job: &Job) {
 }
 
 #[test]
-fn an_opening_passed_on(rt: HostRuntime) -> Result<(), Fail> {
+fn an_opening_passed_on(rt: HostRuntime) -> Result<(), JobFault> {
     let members = r#""version":2,"h":2,"openings":[[],[50,51],[]]"#;
     let pieces = [CHAIN_WITH, members, "}"];
-    look_at_pieces(rt.alloc(), &pieces, &|job| assert_passed_on(&rt, job))?;
-    Ok(())
+    look_at_pieces(rt.alloc(), &pieces, &|job| assert_passed_on(&rt, job))
 }
 
 #[test]
-fn reads_empty_openings_where_none_are_given(rt: HostRuntime) -> Result<(), Fail> {
-    let rows = [
+fn reads_empty_openings_where_none_are_given(rt: HostRuntime) -> Result<(), JobFault> {
+    const ROWS: &[(&str, u16)] = &[
         (r#""version":2,"h":2"#, 2),
         (r#""version":2,"h":64,"openings":[[],[],[]]"#, 64),
         (r#""version":2,"h":0"#, 0),
         (r#""version":1"#, 0),
         (r#""turns":1"#, 0),
     ];
-    for &(members, hold) in &rows {
+    for &(members, hold) in ROWS {
         let pieces = [CHAIN_WITH, members, "}"];
-        look_at_pieces(
-            rt.alloc(),
-            &pieces,
-            &|job| assert_openings(&rt, job, hold, &[]),
-        )?;
+        let look = |job: &Job| assert_openings(&rt, job, hold, &[]);
+        look_at_pieces(rt.alloc(), &pieces, &look)?;
     }
     Ok(())
 }
 
 #[test]
-fn ignores_both_members_in_version_1(rt: HostRuntime) -> Result<(), Fail> {
-    let rows = [
+fn ignores_both_members_in_version_1(rt: HostRuntime) -> Result<(), JobFault> {
+    const ROWS: &[&str] = &[
         r#""version":1,"h":2,"openings":[[],[50,51],[]]"#,
         r#""h":2,"openings":[[],[50,51],[]]"#,
         r#""version":1,"h":"x","openings":7"#,
         r#""h":null,"openings":null"#,
         r#""version":1,"h":70000,"openings":[[1]]"#,
     ];
-    for &members in &rows {
+    for &members in ROWS {
         let pieces = [CHAIN_WITH, members, "}"];
-        look_at_pieces(
-            rt.alloc(),
-            &pieces,
-            &|job| assert_openings(&rt, job, 0, &[]),
-        )?;
+        let look = |job: &Job| assert_openings(&rt, job, 0, &[]);
+        look_at_pieces(rt.alloc(), &pieces, &look)?;
     }
     Ok(())
 }
 
 /// How openings are refused that may have too many items.
-const OUT_OF_RANGE: JobFault = JobFault::Opening(OpeningFault::HoldOutOfRange);
+const OUT_OF_RANGE: Fault = Fault::Opening(OpeningFault::HoldOutOfRange);
 
 /// How another number of openings is refused.
-const COUNT: JobFault = JobFault::Opening(OpeningFault::OpeningCount);
+const COUNT: Fault = Fault::Opening(OpeningFault::OpeningCount);
 
 /// How an opening of the root or of a leaf is refused.
-const PLACE: JobFault = JobFault::Opening(OpeningFault::OpeningPlace);
+const PLACE: Fault = Fault::Opening(OpeningFault::OpeningPlace);
 
 /// How an opening of too many items is refused.
-const TOO_LONG: JobFault = JobFault::Opening(OpeningFault::OpeningTooLong);
+const TOO_LONG: Fault = Fault::Opening(OpeningFault::OpeningTooLong);
 
 #[test]
-fn refused_openings(rt: HostRuntime) -> Result<(), Fail> {
-    let rows = [
+fn refused_openings(rt: HostRuntime) -> Result<(), AllocError> {
+    const ROWS: &[(&str, Fault)] = &[
         (r#""h":65,"openings":[[],[50,51],[]]"#, OUT_OF_RANGE),
         (r#""h":65"#, OUT_OF_RANGE),
         (r#""h":70000,"openings":[]"#, OUT_OF_RANGE),
@@ -117,13 +109,12 @@ fn refused_openings(rt: HostRuntime) -> Result<(), Fail> {
         (r#""h":2,"openings":[[],[1,2,3],[]]"#, TOO_LONG),
         (r#""h":0,"openings":[[],[1],[]]"#, TOO_LONG),
     ];
-    assert_refused(&rt, CHAIN_OF_VERSION_2_WITH, &rows)?;
-    Ok(())
+    assert_refused(&rt, CHAIN_OF_VERSION_2_WITH, ROWS, "}")
 }
 
 #[test]
-fn refuses_openings_of_a_wrong_shape(rt: HostRuntime) -> Result<(), Fail> {
-    let rows = [
+fn refuses_openings_of_a_wrong_shape(rt: HostRuntime) -> Result<(), AllocError> {
+    const ROWS: &[&str] = &[
         r#""openings":[[],[50,51],[]]"#,
         r#""h":null"#,
         r#""h":"2""#,
@@ -139,20 +130,20 @@ fn refuses_openings_of_a_wrong_shape(rt: HostRuntime) -> Result<(), Fail> {
         r#""h":2,"openings":[[],[4294967296],[]]"#,
         r#""h":65,"openings":[[],[-1],[]]"#,
     ];
-    assert_misshapen(&rt, CHAIN_OF_VERSION_2_WITH, &rows)?;
-    Ok(())
+    assert_each_refused(&rt, CHAIN_OF_VERSION_2_WITH, ROWS, "}", &JobFault::Shape)
 }
 
 #[test]
-fn checks_the_openings_last(rt: HostRuntime) -> Result<(), Fail> {
-    let too_few = JobFault::LinkParams(NodeId::new(2), ParamsFault::LabelsTooFew);
-    let rows = [
-        (r#""turns":0"#, JobFault::TurnsOutOfRange),
-        (r#""schedule":[["x","offer"]]"#, JobFault::UnknownNode),
-        (r#""links":[]"#, JobFault::LinkCount),
-        (r#""links":[null,{"capacity":2,"labels":5}]"#, too_few),
+fn checks_the_openings_last(rt: HostRuntime) -> Result<(), AllocError> {
+    const ROWS: &[(&str, Fault)] = &[
+        (r#""turns":0"#, Fault::TurnsOutOfRange),
+        (r#""schedule":[["x","offer"]]"#, Fault::UnknownNode),
+        (r#""links":[]"#, Fault::LinkCount),
+        (
+            r#""links":[null,{"capacity":2,"labels":5}]"#,
+            Fault::LinkParams(2, ParamsFault::LabelsTooFew),
+        ),
         (r#""links":[null,null]"#, OUT_OF_RANGE),
     ];
-    assert_refused(&rt, CHAIN_OF_TOO_MUCH_HELD_WITH, &rows)?;
-    Ok(())
+    assert_refused(&rt, CHAIN_OF_TOO_MUCH_HELD_WITH, ROWS, "}")
 }
