@@ -95,37 +95,41 @@ pub(crate) fn assert_refused<T: Abort + Alloc<A = Global>>(
 }
 
 /// Fails the test where a job that begins so, goes on as a row does and ends so is not refused with
-/// this fault.
-pub(crate) fn assert_each_refused<'t, T: Abort + Alloc<A = Global>>(
+/// this fault; `None` says that it is read.
+pub(crate) fn assert_each<'t, T: Abort + Alloc<A = Global>>(
     rt: &T,
     before: &'t str,
     rows: &[&'t str],
     after: &'t str,
-    want: &JobFault,
+    want: &Option<JobFault>,
 ) -> Result<(), AllocError> {
     for &row in rows {
-        assert_answer(rt, &[before, row, after], Some(*want))?;
+        assert_answer(rt, &[before, row, after], *want)?;
     }
     Ok(())
 }
 
-/// Looks at the job of these bytes.
-pub(crate) fn look_at(alloc: Global, bytes: &[u8], look: &dyn Fn(&Job)) -> Result<(), JobFault>
-    requires { IsAlwaysCallable look.now }
+/// Fails the test where this does not hold of the job of these bytes.
+fn assert_holds<T: Abort + Alloc<A = Global>>(
+    rt: &T,
+    bytes: &[u8],
+    holds: &dyn Fn(&Job) -> bool,
+) -> Result<(), JobFault>
+    requires { IsAlwaysCallable holds.now }
 {
-    let job = read_job(alloc, bytes)?;
-    look(&job);
+    let job = read_job(rt.alloc(), bytes)?;
+    assert!(rt; holds(&job));
     Ok(())
 }
 
-/// Looks at the job of these pieces.
-pub(crate) fn look_at_pieces(
-    alloc: Global,
+/// Fails the test where this does not hold of the job of these pieces.
+pub(crate) fn assert_read<T: Abort + Alloc<A = Global>>(
+    rt: &T,
     pieces: &[&str],
-    look: &dyn Fn(&Job),
+    holds: &dyn Fn(&Job) -> bool,
 ) -> Result<(), JobFault>
-    requires { IsAlwaysCallable look.now }
+    requires { IsAlwaysCallable holds.now }
 {
-    let text = pieces.concat(alloc)?;
-    look_at(alloc, text.as_bytes(), look)
+    let text = pieces.concat(rt.alloc())?;
+    assert_holds(rt, text.as_bytes(), holds)
 }

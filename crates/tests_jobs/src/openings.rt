@@ -1,12 +1,11 @@
 //! Openings of a job: what the members of the second version mean, and how they are refused.
 
-use crate::jobs::{Fault, assert_each_refused, assert_refused, look_at_pieces};
+use crate::jobs::{Fault, assert_each, assert_read, assert_refused};
 use stab_frames::{Item, ParamsFault};
 use stab_job::{Job, JobFault};
 use stab_tree::NodeId;
 use stab_treecore::OpeningFault;
 use std::alloc::AllocError;
-use std::process::Abort;
 
 /// A chain of three nodes, up to the members that a test adds.
 const CHAIN_WITH: &str = r#"{"capacity":1,"labels":4,"items":[7,8],
@@ -21,32 +20,30 @@ const CHAIN_OF_TOO_MUCH_HELD_WITH: &str = r#"{"capacity":1,"labels":4,"items":[7
     "tree":[{"name":"r"},{"name":"a","parent":"r"},{"name":"b","parent":"a"}],"version":2,
     "h":65,"#;
 
-/// The opening of the node at this place, of which there is one.
+/// Whether there is a node at this place, and this is its opening.
 #[tactic(auto, using(stab_treecore::proofs::ForCallers::openings_fit))]
-fn opening_at<'j>(rt: &impl Abort, job: &'j Job, place: u16) -> &'j [Item] {
-    assert!(rt; place < job.tree().len());
-    job.openings().list(NodeId::new(place))
+fn has_opening(job: &Job, place: u16, want: &[Item]) -> bool {
+    place < job.tree().len() && job.openings().list(NodeId::new(place)) == want
 }
 
-/// A chain's openings have at most as many items as counted, and these are at the node between its
-/// root and its leaf.
-fn assert_openings(rt: &impl Abort, job: &Job, hold: u16, inner: &[Item]) {
-    assert!(rt; job.openings().hold() == hold);
-    assert!(rt; opening_at(rt, job, 0).is_empty() && opening_at(rt, job, 2).is_empty());
-    assert!(rt; opening_at(rt, job, 1) == inner);
+/// Whether a chain's openings have at most as many items as counted, and these are at the node
+/// between its root and its leaf.
+fn has_openings(job: &Job, hold: u16, inner: &[Item]) -> bool {
+    job.openings().hold() == hold
+        && has_opening(job, 0, &[])
+        && has_opening(job, 1, inner)
+        && has_opening(job, 2, &[])
 }
 
-/// These are the openings and the items of a chain whose inner node begins with two items.
-fn assert_passed_on(rt: &impl Abort, job: &Job) {
-    assert_openings(rt, job, 2, &[50, 51]);
-    assert!(rt; job.items() == [7, 8].as_slice());
+/// Whether these are the openings and the items of a chain whose inner node begins with two items.
+fn is_passed_on(job: &Job) -> bool {
+    has_openings(job, 2, &[50, 51]) && job.items() == [7, 8].as_slice()
 }
 
 #[test]
 fn an_opening_passed_on(rt: HostRuntime) -> Result<(), JobFault> {
     let members = r#""version":2,"h":2,"openings":[[],[50,51],[]]"#;
-    let pieces = [CHAIN_WITH, members, "}"];
-    look_at_pieces(rt.alloc(), &pieces, &|job| assert_passed_on(&rt, job))
+    assert_read(&rt, &[CHAIN_WITH, members, "}"], &is_passed_on)
 }
 
 #[test]
@@ -59,11 +56,15 @@ fn reads_empty_openings_where_none_are_given(rt: HostRuntime) -> Result<(), JobF
         (r#""turns":1"#, 0),
     ];
     for &(members, hold) in ROWS {
-        let pieces = [CHAIN_WITH, members, "}"];
-        let look = |job: &Job| assert_openings(&rt, job, hold, &[]);
-        look_at_pieces(rt.alloc(), &pieces, &look)?;
+        let holds = |job: &Job| has_openings(job, hold, &[]);
+        assert_read(&rt, &[CHAIN_WITH, members, "}"], &holds)?;
     }
     Ok(())
+}
+
+/// Whether a chain's openings are empty, and may have no item.
+fn has_no_openings(job: &Job) -> bool {
+    has_openings(job, 0, &[])
 }
 
 #[test]
@@ -76,9 +77,7 @@ fn ignores_both_members_in_version_1(rt: HostRuntime) -> Result<(), JobFault> {
         r#""version":1,"h":70000,"openings":[[1]]"#,
     ];
     for &members in ROWS {
-        let pieces = [CHAIN_WITH, members, "}"];
-        let look = |job: &Job| assert_openings(&rt, job, 0, &[]);
-        look_at_pieces(rt.alloc(), &pieces, &look)?;
+        assert_read(&rt, &[CHAIN_WITH, members, "}"], &has_no_openings)?;
     }
     Ok(())
 }
@@ -130,7 +129,13 @@ fn refuses_openings_of_a_wrong_shape(rt: HostRuntime) -> Result<(), AllocError> 
         r#""h":2,"openings":[[],[4294967296],[]]"#,
         r#""h":65,"openings":[[],[-1],[]]"#,
     ];
-    assert_each_refused(&rt, CHAIN_OF_VERSION_2_WITH, ROWS, "}", &JobFault::Shape)
+    assert_each(
+        &rt,
+        CHAIN_OF_VERSION_2_WITH,
+        ROWS,
+        "}",
+        &Some(JobFault::Shape),
+    )
 }
 
 #[test]

@@ -1,12 +1,9 @@
 //! Parameters of single links: what the entries of `links` mean, and how they are refused.
 
-use crate::jobs::{
-    Fault, assert_answer, assert_each_refused, assert_refused, look_at, look_at_pieces,
-};
-use stab_frames::ParamsFault;
+use crate::jobs::{Fault, assert_answer, assert_each, assert_read, assert_refused};
+use stab_frames::{Params, ParamsFault};
 use stab_job::{Job, JobFault};
 use std::alloc::AllocError;
-use std::process::Abort;
 
 /// A chain of three nodes whose second link is wider than its first.
 const WIDER_SECOND_LINK: &str = r#"{"capacity":1,"labels":4,
@@ -32,25 +29,27 @@ const ROOT_BETWEEN_WITH: &str = r#"{"capacity":1,"labels":4,"tree":[{"name":"b",
 /// Capacity and number of labels of a link.
 pub(crate) type Numbers = (u16, u16);
 
-/// The two links of a job have these parameters.
-pub(crate) fn assert_params(rt: &impl Abort, job: &Job, first: Numbers, second: Numbers) {
-    let [one, two] = job.params() else {
-        panic!(rt; "not two links");
-    };
-    assert!(rt; (one.capacity(), one.labels()) == first);
-    assert!(rt; (two.capacity(), two.labels()) == second);
+/// Whether a link has these parameters.
+fn has_numbers(params: &Params, (capacity, labels): Numbers) -> bool {
+    params.capacity() == capacity && params.labels() == labels
 }
 
-/// The chain has its parameters, and as many starts and events.
-fn assert_wider(rt: &impl Abort, job: &Job) {
-    assert_params(rt, job, (1, 4), (2, 6));
-    assert!(rt; (job.starts().len(), job.schedule().len()) == (2, 22));
+/// Whether the two links of a job have these parameters.
+pub(crate) fn has_params(job: &Job, first: Numbers, second: Numbers) -> bool {
+    match job.params() {
+        [one, two] => has_numbers(one, first) && has_numbers(two, second),
+        _ => false,
+    }
+}
+
+/// Whether the chain has its parameters, and as many starts and events.
+fn is_wider(job: &Job) -> bool {
+    has_params(job, (1, 4), (2, 6)) && job.starts().len() == 2 && job.schedule().len() == 22
 }
 
 #[test]
 fn reads_a_wider_second_link(rt: HostRuntime) -> Result<(), JobFault> {
-    let bytes = WIDER_SECOND_LINK.as_bytes();
-    look_at(rt.alloc(), bytes, &|job| assert_wider(&rt, job))
+    assert_read(&rt, &[WIDER_SECOND_LINK], &is_wider)
 }
 
 #[test]
@@ -70,13 +69,16 @@ fn reads_the_parameters_of_each_link(rt: HostRuntime) -> Result<(), JobFault> {
         ),
     ];
     for &(members, first, second) in ROWS {
-        for &with in &[CHAIN_WITH, ROOT_BETWEEN_WITH] {
-            let pieces = [with, members, "}"];
-            let look = |job: &Job| assert_params(&rt, job, first, second);
-            look_at_pieces(rt.alloc(), &pieces, &look)?;
-        }
+        let holds = |job: &Job| has_params(job, first, second);
+        assert_read(&rt, &[CHAIN_WITH, members, "}"], &holds)?;
+        assert_read(&rt, &[ROOT_BETWEEN_WITH, members, "}"], &holds)?;
     }
     Ok(())
+}
+
+/// Whether a job has no link.
+fn has_no_params(job: &Job) -> bool {
+    job.params().is_empty()
 }
 
 #[test]
@@ -84,11 +86,7 @@ fn a_lone_root_has_no_parameters(rt: HostRuntime) -> Result<(), JobFault> {
     let one = r#"{"capacity":1,"labels":4,"tree":[{"name":"r"}],"items":[7],"links":[null]}"#;
     assert_answer(&rt, &[one], Some(JobFault::LinkCount))?;
     let none = r#"{"capacity":1,"labels":4,"tree":[{"name":"r"}],"items":[7],"links":[]}"#;
-    look_at(
-        rt.alloc(),
-        none.as_bytes(),
-        &|job| assert!(rt; job.params().is_empty()),
-    )
+    assert_read(&rt, &[none], &has_no_params)
 }
 
 #[test]
@@ -158,7 +156,7 @@ fn refuses_links_of_a_wrong_shape(rt: HostRuntime) -> Result<(), AllocError> {
         r#""links":[null,{"capacity":-2,"labels":6}]"#,
         r#""links":[null,{"capacity":18446744073709551616,"labels":6}]"#,
     ];
-    assert_each_refused(&rt, CHAIN_WITH, ROWS, "}", &JobFault::Shape)
+    assert_each(&rt, CHAIN_WITH, ROWS, "}", &Some(JobFault::Shape))
 }
 
 #[test]

@@ -1,14 +1,13 @@
 //! The parts of a job: what its tree, items, starts, scripts and schedule are read as.
 
-use crate::jobs::look_at;
-use crate::own_params::assert_params;
+use crate::jobs::assert_read;
+use crate::own_params::has_params;
 use stab_core::{LinkAct, Start};
 use stab_frames::{Frame, Item, Label};
 use stab_job::{Job, JobFault};
 use stab_script::{InAct, OutAct, Script};
 use stab_tree::NodeId;
 use stab_treecore::TreeEvent;
-use std::process::Abort;
 
 /// The frames, the acknowledgements, and the sender's and the receiver's label of a start.
 type StartParts<'a> = (&'a [Frame], &'a [Label], (Label, Label));
@@ -19,11 +18,13 @@ type SenderActs<'a> = (&'a [OutAct], &'a [InAct]);
 /// A clean start.
 const CLEAN: StartParts<'static> = (&[], &[], (0, 65535));
 
-/// A job has as many nodes and links as counted, these items and turns, and no schedule.
-fn assert_tree(rt: &impl Abort, job: &Job, counts: (u16, u16), items: &[Item], turns: u32) {
-    assert!(rt; (job.tree().len(), job.tree().link_count()) == counts);
-    assert!(rt; job.items() == items);
-    assert!(rt; job.turns() == turns && job.schedule().is_empty());
+/// Whether a job has as many nodes and links as counted, these items and turns, and no schedule.
+fn has_tree(job: &Job, (nodes, links): (u16, u16), items: &[Item], turns: u32) -> bool {
+    job.tree().len() == nodes
+        && job.tree().link_count() == links
+        && job.items() == items
+        && job.turns() == turns
+        && job.schedule().is_empty()
 }
 
 /// Whether a start has these parts.
@@ -33,12 +34,12 @@ fn is_start(start: &Start, (frames, acks, labels): StartParts<'_>) -> bool {
         && (start.send_label, start.recv_label) == labels
 }
 
-/// A job has two starts, of these parts.
-fn assert_starts(rt: &impl Abort, job: &Job, first: StartParts<'_>, second: StartParts<'_>) {
-    let [one, two] = job.starts() else {
-        panic!(rt; "not two starts");
-    };
-    assert!(rt; is_start(one, first) && is_start(two, second));
+/// Whether a job has two starts, of these parts.
+fn has_starts(job: &Job, first: StartParts<'_>, second: StartParts<'_>) -> bool {
+    match job.starts() {
+        [one, two] => is_start(one, first) && is_start(two, second),
+        _ => false,
+    }
 }
 
 /// Whether the acts of a script's sender are these, and its receiver has none.
@@ -49,33 +50,36 @@ fn is_script(script: &Script, (frames_out, acks_in): SenderActs<'_>) -> bool {
         && script.acks_out().is_empty()
 }
 
-/// A job has two scripts, of these acts.
-fn assert_scripts(rt: &impl Abort, job: &Job, first: SenderActs<'_>, second: SenderActs<'_>) {
-    let [one, two] = job.scripts() else {
-        panic!(rt; "not two scripts");
-    };
-    assert!(rt; is_script(one, first) && is_script(two, second));
+/// Whether a job has two scripts, of these acts.
+fn has_scripts(job: &Job, first: SenderActs<'_>, second: SenderActs<'_>) -> bool {
+    match job.scripts() {
+        [one, two] => is_script(one, first) && is_script(two, second),
+        _ => false,
+    }
 }
 
-/// A job is that of one node, named `r`, which publishes two items, and of no link.
-fn assert_lone(rt: &impl Abort, job: &Job) {
-    assert_tree(rt, job, (1, 0), &[7, 8], 100_000);
-    assert!(rt; job.tree().find("r") == Some(NodeId::new(0)));
-    assert!(rt; job.params().is_empty() && job.starts().is_empty() && job.scripts().is_empty());
+/// Whether a job is that of one node, named `r`, which publishes two items, and of no link.
+fn is_lone(job: &Job) -> bool {
+    has_tree(job, (1, 0), &[7, 8], 100_000)
+        && job.tree().find("r") == Some(NodeId::new(0))
+        && job.params().is_empty()
+        && job.starts().is_empty()
+        && job.scripts().is_empty()
 }
 
 #[test]
 fn reads_a_lone_root(rt: HostRuntime) -> Result<(), JobFault> {
     let text = r#"{"capacity":1,"labels":4,"tree":[{"name":"r"}],"items":[7,8]}"#;
-    look_at(rt.alloc(), text.as_bytes(), &|job| assert_lone(&rt, job))
+    assert_read(&rt, &[text], &is_lone)
 }
 
-/// A job of three nodes gives each link the same parameters, a clean start and an empty script.
-fn assert_plain(rt: &impl Abort, job: &Job) {
-    assert_tree(rt, job, (3, 2), &[], 100_000);
-    assert_params(rt, job, (3, 8), (3, 8));
-    assert_starts(rt, job, CLEAN, CLEAN);
-    assert_scripts(rt, job, (&[], &[]), (&[], &[]));
+/// Whether a job of three nodes gives each link the same parameters, a clean start and an empty
+/// script.
+fn is_plain(job: &Job) -> bool {
+    has_tree(job, (3, 2), &[], 100_000)
+        && has_params(job, (3, 8), (3, 8))
+        && has_starts(job, CLEAN, CLEAN)
+        && has_scripts(job, (&[], &[]), (&[], &[]))
 }
 
 #[test]
@@ -85,7 +89,7 @@ fn gives_each_link_the_jobs_parameters_a_clean_start_and_an_empty_script(
     let text = r#"{"capacity":3,"labels":8,
         "tree":[{"name":"a","parent":"r"},{"name":"r"},{"name":"b","parent":"a"}],
         "items":[],"more":null}"#;
-    look_at(rt.alloc(), text.as_bytes(), &|job| assert_plain(&rt, job))
+    assert_read(&rt, &[text], &is_plain)
 }
 
 /// A job of two links, with a start and a script of its own for each.
@@ -96,32 +100,29 @@ const TWO_LINKS: &str = r#"{"version":1,"capacity":1,"labels":4,
     "scripts":[{"frames_out":"PDE","acks_in":"TK"},null],
     "turns":1000000}"#;
 
-/// These are the tree and the starts of that job.
-fn assert_two_starts(rt: &impl Abort, job: &Job) {
+/// Whether these are the tree and the starts of that job.
+fn has_two_starts(job: &Job) -> bool {
     const FIRST: StartParts<'static> = (&[Frame { label: 2, item: 99 }], &[0], (0, 1));
-    assert_tree(rt, job, (3, 2), &[10], 1_000_000);
-    assert_starts(rt, job, FIRST, (&[], &[], (5, 6)));
+    has_tree(job, (3, 2), &[10], 1_000_000) && has_starts(job, FIRST, (&[], &[], (5, 6)))
 }
 
 #[test]
 fn reads_the_starts_of_two_links(rt: HostRuntime) -> Result<(), JobFault> {
-    let bytes = TWO_LINKS.as_bytes();
-    look_at(rt.alloc(), bytes, &|job| assert_two_starts(&rt, job))
+    assert_read(&rt, &[TWO_LINKS], &has_two_starts)
 }
 
-/// These are the scripts of that job.
-fn assert_two_scripts(rt: &impl Abort, job: &Job) {
+/// Whether these are the scripts of that job.
+fn has_two_scripts(job: &Job) -> bool {
     const FIRST: SenderActs<'static> = (
         &[OutAct::Pass, OutAct::Drop, OutAct::Evict],
         &[InAct::Take, InAct::Keep],
     );
-    assert_scripts(rt, job, FIRST, (&[], &[]));
+    has_scripts(job, FIRST, (&[], &[]))
 }
 
 #[test]
 fn reads_the_scripts_of_two_links(rt: HostRuntime) -> Result<(), JobFault> {
-    let bytes = TWO_LINKS.as_bytes();
-    look_at(rt.alloc(), bytes, &|job| assert_two_scripts(&rt, job))
+    assert_read(&rt, &[TWO_LINKS], &has_two_scripts)
 }
 
 /// An act on the link into the node at this place.
@@ -148,11 +149,10 @@ fn each_act() -> [TreeEvent; 10] {
     ]
 }
 
-/// A job has one turn, and each act in its schedule.
-fn assert_each_act(rt: &impl Abort, job: &Job) {
+/// Whether a job has one turn, and each act in its schedule.
+fn has_each_act(job: &Job) -> bool {
     let schedule = each_act();
-    assert!(rt; job.turns() == 1);
-    assert!(rt; job.schedule() == schedule.as_slice());
+    job.turns() == 1 && job.schedule() == schedule.as_slice()
 }
 
 #[test]
@@ -163,9 +163,5 @@ fn reads_each_act_of_a_schedule(rt: HostRuntime) -> Result<(), JobFault> {
         "schedule":[["r","offer"],["a","send_frame"],["a","recv_frame"],["a","recv_frame_keep"],
         ["a","send_ack"],["a","recv_ack"],["a","recv_ack_keep"],["a","lose_frame",5],
         ["a","lose_ack",65535],["r","close"]]}"#;
-    look_at(
-        rt.alloc(),
-        text.as_bytes(),
-        &|job| assert_each_act(&rt, job),
-    )
+    assert_read(&rt, &[text], &has_each_act)
 }

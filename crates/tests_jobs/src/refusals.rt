@@ -1,13 +1,12 @@
 //! How each part of a job is refused, and in which order.
 
-use crate::jobs::{
-    Fault, assert_answer, assert_each_refused, assert_refused, look_at, refusal_of_bytes,
-};
+use crate::jobs::{Fault, assert_each, assert_read, assert_refused, refusal_of_bytes};
 use stab_frames::ParamsFault;
 use stab_job::{Job, JobFault};
 use stab_script::ScriptFault;
 use stab_tree::TreeFault;
 use std::alloc::{AllocError, Global};
+use std::process::Abort;
 
 /// A job of one node, which publishes two items.
 const LONE_ROOT: &str = r#"{"capacity":1,"labels":4,"tree":[{"name":"r"}],"items":[7,8]}"#;
@@ -50,10 +49,12 @@ fn refuses_members_that_do_not_fit_the_tree(rt: HostRuntime) -> Result<(), Alloc
         (r#""schedule":[["r","jump"]]"#, Fault::Event),
         (r#""schedule":[["x","offer"]]"#, Fault::UnknownNode),
     ];
+    const OF_A_PAIR: &[(&str, Fault)] = &[(
+        r#""scripts":[{"seed":[42,54],"length":1,"loss":1001,"repeat":0}]"#,
+        Fault::Script(ScriptFault::RateOutOfRange),
+    )];
     assert_refused(&rt, LONE_ROOT_WITH, ROWS, "}")?;
-    let rate = r#""scripts":[{"seed":[42,54],"length":1,"loss":1001,"repeat":0}]"#;
-    let out_of_range = JobFault::Script(ScriptFault::RateOutOfRange);
-    assert_answer(&rt, &[PAIR_WITH, rate, "}"], Some(out_of_range))
+    assert_refused(&rt, PAIR_WITH, OF_A_PAIR, "}")
 }
 
 #[test]
@@ -89,16 +90,22 @@ fn job_listing(
     [before, entries.as_str(), after].concat(alloc)
 }
 
-/// How such a job is refused, or `None` where it is read.
-fn refusal_of_listing(
-    alloc: Global,
+/// Fails the test where such a job is not refused so.
+fn assert_listing_refused<T: Abort + Alloc<A = Global>>(
+    rt: &T,
     before: &str,
     entry: &str,
     count: usize,
     after: &str,
-) -> Result<Option<JobFault>, AllocError> {
-    let text = job_listing(alloc, before, entry, count, after)?;
-    Ok(refusal_of_bytes(alloc, text.as_bytes()))
+    want: JobFault,
+) -> Result<(), AllocError> {
+    let text = job_listing(rt.alloc(), before, entry, count, after)?;
+    let refused = refusal_of_bytes(rt.alloc(), text.as_bytes());
+    assert!(rt;
+        refused == Some(want),
+        "{entry} {count} times and once: {refused:?}"
+    );
+    Ok(())
 }
 
 /// A job of one node with no turn, up to its items.
@@ -111,51 +118,45 @@ const SCHEDULED: &str =
 
 #[test]
 fn refuses_10001_items(rt: HostRuntime) -> Result<(), AllocError> {
-    const ROWS: &[(usize, Fault)] = &[
-        (9_999, Fault::TurnsOutOfRange),
-        (10_000, Fault::TooManyItems),
-    ];
-    for &(others, want) in ROWS {
-        let fault = refusal_of_listing(rt.alloc(), ITEMS_OF_NO_TURN, "7,", others, "7]}")?;
-        assert!(rt; fault == Some(want.of_job()), "{others} items and one");
-    }
-    Ok(())
+    let (most, more) = (JobFault::TurnsOutOfRange, JobFault::TooManyItems);
+    assert_listing_refused(&rt, ITEMS_OF_NO_TURN, "7,", 9_999, "7]}", most)?;
+    assert_listing_refused(&rt, ITEMS_OF_NO_TURN, "7,", 10_000, "7]}", more)
 }
 
-/// Looks at a job of one node that closes a link as many times as counted, and once more.
-fn look_at_closes(alloc: Global, count: usize, look: &dyn Fn(&Job)) -> Result<(), JobFault>
-    requires { IsAlwaysCallable look.now }
-{
-    let close = r#"["r","close"],"#;
-    let text = job_listing(alloc, SCHEDULED, close, count, r#"["r","close"]]}"#)?;
-    look_at(alloc, text.as_bytes(), look)
+/// Whether a job has 1,000,000 entries in its schedule.
+fn has_1000000_events(job: &Job) -> bool {
+    job.schedule().len() == 1_000_000
 }
 
 #[test]
 fn reads_1000000_events(rt: HostRuntime) -> Result<(), JobFault> {
-    look_at_closes(
-        rt.alloc(),
-        999_999,
-        &|job| assert!(rt; job.schedule().len() == 1_000_000),
-    )
+    let closes = r#"["r","close"],"#.repeat(rt.alloc(), 999_999)?;
+    let pieces = [SCHEDULED, closes.as_str(), r#"["r","close"]]}"#];
+    assert_read(&rt, &pieces, &has_1000000_events)
 }
 
 #[test]
 fn refuses_1000001_events(rt: HostRuntime) -> Result<(), AllocError> {
-    let fault = refusal_of_listing(rt.alloc(), SCHEDULED, "0,", 1_000_000, "0]}")?;
-    assert!(rt; fault == Some(JobFault::TooManyEvents));
-    Ok(())
+    let fault = JobFault::TooManyEvents;
+    assert_listing_refused(&rt, SCHEDULED, "0,", 1_000_000, "0]}", fault)
+}
+
+/// Whether the first bytes of a job, as many as counted, are refused as no JSON.
+fn is_no_json(alloc: Global, job: &[u8], count: usize) -> bool {
+    match job.get(..count) {
+        Some(bytes) => refusal_of_bytes(alloc, bytes) == Some(JobFault::Json),
+        None => false,
+    }
 }
 
 #[test]
 fn refuses_each_part_of_a_job(rt: HostRuntime) {
     let whole = LONE_ROOT.as_bytes();
-    for bytes in 0..whole.len() {
-        let cut = refusal_of_bytes(rt.alloc(), &whole[..bytes]);
-        assert!(rt; cut == Some(JobFault::Json), "{bytes}");
+    for count in 0..whole.len() {
+        assert!(rt; is_no_json(rt.alloc(), whole, count), "{count}");
     }
     assert!(rt; refusal_of_bytes(rt.alloc(), whole).is_none());
-    assert!(rt; refusal_of_bytes(rt.alloc(), &[255]) == Some(JobFault::Json));
+    assert!(rt; is_no_json(rt.alloc(), &[255], 1));
 }
 
 /// A job of two items, up to its tree.
@@ -205,19 +206,22 @@ fn refuses_wrong_shapes(rt: HostRuntime) -> Result<(), AllocError> {
         r#"{"capacity":1,"labels":4,"tree":[]}"#,
         r#"{"capacity":1,"labels":"4","tree":[],"items":[]}"#,
     ];
-    assert_each_refused(&rt, LONE_ROOT_WITH, MEMBERS, "}", &JobFault::Shape)?;
-    assert_each_refused(&rt, "", JOBS, "", &JobFault::Shape)
+    assert_each(&rt, LONE_ROOT_WITH, MEMBERS, "}", &Some(JobFault::Shape))?;
+    assert_each(&rt, "", JOBS, "", &Some(JobFault::Shape))
 }
 
 #[test]
 fn refuses_unknown_versions(rt: HostRuntime) -> Result<(), AllocError> {
     const VERSIONS: &[&str] = &["0", "3", "1.0", "2.0", r#""1""#, "true", "null", "[1]"];
     const MEMBERS: &[&str] = &[r#""version":1"#, r#""version":2,"h":0"#];
-    assert_each_refused(&rt, r#"{"version":"#, VERSIONS, "}", &JobFault::Version)?;
-    for &member in MEMBERS {
-        assert_answer(&rt, &[LONE_ROOT_WITH, member, "}"], None)?;
-    }
-    Ok(())
+    assert_each(
+        &rt,
+        r#"{"version":"#,
+        VERSIONS,
+        "}",
+        &Some(JobFault::Version),
+    )?;
+    assert_each(&rt, LONE_ROOT_WITH, MEMBERS, "}", &None)
 }
 
 /// A job of one node, up to the second entry of its schedule; the first one names no node.
@@ -239,7 +243,7 @@ fn refuses_bad_events_before_unknown_nodes(rt: HostRuntime) -> Result<(), AllocE
         r#"["r","lose_ack",-1]"#,
         r#"["r","lose_ack",0,0]"#,
     ];
-    assert_each_refused(&rt, UNKNOWN_NODE_AND, ENTRIES, "]}", &JobFault::Event)
+    assert_each(&rt, UNKNOWN_NODE_AND, ENTRIES, "]}", &Some(JobFault::Event))
 }
 
 #[test]
