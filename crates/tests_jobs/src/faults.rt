@@ -1,109 +1,103 @@
 //! The texts of faults.
 
+use crate::jobs::Fault;
 use stab_frames::ParamsFault;
 use stab_job::JobFault;
 use stab_script::ScriptFault;
-use stab_tree::{NodeId, TreeFault};
+use stab_tree::TreeFault;
 use stab_treecore::OpeningFault;
 use std::alloc::{AllocError, Global};
 use std::process::Abort;
-use std::test::Fail;
 
 /// Fails the test where a fault has not the text beside it.
 fn assert_texts<T: Abort + Alloc<A = Global>>(
     rt: &T,
-    rows: &[(JobFault, &str)],
+    rows: &[(Fault, &str)],
 ) -> Result<(), AllocError> {
     for &(fault, want) in rows {
-        let text = fault.to_string(rt.alloc())?;
+        let text = fault.of_job().to_string(rt.alloc())?;
         assert!(rt; text.as_str() == want, "{text}");
     }
     Ok(())
 }
 
 #[test]
-fn prints_each_fault_of_a_job(rt: HostRuntime) -> Result<(), Fail> {
-    let rows = [
-        (JobFault::Json, "job: not JSON"),
-        (JobFault::Version, "job: unknown version"),
-        (JobFault::Shape, "job: wrong shape"),
-        (JobFault::TooManyItems, "job: too many items"),
-        (JobFault::TooManyEvents, "job: too many events"),
-        (JobFault::StartCount, "job: wrong number of starts"),
-        (JobFault::ScriptCount, "job: wrong number of scripts"),
-        (JobFault::TurnsOutOfRange, "job: turns out of range"),
-        (JobFault::Event, "job: bad event"),
-        (JobFault::UnknownNode, "job: unknown node"),
-        (JobFault::LinkCount, "job: wrong number of links"),
-        (JobFault::Memory, "out of memory"),
+fn prints_each_fault_of_a_job(rt: HostRuntime) -> Result<(), AllocError> {
+    const ROWS: &[(Fault, &str)] = &[
+        (Fault::Json, "job: not JSON"),
+        (Fault::Version, "job: unknown version"),
+        (Fault::Shape, "job: wrong shape"),
+        (Fault::TooManyItems, "job: too many items"),
+        (Fault::TooManyEvents, "job: too many events"),
+        (Fault::StartCount, "job: wrong number of starts"),
+        (Fault::ScriptCount, "job: wrong number of scripts"),
+        (Fault::TurnsOutOfRange, "job: turns out of range"),
+        (Fault::Event, "job: bad event"),
+        (Fault::UnknownNode, "job: unknown node"),
+        (Fault::LinkCount, "job: wrong number of links"),
+        (Fault::Memory, "out of memory"),
     ];
-    assert_texts(&rt, &rows)?;
-    Ok(())
+    assert_texts(&rt, ROWS)
 }
 
 #[test]
-fn prints_the_fault_of_a_part(rt: HostRuntime) -> Result<(), Fail> {
-    let rows = [
+fn prints_the_fault_of_a_part(rt: HostRuntime) -> Result<(), AllocError> {
+    const ROWS: &[(Fault, &str)] = &[
         (
-            JobFault::Params(ParamsFault::CapacityOutOfRange),
+            Fault::Params(ParamsFault::CapacityOutOfRange),
             "job: capacity out of range",
         ),
         (
-            JobFault::Params(ParamsFault::LabelsTooFew),
+            Fault::Params(ParamsFault::LabelsTooFew),
             "job: too few labels",
         ),
         (
-            JobFault::Params(ParamsFault::LabelsTooMany),
+            Fault::Params(ParamsFault::LabelsTooMany),
             "job: too many labels",
         ),
         (
-            JobFault::LinkParams(NodeId::new(1), ParamsFault::CapacityOutOfRange),
+            Fault::LinkParams(1, ParamsFault::CapacityOutOfRange),
             "job: capacity out of range",
         ),
         (
-            JobFault::LinkParams(NodeId::new(2), ParamsFault::LabelsTooFew),
+            Fault::LinkParams(2, ParamsFault::LabelsTooFew),
             "job: too few labels",
         ),
         (
-            JobFault::LinkParams(NodeId::new(0), ParamsFault::LabelsTooMany),
+            Fault::LinkParams(0, ParamsFault::LabelsTooMany),
             "job: too many labels",
         ),
-        (JobFault::Tree(TreeFault::Cycle), "tree: cycle"),
+        (Fault::Tree(TreeFault::Cycle), "tree: cycle"),
+        (Fault::Script(ScriptFault::TooLong), "job: script too long"),
         (
-            JobFault::Script(ScriptFault::TooLong),
-            "job: script too long",
-        ),
-        (
-            JobFault::Script(ScriptFault::RateOutOfRange),
+            Fault::Script(ScriptFault::RateOutOfRange),
             "job: rate out of range",
         ),
     ];
-    assert_texts(&rt, &rows)?;
-    Ok(())
+    assert_texts(&rt, ROWS)
 }
 
 #[test]
-fn prints_each_fault_of_openings(rt: HostRuntime) -> Result<(), Fail> {
-    let rows = [
+fn prints_each_fault_of_openings(rt: HostRuntime) -> Result<(), AllocError> {
+    const ROWS: &[(Fault, &str)] = &[
         (
-            JobFault::Opening(OpeningFault::HoldOutOfRange),
+            Fault::Opening(OpeningFault::HoldOutOfRange),
             "job: h out of range",
         ),
         (
-            JobFault::Opening(OpeningFault::OpeningCount),
+            Fault::Opening(OpeningFault::OpeningCount),
             "job: wrong number of openings",
         ),
         (
-            JobFault::Opening(OpeningFault::OpeningPlace),
+            Fault::Opening(OpeningFault::OpeningPlace),
             "job: opening at the root or a leaf",
         ),
         (
-            JobFault::Opening(OpeningFault::OpeningTooLong),
+            Fault::Opening(OpeningFault::OpeningTooLong),
             "job: opening too long",
         ),
     ];
-    assert_texts(&rt, &rows)?;
-    Ok(())
+    assert_texts(&rt, ROWS)
 }
 
 #[test]

@@ -1,12 +1,11 @@
 //! Openings of a job: what the members of the second version mean, and how they are refused.
 
-use crate::jobs::{assert_misshapen, assert_refused, look_at_pieces};
+use crate::jobs::{Fault, assert_each, assert_read, assert_refused};
 use stab_frames::{Item, ParamsFault};
 use stab_job::{Job, JobFault};
 use stab_tree::NodeId;
 use stab_treecore::OpeningFault;
-use std::process::Abort;
-use std::test::Fail;
+use std::alloc::AllocError;
 
 /// A chain of three nodes, up to the members that a test adds.
 const CHAIN_WITH: &str = r#"{"capacity":1,"labels":4,"items":[7,8],
@@ -21,91 +20,83 @@ const CHAIN_OF_TOO_MUCH_HELD_WITH: &str = r#"{"capacity":1,"labels":4,"items":[7
     "tree":[{"name":"r"},{"name":"a","parent":"r"},{"name":"b","parent":"a"}],"version":2,
     "h":65,"#;
 
-/// The opening of the node at this place, of which there is one.
+/// Whether there is a node at this place, and this is its opening.
 #[tactic(auto, using(stab_treecore::proofs::ForCallers::openings_fit))]
-fn opening_at<'j>(rt: &impl Abort, job: &'j Job, place: u16) -> &'j [Item] {
-    assert!(rt; place < job.tree().len());
-    job.openings().list(NodeId::new(place))
+fn has_opening(job: &Job, place: u16, want: &[Item]) -> bool {
+    place < job.tree().len() && job.openings().list(NodeId::new(place)) == want
 }
 
-/// A chain's openings have at most as many items as counted, and these are at the node between its
-/// root and its leaf.
-fn assert_openings(rt: &impl Abort, job: &Job, hold: u16, inner: &[Item]) {
-    assert!(rt; job.openings().hold() == hold);
-    assert!(rt; opening_at(rt, job, 0).is_empty());
-    assert!(rt; opening_at(rt, job, 1) == inner);
-    assert!(rt; opening_at(rt, job, 2).is_empty());
+/// Whether a chain's openings have at most as many items as counted, and these are at the node
+/// between its root and its leaf.
+fn has_openings(job: &Job, hold: u16, inner: &[Item]) -> bool {
+    job.openings().hold() == hold
+        && has_opening(job, 0, &[])
+        && has_opening(job, 1, inner)
+        && has_opening(job, 2, &[])
 }
 
-/// These are the openings and the items of a chain whose inner node begins with two items.
-fn assert_passed_on(rt: &impl Abort, job: &Job) {
-    assert_openings(rt, job, 2, &[50, 51]);
-    assert!(rt; job.items() == [7, 8].as_slice());
+/// Whether these are the openings and the items of a chain whose inner node begins with two items.
+fn is_passed_on(job: &Job) -> bool {
+    has_openings(job, 2, &[50, 51]) && job.items() == [7, 8].as_slice()
 }
 
 #[test]
-fn an_opening_passed_on(rt: HostRuntime) -> Result<(), Fail> {
+fn an_opening_passed_on(rt: HostRuntime) -> Result<(), JobFault> {
     let members = r#""version":2,"h":2,"openings":[[],[50,51],[]]"#;
-    let pieces = [CHAIN_WITH, members, "}"];
-    look_at_pieces(rt.alloc(), &pieces, &|job| assert_passed_on(&rt, job))?;
-    Ok(())
+    assert_read(&rt, &[CHAIN_WITH, members, "}"], &is_passed_on)
 }
 
 #[test]
-fn reads_empty_openings_where_none_are_given(rt: HostRuntime) -> Result<(), Fail> {
-    let rows = [
+fn reads_empty_openings_where_none_are_given(rt: HostRuntime) -> Result<(), JobFault> {
+    const ROWS: &[(&str, u16)] = &[
         (r#""version":2,"h":2"#, 2),
         (r#""version":2,"h":64,"openings":[[],[],[]]"#, 64),
         (r#""version":2,"h":0"#, 0),
         (r#""version":1"#, 0),
         (r#""turns":1"#, 0),
     ];
-    for &(members, hold) in &rows {
-        let pieces = [CHAIN_WITH, members, "}"];
-        look_at_pieces(
-            rt.alloc(),
-            &pieces,
-            &|job| assert_openings(&rt, job, hold, &[]),
-        )?;
+    for &(members, hold) in ROWS {
+        let holds = |job: &Job| has_openings(job, hold, &[]);
+        assert_read(&rt, &[CHAIN_WITH, members, "}"], &holds)?;
     }
     Ok(())
 }
 
+/// Whether a chain's openings are empty, and may have no item.
+fn has_no_openings(job: &Job) -> bool {
+    has_openings(job, 0, &[])
+}
+
 #[test]
-fn ignores_both_members_in_version_1(rt: HostRuntime) -> Result<(), Fail> {
-    let rows = [
+fn ignores_both_members_in_version_1(rt: HostRuntime) -> Result<(), JobFault> {
+    const ROWS: &[&str] = &[
         r#""version":1,"h":2,"openings":[[],[50,51],[]]"#,
         r#""h":2,"openings":[[],[50,51],[]]"#,
         r#""version":1,"h":"x","openings":7"#,
         r#""h":null,"openings":null"#,
         r#""version":1,"h":70000,"openings":[[1]]"#,
     ];
-    for &members in &rows {
-        let pieces = [CHAIN_WITH, members, "}"];
-        look_at_pieces(
-            rt.alloc(),
-            &pieces,
-            &|job| assert_openings(&rt, job, 0, &[]),
-        )?;
+    for &members in ROWS {
+        assert_read(&rt, &[CHAIN_WITH, members, "}"], &has_no_openings)?;
     }
     Ok(())
 }
 
 /// How openings are refused that may have too many items.
-const OUT_OF_RANGE: JobFault = JobFault::Opening(OpeningFault::HoldOutOfRange);
+const OUT_OF_RANGE: Fault = Fault::Opening(OpeningFault::HoldOutOfRange);
 
 /// How another number of openings is refused.
-const COUNT: JobFault = JobFault::Opening(OpeningFault::OpeningCount);
+const COUNT: Fault = Fault::Opening(OpeningFault::OpeningCount);
 
 /// How an opening of the root or of a leaf is refused.
-const PLACE: JobFault = JobFault::Opening(OpeningFault::OpeningPlace);
+const PLACE: Fault = Fault::Opening(OpeningFault::OpeningPlace);
 
 /// How an opening of too many items is refused.
-const TOO_LONG: JobFault = JobFault::Opening(OpeningFault::OpeningTooLong);
+const TOO_LONG: Fault = Fault::Opening(OpeningFault::OpeningTooLong);
 
 #[test]
-fn refused_openings(rt: HostRuntime) -> Result<(), Fail> {
-    let rows = [
+fn refused_openings(rt: HostRuntime) -> Result<(), AllocError> {
+    const ROWS: &[(&str, Fault)] = &[
         (r#""h":65,"openings":[[],[50,51],[]]"#, OUT_OF_RANGE),
         (r#""h":65"#, OUT_OF_RANGE),
         (r#""h":70000,"openings":[]"#, OUT_OF_RANGE),
@@ -117,13 +108,12 @@ fn refused_openings(rt: HostRuntime) -> Result<(), Fail> {
         (r#""h":2,"openings":[[],[1,2,3],[]]"#, TOO_LONG),
         (r#""h":0,"openings":[[],[1],[]]"#, TOO_LONG),
     ];
-    assert_refused(&rt, CHAIN_OF_VERSION_2_WITH, &rows)?;
-    Ok(())
+    assert_refused(&rt, CHAIN_OF_VERSION_2_WITH, ROWS, "}")
 }
 
 #[test]
-fn refuses_openings_of_a_wrong_shape(rt: HostRuntime) -> Result<(), Fail> {
-    let rows = [
+fn refuses_openings_of_a_wrong_shape(rt: HostRuntime) -> Result<(), AllocError> {
+    const ROWS: &[&str] = &[
         r#""openings":[[],[50,51],[]]"#,
         r#""h":null"#,
         r#""h":"2""#,
@@ -139,20 +129,26 @@ fn refuses_openings_of_a_wrong_shape(rt: HostRuntime) -> Result<(), Fail> {
         r#""h":2,"openings":[[],[4294967296],[]]"#,
         r#""h":65,"openings":[[],[-1],[]]"#,
     ];
-    assert_misshapen(&rt, CHAIN_OF_VERSION_2_WITH, &rows)?;
-    Ok(())
+    assert_each(
+        &rt,
+        CHAIN_OF_VERSION_2_WITH,
+        ROWS,
+        "}",
+        &Some(JobFault::Shape),
+    )
 }
 
 #[test]
-fn checks_the_openings_last(rt: HostRuntime) -> Result<(), Fail> {
-    let too_few = JobFault::LinkParams(NodeId::new(2), ParamsFault::LabelsTooFew);
-    let rows = [
-        (r#""turns":0"#, JobFault::TurnsOutOfRange),
-        (r#""schedule":[["x","offer"]]"#, JobFault::UnknownNode),
-        (r#""links":[]"#, JobFault::LinkCount),
-        (r#""links":[null,{"capacity":2,"labels":5}]"#, too_few),
+fn checks_the_openings_last(rt: HostRuntime) -> Result<(), AllocError> {
+    const ROWS: &[(&str, Fault)] = &[
+        (r#""turns":0"#, Fault::TurnsOutOfRange),
+        (r#""schedule":[["x","offer"]]"#, Fault::UnknownNode),
+        (r#""links":[]"#, Fault::LinkCount),
+        (
+            r#""links":[null,{"capacity":2,"labels":5}]"#,
+            Fault::LinkParams(2, ParamsFault::LabelsTooFew),
+        ),
         (r#""links":[null,null]"#, OUT_OF_RANGE),
     ];
-    assert_refused(&rt, CHAIN_OF_TOO_MUCH_HELD_WITH, &rows)?;
-    Ok(())
+    assert_refused(&rt, CHAIN_OF_TOO_MUCH_HELD_WITH, ROWS, "}")
 }

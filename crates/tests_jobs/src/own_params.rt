@@ -1,11 +1,9 @@
 //! Parameters of single links: what the entries of `links` mean, and how they are refused.
 
-use crate::jobs::{assert_answer, assert_misshapen, assert_refused, look_at, look_at_pieces};
-use stab_frames::ParamsFault;
+use crate::jobs::{Fault, assert_answer, assert_each, assert_read, assert_refused};
+use stab_frames::{Params, ParamsFault};
 use stab_job::{Job, JobFault};
-use stab_tree::NodeId;
-use std::process::Abort;
-use std::test::Fail;
+use std::alloc::AllocError;
 
 /// A chain of three nodes whose second link is wider than its first.
 const WIDER_SECOND_LINK: &str = r#"{"capacity":1,"labels":4,
@@ -29,33 +27,34 @@ const ROOT_BETWEEN_WITH: &str = r#"{"capacity":1,"labels":4,"tree":[{"name":"b",
     {"name":"r"},{"name":"a","parent":"r"}],"items":[7,8],"#;
 
 /// Capacity and number of labels of a link.
-type Numbers = (u16, u16);
+pub(crate) type Numbers = (u16, u16);
 
-/// The two links of a job have these parameters.
-fn assert_params(rt: &impl Abort, job: &Job, first: Numbers, second: Numbers) {
-    let [one, two] = job.params() else {
-        panic!(rt; "not two links");
-    };
-    assert!(rt; (one.capacity(), one.labels()) == first);
-    assert!(rt; (two.capacity(), two.labels()) == second);
+/// Whether a link has these parameters.
+fn has_numbers(params: &Params, (capacity, labels): Numbers) -> bool {
+    params.capacity() == capacity && params.labels() == labels
 }
 
-/// The chain has its parameters, and as many starts and events.
-fn assert_wider(rt: &impl Abort, job: &Job) {
-    assert_params(rt, job, (1, 4), (2, 6));
-    assert!(rt; (job.starts().len(), job.schedule().len()) == (2, 22));
+/// Whether the two links of a job have these parameters.
+pub(crate) fn has_params(job: &Job, first: Numbers, second: Numbers) -> bool {
+    match job.params() {
+        [one, two] => has_numbers(one, first) && has_numbers(two, second),
+        _ => false,
+    }
 }
 
-#[test]
-fn reads_a_wider_second_link(rt: HostRuntime) -> Result<(), Fail> {
-    let bytes = WIDER_SECOND_LINK.as_bytes();
-    look_at(rt.alloc(), bytes, &|job| assert_wider(&rt, job))?;
-    Ok(())
+/// Whether the chain has its parameters, and as many starts and events.
+fn is_wider(job: &Job) -> bool {
+    has_params(job, (1, 4), (2, 6)) && job.starts().len() == 2 && job.schedule().len() == 22
 }
 
 #[test]
-fn reads_the_parameters_of_each_link(rt: HostRuntime) -> Result<(), Fail> {
-    let rows = [
+fn reads_a_wider_second_link(rt: HostRuntime) -> Result<(), JobFault> {
+    assert_read(&rt, &[WIDER_SECOND_LINK], &is_wider)
+}
+
+#[test]
+fn reads_the_parameters_of_each_link(rt: HostRuntime) -> Result<(), JobFault> {
+    const ROWS: &[(&str, Numbers, Numbers)] = &[
         (r#""links":[null,null]"#, (1, 4), (1, 4)),
         (r#""turns":1"#, (1, 4), (1, 4)),
         (
@@ -69,80 +68,79 @@ fn reads_the_parameters_of_each_link(rt: HostRuntime) -> Result<(), Fail> {
             (3, 8),
         ),
     ];
-    for &(members, first, second) in &rows {
-        for &with in &[CHAIN_WITH, ROOT_BETWEEN_WITH] {
-            let pieces = [with, members, "}"];
-            look_at_pieces(
-                rt.alloc(),
-                &pieces,
-                &|job| assert_params(&rt, job, first, second),
-            )?;
-        }
+    for &(members, first, second) in ROWS {
+        let holds = |job: &Job| has_params(job, first, second);
+        assert_read(&rt, &[CHAIN_WITH, members, "}"], &holds)?;
+        assert_read(&rt, &[ROOT_BETWEEN_WITH, members, "}"], &holds)?;
     }
     Ok(())
 }
 
-#[test]
-fn a_lone_root_has_no_parameters(rt: HostRuntime) -> Result<(), Fail> {
-    let none = r#"{"capacity":1,"labels":4,"tree":[{"name":"r"}],"items":[7],"links":[]}"#;
-    look_at(
-        rt.alloc(),
-        none.as_bytes(),
-        &|job| assert!(rt; job.params().is_empty()),
-    )?;
-    let one = r#"{"capacity":1,"labels":4,"tree":[{"name":"r"}],"items":[7],"links":[null]}"#;
-    assert_answer(&rt, &[one], Some(JobFault::LinkCount))?;
-    Ok(())
+/// Whether a job has no link.
+fn has_no_params(job: &Job) -> bool {
+    job.params().is_empty()
 }
 
 #[test]
-fn refuses_link_parameters(rt: HostRuntime) -> Result<(), Fail> {
-    let rows = [
-        (r#""links":[]"#, JobFault::LinkCount),
-        (r#""links":[null]"#, JobFault::LinkCount),
-        (r#""links":[null,null,null]"#, JobFault::LinkCount),
+fn a_lone_root_has_no_parameters(rt: HostRuntime) -> Result<(), JobFault> {
+    let one = r#"{"capacity":1,"labels":4,"tree":[{"name":"r"}],"items":[7],"links":[null]}"#;
+    assert_answer(&rt, &[one], Some(JobFault::LinkCount))?;
+    let none = r#"{"capacity":1,"labels":4,"tree":[{"name":"r"}],"items":[7],"links":[]}"#;
+    assert_read(&rt, &[none], &has_no_params)
+}
+
+#[test]
+fn refuses_link_parameters(rt: HostRuntime) -> Result<(), AllocError> {
+    const ROWS: &[(&str, Fault)] = &[
+        (r#""links":[]"#, Fault::LinkCount),
+        (r#""links":[null]"#, Fault::LinkCount),
+        (r#""links":[null,null,null]"#, Fault::LinkCount),
         (
             r#""links":[null,{"capacity":2,"labels":5}]"#,
-            JobFault::LinkParams(NodeId::new(2), ParamsFault::LabelsTooFew),
+            Fault::LinkParams(2, ParamsFault::LabelsTooFew),
         ),
         (
             r#""links":[null,{"capacity":0,"labels":6}]"#,
-            JobFault::LinkParams(NodeId::new(2), ParamsFault::CapacityOutOfRange),
+            Fault::LinkParams(2, ParamsFault::CapacityOutOfRange),
         ),
         (
             r#""links":[null,{"capacity":70000,"labels":1000}]"#,
-            JobFault::LinkParams(NodeId::new(2), ParamsFault::CapacityOutOfRange),
+            Fault::LinkParams(2, ParamsFault::CapacityOutOfRange),
         ),
         (
             r#""links":[{"capacity":2,"labels":70000},null]"#,
-            JobFault::LinkParams(NodeId::new(1), ParamsFault::LabelsTooMany),
+            Fault::LinkParams(1, ParamsFault::LabelsTooMany),
         ),
     ];
-    assert_refused(&rt, CHAIN_WITH, &rows)?;
-    Ok(())
+    assert_refused(&rt, CHAIN_WITH, ROWS, "}")
 }
 
-/// How a job is refused whose link into this node has too few labels.
-fn too_few(child: u16) -> JobFault {
-    JobFault::LinkParams(NodeId::new(child), ParamsFault::LabelsTooFew)
+/// A first link with too few labels before a second one whose capacity is out of range.
+const BOTH: &str = r#""links":[{"capacity":2,"labels":5},{"capacity":0,"labels":4}]"#;
+
+/// A second link alone with too few labels.
+const SECOND: &str = r#""links":[null,{"capacity":2,"labels":5}]"#;
+
+/// What is wrong with the first link that is named.
+const TOO_FEW: ParamsFault = ParamsFault::LabelsTooFew;
+
+#[test]
+fn names_the_first_link_of_refused_parameters(rt: HostRuntime) -> Result<(), AllocError> {
+    const IN_CHAIN: &[(&str, Fault)] = &[
+        (BOTH, Fault::LinkParams(1, TOO_FEW)),
+        (SECOND, Fault::LinkParams(2, TOO_FEW)),
+    ];
+    const BETWEEN: &[(&str, Fault)] = &[
+        (BOTH, Fault::LinkParams(0, TOO_FEW)),
+        (SECOND, Fault::LinkParams(2, TOO_FEW)),
+    ];
+    assert_refused(&rt, CHAIN_WITH, IN_CHAIN, "}")?;
+    assert_refused(&rt, ROOT_BETWEEN_WITH, BETWEEN, "}")
 }
 
 #[test]
-fn names_the_first_link_of_refused_parameters(rt: HostRuntime) -> Result<(), Fail> {
-    let both = r#""links":[{"capacity":2,"labels":5},{"capacity":0,"labels":4}]"#;
-    let second = r#""links":[null,{"capacity":2,"labels":5}]"#;
-    assert_refused(&rt, CHAIN_WITH, &[(both, too_few(1)), (second, too_few(2))])?;
-    assert_refused(
-        &rt,
-        ROOT_BETWEEN_WITH,
-        &[(both, too_few(0)), (second, too_few(2))],
-    )?;
-    Ok(())
-}
-
-#[test]
-fn refuses_links_of_a_wrong_shape(rt: HostRuntime) -> Result<(), Fail> {
-    let rows = [
+fn refuses_links_of_a_wrong_shape(rt: HostRuntime) -> Result<(), AllocError> {
+    const ROWS: &[&str] = &[
         r#""links":3"#,
         r#""links":null"#,
         r#""links":{}"#,
@@ -158,26 +156,21 @@ fn refuses_links_of_a_wrong_shape(rt: HostRuntime) -> Result<(), Fail> {
         r#""links":[null,{"capacity":-2,"labels":6}]"#,
         r#""links":[null,{"capacity":18446744073709551616,"labels":6}]"#,
     ];
-    assert_misshapen(&rt, CHAIN_WITH, &rows)?;
-    Ok(())
+    assert_each(&rt, CHAIN_WITH, ROWS, "}", &Some(JobFault::Shape))
 }
 
 #[test]
-fn checks_the_links_last(rt: HostRuntime) -> Result<(), Fail> {
-    let rows = [
-        (r#""links":[],"turns":0"#, JobFault::TurnsOutOfRange),
-        (r#""links":[],"schedule":[0]"#, JobFault::Event),
+fn checks_the_links_last(rt: HostRuntime) -> Result<(), AllocError> {
+    const ROWS: &[(&str, Fault)] = &[
+        (r#""links":[],"turns":0"#, Fault::TurnsOutOfRange),
+        (r#""links":[],"schedule":[0]"#, Fault::Event),
         (
             r#""links":[null],"schedule":[["x","offer"]]"#,
-            JobFault::UnknownNode,
+            Fault::UnknownNode,
         ),
-        (
-            r#""links":[{"capacity":0,"labels":0}]"#,
-            JobFault::LinkCount,
-        ),
+        (r#""links":[{"capacity":0,"labels":0}]"#, Fault::LinkCount),
     ];
-    assert_refused(&rt, CHAIN_WITH, &rows)?;
-    Ok(())
+    assert_refused(&rt, CHAIN_WITH, ROWS, "}")
 }
 
 /// A chain of three nodes with parameters of each link, up to the job's own.
@@ -186,19 +179,20 @@ const OWN_AFTER: &str = r#"{"tree":[{"name":"r"},{"name":"a","parent":"r"},
     "links":[{"capacity":2,"labels":6},{"capacity":2,"labels":6}],"#;
 
 #[test]
-fn checks_the_jobs_own_parameters_where_each_link_has_its_own(rt: HostRuntime) -> Result<(), Fail> {
-    let rows = [
-        (r#""labels":4"#, JobFault::Shape),
-        (r#""capacity":1"#, JobFault::Shape),
+fn checks_the_jobs_own_parameters_where_each_link_has_its_own(
+    rt: HostRuntime,
+) -> Result<(), AllocError> {
+    const ROWS: &[(&str, Fault)] = &[
+        (r#""labels":4"#, Fault::Shape),
+        (r#""capacity":1"#, Fault::Shape),
         (
             r#""capacity":0,"labels":4"#,
-            JobFault::Params(ParamsFault::CapacityOutOfRange),
+            Fault::Params(ParamsFault::CapacityOutOfRange),
         ),
         (
             r#""capacity":1,"labels":3"#,
-            JobFault::Params(ParamsFault::LabelsTooFew),
+            Fault::Params(ParamsFault::LabelsTooFew),
         ),
     ];
-    assert_refused(&rt, OWN_AFTER, &rows)?;
-    Ok(())
+    assert_refused(&rt, OWN_AFTER, ROWS, "}")
 }

@@ -5,33 +5,33 @@ use crate::tasks::{
     not_json,
 };
 use stab_task::Task;
-use std::alloc::Global;
+use std::alloc::{AllocError, Global};
 use std::process::Abort;
 use std::sync::Wait;
-use std::test::Fail;
 use std::thread::Threads;
+
+/// Each task, with its trace and without.
+const EACH: &[Task] = &[PLAIN, TRACED, Task::Tree, LOCKED, WORDS, MIXED];
 
 /// Fails the test where a task does not refuse the bytes as no JSON.
 fn assert_not_json<T: Threads + Wait + Send + Sync + Abort + Alloc<A = Global>>(
     rt: &T,
     bytes: &[u8],
 ) {
-    for &task in &[PLAIN, TRACED, Task::Tree, LOCKED, WORDS, MIXED] {
-        assert_refused(rt, task, bytes, &not_json(task));
+    for &task in EACH {
+        assert_refused(rt, &[task], bytes, &not_json(task));
     }
 }
 
 #[test]
-fn bytes_that_are_no_job(rt: HostRuntime) -> Result<(), Fail> {
+fn bytes_that_are_no_job(rt: HostRuntime) -> Result<(), AllocError> {
     let mut nested = [b'['; 400];
     nested[200..].fill(b']');
     assert_not_json(&rt, &nested);
     assert_not_json(&rt, &[255]);
     assert_not_json(&rt, &[]);
-    for &task in &[PLAIN, Task::Tree] {
-        assert_fault(&rt, &not_json(task), 1, "job: not JSON")?;
-    }
-    Ok(())
+    assert_fault(&rt, &not_json(PLAIN), 1, "job: not JSON")?;
+    assert_fault(&rt, &not_json(Task::Tree), 1, "job: not JSON")
 }
 
 #[test]

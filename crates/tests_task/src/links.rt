@@ -1,21 +1,20 @@
 //! Tasks over a single link.
 
-use crate::tasks::{
-    PLAIN, TRACED, WORST_START, WORST_TEXT, assert_answer, assert_fault, assert_refused,
-};
+use crate::tasks::{PLAIN, TRACED, WORST_START, WORST_TEXT, assert_answer, assert_told};
 use stab_core::StartFault;
 use stab_frames::ParamsFault;
 use stab_script::LinkJobFault;
 use stab_task::CliFault;
-use std::test::Fail;
+use std::alloc::AllocError;
+
+/// The text of the worst start with its trace.
+const WORST_TRACE: &str =
+    "delivered: 99 13\noffered: 10 11 12 13\nacked: 3\nsend label: 3\nrecv label: 3\nframes:\nacks:\nclosed: no\norigins: s0 i3\n";
 
 #[test]
-fn prints_the_worst_start_and_its_trace(rt: HostRuntime) -> Result<(), Fail> {
+fn prints_the_worst_start_and_its_trace(rt: HostRuntime) {
     assert_answer(&rt, PLAIN, WORST_START, WORST_TEXT);
-    let mut text = String::from_str(rt.alloc(), WORST_TEXT)?;
-    text.push_str("origins: s0 i3\n")?;
-    assert_answer(&rt, TRACED, WORST_START, &text);
-    Ok(())
+    assert_answer(&rt, TRACED, WORST_START, WORST_TRACE);
 }
 
 #[test]
@@ -29,48 +28,38 @@ fn delivers_nothing_after_the_close(rt: HostRuntime) {
 }
 
 #[test]
-fn refuses_link_jobs_by_name(rt: HostRuntime) -> Result<(), Fail> {
-    let rows = [
-        (
-            "",
-            CliFault::LinkJob(LinkJobFault::Json),
-            1,
-            "job: not JSON",
-        ),
-        (
-            "{}",
-            CliFault::LinkJob(LinkJobFault::Shape),
-            1,
-            "job: wrong shape",
-        ),
+fn refuses_link_jobs_by_name(rt: HostRuntime) -> Result<(), AllocError> {
+    const JOBS: &[(&str, LinkJobFault, &str)] = &[
+        ("", LinkJobFault::Json, "job: not JSON"),
+        ("{}", LinkJobFault::Shape, "job: wrong shape"),
         (
             r#"{"capacity":1,"labels":3,"start":{"send":0,"recv":1},"events":["jump"]}"#,
-            CliFault::LinkJob(LinkJobFault::Params(ParamsFault::LabelsTooFew)),
-            1,
+            LinkJobFault::Params(ParamsFault::LabelsTooFew),
             "job: too few labels",
         ),
         (
             r#"{"capacity":1,"labels":4,"start":{"send":0,"recv":1},"events":["jump"]}"#,
-            CliFault::LinkJob(LinkJobFault::Event),
-            1,
+            LinkJobFault::Event,
             "job: bad event",
         ),
+    ];
+    const STARTS: &[(&str, StartFault, &str)] = &[
         (
             r#"{"capacity":1,"labels":4,"start":{"frames":[[0,1],[1,2]],"acks":[0,1],"send":0,"recv":1},"events":[]}"#,
-            CliFault::Start(StartFault::TooManyFrames),
-            3,
+            StartFault::TooManyFrames,
             "start: too many frames",
         ),
         (
             r#"{"capacity":1,"labels":4,"start":{"acks":[0,1],"send":0,"recv":1},"events":[]}"#,
-            CliFault::Start(StartFault::TooManyAcks),
-            3,
+            StartFault::TooManyAcks,
             "start: too many acknowledgements",
         ),
     ];
-    for (job, fault, status, text) in &rows {
-        assert_refused(&rt, PLAIN, job.as_bytes(), fault);
-        assert_fault(&rt, fault, *status, text)?;
+    for &(job, fault, text) in JOBS {
+        assert_told(&rt, &[PLAIN], job, &CliFault::LinkJob(fault), 1, text)?;
+    }
+    for &(job, fault, text) in STARTS {
+        assert_told(&rt, &[PLAIN], job, &CliFault::Start(fault), 3, text)?;
     }
     Ok(())
 }

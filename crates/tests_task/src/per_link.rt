@@ -1,8 +1,8 @@
 //! Jobs whose links have parameters of their own.
 
 use crate::tasks::{
-    LOCKED, LONE_REPORT, LONE_ROOT, MIXED, OF_TREES, RUNS, WORDS, assert_answer, assert_fault,
-    assert_refused, outcome,
+    LOCKED, LONE_REPORT, LONE_ROOT, MIXED, OF_TREES, RUNS, WORDS, assert_answer, assert_told,
+    outcome,
 };
 use crate::words::is_refused;
 use stab_core::StartFault;
@@ -14,7 +14,6 @@ use stab_treecore::TreeStartFault;
 use std::alloc::{AllocError, Global};
 use std::process::Abort;
 use std::sync::Wait;
-use std::test::Fail;
 use std::thread::Threads;
 
 /// A chain of three nodes, whose second link is wider than the first and begins with two frames.
@@ -25,22 +24,35 @@ const WIDER: &str =
 const LINKS: &str = r#""links":[null,{"capacity":2,"labels":6}]"#;
 
 /// Fails the test where a task, with these links in place of the wider second one, does not refuse
-/// its job with this fault.
+/// its job with this fault, or the fault has another status or another text.
 fn assert_no_links<T: Threads + Wait + Send + Sync + Abort + Alloc<A = Global>>(
     rt: &T,
     tasks: &[Task],
     links: &str,
     fault: &CliFault,
+    status: u8,
+    text: &str,
 ) -> Result<(), AllocError> {
     let job = WIDER.replace(rt.alloc(), LINKS, links)?;
-    for &task in tasks {
-        assert_refused(rt, task, job.as_bytes(), fault);
+    assert_told(rt, tasks, &job, fault, status, text)
+}
+
+/// Fails the test where a task over a tree does not refuse the job with one of these links so.
+fn assert_no_job<T: Threads + Wait + Send + Sync + Abort + Alloc<A = Global>>(
+    rt: &T,
+    all: &[&str],
+    fault: JobFault,
+    text: &str,
+) -> Result<(), AllocError> {
+    let fault = CliFault::Job(fault);
+    for links in all {
+        assert_no_links(rt, OF_TREES, links, &fault, 1, text)?;
     }
     Ok(())
 }
 
 #[test]
-fn a_wider_second_link(rt: HostRuntime) -> Result<(), Fail> {
+fn a_wider_second_link(rt: HostRuntime) -> Result<(), AllocError> {
     assert_answer(
         &rt,
         Task::Tree,
@@ -48,57 +60,44 @@ fn a_wider_second_link(rt: HostRuntime) -> Result<(), Fail> {
         "r depth 0 received 2 acked -\nitems: 7 8\na depth 1 received 2 acked 2\nitems: 7 8\nb depth 2 received 4 acked 2\nitems: 20 21 7 8\n",
     );
     let fault = CliFault::Tree(TreeStartFault::Start(StartFault::TooManyFrames));
-    assert_no_links(&rt, &[Task::Tree], r#""labels":4"#, &fault)?;
-    assert_fault(&rt, &fault, 3, "start: too many frames")?;
-    Ok(())
+    assert_no_links(
+        &rt,
+        &[Task::Tree],
+        r#""labels":4"#,
+        &fault,
+        3,
+        "start: too many frames",
+    )
 }
 
 #[test]
-fn refused_link_parameters(rt: HostRuntime) -> Result<(), Fail> {
-    let rows = [
-        (
-            r#""links":[null]"#,
-            CliFault::Job(JobFault::LinkCount),
-            "job: wrong number of links",
-        ),
-        (
-            r#""links":[]"#,
-            CliFault::Job(JobFault::LinkCount),
-            "job: wrong number of links",
-        ),
-        (
-            r#""links":[null,{"capacity":2,"labels":5}]"#,
-            CliFault::Job(JobFault::LinkParams(NodeId::new(2), ParamsFault::LabelsTooFew)),
-            "job: too few labels",
-        ),
-        (
-            r#""links":[{"capacity":65,"labels":200},{"capacity":2,"labels":5}]"#,
-            CliFault::Job(JobFault::LinkParams(NodeId::new(1), ParamsFault::CapacityOutOfRange)),
-            "job: capacity out of range",
-        ),
-        (
-            r#""links":3"#,
-            CliFault::Job(JobFault::Shape),
-            "job: wrong shape",
-        ),
-        (
-            r#""links":null"#,
-            CliFault::Job(JobFault::Shape),
-            "job: wrong shape",
-        ),
-        (
-            r#""links":[null,3]"#,
-            CliFault::Job(JobFault::Shape),
-            "job: wrong shape",
-        ),
+fn refused_link_parameters(rt: HostRuntime) -> Result<(), AllocError> {
+    const MISCOUNTED: &[&str] = &[r#""links":[null]"#, r#""links":[]"#];
+    const TOO_FEW: &[&str] = &[r#""links":[null,{"capacity":2,"labels":5}]"#];
+    const TOO_WIDE: &[&str] = &[
+        r#""links":[{"capacity":65,"labels":200},{"capacity":2,"labels":5}]"#,
     ];
-    for (links, fault, text) in &rows {
-        assert_no_links(&rt, &OF_TREES, links, fault)?;
-        assert_fault(&rt, fault, 1, text)?;
-    }
+    const MISSHAPEN: &[&str] = &[r#""links":3"#, r#""links":null"#, r#""links":[null,3]"#];
+    let second = JobFault::LinkParams(NodeId::new(2), ParamsFault::LabelsTooFew);
+    let first = JobFault::LinkParams(NodeId::new(1), ParamsFault::CapacityOutOfRange);
+    assert_no_job(
+        &rt,
+        MISCOUNTED,
+        JobFault::LinkCount,
+        "job: wrong number of links",
+    )?;
+    assert_no_job(&rt, TOO_FEW, second, "job: too few labels")?;
+    assert_no_job(&rt, TOO_WIDE, first, "job: capacity out of range")?;
+    assert_no_job(&rt, MISSHAPEN, JobFault::Shape, "job: wrong shape")?;
     let not_one = CliFault::Run(RunFault::CapacityNotOne);
-    assert_refused(&rt, WORDS, WIDER.as_bytes(), &not_one);
-    assert_fault(&rt, &not_one, 3, "run: capacity is not one")?;
+    assert_told(
+        &rt,
+        &[WORDS],
+        WIDER,
+        &not_one,
+        3,
+        "run: capacity is not one",
+    )?;
     assert!(rt; is_refused(rt.alloc(), &["stab", "run", "--words", "--mixed"])?);
     assert!(rt; CliFault::CommandLine.status() == 2);
     Ok(())
@@ -129,24 +128,31 @@ fn assert_reported<T: Threads + Wait + Send + Sync + Abort + Alloc<A = Global>>(
     links: &str,
 ) -> Result<(), AllocError> {
     let job = WIDER.replace(rt.alloc(), LINKS, links)?;
-    for &task in &[MIXED, LOCKED] {
-        assert!(rt; reports_the_chain(rt, task, &job), "{links}");
-    }
+    assert!(rt;
+        reports_the_chain(rt, MIXED, &job) && reports_the_chain(rt, LOCKED, &job),
+        "{links}"
+    );
     Ok(())
 }
 
 #[test]
-fn mixed_runs(rt: HostRuntime) -> Result<(), Fail> {
-    assert_answer(&rt, MIXED, LONE_ROOT, LONE_REPORT);
-    let wider = [
+fn mixed_runs(rt: HostRuntime) -> Result<(), AllocError> {
+    const REPORTED: &[&str] = &[
         LINKS,
         r#""links":[{"capacity":1,"labels":4},{"capacity":3,"labels":8}]"#,
         r#""links":[{"capacity":3,"labels":8},{"capacity":2,"labels":6}]"#,
     ];
-    for links in &wider {
+    assert_answer(&rt, MIXED, LONE_ROOT, LONE_REPORT);
+    for links in REPORTED {
         assert_reported(&rt, links)?;
     }
     let fault = CliFault::Run(RunFault::Start(NodeId::new(2), StartFault::TooManyFrames));
-    assert_no_links(&rt, &RUNS, r#""links":[null,null]"#, &fault)?;
-    Ok(())
+    assert_no_links(
+        &rt,
+        RUNS,
+        r#""links":[null,null]"#,
+        &fault,
+        3,
+        "start: too many frames",
+    )
 }

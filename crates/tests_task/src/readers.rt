@@ -2,10 +2,10 @@
 
 use crate::tasks::{PLAIN, WORKS, Work, assert_fault, assert_refused, not_json, outcome};
 use stab_task::{CliFault, Task, load};
-use std::alloc::Global;
+use std::alloc::{AllocError, Global};
 use std::io::{self, ErrorKind, Read};
+use std::process::Abort;
 use std::sync::Wait;
-use std::test::Fail;
 use std::thread::Threads;
 
 const INTERRUPTED: Option<ErrorKind> = Some(ErrorKind::Interrupted);
@@ -194,14 +194,13 @@ fn is_read_on<T: Threads + Wait + Send + Sync + Alloc<A = Global>>(
 }
 
 #[test]
-fn readers_that_fail(rt: HostRuntime) -> Result<(), Fail> {
-    for &work in &WORKS {
+fn readers_that_fail(rt: HostRuntime) -> Result<(), AllocError> {
+    for &work in WORKS {
         for place in 0..=work.job.len() {
             assert!(rt; is_read_on(&rt, work, place), "at byte {place}");
         }
     }
-    assert_fault(&rt, &CliFault::Read, 1, "file: cannot be read")?;
-    Ok(())
+    assert_fault(&rt, &CliFault::Read, 1, "file: cannot be read")
 }
 
 /// Whether a job in pieces of so many bytes is read, and one that ends after them, or has a byte
@@ -220,29 +219,33 @@ fn is_read_as_given<T: Threads + Wait + Send + Sync + Alloc<A = Global>>(
 
 #[test]
 fn readers_that_give_less_or_more(rt: HostRuntime) {
-    for &work in &WORKS {
+    for &work in WORKS {
         for count in 0..=work.job.len() {
             assert!(rt; is_read_as_given(&rt, work, count), "{count} bytes");
         }
     }
 }
 
-#[test]
-fn readers_of_16777216_spaces(rt: HostRuntime) -> Result<(), Fail> {
-    let mut spaces = vec![in rt.alloc(); b' '; 16_777_216]?;
+/// Fails the test where bytes are not read in pieces, or are not refused as no JSON.
+fn assert_no_job<T: Threads + Wait + Send + Sync + Abort + Alloc<A = Global>>(
+    rt: &T,
+    bytes: &[u8],
+) {
     for &most in &[1, 65_536] {
-        let bytes = spaces.as_slice();
         let reader = Pieces { bytes, most };
         assert!(rt; gives(rt.alloc(), reader, bytes), "pieces of {most} bytes");
     }
     for &task in &[PLAIN, Task::Tree] {
-        assert_refused(&rt, task, &spaces, &not_json(task));
+        assert_refused(rt, &[task], bytes, &not_json(task));
     }
+}
+
+#[test]
+fn readers_of_16777216_spaces(rt: HostRuntime) -> Result<(), AllocError> {
+    let mut spaces = vec![in rt.alloc(); b' '; 16_777_216]?;
+    assert_no_job(&rt, &spaces);
     spaces.push(b' ')?;
-    for &task in &[PLAIN, Task::Tree] {
-        assert_refused(&rt, task, &spaces, &CliFault::TooLong);
-    }
+    assert_refused(&rt, &[PLAIN, Task::Tree], &spaces, &CliFault::TooLong);
     assert!(rt; loaded(rt.alloc(), Endless).err() == Some(CliFault::TooLong));
-    assert_fault(&rt, &CliFault::TooLong, 1, "file: too long")?;
-    Ok(())
+    assert_fault(&rt, &CliFault::TooLong, 1, "file: too long")
 }

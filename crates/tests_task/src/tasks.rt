@@ -11,7 +11,6 @@ use std::alloc::{AllocError, Global};
 use std::io::Read;
 use std::process::Abort;
 use std::sync::Wait;
-use std::test::Fail;
 use std::thread::Threads;
 
 pub(crate) const PLAIN: Task = Task::Link { trace: false };
@@ -40,10 +39,10 @@ pub(crate) const LONE_ROOT: &str =
     r#"{"capacity":1,"labels":4,"tree":[{"name":"r"}],"items":[7,8]}"#;
 
 /// The tasks that read a job of a tree.
-pub(crate) const OF_TREES: [Task; 4] = [Task::Tree, LOCKED, WORDS, MIXED];
+pub(crate) const OF_TREES: &[Task] = &[Task::Tree, LOCKED, WORDS, MIXED];
 
 /// The tasks that run the workers of a job.
-pub(crate) const RUNS: [Task; 3] = [LOCKED, WORDS, MIXED];
+pub(crate) const RUNS: &[Task] = &[LOCKED, WORDS, MIXED];
 
 pub(crate) const LONE_TEXT: &str = "r depth 0 received 2 acked -\nitems: 7 8\n";
 
@@ -59,7 +58,7 @@ pub(crate) struct Work {
 
 /// One work for each task, of which each reads and writes as the others do; of the runs, those over
 /// one kind of link.
-pub(crate) const WORKS: [Work; 4] = [
+pub(crate) const WORKS: &[Work] = &[
     Work {
         task: PLAIN,
         job: WORST_START,
@@ -117,18 +116,21 @@ pub(crate) fn assert_answer<T: Threads + Wait + Send + Sync + Abort + Alloc<A = 
     );
 }
 
-/// Fails the test where the task does not refuse the bytes with this fault, or writes anything.
+/// Fails the test where one of these tasks does not refuse the bytes with this fault, or writes
+/// anything.
 pub(crate) fn assert_refused<T: Threads + Wait + Send + Sync + Abort + Alloc<A = Global>>(
     rt: &T,
-    task: Task,
+    tasks: &[Task],
     job: &[u8],
     fault: &CliFault,
 ) {
-    let (ended, written) = outcome(rt, rt.alloc(), task, job);
-    assert!(rt;
-        ended == Err(*fault) && written.is_empty(),
-        "{task:?}: {ended:?}"
-    );
+    for &task in tasks {
+        let (ended, written) = outcome(rt, rt.alloc(), task, job);
+        assert!(rt;
+            ended == Err(*fault) && written.is_empty(),
+            "{task:?}: {ended:?}"
+        );
+    }
 }
 
 /// Fails the test where the fault has another status or another text.
@@ -138,14 +140,30 @@ pub(crate) fn assert_fault<T: Abort + Alloc<A = Global>>(
     status: u8,
     text: &str,
 ) -> Result<(), AllocError> {
-    assert!(rt; fault.status() == status, "{text}");
     let its_text = fault.to_string(rt.alloc())?;
-    assert!(rt; its_text.as_str() == text, "{its_text}");
+    assert!(rt;
+        fault.status() == status && its_text.as_str() == text,
+        "{its_text}"
+    );
     Ok(())
 }
 
+/// Fails the test where one of these tasks does not refuse the job with this fault, or the fault
+/// has another status or another text.
+pub(crate) fn assert_told<T: Threads + Wait + Send + Sync + Abort + Alloc<A = Global>>(
+    rt: &T,
+    tasks: &[Task],
+    job: &str,
+    fault: &CliFault,
+    status: u8,
+    text: &str,
+) -> Result<(), AllocError> {
+    assert_refused(rt, tasks, job.as_bytes(), fault);
+    assert_fault(rt, fault, status, text)
+}
+
 #[test]
-fn prints_out_of_memory_with_no_prefix(rt: HostRuntime) -> Result<(), Fail> {
+fn prints_out_of_memory_with_no_prefix(rt: HostRuntime) -> Result<(), AllocError> {
     let faults = [
         CliFault::Memory,
         CliFault::LinkJob(LinkJobFault::Memory),

@@ -1,76 +1,84 @@
 //! Tasks over a whole tree under one schedule.
 
-use crate::tasks::{LONE_ROOT, LONE_TEXT, assert_answer, assert_fault, assert_refused};
+use crate::tasks::{LONE_ROOT, LONE_TEXT, assert_answer, assert_told};
 use stab_core::StartFault;
 use stab_run::JobFault;
 use stab_script::ScriptFault;
 use stab_task::{CliFault, Task};
 use stab_tree::TreeFault;
 use stab_treecore::{TreeStartFault, TreeStepFault};
-use std::alloc::{AllocError, Global};
-use std::test::Fail;
+use std::alloc::AllocError;
 
-/// The acts on the link into this node that begin at the worst start: one round that meets what the
-/// start holds, and then `rounds` more.
-fn push_steps(schedule: &mut String, child: &str, rounds: usize) -> Result<(), AllocError> {
-    let worst = [
-        "offer",
-        "recv_ack",
-        "send_ack",
-        "offer",
-        "recv_ack",
-        "recv_frame",
-        "send_ack",
-        "offer",
-        "recv_ack",
-        "offer",
-        "send_frame",
-        "recv_frame",
-        "send_ack",
-        "recv_ack",
-    ];
-    for act in &worst {
-        push_step(schedule, child, act)?;
+/// The acts of one round that meets what the worst start holds.
+const WORST: &[&str] = &[
+    "offer",
+    "recv_ack",
+    "send_ack",
+    "offer",
+    "recv_ack",
+    "recv_frame",
+    "send_ack",
+    "offer",
+    "recv_ack",
+    "offer",
+    "send_frame",
+    "recv_frame",
+    "send_ack",
+    "recv_ack",
+];
+
+/// The acts of one round of an item.
+const ROUND: &[&str] = &["offer", "send_frame", "recv_frame", "send_ack", "recv_ack"];
+
+/// Adds pieces of text.
+pub(crate) fn push_all(text: &mut String, pieces: &[&str]) -> Result<(), AllocError> {
+    for piece in pieces {
+        text.push_str(piece)?;
     }
-    for _ in 0..rounds {
-        push_round(schedule, child)?;
+    Ok(())
+}
+
+/// Whether a list has no entry yet.
+fn is_opened(list: &str) -> bool {
+    list.as_bytes().last() == Some(&b'[')
+}
+
+/// Adds acts on the link into this node, each after a comma where it is not the first of its list.
+fn push_acts<'t>(
+    schedule: &mut String,
+    child: &'t str,
+    acts: &[&'t str],
+) -> Result<(), AllocError> {
+    for act in acts {
+        let comma = if is_opened(schedule) { "" } else { "," };
+        push_all(schedule, &[comma, "[\"", child, "\",\"", act, "\"]"])?;
     }
     Ok(())
 }
 
 /// Adds one round of an item on the link into this node.
 pub(crate) fn push_round(schedule: &mut String, child: &str) -> Result<(), AllocError> {
-    for act in &["offer", "send_frame", "recv_frame", "send_ack", "recv_ack"] {
-        push_step(schedule, child, act)?;
-    }
-    Ok(())
-}
-
-/// Adds one act on the link into this node, after a comma where it is not the first of its list.
-fn push_step(schedule: &mut String, child: &str, act: &str) -> Result<(), AllocError> {
-    if schedule.as_bytes().last() != Some(&b'[') {
-        schedule.push_str(",")?;
-    }
-    schedule.push_str("[\"")?;
-    schedule.push_str(child)?;
-    schedule.push_str("\",\"")?;
-    schedule.push_str(act)?;
-    schedule.push_str("\"]")
+    push_acts(schedule, child, ROUND)
 }
 
 /// A job of two links that both begin at the worst start, up to the acts of its schedule.
 const TWO_WORST_STARTS: &str =
     r#"{"capacity":1,"labels":4,"tree":[{"name":"r"},{"name":"a","parent":"r"},{"name":"b","parent":"a"}],"items":[10,11,12,13,14,15,16],"starts":[{"frames":[[2,99]],"acks":[0],"send":0,"recv":1},{"frames":[[2,98]],"acks":[0],"send":0,"recv":1}],"schedule":["#;
 
-/// Adds the schedule of that job, and its end.
+/// Adds the schedule of that job, and its end: on each link one round that meets what its start
+/// holds, and then three rounds more on the first one, and one on the second.
 fn push_schedule(job: &mut String) -> Result<(), AllocError> {
-    push_steps(job, "a", 3)?;
-    push_steps(job, "b", 1)?;
+    for acts in &[WORST, ROUND, ROUND, ROUND] {
+        push_acts(job, "a", acts)?;
+    }
+    for acts in &[WORST, ROUND] {
+        push_acts(job, "b", acts)?;
+    }
     job.push_str("]}")
 }
 
 #[test]
-fn prints_two_links_under_one_schedule(rt: HostRuntime) -> Result<(), Fail> {
+fn prints_two_links_under_one_schedule(rt: HostRuntime) -> Result<(), AllocError> {
     let mut job = String::from_str(rt.alloc(), TWO_WORST_STARTS)?;
     push_schedule(&mut job)?;
     assert_answer(
@@ -98,7 +106,7 @@ fn offers_nothing_before_an_item_is_received(rt: HostRuntime) {
 }
 
 #[test]
-fn refuses_trees_and_schedules_by_name(rt: HostRuntime) -> Result<(), Fail> {
+fn refuses_trees_and_schedules_by_name(rt: HostRuntime) -> Result<(), AllocError> {
     let rows = [
         (
             r#"{"capacity":1,"labels":4,"tree":[{"name":"r"}],"items":[7,8],"schedule":[["r","offer"]]}"#,
@@ -139,8 +147,7 @@ fn refuses_trees_and_schedules_by_name(rt: HostRuntime) -> Result<(), Fail> {
         ),
     ];
     for (job, fault, status, text) in &rows {
-        assert_refused(&rt, Task::Tree, job.as_bytes(), fault);
-        assert_fault(&rt, fault, *status, text)?;
+        assert_told(&rt, &[Task::Tree], job, fault, *status, text)?;
     }
     Ok(())
 }

@@ -3,7 +3,6 @@
 use crate::tasks::{LOCKED, MIXED, PLAIN, TRACED, WORDS, assert_fault};
 use stab_task::{CliFault, Task, parse};
 use std::alloc::{AllocError, Global};
-use std::test::Fail;
 
 /// The words of a command line.
 fn words(alloc: Global, line: &[&str]) -> Result<Vec<String>, AllocError> {
@@ -42,7 +41,7 @@ pub(crate) fn is_refused(alloc: Global, line: &[&str]) -> Result<bool, AllocErro
 }
 
 /// Command lines, and the tasks and files that they name.
-const TAKEN: [(&[&str], Task, Option<&str>); 19] = [
+const TAKEN: &[(&[&str], Task, Option<&str>)] = &[
     (&["stab"], PLAIN, None),
     (&["stab", "--"], PLAIN, None),
     (&["stab", "link"], PLAIN, None),
@@ -85,15 +84,15 @@ const TAKEN: [(&[&str], Task, Option<&str>); 19] = [
 ];
 
 #[test]
-fn takes_a_command_word_a_flag_and_a_file(rt: HostRuntime) -> Result<(), Fail> {
-    for (line, task, path) in &TAKEN {
+fn takes_a_command_word_a_flag_and_a_file(rt: HostRuntime) -> Result<(), AllocError> {
+    for (line, task, path) in TAKEN {
         assert!(rt; is_taken(rt.alloc(), line, *task, *path)?, "{line:?}");
     }
     Ok(())
 }
 
 /// Command lines that name no task.
-const REFUSED: [&[&str]; 26] = [
+const REFUSED: &[&[&str]] = &[
     &["stab", "run", "--fast"],
     &["stab", "run", "--words", "--words"],
     &["stab", "run", "--words=1"],
@@ -123,10 +122,9 @@ const REFUSED: [&[&str]; 26] = [
 ];
 
 #[test]
-fn refuses_other_words_and_help(rt: HostRuntime) -> Result<(), Fail> {
-    for line in &REFUSED {
+fn refuses_other_words_and_help(rt: HostRuntime) -> Result<(), AllocError> {
+    for line in REFUSED {
         assert!(rt; is_refused(rt.alloc(), line)?, "{line:?}");
     }
-    assert_fault(&rt, &CliFault::CommandLine, 2, "command line refused")?;
-    Ok(())
+    assert_fault(&rt, &CliFault::CommandLine, 2, "command line refused")
 }

@@ -2,10 +2,9 @@
 
 use crate::tasks::{WORKS, Work, assert_fault};
 use stab_task::{CliFault, act};
-use std::alloc::Global;
+use std::alloc::{AllocError, Global};
 use std::io::{self, ErrorKind, Write};
 use std::sync::Wait;
-use std::test::Fail;
 use std::thread::Threads;
 
 /// A writer that takes at most `most` bytes at a time. After as many bytes as its place says it
@@ -143,13 +142,12 @@ fn is_written_as_taken<T: Threads + Wait + Send + Sync + Alloc<A = Global>>(
 }
 
 #[test]
-fn writers_that_fail(rt: HostRuntime) -> Result<(), Fail> {
-    for &work in &WORKS {
+fn writers_that_fail(rt: HostRuntime) -> Result<(), AllocError> {
+    for &work in WORKS {
         for count in 0..work.text.len() {
             assert!(rt; is_written_as_taken(&rt, work, count), "{count} bytes");
         }
         assert!(rt; fails_at_the_flush(&rt, work), "at the flush");
     }
-    assert_fault(&rt, &CliFault::Write, 3, "output: cannot be written")?;
-    Ok(())
+    assert_fault(&rt, &CliFault::Write, 3, "output: cannot be written")
 }
