@@ -1,30 +1,20 @@
 //! The worked examples of a locked link, each as a table of calls beside their answers. The same
 //! tables are walked by the ends of a locked link and by a book's own calls.
 
+use crate::asks::{Ask, ask_and_finish, assert_settled, gave};
 use stab_core::{Effect, Event, Start};
 use stab_frames::{Item, Params, Sequence};
 use stab_lock::{
     FrameSeen, LinkBook, LockLink, RecvAccount, RecvSide, SendAccount, SendSide, SettleFault,
     Settled,
 };
-use stab_script::{InAct, OutAct, Script};
+use stab_script::{HalfScript, InAct, OutAct, Script};
 use std::alloc::{AllocError, Global};
 use std::process::Abort;
 use std::sync::Wait;
 use std::test::Fail;
 use std::thread;
 use std::thread::Threads;
-
-/// A call of one of the two ends, beside the answer that it must give.
-#[derive(Clone, Copy, Debug)]
-enum Ask {
-    Offer(Item, bool),
-    Send(Effect),
-    PollAck(Effect),
-    Close(Effect),
-    PollFrame(FrameSeen),
-    SendAck(Effect),
-}
 
 /// A round with 7, and the close.
 const ROUND_AND_CLOSE: [Ask; 13] = [
@@ -104,23 +94,34 @@ fn script_of_losses(alloc: Global) -> Result<Script, Fail> {
     Ok(Script::new(outs, ins, Vec::new(alloc), Vec::new(alloc))?)
 }
 
-/// Makes the calls on both ends, in their order, and compares the answers.
-fn ask_ends<S: SendSide, T: RecvSide<Pass = S::Pass>, R: Abort>(
+/// Makes a call of a book. It answers whether the call gave its answer.
+fn make(
+    book: &mut LinkBook,
+    sender: &mut HalfScript,
+    receiver: &mut HalfScript,
+    ask: Ask,
+) -> Result<bool, AllocError> {
+    match ask {
+        Ask::Offer(item, taken) => gave(book.offer(item), taken),
+        Ask::Send(effect) => gave(book.send(sender), effect),
+        Ask::PollAck(effect) => gave(book.poll_ack(sender), effect),
+        Ask::Close(effect) => gave(book.close(), effect),
+        Ask::PollFrame(seen) => gave(book.poll_frame(receiver), seen),
+        Ask::SendAck(effect) => gave(book.send_ack(receiver), effect),
+    }
+}
+
+/// Makes the calls on a book, in their order, and compares the answers.
+fn ask_halves<R: Abort>(
     rt: &R,
-    pass: &S::Pass,
-    send: &mut S,
-    recv: &mut T,
+    book: &mut LinkBook,
+    sender: &mut HalfScript,
+    receiver: &mut HalfScript,
     asks: &[Ask],
 ) -> Result<(), AllocError> {
     for ask in asks {
-        match *ask {
-            Ask::Offer(item, taken) => assert!(rt; send.offer(pass, item)? == taken, "{ask:?}"),
-            Ask::Send(effect) => assert!(rt; send.send(pass)? == effect, "{ask:?}"),
-            Ask::PollAck(effect) => assert!(rt; send.poll_ack(pass)? == effect, "{ask:?}"),
-            Ask::Close(effect) => assert!(rt; send.close(pass)? == effect, "{ask:?}"),
-            Ask::PollFrame(seen) => assert!(rt; recv.poll_frame(pass)? == seen, "{ask:?}"),
-            Ask::SendAck(effect) => assert!(rt; recv.send_ack(pass)? == effect, "{ask:?}"),
-        }
+        let is_answered = make(book, sender, receiver, *ask)?;
+        assert!(rt; is_answered, "{ask:?}");
     }
     Ok(())
 }
@@ -133,19 +134,19 @@ fn ask_book<R: Abort>(
     asks: &[Ask],
 ) -> Result<(), AllocError> {
     let (mut sender, mut receiver) = script.split();
-    for ask in asks {
-        match *ask {
-            Ask::Offer(item, taken) => assert!(rt; book.offer(item)? == taken, "{ask:?}"),
-            Ask::Send(effect) => assert!(rt; book.send(&mut sender)? == effect, "{ask:?}"),
-            Ask::PollAck(effect) => assert!(rt; book.poll_ack(&mut sender)? == effect, "{ask:?}"),
-            Ask::Close(effect) => assert!(rt; book.close()? == effect, "{ask:?}"),
-            Ask::PollFrame(seen) => assert!(rt; book.poll_frame(&mut receiver)? == seen, "{ask:?}"),
-            Ask::SendAck(effect) => {
-                assert!(rt; book.send_ack(&mut receiver)? == effect, "{ask:?}")
-            }
-        }
-    }
-    Ok(())
+    ask_halves(rt, book, &mut sender, &mut receiver, asks)
+}
+
+/// The book after these calls of its own.
+fn book_after<R: Abort>(
+    rt: &R,
+    alloc: Global,
+    script: Script,
+    asks: &[Ask],
+) -> Result<LinkBook, Fail> {
+    let mut book = book_at_three(alloc)?;
+    ask_book(rt, &mut book, script, asks)?;
+    Ok(book)
 }
 
 /// Fails the test where the book has another history.
@@ -173,77 +174,74 @@ fn accounts<R: Wait + Abort>(
     script: Script,
     asks: &[Ask],
 ) -> Result<(SendAccount, RecvAccount), AllocError> {
-    let (mut send, mut recv) = link.split::<R>(script);
-    ask_ends(rt, rt, &mut send, &mut recv, asks)?;
-    Ok((send.finish(), recv.finish()))
+    let (send, recv) = link.split::<R>(script);
+    ask_and_finish(rt, rt, send, recv, asks)
+}
+
+/// A locked link after these calls.
+fn link_after<R: Wait + Abort>(
+    rt: &R,
+    alloc: Global,
+    script: Script,
+    asks: &[Ask],
+) -> Result<LockLink, Fail> {
+    let link = link_at_three(alloc)?;
+    accounts(rt, &link, script, asks)?;
+    Ok(link)
 }
 
 /// The book of a locked link after these calls.
 fn book_of_ends<R: Wait + Abort>(
     rt: &R,
-    link: LockLink,
+    alloc: Global,
     script: Script,
     asks: &[Ask],
-) -> Result<LinkBook, AllocError> {
-    accounts(rt, &link, script, asks)?;
-    Ok(link.into_book())
+) -> Result<LinkBook, Fail> {
+    Ok(link_after(rt, alloc, script, asks)?.into_book())
 }
 
 #[test]
 fn a_round_and_a_close_locked(rt: HostRuntime) -> Result<(), Fail> {
-    let alloc = rt.alloc();
-    let link = link_at_three(alloc)?;
-    let book = book_of_ends(&rt, link, Script::none(alloc), &ROUND_AND_CLOSE)?;
+    let script = Script::none(rt.alloc());
+    let book = book_of_ends(&rt, rt.alloc(), script, &ROUND_AND_CLOSE)?;
     assert_history(&rt, &book, &ROUND_AND_CLOSE_HISTORY);
     Ok(())
 }
 
-/// Fails the test where these are not the accounts of one round with 7 and its close.
-fn assert_round<R: Abort>(rt: &R, settled: &Settled) {
-    assert!(rt;
-        settled.send.offered.as_slice() == [7].as_slice(),
-        "offered"
-    );
-    assert!(rt; settled.send.acked == 1, "acknowledged");
-    assert!(rt;
-        settled.recv.delivered.as_slice() == [7].as_slice(),
-        "delivered"
-    );
-    assert!(rt; settled.send.closed && settled.recv.closed, "closed");
+/// The accounts of both ends of a locked link after the round and its close.
+fn settled<R: Wait + Abort>(rt: &R, alloc: Global) -> Result<Settled, Fail> {
+    let link = link_at_three(alloc)?;
+    let (send, recv) = accounts(rt, &link, Script::none(alloc), &ROUND_AND_CLOSE)?;
+    Ok(link.settle(send, recv)?)
 }
 
 #[test]
 fn a_round_and_a_close_settled(rt: HostRuntime) -> Result<(), Fail> {
-    let alloc = rt.alloc();
-    let link = link_at_three(alloc)?;
-    let (send, recv) = accounts(&rt, &link, Script::none(alloc), &ROUND_AND_CLOSE)?;
-    assert_round(&rt, &link.settle(send, recv)?);
+    let settled = settled(&rt, rt.alloc())?;
+    assert_settled(&rt, &settled, &[7], 1, &[7], true);
     Ok(())
 }
 
 #[test]
 fn a_script_on_a_locked_link(rt: HostRuntime) -> Result<(), Fail> {
-    let alloc = rt.alloc();
-    let link = link_at_three(alloc)?;
-    let book = book_of_ends(&rt, link, script_of_losses(alloc)?, &SCRIPTED)?;
+    let script = script_of_losses(rt.alloc())?;
+    let book = book_of_ends(&rt, rt.alloc(), script, &SCRIPTED)?;
     assert_history(&rt, &book, &SCRIPTED_HISTORY);
     Ok(())
 }
 
 #[test]
 fn a_round_and_a_close_by_the_book(rt: HostRuntime) -> Result<(), Fail> {
-    let alloc = rt.alloc();
-    let mut book = book_at_three(alloc)?;
-    ask_book(&rt, &mut book, Script::none(alloc), &ROUND_AND_CLOSE)?;
+    let script = Script::none(rt.alloc());
+    let book = book_after(&rt, rt.alloc(), script, &ROUND_AND_CLOSE)?;
     assert_history(&rt, &book, &ROUND_AND_CLOSE_HISTORY);
     Ok(())
 }
 
 #[test]
 fn a_script_by_the_book(rt: HostRuntime) -> Result<(), Fail> {
-    let alloc = rt.alloc();
-    let mut book = book_at_three(alloc)?;
-    ask_book(&rt, &mut book, script_of_losses(alloc)?, &SCRIPTED)?;
+    let script = script_of_losses(rt.alloc())?;
+    let book = book_after(&rt, rt.alloc(), script, &SCRIPTED)?;
     assert_history(&rt, &book, &SCRIPTED_HISTORY);
     Ok(())
 }
@@ -260,17 +258,24 @@ fn note_all<R: Abort>(
     Ok(())
 }
 
+/// An offer that is taken, and one that is not.
+const TWO_OFFERS: [(Event, Effect); 2] = [
+    (Event::Offer(7), Effect::Held),
+    (Event::Offer(8), Effect::Nothing),
+];
+
+/// Fails the test where a book notes only the offer that is taken, or offers the other one.
+fn assert_notes_both<R: Abort>(rt: &R, book: &mut LinkBook) -> Result<(), AllocError> {
+    note_all(rt, book, &TWO_OFFERS)?;
+    assert_history(rt, book, &[Event::Offer(7), Event::Offer(8)]);
+    assert!(rt; book.link().offered() == [7].as_slice());
+    Ok(())
+}
+
 #[test]
 fn a_noted_event_without_effect(rt: HostRuntime) -> Result<(), Fail> {
     let mut book = book_at_three(rt.alloc())?;
-    let notes = [
-        (Event::Offer(7), Effect::Held),
-        (Event::Offer(8), Effect::Nothing),
-    ];
-    note_all(&rt, &mut book, &notes)?;
-    assert_history(&rt, &book, &[Event::Offer(7), Event::Offer(8)]);
-    assert!(rt; book.link().offered() == [7].as_slice());
-    Ok(())
+    Ok(assert_notes_both(&rt, &mut book)?)
 }
 
 /// Notes an event so many times, and compares the effect of each.
@@ -305,19 +310,27 @@ fn assert_event<R: Abort>(rt: &R, book: &LinkBook, place: u64, event: Option<Eve
     assert!(rt; book.event_at(place) == event, "event {place}");
 }
 
+/// Events, the effect of each, how often it is noted, and the length of the history after it.
+const REPEATED: [(Event, Effect, u32, u64); 3] = [
+    (Event::SendAck, Effect::Sent, 1, 1),
+    (Event::SendAck, Effect::Lost, 999, 1000),
+    (Event::Offer(7), Effect::Held, 1, 1001),
+];
+
+/// Fails the test where a book does not note a thousand equal events and one more, each at its
+/// place.
+fn assert_notes_repeated<R: Abort>(rt: &R, book: &mut LinkBook) -> Result<(), AllocError> {
+    note_rows(rt, book, &REPEATED)?;
+    assert_event(rt, book, 999, Some(Event::SendAck));
+    assert_event(rt, book, 1000, Some(Event::Offer(7)));
+    assert_event(rt, book, 1001, None);
+    Ok(())
+}
+
 #[test]
 fn a_thousand_equal_events(rt: HostRuntime) -> Result<(), Fail> {
     let mut book = book_at_three(rt.alloc())?;
-    let rows = [
-        (Event::SendAck, Effect::Sent, 1, 1),
-        (Event::SendAck, Effect::Lost, 999, 1000),
-        (Event::Offer(7), Effect::Held, 1, 1001),
-    ];
-    note_rows(&rt, &mut book, &rows)?;
-    assert_event(&rt, &book, 999, Some(Event::SendAck));
-    assert_event(&rt, &book, 1000, Some(Event::Offer(7)));
-    assert_event(&rt, &book, 1001, None);
-    Ok(())
+    Ok(assert_notes_repeated(&rt, &mut book)?)
 }
 
 /// Accounts of a round with 7 that is closed, changed as the flags say.
@@ -352,15 +365,25 @@ const DIFFERENCES: [(bool, bool, bool, bool, Result<(), SettleFault>); 6] = [
     (true, true, true, true, Err(SettleFault::OfferedDiffer)),
 ];
 
+/// What a locked link says of accounts of that round that are changed as the flags say.
+fn settle_changed<R: Wait + Abort>(
+    rt: &R,
+    alloc: Global,
+    offered: bool,
+    acked: bool,
+    delivered: bool,
+    closed: bool,
+) -> Result<Result<(), SettleFault>, Fail> {
+    let link = link_after(rt, alloc, Script::none(alloc), &ROUND_AND_CLOSE)?;
+    let (send, recv) = changed_accounts(alloc, offered, acked, delivered, closed)?;
+    Ok(link.settle(send, recv).map(|_| ()))
+}
+
 #[test]
 fn accounts_that_differ(rt: HostRuntime) -> Result<(), Fail> {
-    let alloc = rt.alloc();
-    for (offered, acked, delivered, closed, answer) in DIFFERENCES {
-        let link = link_at_three(alloc)?;
-        accounts(&rt, &link, Script::none(alloc), &ROUND_AND_CLOSE)?;
-        let (send, recv) = changed_accounts(alloc, offered, acked, delivered, closed)?;
-        let settled = link.settle(send, recv).map(|_| ());
-        assert!(rt; settled == answer, "{answer:?}");
+    for (offered, acked, delivered, closed, answer) in &DIFFERENCES {
+        let settled = settle_changed(&rt, rt.alloc(), *offered, *acked, *delivered, *closed)?;
+        assert!(rt; settled == *answer, "{answer:?}");
     }
     Ok(())
 }
@@ -378,16 +401,20 @@ fn check_changed(
     Ok(book.check(&send, &recv))
 }
 
-#[test]
-fn accounts_that_differ_from_a_book(rt: HostRuntime) -> Result<(), Fail> {
-    let alloc = rt.alloc();
-    let mut book = book_at_three(alloc)?;
-    ask_book(&rt, &mut book, Script::none(alloc), &ROUND_AND_CLOSE)?;
-    for (offered, acked, delivered, closed, answer) in DIFFERENCES {
-        let checked = check_changed(alloc, &book, offered, acked, delivered, closed)?;
-        assert!(rt; checked == answer, "{answer:?}");
+/// Fails the test where a book gives another answer to changed accounts than the one beside them.
+fn assert_differences<R: Abort>(rt: &R, alloc: Global, book: &LinkBook) -> Result<(), AllocError> {
+    for (offered, acked, delivered, closed, answer) in &DIFFERENCES {
+        let checked = check_changed(alloc, book, *offered, *acked, *delivered, *closed)?;
+        assert!(rt; checked == *answer, "{answer:?}");
     }
     Ok(())
+}
+
+#[test]
+fn accounts_that_differ_from_a_book(rt: HostRuntime) -> Result<(), Fail> {
+    let script = Script::none(rt.alloc());
+    let book = book_after(&rt, rt.alloc(), script, &ROUND_AND_CLOSE)?;
+    Ok(assert_differences(&rt, rt.alloc(), &book)?)
 }
 
 /// How many items the two threads exchange.
@@ -455,23 +482,31 @@ fn assert_counted<R: Abort>(rt: &R, items: &[Item]) {
     }
 }
 
-/// The accounts of both ends of a link, after each has worked in a thread of its own.
+/// The accounts of both ends of a link under a script of losses, after each has worked in a thread
+/// of its own.
 fn both_ends<R: Threads + Wait + Send + Sync>(
     rt: &R,
+    alloc: Global,
     link: &LockLink,
-    script: Script,
-) -> Result<(SendAccount, RecvAccount), AllocError> {
+) -> Result<(SendAccount, RecvAccount), Fail> {
+    let script = Script::from_seed(alloc, 42, 54, 200, 300, 300)?;
     let (send, recv) = link.split(script);
-    both(rt, send, recv)
+    Ok(both(rt, send, recv)?)
+}
+
+/// The accounts that a clean link settles after that.
+fn settled_by_threads<R: Threads + Wait + Send + Sync>(
+    rt: &R,
+    alloc: Global,
+) -> Result<Settled, Fail> {
+    let link = LockLink::new(alloc, Params::new(1, 4)?, Start::clean(alloc))?;
+    let (sent, received) = both_ends(rt, alloc, &link)?;
+    Ok(link.settle(sent, received)?)
 }
 
 #[test]
 fn two_threads_settle(rt: HostRuntime) -> Result<(), Fail> {
-    let alloc = rt.alloc();
-    let script = Script::from_seed(alloc, 42, 54, 200, 300, 300)?;
-    let link = LockLink::new(alloc, Params::new(1, 4)?, Start::clean(alloc))?;
-    let (sent, received) = both_ends(&rt, &link, script)?;
-    let settled = link.settle(sent, received)?;
+    let settled = settled_by_threads(&rt, rt.alloc())?;
     assert_counted(&rt, settled.recv.delivered.as_slice());
     assert!(rt; settled.recv.delivered.len() as u64 >= settled.send.acked);
     Ok(())

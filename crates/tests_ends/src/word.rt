@@ -5,27 +5,17 @@ ghost use Rattle.std.specs.Prelude.{◌≡◌, IfOk};
 
 mod any_ends;
 
+use crate::asks::{Ask, ask_all, ask_and_finish, ask_one, assert_settled};
 use stab_core::{Effect, Start, StartFault};
 use stab_frames::{Frame, Item, Label, Params, Sequence};
 use stab_lock::{FrameSeen, RecvSide, SendSide, Settled};
 use stab_script::{OutAct, Script};
-use stab_word::{WordFault, WordLink};
+use stab_word::{WordFault, WordLink, WordOpening};
 use std::alloc::{AllocError, Global};
 use std::process::Abort;
 use std::test::Fail;
 use std::thread;
 use std::thread::Threads;
-
-/// A call of one of the two ends, beside the answer that it must give.
-#[derive(Clone, Copy, Debug)]
-enum Ask {
-    Offer(Item, bool),
-    Send(Effect),
-    PollAck(Effect),
-    Close(Effect),
-    PollFrame(FrameSeen),
-    SendAck(Effect),
-}
 
 /// Three items are acknowledged before the receiver has taken one.
 const WORST_START: [Ask; 12] = [
@@ -62,78 +52,23 @@ const ROUND_AND_CLOSE: [Ask; 12] = [
 /// A start with as many equal frames and equal acknowledgements as counted.
 fn start_with(
     alloc: Global,
-    frames: u32,
-    acks: u32,
+    frames: usize,
+    acks: usize,
     labels: (Label, Label),
 ) -> Result<Start, AllocError> {
-    let mut start = Start {
-        frames: Sequence::new(alloc),
-        acks: Sequence::new(alloc),
+    Ok(Start {
+        frames: Sequence::from_vec(vec![in alloc; Frame { label: 2, item: 99 }; frames]?),
+        acks: Sequence::from_vec(vec![in alloc; 0; acks]?),
         send_label: labels.0,
         recv_label: labels.1,
-    };
-    for _ in 0..frames {
-        start.frames.push(Frame { label: 2, item: 99 })?;
-    }
-    for _ in 0..acks {
-        start.acks.push(0)?;
-    }
-    Ok(start)
+    })
 }
 
-/// Makes a call, and compares the answer.
-fn ask_one<S: SendSide, T: RecvSide<Pass = S::Pass>, R: Abort>(
-    rt: &R,
-    pass: &S::Pass,
-    send: &mut S,
-    recv: &mut T,
-    ask: Ask,
-) -> Result<(), AllocError>
-    ensures sender { S.link send.new ≡ S.link send.old }
-    ensures receiver { T.link recv.new ≡ T.link recv.old }
+/// A link of capacity 1 with 4 labels at this start, beside its opening.
+fn link_at(alloc: Global, start: &Start) -> Result<(WordLink, WordOpening), Fail>
+    ensures { IfOk result (λ made. made.1 ≡ made.0) }
 {
-    let is_answered = match ask {
-        Ask::Offer(item, taken) => send.offer(pass, item)? == taken,
-        Ask::Send(effect) => send.send(pass)? == effect,
-        Ask::PollAck(effect) => send.poll_ack(pass)? == effect,
-        Ask::Close(effect) => send.close(pass)? == effect,
-        Ask::PollFrame(seen) => recv.poll_frame(pass)? == seen,
-        Ask::SendAck(effect) => recv.send_ack(pass)? == effect,
-    };
-    assert!(rt; is_answered, "{ask:?}");
-    Ok(())
-}
-
-/// Makes the calls on both ends, in their order, and compares the answers.
-fn ask_all<S: SendSide, T: RecvSide<Pass = S::Pass>, R: Abort>(
-    rt: &R,
-    pass: &S::Pass,
-    send: &mut S,
-    recv: &mut T,
-    asks: &[Ask],
-) -> Result<(), AllocError>
-    ensures sender { S.link send.new ≡ S.link send.old }
-    ensures receiver { T.link recv.new ≡ T.link recv.old }
-{
-    'asks: for ask in asks {
-        ask_one(rt, pass, send, recv, *ask)?;
-    }
-    Ok(())
-}
-
-/// Makes the calls on both ends, and finishes the ends.
-fn ask_and_finish<S: SendSide, T: RecvSide<Pass = S::Pass>, R: Abort>(
-    rt: &R,
-    pass: &S::Pass,
-    mut send: S,
-    mut recv: T,
-    asks: &[Ask],
-) -> Result<(S::Done, T::Done), AllocError>
-    ensures sender { IfOk result (λ done. S.done_link done.0 ≡ S.link send) }
-    ensures receiver { IfOk result (λ done. T.done_link done.1 ≡ T.link recv) }
-{
-    ask_all(rt, pass, &mut send, &mut recv, asks)?;
-    Ok((send.finish(), recv.finish()))
+    Ok(WordLink::new(alloc, Params::new(1, 4)?, start)?)
 }
 
 /// The accounts of both ends of a link under this script after these calls.
@@ -144,33 +79,36 @@ fn settled<R: Abort>(
     script: Script,
     asks: &[Ask],
 ) -> Result<Settled, Fail> {
-    let (link, opening) = WordLink::new(alloc, Params::new(1, 4)?, start)?;
+    let (link, opening) = link_at(alloc, start)?;
     let (send, recv) = link.split(alloc, opening, script)?;
     let (sent, received) = ask_and_finish(rt, &(), send, recv, asks)?;
     Ok(link.settle(sent, received))
 }
 
+/// The same from a start with as many frames and acknowledgements as counted, with no script.
+fn settled_from<R: Abort>(
+    rt: &R,
+    alloc: Global,
+    frames: usize,
+    acks: usize,
+    labels: (Label, Label),
+    asks: &[Ask],
+) -> Result<Settled, Fail> {
+    let start = start_with(alloc, frames, acks, labels)?;
+    settled(rt, alloc, &start, Script::none(alloc), asks)
+}
+
 #[test]
 fn the_worst_start_in_words(rt: HostRuntime) -> Result<(), Fail> {
-    let alloc = rt.alloc();
-    let start = start_with(alloc, 1, 1, (0, 1))?;
-    let settled = settled(&rt, alloc, &start, Script::none(alloc), &WORST_START)?;
-    assert!(rt; settled.send.offered.as_slice() == [10, 11, 12, 13].as_slice());
-    assert!(rt; settled.send.acked == 3);
-    assert!(rt; !settled.send.closed && !settled.recv.closed);
-    assert!(rt; settled.recv.delivered.as_slice() == [99, 13].as_slice());
+    let settled = settled_from(&rt, rt.alloc(), 1, 1, (0, 1), &WORST_START)?;
+    assert_settled(&rt, &settled, &[10, 11, 12, 13], 3, &[99, 13], false);
     Ok(())
 }
 
 #[test]
 fn a_round_and_a_close_in_words(rt: HostRuntime) -> Result<(), Fail> {
-    let alloc = rt.alloc();
-    let start = start_with(alloc, 0, 0, (0, 3))?;
-    let settled = settled(&rt, alloc, &start, Script::none(alloc), &ROUND_AND_CLOSE)?;
-    assert!(rt; settled.send.offered.as_slice() == [7].as_slice());
-    assert!(rt; settled.send.acked == 1);
-    assert!(rt; settled.send.closed && settled.recv.closed);
-    assert!(rt; settled.recv.delivered.as_slice() == [7].as_slice());
+    let settled = settled_from(&rt, rt.alloc(), 0, 0, (0, 3), &ROUND_AND_CLOSE)?;
+    assert_settled(&rt, &settled, &[7], 1, &[7], true);
     Ok(())
 }
 
@@ -179,47 +117,79 @@ fn a_round_and_a_close_in_words(rt: HostRuntime) -> Result<(), Fail> {
 fn refusal(
     alloc: Global,
     params: (u16, u16),
-    frames: u32,
-    acks: u32,
+    frames: usize,
+    acks: usize,
 ) -> Result<Option<WordFault>, Fail> {
     let start = start_with(alloc, frames, acks, (0, 3))?;
     let params = Params::new(params.0, params.1)?;
     Ok(WordLink::new(alloc, params, &start).err())
 }
 
+/// The capacity and the labels of a link, how many frames and acknowledgements its start has, and
+/// why it is refused.
+const REFUSALS: [((u16, u16), usize, usize, Option<WordFault>); 6] = [
+    ((2, 6), 0, 0, Some(WordFault::CapacityNotOne)),
+    ((2, 6), 5, 0, Some(WordFault::CapacityNotOne)),
+    (
+        (1, 4),
+        2,
+        0,
+        Some(WordFault::Start(StartFault::TooManyFrames)),
+    ),
+    (
+        (1, 4),
+        2,
+        2,
+        Some(WordFault::Start(StartFault::TooManyFrames)),
+    ),
+    (
+        (1, 4),
+        0,
+        2,
+        Some(WordFault::Start(StartFault::TooManyAcks)),
+    ),
+    ((1, 4), 1, 1, None),
+];
+
 #[test]
 fn refuses_capacities_and_starts(rt: HostRuntime) -> Result<(), Fail> {
-    let rows = [
-        ((2, 6), 0, 0, WordFault::CapacityNotOne),
-        ((2, 6), 5, 0, WordFault::CapacityNotOne),
-        ((1, 4), 2, 0, WordFault::Start(StartFault::TooManyFrames)),
-        ((1, 4), 2, 2, WordFault::Start(StartFault::TooManyFrames)),
-        ((1, 4), 0, 2, WordFault::Start(StartFault::TooManyAcks)),
-    ];
-    for (params, frames, acks, want) in rows {
-        let fault = refusal(rt.alloc(), params, frames, acks)?;
-        assert!(rt; fault == Some(want), "{want:?}");
+    for (params, frames, acks, want) in &REFUSALS {
+        let fault = refusal(rt.alloc(), *params, *frames, *acks)?;
+        assert!(rt; fault == *want, "{want:?}");
     }
-    assert!(rt; refusal(rt.alloc(), (1, 4), 1, 1)?.is_none());
+    Ok(())
+}
+
+/// The text of each refusal.
+const FAULTS: [(WordFault, &str); 4] = [
+    (WordFault::CapacityNotOne, "run: capacity is not one"),
+    (
+        WordFault::Start(StartFault::TooManyFrames),
+        "start: too many frames",
+    ),
+    (
+        WordFault::Start(StartFault::TooManyAcks),
+        "start: too many acknowledgements",
+    ),
+    (WordFault::Memory, "out of memory"),
+];
+
+/// Fails the test where a fault prints another text.
+fn assert_prints<R: Abort>(
+    rt: &R,
+    alloc: Global,
+    fault: WordFault,
+    want: &str,
+) -> Result<(), Fail> {
+    let text = fault.to_string(alloc)?;
+    assert!(rt; text.as_str() == want, "{want}");
     Ok(())
 }
 
 #[test]
 fn prints_each_fault(rt: HostRuntime) -> Result<(), Fail> {
-    let texts = [
-        (WordFault::CapacityNotOne, "run: capacity is not one"),
-        (
-            WordFault::Start(StartFault::TooManyFrames),
-            "start: too many frames",
-        ),
-        (
-            WordFault::Start(StartFault::TooManyAcks),
-            "start: too many acknowledgements",
-        ),
-        (WordFault::Memory, "out of memory"),
-    ];
-    for (fault, want) in texts {
-        assert!(rt; fault.to_string(rt.alloc())?.as_str() == want, "{want}");
+    for (fault, want) in &FAULTS {
+        assert_prints(&rt, rt.alloc(), *fault, *want)?;
     }
     Ok(())
 }
@@ -253,11 +223,16 @@ fn drop_then_evict(alloc: Global) -> Result<Vec<OutAct>, AllocError> {
     Ok(acts)
 }
 
+/// The accounts of both ends of a link after the scripted calls.
+fn settled_by_script<R: Abort>(rt: &R, alloc: Global, start: &Start) -> Result<Settled, Fail> {
+    let script = script_of_losses(alloc)?;
+    settled(rt, alloc, start, script, &SCRIPTED)
+}
+
 #[test]
 fn a_script_in_words(rt: HostRuntime) -> Result<(), Fail> {
-    let alloc = rt.alloc();
-    let start = start_with(alloc, 0, 0, (0, 3))?;
-    settled(&rt, alloc, &start, script_of_losses(alloc)?, &SCRIPTED)?;
+    let start = start_with(rt.alloc(), 0, 0, (0, 3))?;
+    settled_by_script(&rt, rt.alloc(), &start)?;
     Ok(())
 }
 
@@ -310,34 +285,38 @@ fn look_at_the_close<S: SendSide<Pass = ()>, T: RecvSide<Pass = ()>, R: Abort>(
     Ok(())
 }
 
-/// Looks for a frame on an empty word, then with no place under an old label, under another label
-/// and after the close: the account makes room under another label alone.
-fn look_without_a_place<S: SendSide<Pass = ()>, T: RecvSide<Pass = ()>, R: Abort>(
+/// Looks for a frame on an empty word: the account makes no room.
+fn look_at_an_empty_word<S: SendSide<Pass = ()>, T: RecvSide<Pass = ()>, R: Abort>(
     rt: &R,
-    mut send: S,
-    mut recv: T,
+    send: &mut S,
+    recv: &mut T,
 ) -> Result<(), AllocError> {
-    let empty = room(&recv);
-    ask_one(
-        rt,
-        &(),
-        &mut send,
-        &mut recv,
-        Ask::PollFrame(FrameSeen::Nothing),
-    )?;
-    assert!(rt; room(&recv) == empty, "an empty word");
+    let empty = room(recv);
+    ask_one(rt, &(), send, recv, Ask::PollFrame(FrameSeen::Nothing))?;
+    assert!(rt; room(recv) == empty, "an empty word");
+    Ok(())
+}
 
-    let next = fill(rt, &mut send, &mut recv, 0)?;
-    let full = room(&recv);
-    ask_one(
-        rt,
-        &(),
-        &mut send,
-        &mut recv,
-        Ask::PollFrame(FrameSeen::Old),
-    )?;
-    assert!(rt; room(&recv) == full, "an old label");
+/// Looks for a frame with no place under an old label: the account makes no room.
+fn look_at_an_old_label<S: SendSide<Pass = ()>, T: RecvSide<Pass = ()>, R: Abort>(
+    rt: &R,
+    send: &mut S,
+    recv: &mut T,
+) -> Result<(), AllocError> {
+    let full = room(recv);
+    ask_one(rt, &(), send, recv, Ask::PollFrame(FrameSeen::Old))?;
+    assert!(rt; room(recv) == full, "an old label");
+    Ok(())
+}
 
+/// Looks for a frame with no place under another label: the account makes room.
+fn look_at_another_label<S: SendSide<Pass = ()>, T: RecvSide<Pass = ()>, R: Abort>(
+    rt: &R,
+    send: &mut S,
+    recv: &mut T,
+    next: Item,
+) -> Result<(), AllocError> {
+    let full = room(recv);
     let round = [
         Ask::Offer(next, true),
         Ask::Send(Effect::Sent),
@@ -345,18 +324,35 @@ fn look_without_a_place<S: SendSide<Pass = ()>, T: RecvSide<Pass = ()>, R: Abort
         Ask::SendAck(Effect::Sent),
         Ask::PollAck(Effect::Acked),
     ];
-    ask_all(rt, &(), &mut send, &mut recv, &round)?;
-    assert!(rt; room(&recv) > full, "another label");
-    look_at_the_close(rt, &mut send, &mut recv)
+    ask_all(rt, &(), send, recv, &round)?;
+    assert!(rt; room(recv) > full, "another label");
+    Ok(())
+}
+
+/// Looks for a frame on an empty word, then with no place under an old label, under another label
+/// and after the close: the account makes room under another label alone.
+fn look_without_a_place<S: SendSide<Pass = ()>, T: RecvSide<Pass = ()>, R: Abort>(
+    rt: &R,
+    send: &mut S,
+    recv: &mut T,
+) -> Result<(), AllocError> {
+    look_at_an_empty_word(rt, send, recv)?;
+    let next = fill(rt, send, recv, 0)?;
+    look_at_an_old_label(rt, send, recv)?;
+    look_at_another_label(rt, send, recv, next)?;
+    look_at_the_close(rt, send, recv)
+}
+
+/// The same with the ends of a clean link.
+fn look_on_a_clean_link<R: Abort>(rt: &R, alloc: Global) -> Result<(), Fail> {
+    let (link, opening) = link_at(alloc, &Start::clean(alloc))?;
+    let (mut send, mut recv) = link.split(alloc, opening, Script::none(alloc))?;
+    Ok(look_without_a_place(rt, &mut send, &mut recv)?)
 }
 
 #[test]
 fn makes_room_for_another_label_alone(rt: HostRuntime) -> Result<(), Fail> {
-    let alloc = rt.alloc();
-    let (link, opening) = WordLink::new(alloc, Params::new(1, 4)?, &Start::clean(alloc))?;
-    let (send, recv) = link.split(alloc, opening, Script::none(alloc))?;
-    look_without_a_place(&rt, send, recv)?;
-    Ok(())
+    look_on_a_clean_link(&rt, rt.alloc())
 }
 
 /// How many items the two threads exchange.
@@ -439,16 +435,32 @@ fn assert_rising<R: Abort>(rt: &R, delivered: &[Item], offered: usize) {
     assert!(rt; last as usize <= offered, "{last} was not offered");
 }
 
+/// The accounts that a clean link settles after two threads have worked on its ends under this
+/// script.
+fn settled_by_threads<R: Threads + Abort>(
+    rt: &R,
+    alloc: Global,
+    script: Script,
+) -> Result<Settled, Fail> {
+    let (link, opening) = link_at(alloc, &Start::clean(alloc))?;
+    let (send, recv) = link.split(alloc, opening, script)?;
+    let (sent, received) = both(rt, send, recv)?;
+    Ok(link.settle(sent, received))
+}
+
+/// Fails the test where the accounts break the law of a link of capacity one, or the sender did not
+/// close.
+fn assert_lawful<R: Abort>(rt: &R, settled: &Settled) {
+    let delivered = settled.recv.delivered.as_slice();
+    assert_rising(rt, delivered, settled.send.offered.len());
+    assert!(rt; delivered.len() + MAY_MISS >= settled.send.acked as usize);
+    assert!(rt; settled.send.closed);
+}
+
 #[test]
 fn two_threads(rt: HostRuntime) -> Result<(), Fail> {
-    let alloc = rt.alloc();
-    let (link, opening) = WordLink::new(alloc, Params::new(1, 4)?, &Start::clean(alloc))?;
-    let script = Script::from_seed(alloc, 42, 54, 20_000, 300, 300)?;
-    let (send, recv) = link.split(alloc, opening, script)?;
-    let (sent, received) = both(&rt, send, recv)?;
-    let Settled { send, recv } = link.settle(sent, received);
-    assert_rising(&rt, recv.delivered.as_slice(), send.offered.len());
-    assert!(rt; recv.delivered.len() + MAY_MISS >= send.acked as usize);
-    assert!(rt; send.closed);
+    let script = Script::from_seed(rt.alloc(), 42, 54, 20_000, 300, 300)?;
+    let settled = settled_by_threads(&rt, rt.alloc(), script)?;
+    assert_lawful(&rt, &settled);
     Ok(())
 }

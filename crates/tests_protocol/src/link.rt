@@ -17,24 +17,56 @@ const TAKE_ACK: Event = Event::RecvAck { keep: false };
 
 const KEEP_ACK: Event = Event::RecvAck { keep: true };
 
-/// A frame of a label and an item.
-fn frame(label: Label, item: Item) -> Frame {
-    Frame { label, item }
-}
-
-/// A start of these frames and these acknowledgements.
-fn start(
-    alloc: Global,
-    frames: &[Frame],
-    acks: &[Label],
+/// A start by its parts. The tests name constants of it, and the helpers make the start, so that no
+/// test owns what each of its exits would have to drop.
+struct Opening {
+    frames: &'static [Frame],
+    acks: &'static [Label],
     send_label: Label,
     recv_label: Label,
-) -> Result<Start, AllocError> {
+}
+
+/// Nothing on its way, and a receiver that remembers the label before the sender's.
+const CLEAN: Opening = Opening {
+    frames: &[],
+    acks: &[],
+    send_label: 0,
+    recv_label: 3,
+};
+
+/// A frame of nobody's item, and an acknowledgement that no receiver sent.
+const WORST: Opening = Opening {
+    frames: &[STRAY],
+    acks: &[0],
+    send_label: 0,
+    recv_label: 1,
+};
+
+/// The frame alone.
+const ONE_FRAME: Opening = Opening {
+    frames: &[STRAY],
+    acks: &[],
+    send_label: 0,
+    recv_label: 1,
+};
+
+/// The acknowledgement alone.
+const ONE_ACK: Opening = Opening {
+    frames: &[],
+    acks: &[0],
+    send_label: 0,
+    recv_label: 1,
+};
+
+const STRAY: Frame = Frame { label: 2, item: 99 };
+
+/// The start of these parts.
+fn start(alloc: Global, opening: &Opening) -> Result<Start, AllocError> {
     Ok(Start {
-        frames: Sequence::from_vec(frames.to_vec(alloc)?),
-        acks: Sequence::from_vec(acks.to_vec(alloc)?),
-        send_label,
-        recv_label,
+        frames: Sequence::from_vec(opening.frames.to_vec(alloc)?),
+        acks: Sequence::from_vec(opening.acks.to_vec(alloc)?),
+        send_label: opening.send_label,
+        recv_label: opening.recv_label,
     })
 }
 
@@ -84,447 +116,637 @@ fn assert_steps(
     Ok(())
 }
 
-/// Fails the test where the text of the link is not these lines.
+/// Fails the test where the text of the link is another one.
 fn assert_text(
     rt: &(impl Abort + Alloc<A = Global>),
     link: &Link,
-    lines: &[&str],
+    want: &str,
 ) -> Result<(), AllocError> {
-    let mut want = String::new(rt.alloc());
-    for line in lines {
-        want.push_str(line)?;
-        want.push_str("\n")?;
-    }
     let text = link_text(rt.alloc(), link)?;
-    assert!(rt; text.as_str() == want.as_str(), "{text}");
+    assert!(rt; text.as_str() == want, "{text}");
     Ok(())
 }
 
+/// Fails the test where these steps of a link have not the effects beside them, or do not lead to
+/// this text.
+fn assert_goes_on(
+    rt: &(impl Abort + Alloc<A = Global>),
+    link: &mut Link,
+    steps: &[(Event, Effect)],
+    text: &str,
+) -> Result<(), AllocError> {
+    assert_steps(rt, link, steps)?;
+    assert_text(rt, link, text)
+}
+
+/// The link at this start.
+fn link_at(alloc: Global, params: Params, opening: &Opening) -> Result<Link, Fail> {
+    let start = start(alloc, opening)?;
+    Ok(Link::new(alloc, params, &start)?)
+}
+
 /// Fails the test where these steps of a link of these parameters have not the effects beside them,
-/// or do not lead to these lines.
+/// or do not lead to this text.
 fn assert_played_with(
     rt: &(impl Abort + Alloc<A = Global>),
     params: Params,
-    start: &Start,
+    opening: &Opening,
     steps: &[(Event, Effect)],
-    lines: &[&str],
+    text: &str,
 ) -> Result<(), Fail> {
-    let mut link = Link::new(rt.alloc(), params, start)?;
-    assert_steps(rt, &mut link, steps)?;
-    assert_text(rt, &link, lines)?;
-    Ok(())
+    let mut link = link_at(rt.alloc(), params, opening)?;
+    Ok(assert_goes_on(rt, &mut link, steps, text)?)
 }
 
 /// The same for the capacity 1 and four labels.
 fn assert_played(
     rt: &(impl Abort + Alloc<A = Global>),
-    start: &Start,
+    opening: &Opening,
     steps: &[(Event, Effect)],
-    lines: &[&str],
+    text: &str,
 ) -> Result<(), Fail> {
-    assert_played_with(rt, Params::new(1, 4)?, start, steps, lines)
+    assert_played_with(rt, Params::new(1, 4)?, opening, steps, text)
 }
 
-/// Fails the test where these events, for the capacity 1 and four labels, do not lead to these
-/// lines.
+/// The link of the capacity 1 and four labels after these events.
+fn link_after(alloc: Global, opening: &Opening, events: &[Event]) -> Result<Link, Fail> {
+    let params = Params::new(1, 4)?;
+    let start = start(alloc, opening)?;
+    Ok(run_link(alloc, params, &start, events)?)
+}
+
+/// Fails the test where these events, for the capacity 1 and four labels, do not lead to this text.
 fn assert_run(
     rt: &(impl Abort + Alloc<A = Global>),
-    start: &Start,
+    opening: &Opening,
     events: &[Event],
-    lines: &[&str],
+    text: &str,
 ) -> Result<(), Fail> {
-    let link = run_link(rt.alloc(), Params::new(1, 4)?, start, events)?;
-    assert_text(rt, &link, lines)?;
-    Ok(())
+    let link = link_after(rt.alloc(), opening, events)?;
+    Ok(assert_text(rt, &link, text)?)
 }
+
+/// The link of the capacity 1 and four labels after an undisturbed round with each of these items.
+fn link_after_rounds(alloc: Global, opening: &Opening, items: &[Item]) -> Result<Link, Fail> {
+    let events = rounds(alloc, items)?;
+    link_after(alloc, opening, &events)
+}
+
+/// Fails the test where these rounds do not lead to this text.
+fn assert_rounds(
+    rt: &(impl Abort + Alloc<A = Global>),
+    opening: &Opening,
+    items: &[Item],
+    text: &str,
+) -> Result<(), Fail> {
+    let link = link_after_rounds(rt.alloc(), opening, items)?;
+    Ok(assert_text(rt, &link, text)?)
+}
+
+/// What a link is after two undisturbed rounds.
+const TWO_ROUNDS: &str = "\
+delivered: 7 8
+offered: 7 8
+acked: 2
+send label: 2
+recv label: 1
+frames:
+acks:
+closed: no
+";
 
 #[test]
 fn two_clean_rounds(rt: HostRuntime) -> Result<(), Fail> {
-    let start = start(rt.alloc(), &[], &[], 0, 3)?;
-    let lines = [
-        "delivered: 7 8",
-        "offered: 7 8",
-        "acked: 2",
-        "send label: 2",
-        "recv label: 1",
-        "frames:",
-        "acks:",
-        "closed: no",
-    ];
-    assert_run(&rt, &start, &rounds(rt.alloc(), &[7, 8])?, &lines)
+    assert_rounds(&rt, &CLEAN, &[7, 8], TWO_ROUNDS)
 }
 
 #[test]
 fn idle_after_clean_rounds(rt: HostRuntime) -> Result<(), Fail> {
-    let start = start(rt.alloc(), &[], &[], 0, 3)?;
-    let events = rounds(rt.alloc(), &[7, 8])?;
-    let link = run_link(rt.alloc(), Params::new(1, 4)?, &start, &events)?;
+    let link = link_after_rounds(rt.alloc(), &CLEAN, &[7, 8])?;
     assert!(rt; link.is_idle());
     Ok(())
 }
 
+/// A receiver that remembers the label of the first item already.
+const FIRST_HELD: Opening = Opening {
+    frames: &[],
+    acks: &[],
+    send_label: 0,
+    recv_label: 0,
+};
+
+/// What that link is after a round.
+const FIRST_NOT_DELIVERED: &str = "\
+delivered:
+offered: 7
+acked: 1
+send label: 1
+recv label: 0
+frames:
+acks:
+closed: no
+";
+
 #[test]
 fn first_item_already_held(rt: HostRuntime) -> Result<(), Fail> {
-    let start = start(rt.alloc(), &[], &[], 0, 0)?;
-    let lines = [
-        "delivered:",
-        "offered: 7",
-        "acked: 1",
-        "send label: 1",
-        "recv label: 0",
-        "frames:",
-        "acks:",
-        "closed: no",
-    ];
-    assert_run(&rt, &start, &rounds(rt.alloc(), &[7])?, &lines)
+    assert_rounds(&rt, &FIRST_HELD, &[7], FIRST_NOT_DELIVERED)
 }
+
+/// What a link is after the worst start and its events.
+const AFTER_THE_WORST_START: &str = "\
+delivered: 99 13
+offered: 10 11 12 13
+acked: 3
+send label: 3
+recv label: 3
+frames:
+acks:
+closed: no
+";
 
 #[test]
 fn worst_start(rt: HostRuntime) -> Result<(), Fail> {
-    let start = start(rt.alloc(), &[frame(2, 99)], &[0], 0, 1)?;
-    let lines = [
-        "delivered: 99 13",
-        "offered: 10 11 12 13",
-        "acked: 3",
-        "send label: 3",
-        "recv label: 3",
-        "frames:",
-        "acks:",
-        "closed: no",
-    ];
-    assert_run(&rt, &start, &WORST_EVENTS, &lines)
+    assert_run(&rt, &WORST, &WORST_EVENTS, AFTER_THE_WORST_START)
 }
 
-/// Fails the test where the origins of what these events deliver, for the capacity 1 and four
-/// labels, are not these.
+/// The origins of what these events deliver, for the capacity 1 and four labels.
+fn origins_after(alloc: Global, opening: &Opening, events: &[Event]) -> Result<Vec<Origin>, Fail> {
+    let params = Params::new(1, 4)?;
+    let start = start(alloc, opening)?;
+    Ok(trace(alloc, params, &start, events)?)
+}
+
+/// Fails the test where these are other origins, or are printed as another line.
 fn assert_origins(
     rt: &(impl Abort + Alloc<A = Global>),
-    start: &Start,
-    events: &[Event],
+    origins: &[Origin],
     want: &[Origin],
     line: &str,
-) -> Result<(), Fail> {
-    let origins = trace(rt.alloc(), Params::new(1, 4)?, start, events)?;
-    assert!(rt; origins.as_slice() == want);
-    assert!(rt; origins_text(rt.alloc(), &origins)?.as_str() == line);
+) -> Result<(), AllocError> {
+    assert!(rt; origins == want);
+    let text = origins_text(rt.alloc(), origins)?;
+    assert!(rt; text.as_str() == line);
     Ok(())
 }
 
 #[test]
 fn origins_after_the_worst_start(rt: HostRuntime) -> Result<(), Fail> {
-    let start = start(rt.alloc(), &[frame(2, 99)], &[0], 0, 1)?;
-    let origins = [Origin::Stray(0), Origin::Sent(3)];
-    assert_origins(&rt, &start, &WORST_EVENTS, &origins, "origins: s0 i3\n")
+    let origins = origins_after(rt.alloc(), &WORST, &WORST_EVENTS)?;
+    let want = [Origin::Stray(0), Origin::Sent(3)];
+    Ok(assert_origins(&rt, &origins, &want, "origins: s0 i3\n")?)
 }
+
+/// What a link is at the worst start.
+const AT_THE_WORST_START: &str = "\
+delivered:
+offered:
+acked: 0
+send label: 0
+recv label: 1
+frames: 2=99
+acks: 0
+closed: no
+";
 
 #[test]
 fn no_events(rt: HostRuntime) -> Result<(), Fail> {
-    let start = start(rt.alloc(), &[frame(2, 99)], &[0], 0, 1)?;
-    let lines = [
-        "delivered:",
-        "offered:",
-        "acked: 0",
-        "send label: 0",
-        "recv label: 1",
-        "frames: 2=99",
-        "acks: 0",
-        "closed: no",
-    ];
-    assert_run(&rt, &start, &[], &lines)
+    assert_run(&rt, &WORST, &[], AT_THE_WORST_START)
 }
+
+/// What a link is that has lost what it began with, or ignored it.
+const NOTHING_LEFT: &str = "\
+delivered:
+offered:
+acked: 0
+send label: 0
+recv label: 1
+frames:
+acks:
+closed: no
+";
 
 #[test]
 fn idle_sender_ignores(rt: HostRuntime) -> Result<(), Fail> {
-    let start = start(rt.alloc(), &[], &[0], 0, 1)?;
-    let steps = [(TAKE_ACK, Effect::Ignored)];
-    let lines = [
-        "delivered:",
-        "offered:",
-        "acked: 0",
-        "send label: 0",
-        "recv label: 1",
-        "frames:",
-        "acks:",
-        "closed: no",
-    ];
-    assert_played(&rt, &start, &steps, &lines)
+    assert_played(&rt, &ONE_ACK, &[(TAKE_ACK, Effect::Ignored)], NOTHING_LEFT)
 }
+
+/// A frame that meets a full queue.
+const SEND_TO_A_FULL_QUEUE: [(Event, Effect); 2] = [
+    (Event::Offer(10), Effect::Held),
+    (Event::SendFrame, Effect::Lost),
+];
+
+/// What the link is after it.
+const STRAY_IN_THE_QUEUE: &str = "\
+delivered:
+offered: 10
+acked: 0
+send label: 0
+recv label: 1
+frames: 2=99
+acks:
+closed: no
+";
 
 #[test]
 fn full_queue_loses_the_new_frame(rt: HostRuntime) -> Result<(), Fail> {
-    let start = start(rt.alloc(), &[frame(2, 99)], &[], 0, 1)?;
-    let steps = [
-        (Event::Offer(10), Effect::Held),
-        (Event::SendFrame, Effect::Lost),
-    ];
-    let lines = [
-        "delivered:",
-        "offered: 10",
-        "acked: 0",
-        "send label: 0",
-        "recv label: 1",
-        "frames: 2=99",
-        "acks:",
-        "closed: no",
-    ];
-    assert_played(&rt, &start, &steps, &lines)
+    assert_played(&rt, &ONE_FRAME, &SEND_TO_A_FULL_QUEUE, STRAY_IN_THE_QUEUE)
 }
+
+/// A frame that is received twice.
+const KEEP_A_FRAME: [(Event, Effect); 2] = [
+    (KEEP_FRAME, Effect::Fresh(99)),
+    (KEEP_FRAME, Effect::Old),
+];
+
+/// What the link is after it.
+const STRAY_DELIVERED_ONCE: &str = "\
+delivered: 99
+offered:
+acked: 0
+send label: 0
+recv label: 2
+frames: 2=99
+acks:
+closed: no
+";
 
 #[test]
 fn kept_frame_delivers_once(rt: HostRuntime) -> Result<(), Fail> {
-    let start = start(rt.alloc(), &[frame(2, 99)], &[], 0, 1)?;
-    let steps = [(KEEP_FRAME, Effect::Fresh(99)), (KEEP_FRAME, Effect::Old)];
-    let lines = [
-        "delivered: 99",
-        "offered:",
-        "acked: 0",
-        "send label: 0",
-        "recv label: 2",
-        "frames: 2=99",
-        "acks:",
-        "closed: no",
-    ];
-    assert_played(&rt, &start, &steps, &lines)
+    assert_played(&rt, &ONE_FRAME, &KEEP_A_FRAME, STRAY_DELIVERED_ONCE)
 }
+
+/// An acknowledgement that is received twice.
+const KEEP_AN_ACK: [(Event, Effect); 4] = [
+    (Event::Offer(10), Effect::Held),
+    (KEEP_ACK, Effect::Acked),
+    (Event::Offer(11), Effect::Held),
+    (KEEP_ACK, Effect::Ignored),
+];
+
+/// What the link is after it.
+const ACKNOWLEDGED_ONCE: &str = "\
+delivered:
+offered: 10 11
+acked: 1
+send label: 1
+recv label: 1
+frames:
+acks: 0
+closed: no
+";
 
 #[test]
 fn kept_acknowledgement_counts_once(rt: HostRuntime) -> Result<(), Fail> {
-    let start = start(rt.alloc(), &[], &[0], 0, 1)?;
-    let steps = [
-        (Event::Offer(10), Effect::Held),
-        (KEEP_ACK, Effect::Acked),
-        (Event::Offer(11), Effect::Held),
-        (KEEP_ACK, Effect::Ignored),
-    ];
-    let lines = [
-        "delivered:",
-        "offered: 10 11",
-        "acked: 1",
-        "send label: 1",
-        "recv label: 1",
-        "frames:",
-        "acks: 0",
-        "closed: no",
-    ];
-    assert_played(&rt, &start, &steps, &lines)
+    assert_played(&rt, &ONE_ACK, &KEEP_AN_ACK, ACKNOWLEDGED_ONCE)
 }
+
+/// A sender whose label is none of the four.
+const OUT_OF_RANGE: Opening = Opening {
+    frames: &[],
+    acks: &[],
+    send_label: 65535,
+    recv_label: 0,
+};
+
+/// What that link is after a round.
+const BACK_IN_RANGE: &str = "\
+delivered: 5
+offered: 5
+acked: 1
+send label: 0
+recv label: 65535
+frames:
+acks:
+closed: no
+";
 
 #[test]
 fn label_out_of_range(rt: HostRuntime) -> Result<(), Fail> {
-    let start = start(rt.alloc(), &[], &[], 65535, 0)?;
-    let lines = [
-        "delivered: 5",
-        "offered: 5",
-        "acked: 1",
-        "send label: 0",
-        "recv label: 65535",
-        "frames:",
-        "acks:",
-        "closed: no",
-    ];
-    assert_run(&rt, &start, &rounds(rt.alloc(), &[5])?, &lines)
+    assert_rounds(&rt, &OUT_OF_RANGE, &[5], BACK_IN_RANGE)
 }
+
+/// A close amid a round, and all events after it.
+const CLOSE_AMID_A_ROUND: [(Event, Effect); 12] = [
+    (Event::Offer(7), Effect::Held),
+    (Event::SendFrame, Effect::Sent),
+    (TAKE_FRAME, Effect::Fresh(7)),
+    (Event::Close, Effect::Closed),
+    (Event::SendAck, Effect::Nothing),
+    (TAKE_ACK, Effect::Nothing),
+    (Event::Offer(8), Effect::Nothing),
+    (Event::SendFrame, Effect::Nothing),
+    (TAKE_FRAME, Effect::Nothing),
+    (Event::SendAck, Effect::Nothing),
+    (TAKE_ACK, Effect::Nothing),
+    (Event::Close, Effect::Nothing),
+];
+
+/// What the link is after it.
+const CLOSED_AMID_A_ROUND: &str = "\
+delivered: 7
+offered: 7
+acked: 0
+send label: 0
+recv label: 0
+frames:
+acks:
+closed: yes
+";
 
 #[test]
 fn nothing_after_the_close(rt: HostRuntime) -> Result<(), Fail> {
-    let start = start(rt.alloc(), &[], &[], 0, 3)?;
-    let steps = [
-        (Event::Offer(7), Effect::Held),
-        (Event::SendFrame, Effect::Sent),
-        (TAKE_FRAME, Effect::Fresh(7)),
-        (Event::Close, Effect::Closed),
-        (Event::SendAck, Effect::Nothing),
-        (TAKE_ACK, Effect::Nothing),
-        (Event::Offer(8), Effect::Nothing),
-        (Event::SendFrame, Effect::Nothing),
-        (TAKE_FRAME, Effect::Nothing),
-        (Event::SendAck, Effect::Nothing),
-        (TAKE_ACK, Effect::Nothing),
-        (Event::Close, Effect::Nothing),
-    ];
-    let lines = [
-        "delivered: 7",
-        "offered: 7",
-        "acked: 0",
-        "send label: 0",
-        "recv label: 0",
-        "frames:",
-        "acks:",
-        "closed: yes",
-    ];
-    assert_played(&rt, &start, &steps, &lines)
+    assert_played(&rt, &CLEAN, &CLOSE_AMID_A_ROUND, CLOSED_AMID_A_ROUND)
 }
+
+/// Starts that hold more than the capacity 1, each beside the fault of its refusal.
+const OVERFULL: [(Opening, StartFault); 3] = [
+    (
+        Opening {
+            frames: &TWO_FRAMES,
+            acks: &[],
+            send_label: 0,
+            recv_label: 1,
+        },
+        StartFault::TooManyFrames,
+    ),
+    (
+        Opening {
+            frames: &TWO_FRAMES,
+            acks: &[0, 1],
+            send_label: 0,
+            recv_label: 1,
+        },
+        StartFault::TooManyFrames,
+    ),
+    (
+        Opening {
+            frames: &[],
+            acks: &[0, 1],
+            send_label: 0,
+            recv_label: 1,
+        },
+        StartFault::TooManyAcks,
+    ),
+];
+
+const TWO_FRAMES: [Frame; 2] = [Frame { label: 0, item: 1 }, Frame { label: 1, item: 2 }];
 
 /// Fails the test where one of the calls that begin a link accepts this start, or refuses it for
 /// another fault.
 fn assert_refused(
     rt: &(impl Abort + Alloc<A = Global>),
-    frames: &[Frame],
-    acks: &[Label],
+    params: Params,
+    start: &Start,
     want: StartFault,
+) {
+    assert!(rt; Link::new(rt.alloc(), params, start).err() == Some(want));
+    assert!(rt; run_link(rt.alloc(), params, start, &[]).err() == Some(want));
+    assert!(rt; trace(rt.alloc(), params, start, &[]).err() == Some(want));
+}
+
+/// The same for each of these starts.
+fn assert_all_refused(
+    rt: &(impl Abort + Alloc<A = Global>),
+    params: Params,
+    rows: &[(Opening, StartFault)],
 ) -> Result<(), Fail> {
-    let params = Params::new(1, 4)?;
-    let start = start(rt.alloc(), frames, acks, 0, 1)?;
-    assert!(rt; Link::new(rt.alloc(), params, &start).err() == Some(want));
-    assert!(rt; run_link(rt.alloc(), params, &start, &[]).err() == Some(want));
-    assert!(rt; trace(rt.alloc(), params, &start, &[]).err() == Some(want));
+    for (opening, want) in rows {
+        assert_refused(rt, params, &start(rt.alloc(), opening)?, *want);
+    }
     Ok(())
 }
 
 #[test]
 fn refuses_overfull_starts(rt: HostRuntime) -> Result<(), Fail> {
-    let two = [frame(0, 1), frame(1, 2)];
-    assert_refused(&rt, &two, &[], StartFault::TooManyFrames)?;
-    assert_refused(&rt, &two, &[0, 1], StartFault::TooManyFrames)?;
-    assert_refused(&rt, &[], &[0, 1], StartFault::TooManyAcks)
+    assert_all_refused(&rt, Params::new(1, 4)?, &OVERFULL)
+}
+
+/// The text of each refusal of a start.
+const FAULTS: [(StartFault, &str); 3] = [
+    (StartFault::TooManyFrames, "start: too many frames"),
+    (StartFault::TooManyAcks, "start: too many acknowledgements"),
+    (StartFault::Memory, "out of memory"),
+];
+
+/// Fails the test where a fault prints another text.
+fn assert_prints(
+    rt: &(impl Abort + Alloc<A = Global>),
+    fault: StartFault,
+    want: &str,
+) -> Result<(), Fail> {
+    let text = fault.to_string(rt.alloc())?;
+    assert!(rt; text.as_str() == want);
+    Ok(())
 }
 
 #[test]
 fn texts_of_refused_starts(rt: HostRuntime) -> Result<(), Fail> {
-    let texts = [
-        (StartFault::TooManyFrames, "start: too many frames"),
-        (StartFault::TooManyAcks, "start: too many acknowledgements"),
-        (StartFault::Memory, "out of memory"),
-    ];
-    for (fault, want) in texts {
-        assert!(rt; fault.to_string(rt.alloc())?.as_str() == want);
+    for (fault, want) in &FAULTS {
+        assert_prints(&rt, *fault, *want)?;
     }
     Ok(())
 }
 
+/// Losses past the end of each queue, and then of what it holds.
+const LOSSES: [(Event, Effect); 4] = [
+    (Event::LoseFrame(5), Effect::Nothing),
+    (Event::LoseAck(1), Effect::Nothing),
+    (Event::LoseFrame(0), Effect::Lost),
+    (Event::LoseAck(0), Effect::Lost),
+];
+
 #[test]
 fn loss_by_place(rt: HostRuntime) -> Result<(), Fail> {
-    let start = start(rt.alloc(), &[frame(2, 99)], &[0], 0, 1)?;
-    let steps = [
-        (Event::LoseFrame(5), Effect::Nothing),
-        (Event::LoseAck(1), Effect::Nothing),
-        (Event::LoseFrame(0), Effect::Lost),
-        (Event::LoseAck(0), Effect::Lost),
-    ];
-    let lines = [
-        "delivered:",
-        "offered:",
-        "acked: 0",
-        "send label: 0",
-        "recv label: 1",
-        "frames:",
-        "acks:",
-        "closed: no",
-    ];
-    assert_played(&rt, &start, &steps, &lines)
+    assert_played(&rt, &WORST, &LOSSES, NOTHING_LEFT)
 }
+
+/// A start whose acknowledgement has the label of the sender, and its frame too.
+const TWO_LABELS: Opening = Opening {
+    frames: &[Frame { label: 0, item: 99 }],
+    acks: &[0],
+    send_label: 0,
+    recv_label: 1,
+};
+
+/// The events that break a link of two labels.
+const TWO_LABELS_EVENTS: [Event; 23] = [
+    Event::Offer(10),
+    TAKE_ACK,
+    Event::SendAck,
+    TAKE_FRAME,
+    Event::Offer(11),
+    Event::SendFrame,
+    TAKE_ACK,
+    Event::SendAck,
+    TAKE_FRAME,
+    Event::Offer(12),
+    Event::SendFrame,
+    TAKE_ACK,
+    Event::SendAck,
+    TAKE_FRAME,
+    Event::Offer(13),
+    Event::SendFrame,
+    TAKE_ACK,
+    Event::SendAck,
+    TAKE_FRAME,
+    Event::Offer(14),
+    Event::SendFrame,
+    Event::LoseFrame(0),
+    TAKE_ACK,
+];
+
+/// What a link of four labels is after them.
+const FOUR_LABELS_SUFFICE: &str = "\
+delivered: 99 11 12
+offered: 10 11 12
+acked: 3
+send label: 3
+recv label: 2
+frames:
+acks:
+closed: no
+";
 
 /// With four labels the events that break a link of two labels do no harm.
 #[test]
 fn why_two_labels_are_too_few(rt: HostRuntime) -> Result<(), Fail> {
-    let start = start(rt.alloc(), &[frame(0, 99)], &[0], 0, 1)?;
-    let mut events = vec![in rt.alloc(); Event::Offer(10), TAKE_ACK, Event::SendAck, TAKE_FRAME]?;
-    for item in 11..14 {
-        events.extend_from_slice(&[
-            Event::Offer(item),
-            Event::SendFrame,
-            TAKE_ACK,
-            Event::SendAck,
-            TAKE_FRAME,
-        ])?;
-    }
-    events.extend_from_slice(&[
-        Event::Offer(14),
-        Event::SendFrame,
-        Event::LoseFrame(0),
-        TAKE_ACK,
-    ])?;
-    let lines = [
-        "delivered: 99 11 12",
-        "offered: 10 11 12",
-        "acked: 3",
-        "send label: 3",
-        "recv label: 2",
-        "frames:",
-        "acks:",
-        "closed: no",
-    ];
-    assert_run(&rt, &start, &events, &lines)
+    assert_run(&rt, &TWO_LABELS, &TWO_LABELS_EVENTS, FOUR_LABELS_SUFFICE)
 }
+
+/// Two frames on their way.
+const TWO_FRAMES_QUEUED: Opening = Opening {
+    frames: &[Frame { label: 1, item: 20 }, Frame { label: 2, item: 21 }],
+    acks: &[],
+    send_label: 0,
+    recv_label: 0,
+};
+
+/// The loss of the second one.
+const LOSE_THE_SECOND: [(Event, Effect); 2] = [
+    (Event::LoseFrame(1), Effect::Lost),
+    (TAKE_FRAME, Effect::Fresh(20)),
+];
+
+/// What the link is after it.
+const FRONT_DELIVERED: &str = "\
+delivered: 20
+offered:
+acked: 0
+send label: 0
+recv label: 1
+frames:
+acks:
+closed: no
+";
 
 #[test]
 fn loss_after_the_front(rt: HostRuntime) -> Result<(), Fail> {
-    let start = start(rt.alloc(), &[frame(1, 20), frame(2, 21)], &[], 0, 0)?;
-    let steps = [
-        (Event::LoseFrame(1), Effect::Lost),
-        (TAKE_FRAME, Effect::Fresh(20)),
-    ];
-    let lines = [
-        "delivered: 20",
-        "offered:",
-        "acked: 0",
-        "send label: 0",
-        "recv label: 1",
-        "frames:",
-        "acks:",
-        "closed: no",
-    ];
-    assert_played_with(&rt, Params::new(2, 6)?, &start, &steps, &lines)
+    let params = Params::new(2, 6)?;
+    assert_played_with(
+        &rt,
+        params,
+        &TWO_FRAMES_QUEUED,
+        &LOSE_THE_SECOND,
+        FRONT_DELIVERED,
+    )
 }
 
 #[test]
 fn equal_items(rt: HostRuntime) -> Result<(), Fail> {
-    let start = start(rt.alloc(), &[], &[], 0, 3)?;
-    let events = rounds(rt.alloc(), &[7, 7])?;
-    let link = run_link(rt.alloc(), Params::new(1, 4)?, &start, &events)?;
+    let link = link_after_rounds(rt.alloc(), &CLEAN, &[7, 7])?;
     assert!(rt; link.delivered() == [7, 7].as_slice());
     Ok(())
 }
 
-#[test]
-fn origins_of_equal_items(rt: HostRuntime) -> Result<(), Fail> {
-    let start = start(rt.alloc(), &[], &[], 0, 3)?;
-    let events = rounds(rt.alloc(), &[7, 7])?;
-    let origins = [Origin::Sent(0), Origin::Sent(1)];
-    assert_origins(&rt, &start, &events, &origins, "origins: i0 i1\n")
+/// The origins of what rounds with these items deliver.
+fn origins_after_rounds(
+    alloc: Global,
+    opening: &Opening,
+    items: &[Item],
+) -> Result<Vec<Origin>, Fail> {
+    let events = rounds(alloc, items)?;
+    origins_after(alloc, opening, &events)
 }
 
 #[test]
-fn a_copy_is_the_same_start(rt: HostRuntime) -> Result<(), Fail> {
-    let clean = Start::clean(rt.alloc());
-    assert!(rt; clean.frames.is_empty() && clean.acks.is_empty());
-    assert!(rt; (clean.send_label, clean.recv_label) == (0, 65535));
-    let start = start(rt.alloc(), &[frame(2, 99)], &[0], 0, 1)?;
-    let copy = start.copy(rt.alloc())?;
-    assert!(rt; copy.frames.as_slice() == start.frames.as_slice());
-    assert!(rt; copy.acks.as_slice() == start.acks.as_slice());
-    assert!(rt; (copy.send_label, copy.recv_label) == (0, 1));
+fn origins_of_equal_items(rt: HostRuntime) -> Result<(), Fail> {
+    let origins = origins_after_rounds(rt.alloc(), &CLEAN, &[7, 7])?;
+    let want = [Origin::Sent(0), Origin::Sent(1)];
+    Ok(assert_origins(&rt, &origins, &want, "origins: i0 i1\n")?)
+}
+
+/// Fails the test where a start has other parts.
+fn assert_start(rt: &impl Abort, start: &Start, want: &Opening) {
+    assert!(rt; start.frames.as_slice() == want.frames);
+    assert!(rt; start.acks.as_slice() == want.acks);
+    assert!(rt; start.send_label == want.send_label);
+    assert!(rt; start.recv_label == want.recv_label);
+}
+
+/// Fails the test where a start or its copy has other parts.
+fn assert_copied(
+    rt: &(impl Abort + Alloc<A = Global>),
+    start: &Start,
+    want: &Opening,
+) -> Result<(), AllocError> {
+    assert_start(rt, start, want);
+    assert_start(rt, &start.copy(rt.alloc())?, want);
     Ok(())
+}
+
+/// The parts of a clean start.
+const CLEAN_START: Opening = Opening {
+    frames: &[],
+    acks: &[],
+    send_label: 0,
+    recv_label: 65535,
+};
+
+#[test]
+fn a_copy_is_the_same_start(rt: HostRuntime) -> Result<(), Fail> {
+    assert_start(&rt, &Start::clean(rt.alloc()), &CLEAN_START);
+    let start = start(rt.alloc(), &WORST)?;
+    Ok(assert_copied(&rt, &start, &WORST)?)
+}
+
+/// Fails the test where an idle sender waits for an acknowledgement.
+fn assert_waits_for_nothing(rt: &impl Abort, params: Params) {
+    let mut sender = Sender::new(3);
+    assert!(rt; sender.is_idle());
+    assert!(rt; sender.frame().is_none());
+    assert!(rt; !sender.on_ack(params, 3));
 }
 
 #[test]
 fn an_idle_sender_waits_for_nothing(rt: HostRuntime) -> Result<(), Fail> {
-    let mut sender = Sender::new(3);
-    assert!(rt; sender.is_idle());
-    assert!(rt; sender.frame().is_none());
-    assert!(rt; !sender.on_ack(Params::new(1, 4)?, 3));
+    assert_waits_for_nothing(&rt, Params::new(1, 4)?);
     Ok(())
+}
+
+/// Fails the test where a sender of the label 3 goes on at another acknowledgement, or does not at
+/// its own.
+fn assert_goes_on_at_its_label(rt: &impl Abort, params: Params, sender: &mut Sender) {
+    assert!(rt; sender.hold(7));
+    assert!(rt; !sender.hold(8), "it holds an item");
+    assert!(rt; sender.frame() == Some(Frame { label: 3, item: 7 }));
+    assert!(rt; !sender.on_ack(params, 2), "another label");
+    assert!(rt; sender.on_ack(params, 3));
+    assert!(rt; sender.label() == 0);
 }
 
 #[test]
 fn a_sender_goes_on_at_its_own_label_alone(rt: HostRuntime) -> Result<(), Fail> {
-    let params = Params::new(1, 4)?;
-    let mut sender = Sender::new(3);
-    assert!(rt; sender.hold(7));
-    assert!(rt; !sender.hold(8), "it holds an item");
-    assert!(rt; sender.frame() == Some(frame(3, 7)));
-    assert!(rt; !sender.on_ack(params, 2), "another label");
-    assert!(rt; sender.on_ack(params, 3));
-    assert!(rt; sender.label() == 0);
+    assert_goes_on_at_its_label(&rt, Params::new(1, 4)?, &mut Sender::new(3));
     Ok(())
 }
 
 #[test]
 fn a_receiver_delivers_a_frame_once(rt: HostRuntime) {
     let mut receiver = Receiver::new(2);
-    assert!(rt; receiver.is_fresh(frame(3, 7)));
-    assert!(rt; receiver.on_frame(frame(3, 7)) == Some(7));
-    assert!(rt; receiver.on_frame(frame(3, 7)).is_none());
+    assert!(rt; receiver.is_fresh(Frame { label: 3, item: 7 }));
+    assert!(rt; receiver.on_frame(Frame { label: 3, item: 7 }) == Some(7));
+    assert!(rt; receiver.on_frame(Frame { label: 3, item: 7 }).is_none());
     assert!(rt; receiver.ack() == 3);
 }
 

@@ -166,21 +166,9 @@ fn two_links(alloc: Global) -> Result<Vec<TreeEvent>, AllocError> {
     Ok(schedule)
 }
 
-/// The text of the chain after a schedule from these starts, with two links of capacity one; or why
-/// the schedule is refused.
-fn outcome(
-    rt: &impl Abort,
-    alloc: Global,
-    links: &[(&[Frame], usize)],
-    events: &[TreeEvent],
-) -> Result<Result<String, TreeStartFault>, Fail> {
-    let params = [Params::new(1, 4)?; 2];
-    let starts = starts(alloc, links)?;
-    let Opened { tree, openings } = &unopened(rt, alloc, CHAIN)?;
-    match run_schedule(alloc, &params, tree, &ITEMS, &starts, openings, events) {
-        Ok(state) => Ok(Ok(schedule_text(alloc, tree, &state)?)),
-        Err(fault) => Ok(Err(fault)),
-    }
+/// The parameters of two links of capacity one with four labels.
+fn narrow() -> Result<[Params; 2], Fail> {
+    Ok([Params::new(1, 4)?; 2])
 }
 
 /// The text of a tree after a schedule from these starts.
@@ -235,45 +223,91 @@ fn schedule_of_a_wider_second_link(alloc: Global) -> Result<Vec<TreeEvent>, Allo
     Ok(schedule)
 }
 
-#[test]
-fn two_links_under_one_schedule_deliver_one_stray_each(rt: HostRuntime) -> Result<(), Fail> {
-    let schedule = two_links(rt.alloc())?;
-    let text = outcome(&rt, rt.alloc(), &WORST_STARTS, &schedule)??;
-    assert!(rt; text.as_str() == TWO_LINKS);
-    Ok(())
-}
-
-/// The text of the chain after this schedule of two published items, from these starts.
+/// The text of the chain after this schedule of these published items, from these starts.
 fn chain_text(
     rt: &impl Abort,
     alloc: Global,
     params: &[Params],
+    published: &[Item],
     starts: &[Start],
     events: &[TreeEvent],
 ) -> Result<String, Fail> {
     let chain = unopened(rt, alloc, CHAIN)?;
-    text_after(alloc, params, &chain, &[7, 8], starts, events)
+    text_after(alloc, params, &chain, published, starts, events)
+}
+
+/// The text of the chain after this schedule from the worst starts.
+fn text_after_the_worst(
+    rt: &impl Abort,
+    alloc: Global,
+    events: &[TreeEvent],
+) -> Result<String, Fail> {
+    let params = narrow()?;
+    let starts = starts(alloc, &WORST_STARTS)?;
+    chain_text(rt, alloc, &params, &ITEMS, &starts, events)
+}
+
+/// Fails the test where this schedule from the worst starts does not lead to this text.
+fn assert_after_the_worst(
+    rt: &(impl Abort + Alloc<A = Global>),
+    events: &[TreeEvent],
+    want: &str,
+) -> Result<(), Fail> {
+    let text = text_after_the_worst(rt, rt.alloc(), events)?;
+    assert!(rt; text.as_str() == want);
+    Ok(())
+}
+
+#[test]
+fn two_links_under_one_schedule_deliver_one_stray_each(rt: HostRuntime) -> Result<(), Fail> {
+    let events = two_links(rt.alloc())?;
+    assert_after_the_worst(&rt, &events, TWO_LINKS)
+}
+
+/// The text of the chain whose second link has these wider parameters, after its schedule.
+fn text_of_a_wider_second_link(
+    rt: &impl Abort,
+    alloc: Global,
+    params: &[Params],
+) -> Result<String, Fail> {
+    let events = schedule_of_a_wider_second_link(alloc)?;
+    let starts = starts_of_a_wider_second_link(alloc)?;
+    chain_text(rt, alloc, params, &[7, 8], &starts, &events)
 }
 
 #[test]
 fn a_wider_second_link_holds_two_strays(rt: HostRuntime) -> Result<(), Fail> {
     let params = [Params::new(1, 4)?, Params::new(2, 6)?];
-    let starts = starts_of_a_wider_second_link(rt.alloc())?;
-    let events = schedule_of_a_wider_second_link(rt.alloc())?;
-    let text = chain_text(&rt, rt.alloc(), &params, &starts, &events)?;
+    let text = text_of_a_wider_second_link(&rt, rt.alloc(), &params)?;
     assert!(rt; text.as_str() == WIDER_SECOND_LINK);
     Ok(())
 }
 
-/// Why the chain is refused with these parameters and these starts, or `None` where it begins.
+/// Why this schedule of these published items is refused on the chain, or `None` where it is not.
 fn refusal(
     rt: &impl Abort,
     alloc: Global,
     params: &[Params],
+    published: &[Item],
     starts: &[Start],
+    events: &[TreeEvent],
 ) -> Result<Option<TreeStartFault>, Fail> {
     let Opened { tree, openings } = &unopened(rt, alloc, CHAIN)?;
-    Ok(run_schedule(alloc, params, tree, &[7, 8], starts, openings, &[]).err())
+    Ok(run_schedule(alloc, params, tree, published, starts, openings, events).err())
+}
+
+/// Fails the test where the starts of a wider second link are refused with these parameters for
+/// another reason than the one beside them.
+fn assert_refusals(
+    rt: &(impl Abort + Alloc<A = Global>),
+    starts: &[Start],
+    rows: &[(&[Params], Option<TreeStartFault>)],
+) -> Result<(), Fail> {
+    for (params, want) in rows {
+        let fault = refusal(rt, rt.alloc(), *params, &[7, 8], starts, &[])?;
+        assert!(rt; fault == *want, "{want:?}");
+    }
+    Ok(())
 }
 
 #[test]
@@ -292,11 +326,7 @@ fn each_link_is_held_to_its_own_capacity(rt: HostRuntime) -> Result<(), Fail> {
         (wide_second.as_slice(), Some(TreeStartFault::StartCount)),
     ];
     let starts = starts_of_a_wider_second_link(rt.alloc())?;
-    for (params, want) in rows {
-        let fault = refusal(&rt, rt.alloc(), params, &starts)?;
-        assert!(rt; fault == want, "{want:?}");
-    }
-    Ok(())
+    assert_refusals(&rt, &starts, &rows)
 }
 
 /// The openings of these lists of items.
@@ -342,18 +372,27 @@ fn rounds(alloc: Global, upper: u16, lower: u16) -> Result<Vec<TreeEvent>, Alloc
 /// The text of the chain after this schedule of two published items, from clean starts, where a
 /// begins with 50 and 51.
 fn opened_chain_text(rt: &impl Abort, alloc: Global, events: &[TreeEvent]) -> Result<String, Fail> {
-    let params = [Params::new(1, 4)?; 2];
-    let starts = [Start::clean(alloc), Start::clean(alloc)];
+    let params = narrow()?;
     let chain = opened_chain(rt, alloc)?;
+    let starts = [Start::clean(alloc), Start::clean(alloc)];
     text_after(alloc, &params, &chain, &[7, 8], &starts, events)
+}
+
+/// Fails the test where this schedule of that chain does not lead to this text.
+fn assert_opened_chain(
+    rt: &(impl Abort + Alloc<A = Global>),
+    events: &[TreeEvent],
+    want: &str,
+) -> Result<(), Fail> {
+    let text = opened_chain_text(rt, rt.alloc(), events)?;
+    assert!(rt; text.as_str() == want);
+    Ok(())
 }
 
 #[test]
 fn an_opening_passed_on(rt: HostRuntime) -> Result<(), Fail> {
     let events = rounds(rt.alloc(), 2, 4)?;
-    let text = opened_chain_text(&rt, rt.alloc(), &events)?;
-    assert!(rt; text.as_str() == PASSED_ON);
-    Ok(())
+    assert_opened_chain(&rt, &events, PASSED_ON)
 }
 
 /// Why these lists are no openings, or `None` where they are.
@@ -366,34 +405,40 @@ fn opening_fault(
     Ok(openings(alloc, tree, hold, lists)?.err())
 }
 
+/// The most items of an opening of the chain, the openings of its nodes, and why they are refused.
+const OPENINGS: [(u16, &[&[Item]], Option<OpeningFault>); 8] = [
+    (65, &[&[], &[50, 51]], Some(OpeningFault::HoldOutOfRange)),
+    (2, &[&[], &[50, 51]], Some(OpeningFault::OpeningCount)),
+    (2, &[&[1], &[], &[]], Some(OpeningFault::OpeningPlace)),
+    (2, &[&[], &[], &[1]], Some(OpeningFault::OpeningPlace)),
+    (2, &[&[1, 2, 3], &[], &[]], Some(OpeningFault::OpeningPlace)),
+    (
+        2,
+        &[&[], &[1, 2, 3], &[]],
+        Some(OpeningFault::OpeningTooLong),
+    ),
+    (64, &[&[], &[50, 51], &[]], None),
+    (2, &[&[], &[50, 51], &[]], None),
+];
+
+/// Fails the test where these openings of a tree are refused for another reason than the one beside
+/// them.
+fn assert_openings(
+    rt: &(impl Abort + Alloc<A = Global>),
+    tree: &Tree,
+    rows: &[(u16, &[&[Item]], Option<OpeningFault>)],
+) -> Result<(), AllocError> {
+    for (hold, lists, want) in rows {
+        let fault = opening_fault(rt.alloc(), tree, *hold, *lists)?;
+        assert!(rt; fault == *want, "{want:?}");
+    }
+    Ok(())
+}
+
 #[test]
 fn refused_openings(rt: HostRuntime) -> Result<(), Fail> {
     let tree = tree(&rt, rt.alloc(), CHAIN)?;
-    let few: [&[Item]; 2] = [&[], &[50, 51]];
-    let fit: [&[Item]; 3] = [&[], &[50, 51], &[]];
-    let at_the_root: [&[Item]; 3] = [&[1], &[], &[]];
-    let at_a_leaf: [&[Item]; 3] = [&[], &[], &[1]];
-    let long: [&[Item]; 3] = [&[], &[1, 2, 3], &[]];
-    let long_at_the_root: [&[Item]; 3] = [&[1, 2, 3], &[], &[]];
-    let rows = [
-        (65, few.as_slice(), Some(OpeningFault::HoldOutOfRange)),
-        (2, few.as_slice(), Some(OpeningFault::OpeningCount)),
-        (2, at_the_root.as_slice(), Some(OpeningFault::OpeningPlace)),
-        (2, at_a_leaf.as_slice(), Some(OpeningFault::OpeningPlace)),
-        (
-            2,
-            long_at_the_root.as_slice(),
-            Some(OpeningFault::OpeningPlace),
-        ),
-        (2, long.as_slice(), Some(OpeningFault::OpeningTooLong)),
-        (64, fit.as_slice(), None),
-        (2, fit.as_slice(), None),
-    ];
-    for (hold, lists, want) in rows {
-        let fault = opening_fault(rt.alloc(), &tree, hold, lists)?;
-        assert!(rt; fault == want, "{want:?}");
-    }
-    Ok(())
+    Ok(assert_openings(&rt, &tree, &OPENINGS)?)
 }
 
 /// Fails the test where the openings have another hold, or a node has another opening.
@@ -406,40 +451,74 @@ fn assert_opening(rt: &impl Abort, opened: &Opened, hold: u16, place: u16, items
     assert!(rt; opened.openings.list(NodeId::new(place)) == items);
 }
 
-#[test]
-fn openings_are_read_back(rt: HostRuntime) -> Result<(), Fail> {
-    assert_opening(&rt, &opened_chain(&rt, rt.alloc())?, 2, A, &[50, 51]);
-    assert_opening(&rt, &unopened(&rt, rt.alloc(), CHAIN)?, 0, B, &[]);
+/// Fails the test where the chain in which a begins with 50 and 51 has other openings.
+fn assert_opened(rt: &(impl Abort + Alloc<A = Global>)) -> Result<(), Fail> {
+    let chain = opened_chain(rt, rt.alloc())?;
+    assert_opening(rt, &chain, 2, A, &[50, 51]);
+    Ok(())
+}
+
+/// Fails the test where the chain that begins with nothing has openings.
+fn assert_unopened(rt: &(impl Abort + Alloc<A = Global>)) -> Result<(), Fail> {
+    let chain = unopened(rt, rt.alloc(), CHAIN)?;
+    assert_opening(rt, &chain, 0, B, &[]);
     Ok(())
 }
 
 #[test]
+fn openings_are_read_back(rt: HostRuntime) -> Result<(), Fail> {
+    assert_opened(&rt)?;
+    assert_unopened(&rt)
+}
+
+/// Why this schedule from these starts is refused on the chain, or `None` where it is not.
+fn refusal_of_links(
+    rt: &impl Abort,
+    alloc: Global,
+    links: &[(&[Frame], usize)],
+    events: &[TreeEvent],
+) -> Result<Option<TreeStartFault>, Fail> {
+    let params = narrow()?;
+    let starts = starts(alloc, links)?;
+    refusal(rt, alloc, &params, &ITEMS, &starts, events)
+}
+
+/// Starts of the chain's links, and why they are refused.
+const STARTS: [(&[(&[Frame], usize)], Option<TreeStartFault>); 4] = [
+    (&[(&[STRAY_99], 1)], Some(TreeStartFault::StartCount)),
+    (
+        &[(&[STRAY_99], 1), (&[STRAY_98, STRAY_99], 1)],
+        Some(TreeStartFault::Start(StartFault::TooManyFrames)),
+    ),
+    (
+        &[(&[STRAY_99], 2), (&[STRAY_98, STRAY_99], 1)],
+        Some(TreeStartFault::Start(StartFault::TooManyAcks)),
+    ),
+    (&WORST_STARTS, None),
+];
+
+#[test]
 fn refuses_the_first_unlawful_start_in_file_order(rt: HostRuntime) -> Result<(), Fail> {
-    let frames = Some(TreeStartFault::Start(StartFault::TooManyFrames));
-    let acks = Some(TreeStartFault::Start(StartFault::TooManyAcks));
-    let one: [(&[Frame], usize); 1] = [(&[STRAY_99], 1)];
-    let second: [(&[Frame], usize); 2] = [(&[STRAY_99], 1), (&[STRAY_98, STRAY_99], 1)];
-    let both: [(&[Frame], usize); 2] = [(&[STRAY_99], 2), (&[STRAY_98, STRAY_99], 1)];
-    let rows = [
-        (one.as_slice(), Some(TreeStartFault::StartCount)),
-        (second.as_slice(), frames),
-        (both.as_slice(), acks),
-        (WORST_STARTS.as_slice(), None),
-    ];
-    for (links, want) in rows {
-        let fault = outcome(&rt, rt.alloc(), links, &[])?.err();
-        assert!(rt; fault == want, "{want:?}");
+    for (links, want) in &STARTS {
+        let fault = refusal_of_links(&rt, rt.alloc(), *links, &[])?;
+        assert!(rt; fault == *want, "{want:?}");
     }
     Ok(())
+}
+
+/// An offer on the link into each of these nodes.
+fn offers(alloc: Global, children: &[u16]) -> Result<Vec<TreeEvent>, AllocError> {
+    let mut events = Vec::new(alloc);
+    for child in children {
+        push_acts(&mut events, NodeId::new(*child), &[LinkAct::Offer])?;
+    }
+    Ok(events)
 }
 
 #[test]
 fn refuses_the_first_event_that_names_no_link(rt: HostRuntime) -> Result<(), Fail> {
-    let mut events = Vec::new(rt.alloc());
-    for child in [A, ROOT, A] {
-        push_acts(&mut events, NodeId::new(child), &[LinkAct::Offer])?;
-    }
-    let fault = outcome(&rt, rt.alloc(), &WORST_STARTS, &events)?.err();
+    let events = offers(rt.alloc(), &[A, ROOT, A])?;
+    let fault = refusal_of_links(&rt, rt.alloc(), &WORST_STARTS, &events)?;
     assert!(rt; fault == Some(TreeStartFault::Step(TreeStepFault::NoSuchLink)));
     Ok(())
 }
@@ -460,35 +539,58 @@ fn assert_acts(
 }
 
 /// The chain that begins with these starts.
-fn state_of(rt: &impl Abort, alloc: Global, starts: &[Start]) -> Result<TreeState, Fail> {
-    let params = [Params::new(1, 4)?; 2];
+fn state_of(
+    rt: &impl Abort,
+    alloc: Global,
+    params: &[Params],
+    starts: &[Start],
+) -> Result<TreeState, Fail> {
     let Opened { tree, openings } = &unopened(rt, alloc, CHAIN)?;
-    Ok(TreeState::new(alloc, &params, tree, &ITEMS, starts, openings)?)
+    Ok(TreeState::new(alloc, params, tree, &ITEMS, starts, openings)?)
+}
+
+/// The chain that begins with the worst starts.
+fn worst_state(rt: &impl Abort, alloc: Global) -> Result<TreeState, Fail> {
+    let params = narrow()?;
+    let starts = starts(alloc, &WORST_STARTS)?;
+    state_of(rt, alloc, &params, &starts)
+}
+
+/// Acts on the chain that begins with the worst starts, each beside its answer.
+const ACTS: [(u16, LinkAct, Result<Effect, TreeStepFault>); 8] = [
+    (B, LinkAct::Offer, Ok(Effect::Nothing)),
+    (A, LinkAct::RecvFrame { keep: true }, Ok(Effect::Fresh(99))),
+    (B, LinkAct::Offer, Ok(Effect::Held)),
+    (B, LinkAct::LoseFrame(0), Ok(Effect::Lost)),
+    (B, LinkAct::LoseAck(1), Ok(Effect::Nothing)),
+    (B, LinkAct::Close, Ok(Effect::Closed)),
+    (ROOT, LinkAct::Offer, Err(TreeStepFault::NoSuchLink)),
+    (STRANGER, LinkAct::Close, Err(TreeStepFault::NoSuchLink)),
+];
+
+/// Fails the test where a link leads into this place.
+fn assert_no_link(rt: &impl Abort, state: &TreeState, place: u16) {
+    assert!(rt; state.link(NodeId::new(place)).is_none());
 }
 
 #[test]
 fn an_offer_of_nothing_does_nothing(rt: HostRuntime) -> Result<(), Fail> {
-    let mut state = state_of(&rt, rt.alloc(), &starts(rt.alloc(), &WORST_STARTS)?)?;
-    let steps = [
-        (B, LinkAct::Offer, Ok(Effect::Nothing)),
-        (A, LinkAct::RecvFrame { keep: true }, Ok(Effect::Fresh(99))),
-        (B, LinkAct::Offer, Ok(Effect::Held)),
-        (B, LinkAct::LoseFrame(0), Ok(Effect::Lost)),
-        (B, LinkAct::LoseAck(1), Ok(Effect::Nothing)),
-        (B, LinkAct::Close, Ok(Effect::Closed)),
-        (ROOT, LinkAct::Offer, Err(TreeStepFault::NoSuchLink)),
-        (STRANGER, LinkAct::Close, Err(TreeStepFault::NoSuchLink)),
-    ];
-    assert_acts(&rt, &mut state, &steps);
-    assert!(rt; state.link(NodeId::new(ROOT)).is_none());
-    assert!(rt; state.link(NodeId::new(STRANGER)).is_none());
+    let mut state = worst_state(&rt, rt.alloc())?;
+    assert_acts(&rt, &mut state, &ACTS);
+    assert_no_link(&rt, &state, ROOT);
+    assert_no_link(&rt, &state, STRANGER);
     Ok(())
+}
+
+/// The text of a tree of one node, which publishes 7 and 8.
+fn lone_text(rt: &impl Abort, alloc: Global) -> Result<String, Fail> {
+    let lone = unopened(rt, alloc, r#"[{"name":"r"}]"#)?;
+    text_after(alloc, &[], &lone, &[7, 8], &[], &[])
 }
 
 #[test]
 fn a_lone_root_has_what_it_publishes(rt: HostRuntime) -> Result<(), Fail> {
-    let lone = unopened(&rt, rt.alloc(), r#"[{"name":"r"}]"#)?;
-    let text = text_after(rt.alloc(), &[], &lone, &[7, 8], &[], &[])?;
+    let text = lone_text(&rt, rt.alloc())?;
     assert!(rt; text.as_str() == "r depth 0 received 2 acked -\nitems: 7 8\n");
     Ok(())
 }
@@ -501,35 +603,61 @@ fn the_counts_of_a_node_are_a_line_without_its_end(rt: HostRuntime) -> Result<()
     Ok(())
 }
 
+/// The text of each refusal of a start or of a step.
+const FAULTS: [(TreeStartFault, &str); 5] = [
+    (TreeStartFault::StartCount, "start: wrong number of starts"),
+    (
+        TreeStartFault::Start(StartFault::TooManyFrames),
+        "start: too many frames",
+    ),
+    (TreeStartFault::Start(StartFault::Memory), "out of memory"),
+    (
+        TreeStartFault::Step(TreeStepFault::NoSuchLink),
+        "step: no such link",
+    ),
+    (TreeStartFault::Step(TreeStepFault::Memory), "out of memory"),
+];
+
+/// The text of each refusal of openings.
+const OPENING_FAULTS: [(OpeningFault, &str); 4] = [
+    (OpeningFault::HoldOutOfRange, "job: h out of range"),
+    (OpeningFault::OpeningCount, "job: wrong number of openings"),
+    (
+        OpeningFault::OpeningPlace,
+        "job: opening at the root or a leaf",
+    ),
+    (OpeningFault::OpeningTooLong, "job: opening too long"),
+];
+
+/// Fails the test where a fault prints another text.
+fn assert_prints(
+    rt: &(impl Abort + Alloc<A = Global>),
+    fault: TreeStartFault,
+    want: &str,
+) -> Result<(), Fail> {
+    let text = fault.to_string(rt.alloc())?;
+    assert!(rt; text.as_str() == want, "{want}");
+    Ok(())
+}
+
+/// The same for a refusal of openings.
+fn assert_prints_of_openings(
+    rt: &(impl Abort + Alloc<A = Global>),
+    fault: OpeningFault,
+    want: &str,
+) -> Result<(), Fail> {
+    let text = fault.to_string(rt.alloc())?;
+    assert!(rt; text.as_str() == want, "{want}");
+    Ok(())
+}
+
 #[test]
 fn each_fault_prints_its_text(rt: HostRuntime) -> Result<(), Fail> {
-    let texts = [
-        (TreeStartFault::StartCount, "start: wrong number of starts"),
-        (
-            TreeStartFault::Start(StartFault::TooManyFrames),
-            "start: too many frames",
-        ),
-        (TreeStartFault::Start(StartFault::Memory), "out of memory"),
-        (
-            TreeStartFault::Step(TreeStepFault::NoSuchLink),
-            "step: no such link",
-        ),
-        (TreeStartFault::Step(TreeStepFault::Memory), "out of memory"),
-    ];
-    for (fault, want) in texts {
-        assert!(rt; fault.to_string(rt.alloc())?.as_str() == want, "{want}");
+    for (fault, want) in &FAULTS {
+        assert_prints(&rt, *fault, *want)?;
     }
-    let openings = [
-        (OpeningFault::HoldOutOfRange, "job: h out of range"),
-        (OpeningFault::OpeningCount, "job: wrong number of openings"),
-        (
-            OpeningFault::OpeningPlace,
-            "job: opening at the root or a leaf",
-        ),
-        (OpeningFault::OpeningTooLong, "job: opening too long"),
-    ];
-    for (fault, want) in openings {
-        assert!(rt; fault.to_string(rt.alloc())?.as_str() == want, "{want}");
+    for (fault, want) in &OPENING_FAULTS {
+        assert_prints_of_openings(&rt, *fault, *want)?;
     }
     Ok(())
 }

@@ -20,9 +20,15 @@ const EITHER_KIND: [Ask; 11] = [
     Ask::Close(Effect::Nothing),
 ];
 
+/// A locked link with empty queues.
+fn lock_link(alloc: Global) -> Result<LockLink, Fail> {
+    let params = Params::new(1, 4)?;
+    Ok(LockLink::new(alloc, params, start_with(alloc, 0, 0, (0, 3))?)?)
+}
+
 /// The accounts of a locked link after that round, which its ends make as ends of either kind.
 fn settled_with_a_lock<R: Wait + Abort>(rt: &R, alloc: Global) -> Result<Settled, Fail> {
-    let link = LockLink::new(alloc, Params::new(1, 4)?, start_with(alloc, 0, 0, (0, 3))?)?;
+    let link = lock_link(alloc)?;
     let (send, recv) = link.split::<R>(Script::none(alloc));
     let (send, recv) = (AnySend::Lock(send), AnyRecv::Lock(recv));
     let (sent, received) = ask_and_finish(rt, rt, send, recv, &EITHER_KIND)?;
@@ -39,7 +45,7 @@ fn settled_with_two_words<R: Wait + Abort>(
     alloc: Global,
     start: &Start,
 ) -> Result<Settled, Fail> {
-    let (link, opening) = WordLink::new(alloc, Params::new(1, 4)?, start)?;
+    let (link, opening) = link_at(alloc, start)?;
     let (send, recv) = link.split(alloc, opening, Script::none(alloc))?;
     let (send, recv) = (AnySend::<R>::Word(send), AnyRecv::<R>::Word(recv));
     let (sent, received) = ask_and_finish(rt, rt, send, recv, &EITHER_KIND)?;
@@ -49,23 +55,17 @@ fn settled_with_two_words<R: Wait + Abort>(
     }
 }
 
-/// Fails the test where these are not the accounts of that round.
-fn assert_round<R: Abort>(rt: &R, settled: &Settled) {
-    assert!(rt; settled.send.offered.as_slice() == [7].as_slice());
-    assert!(rt; settled.send.acked == 1);
-    assert!(rt; settled.send.closed && settled.recv.closed);
-    assert!(rt; settled.recv.delivered.as_slice() == [7].as_slice());
-}
-
 #[test]
 fn a_round_and_a_close_over_a_lock(rt: HostRuntime) -> Result<(), Fail> {
-    assert_round(&rt, &settled_with_a_lock(&rt, rt.alloc())?);
+    let settled = settled_with_a_lock(&rt, rt.alloc())?;
+    assert_settled(&rt, &settled, &[7], 1, &[7], true);
     Ok(())
 }
 
 #[test]
 fn a_round_and_a_close_over_two_words(rt: HostRuntime) -> Result<(), Fail> {
     let start = start_with(rt.alloc(), 0, 0, (0, 3))?;
-    assert_round(&rt, &settled_with_two_words(&rt, rt.alloc(), &start)?);
+    let settled = settled_with_two_words(&rt, rt.alloc(), &start)?;
+    assert_settled(&rt, &settled, &[7], 1, &[7], true);
     Ok(())
 }

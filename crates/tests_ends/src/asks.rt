@@ -1,0 +1,114 @@
+//! The calls of the two ends of a link as data, each beside its answer, and the helpers that make
+//! them on the ends of a link of either kind.
+
+ghost use Rattle.std.specs.Prelude.{◌≡◌, IfOk};
+
+use stab_core::Effect;
+use stab_frames::Item;
+use stab_lock::{FrameSeen, RecvSide, SendSide, Settled};
+use std::alloc::AllocError;
+use std::process::Abort;
+
+/// A call of one of the two ends, beside the answer that it must give.
+#[derive(Clone, Copy, Debug)]
+pub enum Ask {
+    Offer(Item, bool),
+    Send(Effect),
+    PollAck(Effect),
+    Close(Effect),
+    PollFrame(FrameSeen),
+    SendAck(Effect),
+}
+
+/// Whether a call gave the answer that it must give.
+pub fn gave<A: Copy + PartialEq>(
+    given: Result<A, AllocError>,
+    want: A,
+) -> Result<bool, AllocError> {
+    Ok(given? == want)
+}
+
+/// Makes a call. It answers whether the call gave its answer.
+fn make<S: SendSide, T: RecvSide<Pass = S::Pass>>(
+    pass: &S::Pass,
+    send: &mut S,
+    recv: &mut T,
+    ask: Ask,
+) -> Result<bool, AllocError>
+    ensures sender { S.link send.new ≡ S.link send.old }
+    ensures receiver { T.link recv.new ≡ T.link recv.old }
+{
+    match ask {
+        Ask::Offer(item, taken) => gave(send.offer(pass, item), taken),
+        Ask::Send(effect) => gave(send.send(pass), effect),
+        Ask::PollAck(effect) => gave(send.poll_ack(pass), effect),
+        Ask::Close(effect) => gave(send.close(pass), effect),
+        Ask::PollFrame(seen) => gave(recv.poll_frame(pass), seen),
+        Ask::SendAck(effect) => gave(recv.send_ack(pass), effect),
+    }
+}
+
+/// Makes a call, and compares the answer.
+pub fn ask_one<S: SendSide, T: RecvSide<Pass = S::Pass>, R: Abort>(
+    rt: &R,
+    pass: &S::Pass,
+    send: &mut S,
+    recv: &mut T,
+    ask: Ask,
+) -> Result<(), AllocError>
+    ensures sender { S.link send.new ≡ S.link send.old }
+    ensures receiver { T.link recv.new ≡ T.link recv.old }
+{
+    let is_answered = make(pass, send, recv, ask)?;
+    assert!(rt; is_answered, "{ask:?}");
+    Ok(())
+}
+
+/// Makes the calls on both ends, in their order, and compares the answers.
+pub fn ask_all<S: SendSide, T: RecvSide<Pass = S::Pass>, R: Abort>(
+    rt: &R,
+    pass: &S::Pass,
+    send: &mut S,
+    recv: &mut T,
+    asks: &[Ask],
+) -> Result<(), AllocError>
+    ensures sender { S.link send.new ≡ S.link send.old }
+    ensures receiver { T.link recv.new ≡ T.link recv.old }
+{
+    'asks: for ask in asks {
+        ask_one(rt, pass, send, recv, *ask)?;
+    }
+    Ok(())
+}
+
+/// Makes the calls on both ends, and finishes the ends.
+pub fn ask_and_finish<S: SendSide, T: RecvSide<Pass = S::Pass>, R: Abort>(
+    rt: &R,
+    pass: &S::Pass,
+    mut send: S,
+    mut recv: T,
+    asks: &[Ask],
+) -> Result<(S::Done, T::Done), AllocError>
+    ensures sender { IfOk result (λ done. S.done_link done.0 ≡ S.link send) }
+    ensures receiver { IfOk result (λ done. T.done_link done.1 ≡ T.link recv) }
+{
+    ask_all(rt, pass, &mut send, &mut recv, asks)?;
+    Ok((send.finish(), recv.finish()))
+}
+
+/// Fails the test where the accounts are others: the offered items, how many of them are
+/// acknowledged, the delivered items, and whether both ends are closed or both are open.
+pub fn assert_settled<R: Abort>(
+    rt: &R,
+    settled: &Settled,
+    offered: &[Item],
+    acked: u64,
+    delivered: &[Item],
+    closed: bool,
+) {
+    assert!(rt; settled.send.offered.as_slice() == offered, "offered");
+    assert!(rt; settled.send.acked == acked, "acknowledged");
+    assert!(rt; settled.recv.delivered.as_slice() == delivered, "delivered");
+    assert!(rt; settled.send.closed == closed, "the sender's close");
+    assert!(rt; settled.recv.closed == closed, "the receiver's close");
+}
