@@ -7,12 +7,6 @@ use stab_json::{item, label, pair, read_list, read_value, u16_member, u32_member
 use std::alloc::Global;
 use std::process::Abort;
 
-/// What a text is as a label and as an item.
-fn numbers(rt: &impl Abort, alloc: Global, text: &str) -> (Option<Label>, Option<Item>) {
-    let value = value(rt, alloc, text);
-    (label(&value), item(&value))
-}
-
 #[test]
 fn labels_have_16_bits_and_items_32(rt: HostRuntime) {
     for (row, as_label, as_item) in &[
@@ -30,18 +24,13 @@ fn labels_have_16_bits_and_items_32(rt: HostRuntime) {
         ("[1]", None, None),
         ("true", None, None),
     ] {
-        let found = numbers(&rt, rt.alloc(), row);
+        let value = value(&rt, rt.alloc(), row);
+        let found = (label(&value), item(&value));
         assert!(rt;
             found == (*as_label, *as_item),
             "{row} as a label and as an item"
         );
     }
-}
-
-/// The member `n` of an object, in 16 bits and in 32.
-fn members(rt: &impl Abort, alloc: Global, text: &str) -> (Option<u16>, Option<u32>) {
-    let value = value(rt, alloc, text);
-    (u16_member(&value, "n"), u32_member(&value, "n"))
 }
 
 #[test]
@@ -53,18 +42,13 @@ fn numbers_too_large_for_a_member_are_its_largest(rt: HostRuntime) {
         (r#"{"n":1.0}"#, None, None),
         (r#"{"m":1}"#, None, None),
     ] {
-        let found = members(&rt, rt.alloc(), row);
+        let value = value(&rt, rt.alloc(), row);
+        let found = (u16_member(&value, "n"), u32_member(&value, "n"));
         assert!(rt;
             found == (*of_16_bits, *of_32_bits),
             "{row} in 16 bits and in 32"
         );
     }
-}
-
-/// Whether a text is a pair.
-fn is_pair(rt: &impl Abort, alloc: Global, text: &str) -> bool {
-    let value = value(rt, alloc, text);
-    pair(&value).is_some()
 }
 
 #[test]
@@ -75,7 +59,8 @@ fn only_lists_of_two_are_pairs(rt: HostRuntime) {
         ("[1,2,3]", false),
         ("{}", false),
     ] {
-        assert!(rt; is_pair(&rt, rt.alloc(), row) == *has_two, "{row}");
+        let value = value(&rt, rt.alloc(), row);
+        assert!(rt; pair(&value).is_some() == *has_two, "{row}");
     }
 }
 
@@ -100,17 +85,13 @@ fn is_frame_list(rt: &impl Abort, alloc: Global, value: &Value) -> bool {
         .is_some()
 }
 
-/// Fails the test where a list of 7 and 8, or an absent one, is read as something else.
-fn check_lists(rt: &impl Abort, alloc: Global, list: &Value) {
-    assert!(rt; is_items(rt, alloc, Some(list), &[7, 8]));
-    assert!(rt; is_items(rt, alloc, None, &[]));
-    assert!(rt; !is_item_list(rt, alloc, &Value::Null));
-    assert!(rt; !is_frame_list(rt, alloc, list));
-}
-
 #[test]
 fn a_list_that_is_absent_is_empty(rt: HostRuntime) {
-    check_lists(&rt, rt.alloc(), &value(&rt, rt.alloc(), "[7,8]"));
+    let list = value(&rt, rt.alloc(), "[7,8]");
+    assert!(rt; is_items(&rt, rt.alloc(), Some(&list), &[7, 8]));
+    assert!(rt; is_items(&rt, rt.alloc(), None, &[]));
+    assert!(rt; !is_item_list(&rt, rt.alloc(), &Value::Null));
+    assert!(rt; !is_frame_list(&rt, rt.alloc(), &list));
 }
 
 /// Whether bytes have a value.

@@ -11,15 +11,10 @@ fn read(rt: &impl Abort, alloc: Global, text: &str) -> Result<Tree, TreeFault> {
     read_tree(alloc, &value)
 }
 
-/// How a text is refused as a tree.
-fn refusal(rt: &impl Abort, alloc: Global, text: &str) -> Option<TreeFault> {
-    read(rt, alloc, text).err()
-}
-
 /// Each text is refused for the fault beside it, or read where there is none.
 fn check_faults(rt: &impl Abort, alloc: Global, cases: &[(&str, Option<TreeFault>)]) {
     for (text, fault) in cases {
-        assert!(rt; refusal(rt, alloc, text) == *fault, "{text}");
+        assert!(rt; read(rt, alloc, text).err() == *fault, "{text}");
     }
 }
 
@@ -130,34 +125,31 @@ fn reports_the_earlier_of_two_checks(rt: HostRuntime) {
     check_faults(&rt, rt.alloc(), cases);
 }
 
-/// How the family of 65 nodes in a star is refused.
-fn refusal_of_65(rt: &impl Abort, alloc: Global) -> Option<TreeFault> {
-    let text = family(rt, alloc, 65, false);
-    refusal(rt, alloc, text.as_str())
+/// The tree of such a list.
+fn read_family(
+    rt: &impl Abort,
+    alloc: Global,
+    count: u16,
+    is_chain: bool,
+) -> Result<Tree, TreeFault> {
+    let text = family(rt, alloc, count, is_chain);
+    read(rt, alloc, text.as_str())
 }
 
 #[test]
 fn refuses_65_nodes(rt: HostRuntime) {
-    assert!(rt; refusal_of_65(&rt, rt.alloc()) == Some(TreeFault::TooManyNodes));
-}
-
-/// The tree of 64 nodes in a chain or in a star.
-fn tree_of_64(rt: &impl Abort, alloc: Global, is_chain: bool) -> Tree {
-    let text = family(rt, alloc, 64, is_chain);
-    read(rt, alloc, text.as_str()).expect(rt, "a tree")
-}
-
-/// Fails the test where a tree does not have 64 nodes, the last of them at this depth.
-fn assert_64(rt: &impl Abort, tree: &Tree, deepest: u16) {
-    assert!(rt; tree.len() == 64);
-    assert!(rt; tree.link_count() == 63);
-    assert!(rt; is_node(rt, tree, 63, "n63", deepest));
+    let fault = read_family(&rt, rt.alloc(), 65, false).err();
+    assert!(rt; fault == Some(TreeFault::TooManyNodes));
 }
 
 #[test]
 fn reads_64_nodes_in_a_chain_and_in_a_star(rt: HostRuntime) {
-    assert_64(&rt, &tree_of_64(&rt, rt.alloc(), true), 63);
-    assert_64(&rt, &tree_of_64(&rt, rt.alloc(), false), 1);
+    for (is_chain, deepest) in &[(true, 63), (false, 1)] {
+        let tree = read_family(&rt, rt.alloc(), 64, *is_chain).expect(&rt, "a tree");
+        assert!(rt; tree.len() == 64);
+        assert!(rt; tree.link_count() == 63);
+        assert!(rt; is_node(&rt, &tree, 63, "n63", *deepest));
+    }
 }
 
 /// The tree whose root is the second of three nodes, so that the links around it differ.
@@ -166,26 +158,23 @@ fn tree_of_three(rt: &impl Abort, alloc: Global) -> Tree {
     read(rt, alloc, text).expect(rt, "a tree")
 }
 
-/// Fails the test where the nodes of that tree are others, or in another order.
-fn assert_nodes(rt: &impl Abort, tree: &Tree) {
+#[test]
+fn knows_its_nodes_in_file_order(rt: HostRuntime) {
+    let tree = tree_of_three(&rt, rt.alloc());
     let parents = [Some(NodeId::new(2)), None, Some(NodeId::new(1))];
     assert!(rt; tree.parents() == parents.as_slice());
     assert!(rt; tree.len() == 3);
     assert!(rt; tree.root().index() == 1);
     assert!(rt; tree.parent(tree.root()).is_none());
     for (place, name, depth) in &[(0, "b", 2), (1, "r", 0), (2, "a", 1)] {
-        assert!(rt; is_node(rt, tree, *place, name, *depth), "{name}");
+        assert!(rt; is_node(&rt, &tree, *place, name, *depth), "{name}");
     }
     assert!(rt; tree.find("c").is_none());
 }
 
 #[test]
-fn knows_its_nodes_in_file_order(rt: HostRuntime) {
-    assert_nodes(&rt, &tree_of_three(&rt, rt.alloc()));
-}
-
-/// Fails the test where the links of that tree have other children, or other places.
-fn assert_links(rt: &impl Abort, tree: &Tree) {
+fn names_links_by_their_children(rt: HostRuntime) {
+    let tree = tree_of_three(&rt, rt.alloc());
     assert!(rt; tree.link_count() == 2);
     assert!(rt; tree.link_child(0) == NodeId::new(0));
     assert!(rt; tree.link_child(1) == NodeId::new(2));
@@ -198,11 +187,6 @@ fn assert_links(rt: &impl Abort, tree: &Tree) {
     ] {
         assert!(rt; tree.link_place(NodeId::new(*node)) == *place, "{node}");
     }
-}
-
-#[test]
-fn names_links_by_their_children(rt: HostRuntime) {
-    assert_links(&rt, &tree_of_three(&rt, rt.alloc()));
 }
 
 #[test]

@@ -17,12 +17,6 @@ fn job(rt: &impl Abort, alloc: Global, text: &str) -> LinkJob {
     read_link_job(alloc, text.as_bytes()).expect(rt, "a link job")
 }
 
-/// The worst start with this as its last event.
-fn worst_start(rt: &impl Abort, alloc: Global, last: &str) -> LinkJob {
-    let text = filled(rt, alloc, WORST_START, "LAST", last);
-    job(rt, alloc, text.as_str())
-}
-
 /// A job that is refused, or `None` where it is read.
 fn refusal(alloc: Global, job: &[u8]) -> Option<LinkJobFault> {
     read_link_job(alloc, job).err()
@@ -40,16 +34,13 @@ fn refusal_with(
     refusal(alloc, job.as_bytes())
 }
 
-/// Fails the test where a job has other parts than the worst start.
-fn assert_worst_start(rt: &impl Abort, job: &LinkJob) {
+#[test]
+fn reads_the_worst_start_as_its_parts(rt: HostRuntime) {
+    let text = filled(&rt, rt.alloc(), WORST_START, "LAST", r#""recv_frame""#);
+    let job = job(&rt, rt.alloc(), text.as_str());
     assert!(rt; (job.params.capacity(), job.params.labels()) == (1, 4));
-    assert_start(
-        rt,
-        &job.start,
-        &[Frame { label: 2, item: 99 }],
-        &[0],
-        (0, 1),
-    );
+    let frames = &[Frame { label: 2, item: 99 }];
+    assert_start(&rt, &job.start, frames, &[0], (0, 1));
     let events = &[
         Event::Offer(10),
         Event::RecvAck { keep: false },
@@ -65,12 +56,6 @@ fn assert_worst_start(rt: &impl Abort, job: &LinkJob) {
         Event::RecvFrame { keep: false },
     ];
     assert!(rt; job.events.as_slice() == events.as_slice());
-}
-
-#[test]
-fn reads_the_worst_start_as_its_parts(rt: HostRuntime) {
-    let job = worst_start(&rt, rt.alloc(), r#""recv_frame""#);
-    assert_worst_start(&rt, &job);
 }
 
 #[test]
@@ -147,23 +132,13 @@ fn long_refusal(rt: &impl Abort, alloc: Global, events: u32, last: &str) -> Opti
     refusal(alloc, text.as_bytes())
 }
 
-/// A job with 1,000,000 events, of which the last one is a close.
-fn longest_job(rt: &impl Abort, alloc: Global) -> LinkJob {
-    let text = long_job(rt, alloc, 1_000_000, r#""close""#);
-    job(rt, alloc, text.as_str())
-}
-
-/// Fails the test where a list does not have 1,000,000 events, the first an acknowledgement that is
-/// sent and the last a close.
-fn assert_longest(rt: &impl Abort, events: &[Event]) {
-    assert!(rt; events.len() == 1_000_000);
-    assert!(rt; events.first().copied() == Some(Event::SendAck));
-    assert!(rt; events.last().copied() == Some(Event::Close));
-}
-
 #[test]
 fn refuses_1000001_events_before_a_bad_one(rt: HostRuntime) {
-    assert_longest(&rt, longest_job(&rt, rt.alloc()).events.as_slice());
+    let text = long_job(&rt, rt.alloc(), 1_000_000, r#""close""#);
+    let job = job(&rt, rt.alloc(), text.as_str());
+    assert!(rt; job.events.len() == 1_000_000);
+    assert!(rt; job.events.as_slice().first().copied() == Some(Event::SendAck));
+    assert!(rt; job.events.as_slice().last().copied() == Some(Event::Close));
     let bad = long_refusal(&rt, rt.alloc(), 1_000_000, r#""jump""#);
     assert!(rt; bad == Some(LinkJobFault::Event));
     let many = long_refusal(&rt, rt.alloc(), 1_000_001, r#""jump""#);

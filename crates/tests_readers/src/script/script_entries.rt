@@ -97,34 +97,21 @@ fn repeated(rt: &impl Abort, alloc: Global, letter: &str, count: u32) -> String 
     text
 }
 
-/// A text with a letter, repeated, in the place of a mark.
-fn filled_with(rt: &impl Abort, alloc: Global, text: &str, mark: &str, letter: &str) -> String {
-    let letters = repeated(rt, alloc, letter, 100_000);
-    filled(rt, alloc, text, mark, letters.as_str())
-}
-
 /// An entry with 100,000 letters in each list, and then this in the last one.
 fn long_entry(rt: &impl Abort, alloc: Global, last: &str) -> String {
+    let outs = repeated(rt, alloc, "E", 100_000);
+    let ins = repeated(rt, alloc, "K", 100_000);
     let entry = filled(rt, alloc, LONG_ENTRY, "LAST", last);
-    let entry = filled_with(rt, alloc, entry.as_str(), "OUTS", "E");
-    filled_with(rt, alloc, entry.as_str(), "INS", "K")
-}
-
-/// The script that an entry with 100,000 letters in each list is read as.
-fn long_script(rt: &impl Abort, alloc: Global) -> Script {
-    let text = long_entry(rt, alloc, "");
-    entry(rt, alloc, text.as_str())
-}
-
-/// Fails the test where a script does not have 100,000 acts, the last of which keeps.
-fn assert_long(rt: &impl Abort, script: &Script) {
-    assert!(rt; script.frames_out().len() == 100_000);
-    assert!(rt; script.acks_in().last().copied() == Some(InAct::Keep));
+    let entry = filled(rt, alloc, entry.as_str(), "OUTS", outs.as_str());
+    filled(rt, alloc, entry.as_str(), "INS", ins.as_str())
 }
 
 #[test]
 fn reads_100000_letters(rt: HostRuntime) {
-    assert_long(&rt, &long_script(&rt, rt.alloc()));
+    let text = long_entry(&rt, rt.alloc(), "");
+    let script = entry(&rt, rt.alloc(), text.as_str());
+    assert!(rt; script.frames_out().len() == 100_000);
+    assert!(rt; script.acks_in().last().copied() == Some(InAct::Keep));
 }
 
 /// How a text is refused, or `None` where it is read as a script.
@@ -133,22 +120,15 @@ fn refusal(rt: &impl Abort, alloc: Global, text: &str) -> Option<PartFault> {
     read_script(alloc, &value).err()
 }
 
-/// How an entry with 100,000 letters in each list and then this in the last one is refused.
-fn long_refusal(rt: &impl Abort, alloc: Global, last: &str) -> Option<PartFault> {
-    let text = long_entry(rt, alloc, last);
-    refusal(rt, alloc, text.as_str())
-}
-
 #[test]
 fn refuses_100001_letters_and_a_wrong_one_among_them(rt: HostRuntime) {
     for (last, want) in &[
         ("T", PartFault::Script(ScriptFault::TooLong)),
         ("X", PartFault::Shape),
     ] {
-        assert!(rt;
-            long_refusal(&rt, rt.alloc(), last) == Some(*want),
-            "{last}"
-        );
+        let text = long_entry(&rt, rt.alloc(), last);
+        let refused = refusal(&rt, rt.alloc(), text.as_str());
+        assert!(rt; refused == Some(*want), "{last}");
     }
 }
 

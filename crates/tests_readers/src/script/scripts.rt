@@ -285,27 +285,20 @@ fn some_acts(rt: &impl Abort, alloc: Global) -> Script {
     .expect(rt, "a script")
 }
 
-/// A copy of a script.
-fn copied(rt: &impl Abort, alloc: Global, script: &Script) -> Script {
-    script.copy(alloc).expect(rt, "memory")
-}
-
-/// Fails the test where a script and its copy have different letters.
-fn assert_copied(rt: &impl Abort, alloc: Global, script: &Script) {
-    let own = lettered(rt, alloc, script);
-    let of_copy = lettered(rt, alloc, &copied(rt, alloc, script));
-    assert_letters(rt, of_copy.as_str(), own.as_str());
-}
-
 #[test]
 fn a_copy_has_the_same_acts(rt: HostRuntime) {
-    assert_copied(&rt, rt.alloc(), &some_acts(&rt, rt.alloc()));
+    let script = some_acts(&rt, rt.alloc());
+    let copy = script.copy(rt.alloc()).expect(&rt, "memory");
+    let own = lettered(&rt, rt.alloc(), &script);
+    let copied = lettered(&rt, rt.alloc(), &copy);
+    assert_letters(&rt, copied.as_str(), own.as_str());
 }
 
 #[test]
 fn each_half_takes_its_own_acts(rt: HostRuntime) {
-    let script = copied(&rt, rt.alloc(), &some_acts(&rt, rt.alloc()));
-    let (mut send, mut recv) = script.split();
+    let script = some_acts(&rt, rt.alloc());
+    let copy = script.copy(rt.alloc()).expect(&rt, "memory");
+    let (mut send, mut recv) = copy.split();
     let outs = &[
         OutAct::Drop,
         OutAct::Pass,
