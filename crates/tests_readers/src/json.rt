@@ -1,13 +1,15 @@
 //! The small parts of a job at their limits.
 
+use crate::helpers::value;
 use serde_json::Value;
-use stab_frames::{Frame, Item};
+use stab_frames::{Frame, Item, Label};
 use stab_json::{item, label, pair, read_list, read_value, u16_member, u32_member};
-use std::test::Fail;
+use std::alloc::Global;
+use std::process::Abort;
 
 #[test]
-fn labels_have_16_bits_and_items_32(rt: HostRuntime) -> Result<(), Fail> {
-    let rows = [
+fn labels_have_16_bits_and_items_32(rt: HostRuntime) {
+    for (row, as_label, as_item) in &[
         ("0", Some(0), Some(0)),
         ("65535", Some(65535), Some(65535)),
         ("65536", None, Some(65536)),
@@ -21,63 +23,85 @@ fn labels_have_16_bits_and_items_32(rt: HostRuntime) -> Result<(), Fail> {
         (r#""1""#, None, None),
         ("[1]", None, None),
         ("true", None, None),
-    ];
-    for (row, as_label, as_item) in rows {
-        let value = Value::from_str(rt.alloc(), row)?;
-        assert!(rt; label(&value) == as_label, "{row} as a label");
-        assert!(rt; item(&value) == as_item, "{row} as an item");
+    ] {
+        let value = value(&rt, rt.alloc(), row);
+        let found = (label(&value), item(&value));
+        assert!(rt;
+            found == (*as_label, *as_item),
+            "{row} as a label and as an item"
+        );
     }
-    Ok(())
 }
 
 #[test]
-fn numbers_too_large_for_a_member_are_its_largest(rt: HostRuntime) -> Result<(), Fail> {
-    let rows = [
+fn numbers_too_large_for_a_member_are_its_largest(rt: HostRuntime) {
+    for (row, of_16_bits, of_32_bits) in &[
         (r#"{"n":65536}"#, Some(65535), Some(65536)),
         (r#"{"n":4294967296}"#, Some(65535), Some(4294967295)),
         (r#"{"n":18446744073709551616}"#, None, None),
         (r#"{"n":1.0}"#, None, None),
         (r#"{"m":1}"#, None, None),
-    ];
-    for (row, of_16_bits, of_32_bits) in rows {
-        let value = Value::from_str(rt.alloc(), row)?;
-        assert!(rt; u16_member(&value, "n") == of_16_bits, "{row} in 16 bits");
-        assert!(rt; u32_member(&value, "n") == of_32_bits, "{row} in 32 bits");
+    ] {
+        let value = value(&rt, rt.alloc(), row);
+        let found = (u16_member(&value, "n"), u32_member(&value, "n"));
+        assert!(rt;
+            found == (*of_16_bits, *of_32_bits),
+            "{row} in 16 bits and in 32"
+        );
     }
-    Ok(())
 }
 
 #[test]
-fn only_lists_of_two_are_pairs(rt: HostRuntime) -> Result<(), Fail> {
-    let rows = [
+fn only_lists_of_two_are_pairs(rt: HostRuntime) {
+    for (row, has_two) in &[
         ("[1,2]", true),
         ("[1]", false),
         ("[1,2,3]", false),
         ("{}", false),
-    ];
-    for (row, is_pair) in rows {
-        let value = Value::from_str(rt.alloc(), row)?;
-        assert!(rt; pair(&value).is_some() == is_pair, "{row}");
+    ] {
+        let value = value(&rt, rt.alloc(), row);
+        assert!(rt; pair(&value).is_some() == *has_two, "{row}");
     }
-    Ok(())
+}
+
+/// Whether a value is a list of these items.
+fn is_items(rt: &impl Abort, alloc: Global, value: Option<&Value>, want: &[Item]) -> bool {
+    let list = read_list::<Item>(alloc, value).expect(rt, "memory");
+    let items = list.expect(rt, "a list of items");
+    items.as_slice() == want
+}
+
+/// Whether a value is a list of items.
+fn is_item_list(rt: &impl Abort, alloc: Global, value: &Value) -> bool {
+    read_list::<Item>(alloc, Some(value))
+        .expect(rt, "memory")
+        .is_some()
+}
+
+/// Whether a value is a list of frames.
+fn is_frame_list(rt: &impl Abort, alloc: Global, value: &Value) -> bool {
+    read_list::<Frame>(alloc, Some(value))
+        .expect(rt, "memory")
+        .is_some()
 }
 
 #[test]
-fn a_list_that_is_absent_is_empty(rt: HostRuntime) -> Result<(), Fail> {
-    let value = Value::from_str(rt.alloc(), "[7,8]")?;
-    let items = read_list::<Item>(rt.alloc(), Some(&value))?.ok_or("a list of items")?;
-    assert!(rt; items.as_slice() == [7, 8].as_slice());
-    let none = read_list::<Item>(rt.alloc(), None)?.ok_or("an empty list")?;
-    assert!(rt; none.is_empty());
-    assert!(rt; read_list::<Item>(rt.alloc(), Some(&Value::Null))?.is_none());
-    assert!(rt; read_list::<Frame>(rt.alloc(), Some(&value))?.is_none());
-    Ok(())
+fn a_list_that_is_absent_is_empty(rt: HostRuntime) {
+    let list = value(&rt, rt.alloc(), "[7,8]");
+    assert!(rt; is_items(&rt, rt.alloc(), Some(&list), &[7, 8]));
+    assert!(rt; is_items(&rt, rt.alloc(), None, &[]));
+    assert!(rt; !is_item_list(&rt, rt.alloc(), &Value::Null));
+    assert!(rt; !is_frame_list(&rt, rt.alloc(), &list));
+}
+
+/// Whether bytes have a value.
+fn has_value(rt: &impl Abort, alloc: Global, bytes: &[u8]) -> bool {
+    read_value(alloc, bytes).expect(rt, "memory").is_some()
 }
 
 #[test]
-fn bytes_that_are_no_text_have_no_value(rt: HostRuntime) -> Result<(), Fail> {
-    assert!(rt; read_value(rt.alloc(), &[255])?.is_none());
-    assert!(rt; read_value(rt.alloc(), b"{")?.is_none());
-    assert!(rt; read_value(rt.alloc(), b"null")?.is_some());
-    Ok(())
+fn bytes_that_are_no_text_have_no_value(rt: HostRuntime) {
+    assert!(rt; !has_value(&rt, rt.alloc(), &[255]));
+    assert!(rt; !has_value(&rt, rt.alloc(), b"{"));
+    assert!(rt; has_value(&rt, rt.alloc(), b"null"));
 }

@@ -2,9 +2,12 @@
 //! public calls alone.
 //!
 //! There is one module for each crate below. They are a crate of their own for the same reason as
-//! those of `tests_protocol`.
+//! those of `tests_protocol`. A helper that owns a value has few ways out, and a table is lent to
+//! its loop, since the checks of a test's drops are most of what it costs.
 #![tactic(auto)]
 
+#[cfg(test)]
+mod helpers;
 #[cfg(test)]
 mod json;
 #[cfg(test)]

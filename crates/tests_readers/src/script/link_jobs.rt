@@ -1,25 +1,20 @@
+use super::parts::assert_start;
+use crate::helpers::{check_texts, filled};
 use stab_core::Event;
 use stab_frames::{Frame, ParamsFault};
-use stab_script::{LinkJobFault, read_link_job};
-use std::alloc::{AllocError, Global};
-use std::test::Fail;
+use stab_script::{LinkJob, LinkJobFault, read_link_job};
+use std::alloc::Global;
+use std::process::Abort;
 
-/// The worst start for capacity one, and its events but the last.
-const WORST_START: [&str; 3] = [
-    r#"{"capacity":1,"labels":4,"start":{"frames":[[2,99]],"acks":[0],"send":0,"recv":1},"#,
-    r#""events":[["offer",10],"recv_ack","send_ack",["offer",11],"recv_ack","recv_frame","#,
-    r#""send_ack",["offer",12],"recv_ack",["offer",13],"send_frame","#,
-];
+/// The worst start for capacity one, and its events, with LAST in the place of the last one.
+const WORST_START: &str = r#"{"capacity":1,"labels":4,
+    "start":{"frames":[[2,99]],"acks":[0],"send":0,"recv":1},
+    "events":[["offer",10],"recv_ack","send_ack",["offer",11],"recv_ack","recv_frame",
+    "send_ack",["offer",12],"recv_ack",["offer",13],"send_frame",LAST]}"#;
 
-/// The worst start with this as its last event.
-fn worst_start(alloc: Global, last: &str) -> Result<String, AllocError> {
-    let mut text = String::new(alloc);
-    for piece in WORST_START {
-        text.push_str(piece)?;
-    }
-    text.push_str(last)?;
-    text.push_str("]}")?;
-    Ok(text)
+/// The job that a text is read as.
+fn job(rt: &impl Abort, alloc: Global, text: &str) -> LinkJob {
+    read_link_job(alloc, text.as_bytes()).expect(rt, "a link job")
 }
 
 /// A job that is refused, or `None` where it is read.
@@ -27,15 +22,26 @@ fn refusal(alloc: Global, job: &[u8]) -> Option<LinkJobFault> {
     read_link_job(alloc, job).err()
 }
 
+/// The same of a text with a mark in it.
+fn refusal_with(
+    rt: &impl Abort,
+    alloc: Global,
+    text: &str,
+    mark: &str,
+    content: &str,
+) -> Option<LinkJobFault> {
+    let job = filled(rt, alloc, text, mark, content);
+    refusal(alloc, job.as_bytes())
+}
+
 #[test]
-fn reads_the_worst_start_as_its_parts(rt: HostRuntime) -> Result<(), Fail> {
-    let text = worst_start(rt.alloc(), r#""recv_frame""#)?;
-    let job = read_link_job(rt.alloc(), text.as_bytes())?;
+fn reads_the_worst_start_as_its_parts(rt: HostRuntime) {
+    let text = filled(&rt, rt.alloc(), WORST_START, "LAST", r#""recv_frame""#);
+    let job = job(&rt, rt.alloc(), text.as_str());
     assert!(rt; (job.params.capacity(), job.params.labels()) == (1, 4));
-    assert!(rt; job.start.frames.as_slice() == [Frame { label: 2, item: 99 }].as_slice());
-    assert!(rt; job.start.acks.as_slice() == [0].as_slice());
-    assert!(rt; (job.start.send_label, job.start.recv_label) == (0, 1));
-    let events = [
+    let frames = &[Frame { label: 2, item: 99 }];
+    assert_start(&rt, &job.start, frames, &[0], (0, 1));
+    let events = &[
         Event::Offer(10),
         Event::RecvAck { keep: false },
         Event::SendAck,
@@ -50,16 +56,12 @@ fn reads_the_worst_start_as_its_parts(rt: HostRuntime) -> Result<(), Fail> {
         Event::RecvFrame { keep: false },
     ];
     assert!(rt; job.events.as_slice() == events.as_slice());
-    Ok(())
 }
 
 #[test]
-fn refuses_a_link_job_by_its_first_failed_check(rt: HostRuntime) -> Result<(), Fail> {
-    let few = Some(LinkJobFault::Params(ParamsFault::LabelsTooFew));
-    let many = Some(LinkJobFault::Params(ParamsFault::LabelsTooMany));
-    let range = Some(LinkJobFault::Params(ParamsFault::CapacityOutOfRange));
+fn refuses_a_link_job_by_its_first_failed_check(rt: HostRuntime) {
     let start = r#"{"send":0,"recv":3}"#;
-    let rows = [
+    for (row, want) in &[
         ("", Some(LinkJobFault::Json)),
         ("{", Some(LinkJobFault::Json)),
         ("[]", Some(LinkJobFault::Shape)),
@@ -75,15 +77,15 @@ fn refuses_a_link_job_by_its_first_failed_check(rt: HostRuntime) -> Result<(), F
         ),
         (
             r#"{"capacity":1,"labels":3,"start":S,"events":["jump"]}"#,
-            few,
+            Some(LinkJobFault::Params(ParamsFault::LabelsTooFew)),
         ),
         (
             r#"{"capacity":1,"labels":70000,"start":S,"events":[]}"#,
-            many,
+            Some(LinkJobFault::Params(ParamsFault::LabelsTooMany)),
         ),
         (
             r#"{"capacity":65537,"labels":4,"start":S,"events":[]}"#,
-            range,
+            Some(LinkJobFault::Params(ParamsFault::CapacityOutOfRange)),
         ),
         (
             r#"{"capacity":1.0,"labels":3,"start":S,"events":[]}"#,
@@ -101,48 +103,51 @@ fn refuses_a_link_job_by_its_first_failed_check(rt: HostRuntime) -> Result<(), F
             r#"{"capacity":1,"labels":3,"start":{"send":0},"events":[]}"#,
             Some(LinkJobFault::Shape),
         ),
-    ];
-    for (row, want) in rows {
-        let job = row.replace(rt.alloc(), "S", start)?;
-        assert!(rt; refusal(rt.alloc(), job.as_bytes()) == want, "{row}");
+    ] {
+        assert!(rt;
+            refusal_with(&rt, rt.alloc(), row, "S", start) == *want,
+            "{row}"
+        );
     }
-    let jump = worst_start(rt.alloc(), r#""jump""#)?;
-    assert!(rt; refusal(rt.alloc(), jump.as_bytes()) == Some(LinkJobFault::Event));
+    let jump = refusal_with(&rt, rt.alloc(), WORST_START, "LAST", r#""jump""#);
+    assert!(rt; jump == Some(LinkJobFault::Event));
     assert!(rt; refusal(rt.alloc(), &[255]) == Some(LinkJobFault::Json));
-    Ok(())
 }
 
-/// A job with this many events, the last of which may be none.
-fn long_job(alloc: Global, events: u32, last: &str) -> Result<String, AllocError> {
-    let mut text = String::from_str(
-        alloc,
-        r#"{"capacity":1,"labels":4,"start":{"send":0,"recv":3},"events":["#,
-    )?;
+/// A job with this many events, the last of which is this.
+fn long_job(rt: &impl Abort, alloc: Global, events: u32, last: &str) -> String {
+    let head = r#"{"capacity":1,"labels":4,"start":{"send":0,"recv":3},"events":["#;
+    let mut text = String::from_str(alloc, head).expect(rt, "memory");
     for _ in 1..events {
-        text.push_str(r#""send_ack","#)?;
+        text.push_str(r#""send_ack","#).expect(rt, "memory");
     }
-    text.push_str(last)?;
-    text.push_str("]}")?;
-    Ok(text)
+    text.push_str(last).expect(rt, "memory");
+    text.push_str("]}").expect(rt, "memory");
+    text
+}
+
+/// How a job with this many events and this as the last one is refused.
+fn long_refusal(rt: &impl Abort, alloc: Global, events: u32, last: &str) -> Option<LinkJobFault> {
+    let text = long_job(rt, alloc, events, last);
+    refusal(alloc, text.as_bytes())
 }
 
 #[test]
-fn refuses_1000001_events_before_a_bad_one(rt: HostRuntime) -> Result<(), Fail> {
-    let job = long_job(rt.alloc(), 1_000_000, r#""close""#)?;
-    let job = read_link_job(rt.alloc(), job.as_bytes())?;
+fn refuses_1000001_events_before_a_bad_one(rt: HostRuntime) {
+    let text = long_job(&rt, rt.alloc(), 1_000_000, r#""close""#);
+    let job = job(&rt, rt.alloc(), text.as_str());
     assert!(rt; job.events.len() == 1_000_000);
     assert!(rt; job.events.as_slice().first().copied() == Some(Event::SendAck));
     assert!(rt; job.events.as_slice().last().copied() == Some(Event::Close));
-    let bad = long_job(rt.alloc(), 1_000_000, r#""jump""#)?;
-    assert!(rt; refusal(rt.alloc(), bad.as_bytes()) == Some(LinkJobFault::Event));
-    let many = long_job(rt.alloc(), 1_000_001, r#""jump""#)?;
-    assert!(rt; refusal(rt.alloc(), many.as_bytes()) == Some(LinkJobFault::TooManyEvents));
-    Ok(())
+    let bad = long_refusal(&rt, rt.alloc(), 1_000_000, r#""jump""#);
+    assert!(rt; bad == Some(LinkJobFault::Event));
+    let many = long_refusal(&rt, rt.alloc(), 1_000_001, r#""jump""#);
+    assert!(rt; many == Some(LinkJobFault::TooManyEvents));
 }
 
 #[test]
-fn texts_of_refused_link_jobs(rt: HostRuntime) -> Result<(), Fail> {
-    let texts = [
+fn texts_of_refused_link_jobs(rt: HostRuntime) {
+    let texts = &[
         (LinkJobFault::Json, "job: not JSON"),
         (LinkJobFault::Shape, "job: wrong shape"),
         (
@@ -161,8 +166,5 @@ fn texts_of_refused_link_jobs(rt: HostRuntime) -> Result<(), Fail> {
         (LinkJobFault::Event, "job: bad event"),
         (LinkJobFault::Memory, "out of memory"),
     ];
-    for (fault, want) in texts {
-        assert!(rt; fault.to_string(rt.alloc())?.as_str() == want);
-    }
-    Ok(())
+    check_texts(&rt, rt.alloc(), texts);
 }

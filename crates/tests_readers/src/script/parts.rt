@@ -1,33 +1,46 @@
-use serde_json::Value;
-use stab_core::{Event, LinkAct};
-use stab_frames::Frame;
+use crate::helpers::{filled, value};
+use stab_core::{Event, LinkAct, Start};
+use stab_frames::{Frame, Label};
 use stab_script::{LinkJobFault, PartFault, loss_act, plain_act, read_link_job, read_start};
 use std::alloc::Global;
-use std::test::Fail;
+use std::process::Abort;
+
+/// The start that a text is read as.
+fn start(rt: &impl Abort, alloc: Global, text: &str) -> Start {
+    let value = value(rt, alloc, text);
+    read_start(alloc, &value).expect(rt, "a start")
+}
+
+/// Fails the test where a start has other frames, acknowledgements, or labels of the sender and of
+/// the receiver.
+pub(super) fn assert_start(
+    rt: &impl Abort,
+    start: &Start,
+    frames: &[Frame],
+    acks: &[Label],
+    labels: (Label, Label),
+) {
+    assert!(rt; start.frames.as_slice() == frames);
+    assert!(rt; start.acks.as_slice() == acks);
+    assert!(rt; (start.send_label, start.recv_label) == labels);
+}
 
 #[test]
-fn reads_the_worst_start(rt: HostRuntime) -> Result<(), Fail> {
+fn reads_the_worst_start(rt: HostRuntime) {
     let text = r#"{"frames":[[2,99]],"acks":[0],"send":0,"recv":1}"#;
-    let start = read_start(rt.alloc(), &Value::from_str(rt.alloc(), text)?)?;
-    assert!(rt; start.frames.as_slice() == [Frame { label: 2, item: 99 }].as_slice());
-    assert!(rt; start.acks.as_slice() == [0].as_slice());
-    assert!(rt; (start.send_label, start.recv_label) == (0, 1));
-    Ok(())
+    let frames = &[Frame { label: 2, item: 99 }];
+    assert_start(&rt, &start(&rt, rt.alloc(), text), frames, &[0], (0, 1));
 }
 
 #[test]
-fn a_start_without_lists_is_empty(rt: HostRuntime) -> Result<(), Fail> {
+fn a_start_without_lists_is_empty(rt: HostRuntime) {
     let text = r#"{"send":65535,"recv":7,"more":null}"#;
-    let start = read_start(rt.alloc(), &Value::from_str(rt.alloc(), text)?)?;
-    assert!(rt; start.frames.is_empty());
-    assert!(rt; start.acks.is_empty());
-    assert!(rt; (start.send_label, start.recv_label) == (65535, 7));
-    Ok(())
+    assert_start(&rt, &start(&rt, rt.alloc(), text), &[], &[], (65535, 7));
 }
 
 #[test]
-fn refuses_starts_of_another_shape(rt: HostRuntime) -> Result<(), Fail> {
-    let rows = [
+fn refuses_starts_of_another_shape(rt: HostRuntime) {
+    for row in &[
         "[]",
         r#"{"send":0}"#,
         r#"{"recv":0}"#,
@@ -39,71 +52,71 @@ fn refuses_starts_of_another_shape(rt: HostRuntime) -> Result<(), Fail> {
         r#"{"send":0,"recv":1,"frames":[[2]]}"#,
         r#"{"send":0,"recv":1,"frames":[[2,99,0]]}"#,
         r#"{"send":0,"recv":1,"frames":[[2,4294967296]]}"#,
-    ];
-    for row in rows {
-        let start = read_start(rt.alloc(), &Value::from_str(rt.alloc(), row)?);
+    ] {
+        let start = read_start(rt.alloc(), &value(&rt, rt.alloc(), row));
         assert!(rt; start.err() == Some(PartFault::Shape), "{row}");
     }
-    Ok(())
 }
+
+/// A link job with EVENT in the place of its events.
+const JOB: &str = r#"{"capacity":1,"labels":4,"start":{"send":0,"recv":3},"events":[EVENT]}"#;
 
 /// The event that a link job with this alone as its events has, or how the job is refused.
-fn event(alloc: Global, text: &str) -> Result<Result<Event, LinkJobFault>, Fail> {
-    let mut job = String::from_str(
-        alloc,
-        r#"{"capacity":1,"labels":4,"start":{"send":0,"recv":3},"events":["#,
-    )?;
-    job.push_str(text)?;
-    job.push_str("]}")?;
+fn event(rt: &impl Abort, alloc: Global, text: &str) -> Result<Event, LinkJobFault> {
+    let job = filled(rt, alloc, JOB, "EVENT", text);
     match read_link_job(alloc, job.as_bytes()) {
-        Ok(job) => Ok(Ok(job.events.as_slice().first().copied().ok_or("an event")?)),
-        Err(fault) => Ok(Err(fault)),
-    }
-}
-
-#[test]
-fn each_word_is_its_event(rt: HostRuntime) -> Result<(), Fail> {
-    let rows = [
-        (r#"["offer",4294967295]"#, Some(Event::Offer(4294967295))),
-        (r#""send_frame""#, Some(Event::SendFrame)),
-        (r#""recv_frame""#, Some(Event::RecvFrame { keep: false })),
-        (
-            r#""recv_frame_keep""#,
-            Some(Event::RecvFrame { keep: true }),
+        Ok(job) => Ok(
+            job.events
+                .as_slice()
+                .first()
+                .copied()
+                .expect(rt, "an event"),
         ),
-        (r#""send_ack""#, Some(Event::SendAck)),
-        (r#""recv_ack""#, Some(Event::RecvAck { keep: false })),
-        (r#""recv_ack_keep""#, Some(Event::RecvAck { keep: true })),
-        (r#"["lose_frame",5]"#, Some(Event::LoseFrame(5))),
-        (r#"["lose_ack",65535]"#, Some(Event::LoseAck(65535))),
-        (r#""close""#, Some(Event::Close)),
-        (r#""jump""#, None),
-        (r#""offer""#, None),
-        (r#""lose_frame""#, None),
-        (r#"["close"]"#, None),
-        (r#"["close",1]"#, None),
-        (r#"["offer",4294967296]"#, None),
-        (r#"["offer",1.0]"#, None),
-        (r#"["offer",1,2]"#, None),
-        (r#"["lose_ack",65536]"#, None),
-        (r#"[1,"offer"]"#, None),
-        ("{}", None),
-        ("null", None),
-        ("7", None),
-    ];
-    for (row, want) in rows {
-        let want = want.ok_or(LinkJobFault::Event);
-        assert!(rt; event(rt.alloc(), row)? == want, "{row}");
+        Err(fault) => Err(fault),
     }
-    Ok(())
 }
 
 #[test]
-fn an_act_alone_may_be_an_offer_and_no_loss(rt: HostRuntime) -> Result<(), Fail> {
-    let place = Value::from_str(rt.alloc(), "3")?;
+fn each_word_is_its_event(rt: HostRuntime) {
+    for (row, want) in &[
+        (r#"["offer",4294967295]"#, Ok(Event::Offer(4294967295))),
+        (r#""send_frame""#, Ok(Event::SendFrame)),
+        (r#""recv_frame""#, Ok(Event::RecvFrame { keep: false })),
+        (r#""recv_frame_keep""#, Ok(Event::RecvFrame { keep: true })),
+        (r#""send_ack""#, Ok(Event::SendAck)),
+        (r#""recv_ack""#, Ok(Event::RecvAck { keep: false })),
+        (r#""recv_ack_keep""#, Ok(Event::RecvAck { keep: true })),
+        (r#"["lose_frame",5]"#, Ok(Event::LoseFrame(5))),
+        (r#"["lose_ack",65535]"#, Ok(Event::LoseAck(65535))),
+        (r#""close""#, Ok(Event::Close)),
+        (r#""jump""#, Err(LinkJobFault::Event)),
+        (r#""offer""#, Err(LinkJobFault::Event)),
+        (r#""lose_frame""#, Err(LinkJobFault::Event)),
+        (r#"["close"]"#, Err(LinkJobFault::Event)),
+        (r#"["close",1]"#, Err(LinkJobFault::Event)),
+        (r#"["offer",4294967296]"#, Err(LinkJobFault::Event)),
+        (r#"["offer",1.0]"#, Err(LinkJobFault::Event)),
+        (r#"["offer",1,2]"#, Err(LinkJobFault::Event)),
+        (r#"["lose_ack",65536]"#, Err(LinkJobFault::Event)),
+        (r#"[1,"offer"]"#, Err(LinkJobFault::Event)),
+        ("{}", Err(LinkJobFault::Event)),
+        ("null", Err(LinkJobFault::Event)),
+        ("7", Err(LinkJobFault::Event)),
+    ] {
+        assert!(rt; event(&rt, rt.alloc(), row) == *want, "{row}");
+    }
+}
+
+/// The act of this word and the place 3.
+fn loss_at_3(rt: &impl Abort, alloc: Global, word: &str) -> Option<LinkAct> {
+    let place = value(rt, alloc, "3");
+    loss_act(word, &place)
+}
+
+#[test]
+fn an_act_alone_may_be_an_offer_and_no_loss(rt: HostRuntime) {
     assert!(rt; plain_act("offer") == Some(LinkAct::Offer));
     assert!(rt; plain_act("lose_frame").is_none());
-    assert!(rt; loss_act("lose_frame", &place) == Some(LinkAct::LoseFrame(3)));
-    assert!(rt; loss_act("offer", &place).is_none());
-    Ok(())
+    assert!(rt; loss_at_3(&rt, rt.alloc(), "lose_frame") == Some(LinkAct::LoseFrame(3)));
+    assert!(rt; loss_at_3(&rt, rt.alloc(), "offer").is_none());
 }

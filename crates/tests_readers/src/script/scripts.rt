@@ -1,11 +1,11 @@
+use crate::helpers::check_texts;
 use rand_core::utils::NextWord;
 use rand_core::{Rng, utils};
 use rand_pcg::Pcg32;
 use stab_script::{HalfScript, InAct, OutAct, Script, ScriptFault};
-use std::alloc::{AllocError, Global};
+use std::alloc::Global;
 use std::marker::Model;
 use std::process::Abort;
-use std::test::Fail;
 
 /// The words of the worked example.
 const WORDS: [u32; 6] = [2707161783, 97, 824, 955, 955, 566];
@@ -72,30 +72,30 @@ fn in_letter(act: InAct) -> &'static str {
 }
 
 /// Adds the letters of acts for what goes out, and a semicolon.
-fn push_outs(text: &mut String, acts: &[OutAct]) -> Result<(), AllocError> {
+fn push_outs(rt: &impl Abort, text: &mut String, acts: &[OutAct]) {
     for act in acts {
-        text.push_str(out_letter(*act))?;
+        text.push_str(out_letter(*act)).expect(rt, "memory");
     }
-    text.push_str(";")
+    text.push_str(";").expect(rt, "memory");
 }
 
 /// Adds the letters of acts for what comes in, and a semicolon.
-fn push_ins(text: &mut String, acts: &[InAct]) -> Result<(), AllocError> {
+fn push_ins(rt: &impl Abort, text: &mut String, acts: &[InAct]) {
     for act in acts {
-        text.push_str(in_letter(*act))?;
+        text.push_str(in_letter(*act)).expect(rt, "memory");
     }
-    text.push_str(";")
+    text.push_str(";").expect(rt, "memory");
 }
 
 /// The acts of a script in letters: frames out, frames in, acknowledgements out and
 /// acknowledgements in, a semicolon after each list.
-pub(super) fn lettered(alloc: Global, script: &Script) -> Result<String, AllocError> {
+pub(super) fn lettered(rt: &impl Abort, alloc: Global, script: &Script) -> String {
     let mut text = String::new(alloc);
-    push_outs(&mut text, script.frames_out())?;
-    push_ins(&mut text, script.frames_in())?;
-    push_outs(&mut text, script.acks_out())?;
-    push_ins(&mut text, script.acks_in())?;
-    Ok(text)
+    push_outs(rt, &mut text, script.frames_out());
+    push_ins(rt, &mut text, script.frames_in());
+    push_outs(rt, &mut text, script.acks_out());
+    push_ins(rt, &mut text, script.acks_in());
+    text
 }
 
 /// Fails the test where a script has other letters.
@@ -103,86 +103,64 @@ pub(super) fn assert_letters(rt: &impl Abort, text: &str, letters: &str) {
     assert!(rt; text == letters, "{text}");
 }
 
-/// The script drawn from a seed.
-fn seeded(
-    alloc: Global,
-    state: u64,
-    stream: u64,
-    len: u32,
-    loss: u16,
-    repeat: u16,
-) -> Result<Script, ScriptFault> {
-    Script::from_seed(alloc, state, stream, len, loss, repeat)
+/// The script drawn from the seed of the examples.
+fn seeded(alloc: Global, len: u32, loss: u16, repeat: u16) -> Result<Script, ScriptFault> {
+    Script::from_seed(alloc, 42, 54, len, loss, repeat)
 }
 
-/// The letters of the script drawn from a seed.
+/// The letters of the script drawn from that seed.
 pub(super) fn seeded_letters(
+    rt: &impl Abort,
     alloc: Global,
-    state: u64,
-    stream: u64,
     len: u32,
     loss: u16,
     repeat: u16,
-) -> Result<String, Fail> {
-    let script = seeded(alloc, state, stream, len, loss, repeat)?;
-    Ok(lettered(alloc, &script)?)
+) -> String {
+    let script = seeded(alloc, len, loss, repeat).expect(rt, "a script");
+    lettered(rt, alloc, &script)
 }
 
-/// The script drawn from the words of a generator.
-fn from_words<R: Rng>(
+/// Fails the test where the script drawn from the words of a generator has other letters.
+fn assert_drawn<R: Rng>(
+    rt: &impl Abort,
     alloc: Global,
     words: &mut R,
-    len: u32,
-    loss: u16,
-    repeat: u16,
-) -> Result<Script, ScriptFault> {
-    Script::draw(alloc, words, len, loss, repeat)
-}
-
-/// The letters of the script drawn from the words of a generator.
-fn letters_from<R: Rng>(
-    alloc: Global,
-    words: &mut R,
-    len: u32,
-    loss: u16,
-    repeat: u16,
-) -> Result<String, Fail> {
-    let script = from_words(alloc, words, len, loss, repeat)?;
-    Ok(lettered(alloc, &script)?)
+    (len, loss, repeat): (u32, u16, u16),
+    letters: &str,
+) {
+    let script = Script::draw(alloc, words, len, loss, repeat).expect(rt, "a script");
+    let own = lettered(rt, alloc, &script);
+    assert_letters(rt, own.as_str(), letters);
 }
 
 #[test]
-fn six_acts_drawn_take_24_words(rt: HostRuntime) -> Result<(), Fail> {
+fn six_acts_drawn_take_24_words(rt: HostRuntime) {
     let mut words = FewWords { given: 0 };
-    let text = letters_from(rt.alloc(), &mut words, 6, 100, 0)?;
-    assert_letters(&rt, text.as_str(), "PDPPPP;TTTTTT;DDDDDD;TTTTTT;");
+    let letters = "PDPPPP;TTTTTT;DDDDDD;TTTTTT;";
+    assert_drawn(&rt, rt.alloc(), &mut words, (6, 100, 0), letters);
     assert!(rt; words.given == 24);
-    Ok(())
 }
 
 #[test]
-fn a_seed_draws_what_its_generator_does(rt: HostRuntime) -> Result<(), Fail> {
-    let by_seed = seeded_letters(rt.alloc(), 42, 54, 6, 100, 0)?;
-    let by_generator = letters_from(rt.alloc(), &mut Pcg32::new(42, 54), 6, 100, 0)?;
-    assert_letters(&rt, by_seed.as_str(), by_generator.as_str());
-    Ok(())
+fn a_seed_draws_what_its_generator_does(rt: HostRuntime) {
+    let by_seed = seeded_letters(&rt, rt.alloc(), 6, 100, 0);
+    let mut words = Pcg32::new(42, 54);
+    assert_drawn(&rt, rt.alloc(), &mut words, (6, 100, 0), by_seed.as_str());
 }
 
 #[test]
-fn each_list_is_drawn_at_its_rate(rt: HostRuntime) -> Result<(), Fail> {
-    let text = letters_from(rt.alloc(), &mut FewWords { given: 0 }, 1, 800, 100)?;
-    assert_letters(&rt, text.as_str(), "D;K;P;T;");
-    Ok(())
+fn each_list_is_drawn_at_its_rate(rt: HostRuntime) {
+    let mut words = FewWords { given: 0 };
+    assert_drawn(&rt, rt.alloc(), &mut words, (1, 800, 100), "D;K;P;T;");
 }
 
 #[test]
 fn pcg32_gives_its_published_words(rt: HostRuntime) {
     let mut words = Pcg32::new(42, 54);
-    let published = [
+    for want in &[
         0xa15c02b7, 0x7b47f409, 0xba1d3330, 0x83d2f293, 0xbfa4784b, 0xcbed606e,
-    ];
-    for want in published {
-        assert!(rt; words.next_u32() == want);
+    ] {
+        assert!(rt; words.next_u32() == *want);
     }
 }
 
@@ -193,148 +171,168 @@ fn drawn(
     loss: u16,
     repeat: u16,
 ) -> (Option<ScriptFault>, Option<ScriptFault>, u32) {
-    let by_seed = seeded(alloc, 42, 54, len, loss, repeat).err();
+    let by_seed = seeded(alloc, len, loss, repeat).err();
     let mut words = FewWords { given: 0 };
-    let by_words = from_words(alloc, &mut words, len, loss, repeat).err();
+    let by_words = Script::draw(alloc, &mut words, len, loss, repeat).err();
     (by_seed, by_words, words.given)
 }
 
 #[test]
 fn refuses_100001_acts_and_then_rates_over_1000(rt: HostRuntime) {
-    let rows = [
+    for (len, loss, repeat, want, taken) in &[
         (100001, 1001, 1001, Some(ScriptFault::TooLong), 0),
         (1, 1001, 0, Some(ScriptFault::RateOutOfRange), 0),
         (1, 0, 1001, Some(ScriptFault::RateOutOfRange), 0),
         (100000, 1000, 1000, None, 400000),
-    ];
-    for (len, loss, repeat, want, taken) in rows {
-        let (by_seed, by_words, given) = drawn(rt.alloc(), len, loss, repeat);
+    ] {
+        let found = drawn(rt.alloc(), *len, *loss, *repeat);
         assert!(rt;
-            by_seed == want && by_words == want,
+            found == (*want, *want, *taken),
             "{len} acts at {loss} and {repeat}"
         );
-        assert!(rt; given == taken, "{len} acts at {loss} and {repeat}");
     }
 }
 
 #[test]
-fn rates_of_1000_lose_and_keep_all(rt: HostRuntime) -> Result<(), Fail> {
-    for (len, rate, letters) in [(0, 0, ";;;;"), (2, 1000, "DD;KK;DD;KK;")] {
-        let text = seeded_letters(rt.alloc(), 42, 54, len, rate, rate)?;
+fn rates_of_1000_lose_and_keep_all(rt: HostRuntime) {
+    for (len, rate, letters) in &[(0, 0, ";;;;"), (2, 1000, "DD;KK;DD;KK;")] {
+        let text = seeded_letters(&rt, rt.alloc(), *len, *rate, *rate);
         assert_letters(&rt, text.as_str(), letters);
     }
-    Ok(())
+}
+
+/// That many times an act.
+fn repeated<A: Copy>(rt: &impl Abort, alloc: Global, act: A, count: usize) -> Vec<A> {
+    vec![in alloc; act; count].expect(rt, "memory")
 }
 
 /// How lists of these lengths, of any acts, are refused as a script.
 fn of_lengths(
+    rt: &impl Abort,
     alloc: Global,
     frames_out: usize,
     frames_in: usize,
     acks_out: usize,
     acks_in: usize,
-) -> Result<Option<ScriptFault>, AllocError> {
-    let frames_out = vec![in alloc; OutAct::Evict; frames_out]?;
-    let frames_in = vec![in alloc; InAct::Keep; frames_in]?;
-    let acks_out = vec![in alloc; OutAct::Drop; acks_out]?;
-    let acks_in = vec![in alloc; InAct::Take; acks_in]?;
-    Ok(Script::new(frames_out, frames_in, acks_out, acks_in).err())
+) -> Option<ScriptFault> {
+    Script::new(
+        repeated(rt, alloc, OutAct::Evict, frames_out),
+        repeated(rt, alloc, InAct::Keep, frames_in),
+        repeated(rt, alloc, OutAct::Drop, acks_out),
+        repeated(rt, alloc, InAct::Take, acks_in),
+    )
+    .err()
 }
 
 #[test]
-fn refuses_a_list_of_100001_acts(rt: HostRuntime) -> Result<(), Fail> {
-    let too_long = Some(ScriptFault::TooLong);
-    let rows = [
+fn refuses_a_list_of_100001_acts(rt: HostRuntime) {
+    for (frames_out, frames_in, acks_out, acks_in, want) in &[
         (100000, 100000, 100000, 100000, None),
-        (100001, 0, 0, 0, too_long),
-        (0, 100001, 0, 0, too_long),
-        (0, 0, 100001, 0, too_long),
-        (0, 0, 0, 100001, too_long),
-    ];
-    for (frames_out, frames_in, acks_out, acks_in, want) in rows {
-        let refused = of_lengths(rt.alloc(), frames_out, frames_in, acks_out, acks_in)?;
+        (100001, 0, 0, 0, Some(ScriptFault::TooLong)),
+        (0, 100001, 0, 0, Some(ScriptFault::TooLong)),
+        (0, 0, 100001, 0, Some(ScriptFault::TooLong)),
+        (0, 0, 0, 100001, Some(ScriptFault::TooLong)),
+    ] {
+        let refused = of_lengths(
+            &rt,
+            rt.alloc(),
+            *frames_out,
+            *frames_in,
+            *acks_out,
+            *acks_in,
+        );
         assert!(rt;
-            refused == want,
+            refused == *want,
             "{frames_out}, {frames_in}, {acks_out} and {acks_in} acts"
         );
     }
-    Ok(())
+}
+
+/// Whether the next act of a half for what goes out is this one, as it is seen and as it is taken.
+fn is_next_out(half: &mut HalfScript, act: OutAct) -> bool {
+    half.peek_out() == act && half.next_out() == act
+}
+
+/// The same for what comes in.
+fn is_next_in(half: &mut HalfScript, act: InAct) -> bool {
+    half.peek_in() == act && half.next_in() == act
 }
 
 /// The next acts of a half are these, for what goes out and for what comes in; each is seen before
 /// it is taken.
-fn assert_half(rt: &impl Abort, mut half: HalfScript, outs: &[OutAct], ins: &[InAct]) {
+fn assert_half(rt: &impl Abort, half: &mut HalfScript, outs: &[OutAct], ins: &[InAct]) {
     for act in outs {
-        assert!(rt; half.peek_out() == *act);
-        assert!(rt; half.next_out() == *act);
+        assert!(rt; is_next_out(half, *act));
     }
     for act in ins {
-        assert!(rt; half.peek_in() == *act);
-        assert!(rt; half.next_in() == *act);
+        assert!(rt; is_next_in(half, *act));
     }
 }
 
 /// A list of these acts.
-fn list<A: Copy>(alloc: Global, acts: &[A]) -> Result<Vec<A>, AllocError> {
-    acts.to_vec(alloc)
+fn list<A: Copy>(rt: &impl Abort, alloc: Global, acts: &[A]) -> Vec<A> {
+    acts.to_vec(alloc).expect(rt, "memory")
 }
 
 /// A script with acts in three of its lists.
-fn some_acts(alloc: Global) -> Result<Script, Fail> {
-    let script = Script::new(
-        list(alloc, &[OutAct::Drop, OutAct::Pass, OutAct::Evict])?,
+fn some_acts(rt: &impl Abort, alloc: Global) -> Script {
+    Script::new(
+        list(rt, alloc, &[OutAct::Drop, OutAct::Pass, OutAct::Evict]),
         Vec::new(alloc),
-        list(alloc, &[OutAct::Evict])?,
-        list(alloc, &[InAct::Keep])?,
-    )?;
-    Ok(script)
-}
-
-/// The letters of a copy of this script.
-fn letters_of_a_copy(alloc: Global, script: &Script) -> Result<String, AllocError> {
-    let copy = script.copy(alloc)?;
-    lettered(alloc, &copy)
-}
-
-/// The letters of a script and of its copy.
-fn letters_of_both(alloc: Global, script: &Script) -> Result<(String, String), AllocError> {
-    let own = lettered(alloc, script)?;
-    Ok((own, letters_of_a_copy(alloc, script)?))
+        list(rt, alloc, &[OutAct::Evict]),
+        list(rt, alloc, &[InAct::Keep]),
+    )
+    .expect(rt, "a script")
 }
 
 #[test]
-fn a_copy_has_the_same_acts(rt: HostRuntime) -> Result<(), Fail> {
-    let (own, copied) = letters_of_both(rt.alloc(), &some_acts(rt.alloc())?)?;
+fn a_copy_has_the_same_acts(rt: HostRuntime) {
+    let script = some_acts(&rt, rt.alloc());
+    let copy = script.copy(rt.alloc()).expect(&rt, "memory");
+    let own = lettered(&rt, rt.alloc(), &script);
+    let copied = lettered(&rt, rt.alloc(), &copy);
     assert_letters(&rt, copied.as_str(), own.as_str());
-    Ok(())
 }
 
 #[test]
-fn each_half_takes_its_own_acts(rt: HostRuntime) -> Result<(), Fail> {
-    let (send, recv) = some_acts(rt.alloc())?.copy(rt.alloc())?.split();
-    let (pass, lost, evicted) = (OutAct::Pass, OutAct::Drop, OutAct::Evict);
-    let (take, keep) = (InAct::Take, InAct::Keep);
-    assert_half(&rt, send, &[lost, pass, evicted, pass, pass], &[keep, take]);
-    assert_half(&rt, recv, &[evicted, pass], &[take]);
-    Ok(())
+fn each_half_takes_its_own_acts(rt: HostRuntime) {
+    let script = some_acts(&rt, rt.alloc());
+    let copy = script.copy(rt.alloc()).expect(&rt, "memory");
+    let (mut send, mut recv) = copy.split();
+    let outs = &[
+        OutAct::Drop,
+        OutAct::Pass,
+        OutAct::Evict,
+        OutAct::Pass,
+        OutAct::Pass,
+    ];
+    assert_half(&rt, &mut send, outs, &[InAct::Keep, InAct::Take]);
+    assert_half(
+        &rt,
+        &mut recv,
+        &[OutAct::Evict, OutAct::Pass],
+        &[InAct::Take],
+    );
 }
 
 #[test]
 fn a_script_without_acts_passes_and_takes(rt: HostRuntime) {
-    let (send, recv) = Script::none(rt.alloc()).split();
-    assert_half(&rt, send, &[OutAct::Pass, OutAct::Pass], &[InAct::Take]);
-    assert_half(&rt, recv, &[OutAct::Pass], &[InAct::Take]);
+    let (mut send, mut recv) = Script::none(rt.alloc()).split();
+    assert_half(
+        &rt,
+        &mut send,
+        &[OutAct::Pass, OutAct::Pass],
+        &[InAct::Take],
+    );
+    assert_half(&rt, &mut recv, &[OutAct::Pass], &[InAct::Take]);
 }
 
 #[test]
-fn texts_of_refused_scripts(rt: HostRuntime) -> Result<(), Fail> {
-    let texts = [
+fn texts_of_refused_scripts(rt: HostRuntime) {
+    let texts = &[
         (ScriptFault::TooLong, "job: script too long"),
         (ScriptFault::RateOutOfRange, "job: rate out of range"),
         (ScriptFault::Memory, "out of memory"),
     ];
-    for (fault, want) in texts {
-        assert!(rt; fault.to_string(rt.alloc())?.as_str() == want);
-    }
-    Ok(())
+    check_texts(&rt, rt.alloc(), texts);
 }
