@@ -1,14 +1,18 @@
 //! Tasks that run the workers of a job.
 
 use crate::tasks::{
-    LONE_REPORT, LONE_ROOT, RUNS, WORDS, assert_answer, assert_fault, assert_refused,
+    LOCKED, LONE_REPORT, LONE_ROOT, MIXED, RUNS, WORDS, assert_answer, assert_fault,
+    assert_refused, outcome,
 };
 use stab_core::StartFault;
 use stab_node::NodeFault;
 use stab_run::{JobFault, RunFault};
-use stab_task::CliFault;
+use stab_task::{CliFault, Task};
 use stab_tree::{NodeId, TreeFault};
+use std::alloc::Global;
+use std::sync::Wait;
 use std::test::Fail;
+use std::thread::Threads;
 
 #[test]
 fn prints_the_report_of_a_lone_root(rt: HostRuntime) {
@@ -39,6 +43,48 @@ fn words_need_capacity_one(rt: HostRuntime) -> Result<(), Fail> {
     let no_link = r#"{"capacity":2,"labels":6,"tree":[{"name":"r"}],"items":[7,8]}"#;
     for &task in &RUNS {
         assert_answer(&rt, task, no_link, LONE_REPORT);
+    }
+    Ok(())
+}
+
+/// A link that begins with an acknowledgement of the first item, and loses everything that its ends
+/// send. The root looks for an acknowledgement before it offers the item, and once more after it.
+const EARLY_ACKNOWLEDGEMENT: &str =
+    r#"{"capacity":1,"labels":4,"turns":4,"tree":[{"name":"r"},{"name":"a","parent":"r"}],"items":[7],"starts":[{"acks":[0],"send":0,"recv":1}],"scripts":[{"frames_out":"DDDDDDDD","acks_out":"DDDDDDDD"}]}"#;
+
+/// How the report of that job begins, whatever the threads do, where the first look leaves nothing
+/// behind: over a link with a lock.
+const TAKEN_AT_ONCE: &str =
+    "r depth 0 received 1 acked - ended turns\nitems: 7\na depth 1 received 0 acked 0 ended ";
+
+/// The same where the second look finds what the first one found: over a link of two words.
+const FOUND_AGAIN: &str =
+    "r depth 0 received 1 acked - ended upstream\nitems: 7\na depth 1 received 0 acked 1 ended ";
+
+/// Whether a task writes a text that begins and ends so. Why the child ended is up to the threads.
+fn writes_around<T: Threads + Wait + Send + Sync + Alloc<A = Global>>(
+    rt: &T,
+    task: Task,
+    job: &str,
+    beginning: &str,
+    end: &str,
+) -> bool {
+    let (ended, written) = outcome(rt, rt.alloc(), task, job.as_bytes());
+    ended == Ok(())
+        && written.starts_with(beginning.as_bytes())
+        && written.ends_with(end.as_bytes())
+}
+
+#[test]
+fn each_task_runs_over_its_kind_of_links(rt: HostRuntime) -> Result<(), Fail> {
+    let rows = [
+        (LOCKED, TAKEN_AT_ONCE),
+        (WORDS, FOUND_AGAIN),
+        (MIXED, FOUND_AGAIN),
+    ];
+    for &(task, beginning) in &rows {
+        let writes = writes_around(&rt, task, EARLY_ACKNOWLEDGEMENT, beginning, "\nitems:\n");
+        assert!(rt; writes, "{task:?}");
     }
     Ok(())
 }
