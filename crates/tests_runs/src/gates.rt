@@ -25,25 +25,23 @@ pub(crate) enum Order {
     Paced,
     /// The first turn of each node begins once each other node asks for its first.
     Together,
-    /// The other nodes begin once the root is done.
+    /// A node begins once each node before it is done, the root first.
     RootFirst,
-    /// Turn by turn: another node's turn begins once the root asks for its next one, and that one
-    /// once the other node asks for its own.
+    /// Turn by turn, the root first: a node's turn begins once each node before it asks for its next
+    /// one, and each node after it for its own.
     InTurns,
 }
 
 impl Order {
     /// Which turn another node must have asked for before this turn of this node begins.
-    fn awaited(self, node: u16, turn: u64) -> u64 {
+    fn awaited(self, other: u16, node: u16, turn: u64) -> u64 {
         match self {
             Order::Paced => turn.saturating_sub(MOST_AHEAD),
             Order::Together => { if turn == 1 { 1 } else { 0 } }
-            Order::RootFirst => { if node == 0 { 0 } else { DONE } }
+            Order::RootFirst => { if other < node { DONE } else { 0 } }
             Order::InTurns => {
-                if node > 0 {
+                if other < node {
                     turn.saturating_add(1)
-                } else if turn == 1 {
-                    0
                 } else {
                     turn
                 }
@@ -94,6 +92,11 @@ impl Counts {
             Some(count) => count.load(Ordering::SeqCst),
             None => 0,
         }
+    }
+
+    /// The numbers of the first three nodes.
+    pub(crate) fn of_three(&self) -> [u64; 3] {
+        [self.of(0), self.of(1), self.of(2)]
     }
 
     /// Counts a node once more.
@@ -156,10 +159,10 @@ impl TestGate {
         false
     }
 
-    /// Waits for each other node; false where that is in vain.
+    /// Waits for each other node, as its order has it; false where that is in vain.
     fn others_have_asked(&self, node: u16, turn: u64) -> bool {
         for other in 0..self.nodes {
-            if other != node && !self.has_asked(other, turn) {
+            if other != node && !self.has_asked(other, self.order.awaited(other, node, turn)) {
                 return false;
             }
         }
@@ -177,8 +180,7 @@ impl Gate for TestGate {
     fn pass(&self, node: u16, turn: u32) -> bool {
         self.asked.add(node);
         self.last_asked.set(node, turn as u64);
-        let awaited = self.order.awaited(node, turn as u64);
-        if !self.others_have_asked(node, awaited) || self.refused.has(node, turn) {
+        if !self.others_have_asked(node, turn as u64) || self.refused.has(node, turn) {
             return false;
         }
         self.begun.add(node);

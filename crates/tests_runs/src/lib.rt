@@ -8,6 +8,8 @@
 #[cfg(test)]
 mod gates;
 #[cfg(test)]
+mod links;
+#[cfg(test)]
 mod mixed;
 #[cfg(test)]
 mod opened;

@@ -1,7 +1,7 @@
 //! Whole runs over links of two words where the capacity is one, and links behind locks elsewhere.
 
 use crate::outcomes::Links;
-use crate::runs::{TWO_TURNS, assert_paced_chains, assert_paced_trees, assert_together};
+use crate::runs::{assert_decided, assert_paced_chains, assert_paced_trees, assert_together};
 use std::test::Fail;
 
 /// The beginnings of paced jobs whose links are all of one kind: the parameters.
@@ -38,8 +38,12 @@ const TWO_TURNS_WITH_A_LOCK: &str = r#"{"capacity":3,"labels":8,"turns":2,"items
 
 #[test]
 fn workers_run_together_over_mixed_links(rt: HostRuntime) -> Result<(), Fail> {
-    for text in [TWO_TURNS, TWO_TURNS_WITH_A_LOCK] {
-        assert_together(&rt, Links::Mixed, text)?;
-    }
+    assert_together(&rt, Links::Mixed, TWO_TURNS_WITH_A_LOCK)?;
+    Ok(())
+}
+
+#[test]
+fn the_order_of_turns_decides_what_arrives_over_mixed_links(rt: HostRuntime) -> Result<(), Fail> {
+    assert_decided(&rt, &[Links::Mixed], TWO_TURNS_WITH_A_LOCK)?;
     Ok(())
 }

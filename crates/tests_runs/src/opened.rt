@@ -1,7 +1,7 @@
 //! Whole runs of a tree whose inner node begins with items that nobody published.
 
 use crate::gates::Order;
-use crate::outcomes::Links;
+use crate::outcomes::ALL;
 use crate::runs::assert_in_order;
 use std::test::Fail;
 
@@ -19,9 +19,6 @@ items: 50 51 7 8
 b depth 2 received 4 acked 4 ended upstream
 items: 50 51 7 8
 ";
-
-/// The kinds of runs.
-const ALL: [Links; 3] = [Links::Locked, Links::Words, Links::Mixed];
 
 #[test]
 fn openings_in_runs(rt: HostRuntime) -> Result<(), Fail> {

@@ -26,8 +26,8 @@ pub(crate) enum Links {
     Mixed,
 }
 
-/// The runs whose links are all of one kind.
-pub(crate) const BOTH: [Links; 2] = [Links::Locked, Links::Words];
+/// The kinds of runs.
+pub(crate) const ALL: [Links; 3] = [Links::Locked, Links::Words, Links::Mixed];
 
 /// The report of a job over such links, under a gate.
 fn run_over<T: Threads + Wait + Send + Sync>(
@@ -94,4 +94,21 @@ pub(crate) fn refusal_of_run<T: Threads + Wait + Send + Sync>(
     gate: &TestGate,
 ) -> Result<Option<RunFault>, JobFault> {
     Ok(outcome(rt, alloc, links, text, gate)?.err())
+}
+
+/// Fails the test where the run of the job of this text is not refused with this fault, or its gate
+/// was not asked this often for each of the first three nodes, or did not hear this often that each
+/// of them is done.
+pub(crate) fn assert_refused_by<T: Threads + Wait + Send + Sync + Abort + Alloc<A = Global>>(
+    rt: &T,
+    links: Links,
+    text: &str,
+    gate: &TestGate,
+    expected: (RunFault, [u64; 3], [u64; 3]),
+) -> Result<(), JobFault> {
+    let answer = refusal_of_run(rt, rt.alloc(), links, text, gate)?;
+    let seen = (answer, gate.asked.of_three(), gate.done.of_three());
+    let (fault, asked, done) = expected;
+    assert!(rt; seen == (Some(fault), asked, done), "{links:?}: {seen:?}");
+    Ok(())
 }

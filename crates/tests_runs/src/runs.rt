@@ -1,7 +1,7 @@
-//! Whole runs over links of one kind.
+//! Whole runs over links of one kind, which mixed runs have as well where the capacity is one.
 
 use crate::gates::{Order, TestGate};
-use crate::outcomes::{BOTH, Links, assert_printed, refusal_of_run};
+use crate::outcomes::{ALL, Links, assert_printed, assert_refused_by, refusal_of_run};
 use stab_core::StartFault;
 use stab_run::{JobFault, RunFault};
 use stab_tree::NodeId;
@@ -32,12 +32,12 @@ pub(crate) fn assert_in_order<T: Threads + Wait + Send + Sync + Abort + Alloc<A 
 fn a_lone_root_runs(rt: HostRuntime) -> Result<(), Fail> {
     let text = r#"{"capacity":1,"labels":4,"tree":[{"name":"r"}],"items":[7,8]}"#;
     let expected = "r depth 0 received 2 acked - ended upstream\nitems: 7 8\n";
-    assert_in_order(&rt, &BOTH, text, Order::Paced, 1, expected)?;
+    assert_in_order(&rt, &ALL, text, Order::Paced, 1, expected)?;
     Ok(())
 }
 
 /// Fails the test where a run of the job of this text, which has two nodes, is not refused so, or
-/// its gate is asked.
+/// its gate is asked or hears of the end of a node.
 fn assert_refused<T: Threads + Wait + Send + Sync + Abort + Alloc<A = Global>>(
     rt: &T,
     links: Links,
@@ -45,17 +45,14 @@ fn assert_refused<T: Threads + Wait + Send + Sync + Abort + Alloc<A = Global>>(
     want: RunFault,
 ) -> Result<(), JobFault> {
     let gate = TestGate::for_nodes(Order::Paced, 2);
-    let refused = refusal_of_run(rt, rt.alloc(), links, text, &gate)?;
-    assert!(rt; refused == Some(want), "{links:?}: {refused:?}");
-    assert!(rt; (gate.asked.of(0), gate.asked.of(1)) == (0, 0), "{links:?}");
-    Ok(())
+    assert_refused_by(rt, links, text, &gate, (want, [0, 0, 0], [0, 0, 0]))
 }
 
 #[test]
 fn an_unlawful_start_is_refused_before_any_turn(rt: HostRuntime) -> Result<(), Fail> {
     let text = r#"{"capacity":1,"labels":4,"tree":[{"name":"r"},{"name":"a","parent":"r"}],
         "items":[7],"starts":[{"frames":[[2,99],[3,98]],"acks":[],"send":0,"recv":1}]}"#;
-    for &links in &BOTH {
+    for &links in &ALL {
         let want = RunFault::Start(NodeId::new(1), StartFault::TooManyFrames);
         assert_refused(&rt, links, text, want)?;
     }
@@ -111,19 +108,26 @@ const HUNDRED_RECEIVED: &str = " ended upstream\nitems: 1 2 3 4 5 6 7 8 9 10 11 
     49 50 51 52 53 54 55 56 57 58 59 60 61 62 63 64 65 66 67 68 69 70 71 72 73 74 75 76 77 78 79 \
     80 81 82 83 84 85 86 87 88 89 90 91 92 93 94 95 96 97 98 99 100\n";
 
-/// How the lines of each node of a chain of three begin that received everything.
-const CHAIN: [&str; 3] = [
+/// The report of a chain of three in which each node received everything.
+const CHAIN: [&str; 6] = [
     "r depth 0 received 100 acked -",
+    HUNDRED_RECEIVED,
     "a depth 1 received 100 acked 100",
+    HUNDRED_RECEIVED,
     "b depth 2 received 100 acked 100",
+    HUNDRED_RECEIVED,
 ];
 
 /// The same of a star of four.
-const STAR: [&str; 4] = [
+const STAR: [&str; 8] = [
     "r depth 0 received 100 acked -",
+    HUNDRED_RECEIVED,
     "a depth 1 received 100 acked 100",
+    HUNDRED_RECEIVED,
     "b depth 1 received 100 acked 100",
+    HUNDRED_RECEIVED,
     "c depth 1 received 100 acked 100",
+    HUNDRED_RECEIVED,
 ];
 
 /// The ends of jobs of a chain of three: without scripts, and with a drawn script for each link.
@@ -145,48 +149,50 @@ const STARS: [&str; 2] = [
         {"seed":[42,54],"length":50,"loss":300,"repeat":300}]}"#,
 ];
 
-/// The text of a job of a hundred items.
-fn text_of_hundred(alloc: Global, parameters: &str, tree: &str) -> Result<String, AllocError> {
+/// These pieces of a text, put together.
+fn joined(alloc: Global, pieces: &[&str]) -> Result<String, AllocError> {
     let mut text = String::new(alloc);
-    text.push_str(parameters)?;
-    text.push_str(HUNDRED_ITEMS)?;
-    text.push_str(tree)?;
-    Ok(text)
-}
-
-/// The report in which each of these nodes received each of a hundred items.
-fn report_of_hundred(alloc: Global, nodes: &[&str]) -> Result<String, AllocError> {
-    let mut text = String::new(alloc);
-    for node in nodes {
-        text.push_str(node)?;
-        text.push_str(HUNDRED_RECEIVED)?;
+    for piece in pieces {
+        text.push_str(piece)?;
     }
     Ok(text)
 }
 
-/// Runs a job of a hundred items, where so many nodes keep pace: these nodes receive everything,
-/// and each link has all of them acknowledged.
+/// Fails the test where the run of the job of these pieces of a text does not print what is
+/// expected, where so many nodes begin their turns in this order.
+pub(crate) fn assert_joined<T: Threads + Wait + Send + Sync + Abort + Alloc<A = Global>>(
+    rt: &T,
+    links: Links,
+    pieces: &[&str],
+    order: Order,
+    nodes: u16,
+    expected: &str,
+) -> Result<(), JobFault> {
+    let text = joined(rt.alloc(), pieces)?;
+    assert_in_order(rt, &[links], text.as_str(), order, nodes, expected)
+}
+
+/// Runs a job of a hundred items, where so many nodes keep pace: this is what it prints, in pieces.
 fn assert_paced<T: Threads + Wait + Send + Sync + Abort + Alloc<A = Global>>(
     rt: &T,
     links: Links,
     parameters: &str,
     tree: &str,
-    count: u16,
-    nodes: &[&str],
+    nodes: u16,
+    expected: &[&str],
 ) -> Result<(), JobFault> {
-    let text = text_of_hundred(rt.alloc(), parameters, tree)?;
-    let expected = report_of_hundred(rt.alloc(), nodes)?;
-    assert_in_order(
+    let expected = joined(rt.alloc(), expected)?;
+    assert_joined(
         rt,
-        &[links],
-        text.as_str(),
+        links,
+        &[parameters, HUNDRED_ITEMS, tree],
         Order::Paced,
-        count,
+        nodes,
         expected.as_str(),
     )
 }
 
-/// The same of chains.
+/// Runs jobs of chains so: each node receives everything, and each link has all of it acknowledged.
 pub(crate) fn assert_paced_chains<T: Threads + Wait + Send + Sync + Abort + Alloc<A = Global>>(
     rt: &T,
     links: Links,
@@ -219,7 +225,7 @@ fn paced_runs_deliver_everything(rt: HostRuntime) -> Result<(), Fail> {
 }
 
 /// A root and its child, one item and two turns.
-pub(crate) const TWO_TURNS: &str = r#"{"capacity":1,"labels":4,"turns":2,"items":[7],
+const TWO_TURNS: &str = r#"{"capacity":1,"labels":4,"turns":2,"items":[7],
     "tree":[{"name":"r"},{"name":"a","parent":"r"}]}"#;
 
 /// Fails the test where a run of two nodes gives no report, of which each begins its first turn
@@ -231,27 +237,37 @@ pub(crate) fn assert_together<T: Threads + Wait + Send + Sync + Abort + Alloc<A 
 ) -> Result<(), JobFault> {
     let gate = TestGate::for_nodes(Order::Together, 2);
     let refused = refusal_of_run(rt, rt.alloc(), links, text, &gate)?;
-    assert!(rt; refused.is_none(), "{links:?}: {refused:?}");
-    assert!(rt; gate.begun.of(0) > 0 && gate.begun.of(1) > 0, "{links:?}");
+    let seen = (refused, gate.begun.of(0) > 0, gate.begun.of(1) > 0);
+    assert!(rt; seen == (None, true, true), "{links:?}: {seen:?}");
     Ok(())
 }
 
 #[test]
 fn workers_run_together(rt: HostRuntime) -> Result<(), Fail> {
-    for &links in &BOTH {
+    for &links in &ALL {
         assert_together(&rt, links, TWO_TURNS)?;
     }
     Ok(())
 }
 
-/// The other node begins once the root is done, or they take turns.
-#[test]
-fn the_order_of_turns_decides_what_arrives(rt: HostRuntime) -> Result<(), Fail> {
+/// Fails the test where the order of turns does not decide what arrives of the job of this text,
+/// which has two nodes, an item and two turns: the other node begins once the root is done, or they
+/// take turns.
+pub(crate) fn assert_decided<T: Threads + Wait + Send + Sync + Abort + Alloc<A = Global>>(
+    rt: &T,
+    links: &[Links],
+    text: &str,
+) -> Result<(), JobFault> {
     let root_first = "r depth 0 received 1 acked - ended turns\nitems: 7\n\
         a depth 1 received 0 acked 0 ended upstream\nitems:\n";
-    assert_in_order(&rt, &BOTH, TWO_TURNS, Order::RootFirst, 2, root_first)?;
+    assert_in_order(rt, links, text, Order::RootFirst, 2, root_first)?;
     let in_turns = "r depth 0 received 1 acked - ended upstream\nitems: 7\n\
         a depth 1 received 1 acked 1 ended upstream\nitems: 7\n";
-    assert_in_order(&rt, &BOTH, TWO_TURNS, Order::InTurns, 2, in_turns)?;
+    assert_in_order(rt, links, text, Order::InTurns, 2, in_turns)
+}
+
+#[test]
+fn the_order_of_turns_decides_what_arrives(rt: HostRuntime) -> Result<(), Fail> {
+    assert_decided(&rt, &ALL, TWO_TURNS)?;
     Ok(())
 }

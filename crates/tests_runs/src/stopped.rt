@@ -1,8 +1,8 @@
 //! Runs whose gate stops workers, and counts its calls. No count rests on the schedule: where
 //! something has to come before something else, the gate makes that order.
 
-use crate::gates::{Counts, Order, Refused, TestGate};
-use crate::outcomes::{BOTH, Links, refusal_of_run};
+use crate::gates::{Order, Refused, TestGate};
+use crate::outcomes::{ALL, Links, assert_refused_by};
 use stab_node::NodeFault;
 use stab_run::{JobFault, RunFault};
 use stab_tree::NodeId;
@@ -16,28 +16,19 @@ use std::thread::Threads;
 const CHAIN: &str = r#"{"capacity":1,"labels":4,"turns":100,"items":[1,2,3],
     "tree":[{"name":"r"},{"name":"a","parent":"r"},{"name":"b","parent":"a"}]}"#;
 
-/// The numbers of the nodes of the chain.
-fn of_chain(counts: &Counts) -> (u64, u64, u64) {
-    (counts.of(0), counts.of(1), counts.of(2))
-}
-
-/// A run of the chain under a gate that refuses these turns is refused for this node. The gate was
-/// asked this often for each node, and heard of the end of each once.
+/// Fails the test where a run of the chain under a gate that refuses these turns is not refused for
+/// this node, or the gate was not asked this often for each node, or did not hear of the end of
+/// each once.
 fn assert_stopped<T: Threads + Wait + Send + Sync + Abort + Alloc<A = Global>>(
     rt: &T,
     links: Links,
     refused: Refused,
     node: u16,
-    asked: (u64, u64, u64),
+    asked: [u64; 3],
 ) -> Result<(), JobFault> {
     let gate = TestGate::refusing(Order::Paced, 3, refused);
-    let answer = refusal_of_run(rt, rt.alloc(), links, CHAIN, &gate)?;
     let stopped = RunFault::Node(NodeId::new(node), NodeFault::Gate);
-    assert!(rt; answer == Some(stopped), "{links:?}: {answer:?}");
-    let counted = of_chain(&gate.asked);
-    assert!(rt; counted == asked, "{links:?}, asked: {counted:?}");
-    assert!(rt; of_chain(&gate.done) == (1, 1, 1), "{links:?}, done");
-    Ok(())
+    assert_refused_by(rt, links, CHAIN, &gate, (stopped, asked, [1, 1, 1]))
 }
 
 /// The middle node asks three times: only the close of its upstream could end it before, and the
@@ -47,8 +38,8 @@ fn assert_stopped<T: Threads + Wait + Send + Sync + Abort + Alloc<A = Global>>(
 /// ends no more, so the link into the last node is never closed.
 #[test]
 fn a_gate_that_stops_one_node(rt: HostRuntime) -> Result<(), Fail> {
-    for &links in &BOTH {
-        assert_stopped(&rt, links, Refused::ThirdOfTheMiddle, 1, (100, 3, 100))?;
+    for &links in &ALL {
+        assert_stopped(&rt, links, Refused::ThirdOfTheMiddle, 1, [100, 3, 100])?;
     }
     Ok(())
 }
@@ -56,8 +47,8 @@ fn a_gate_that_stops_one_node(rt: HostRuntime) -> Result<(), Fail> {
 /// The first turn of each node is refused at once, so no node asks twice.
 #[test]
 fn a_gate_that_stops_every_node(rt: HostRuntime) -> Result<(), Fail> {
-    for &links in &BOTH {
-        assert_stopped(&rt, links, Refused::Each, 0, (1, 1, 1))?;
+    for &links in &ALL {
+        assert_stopped(&rt, links, Refused::Each, 0, [1, 1, 1])?;
     }
     Ok(())
 }
