@@ -14,6 +14,8 @@ use std::process::Abort;
 use std::sync::Wait;
 use std::sync::atomic::{AtomicU64, Ordering};
 
+mod calls;
+
 /// A gate that counts its calls, and refuses the turn of this number; 0 is no turn.
 #[derive(Drop)]
 struct CountingGate {
