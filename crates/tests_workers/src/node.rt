@@ -4,16 +4,17 @@ ghost use Rattle.std.specs.Prelude.{◌≡◌, ◌≤◌, ⊤};
 
 use stab_core::Start;
 use stab_frames::{Item, Params};
-use stab_lock::{FrameSeen, LockLink, LockRecv, LockSend, RecvAccount, SendAccount};
+use stab_lock::{FrameSeen, LockLink, LockRecv, LockSend, RecvAccount, SendAccount, Settled};
 use stab_node::plain::{PlainRecv, PlainSend};
 use stab_node::{Ended, Free, Gate, NodeAccount, NodeFault, work};
 use stab_script::Script;
-use std::alloc::{AllocError, Global};
+use std::alloc::Global;
 use std::collections::VecDeque;
 use std::process::Abort;
 use std::sync::Wait;
 use std::sync::atomic::{AtomicU64, Ordering};
-use std::test::Fail;
+
+mod calls;
 
 /// A gate that counts its calls, and refuses the turn of this number; 0 is no turn.
 #[derive(Drop)]
@@ -58,72 +59,96 @@ const SEEN: [FrameSeen; 4] = [
     FrameSeen::Closed,
 ];
 
-/// The answer of a worker over plain ends.
-type Answer = Result<NodeAccount<RecvAccount, SendAccount>, NodeFault>;
+/// What a worker leaves.
+type Account = NodeAccount<RecvAccount, SendAccount>;
 
 /// Lower ends that acknowledge at once, or never.
-fn plain_downs(alloc: Global, acknowledge: &[bool]) -> Result<Vec<PlainSend>, AllocError> {
-    let mut downs = Vec::with_capacity(alloc, acknowledge.len())?;
+fn plain_downs<R: Abort>(rt: &R, alloc: Global, acknowledge: &[bool]) -> Vec<PlainSend> {
+    let mut downs = Vec::with_capacity(alloc, acknowledge.len()).expect(rt, "memory");
     for acknowledges in acknowledge {
-        downs.push(PlainSend::new(alloc, *acknowledges))?;
+        downs
+            .push(PlainSend::new(alloc, *acknowledges))
+            .expect(rt, "memory");
     }
-    Ok(downs)
+    downs
 }
 
 /// An upper end that sees 7, 7, 8 and the close.
-fn plain_up(alloc: Global) -> Result<PlainRecv, AllocError> {
-    let mut seen = VecDeque::with_capacity(alloc, SEEN.len())?;
-    for entry in SEEN {
-        seen.push_back(entry)?;
+fn plain_up<R: Abort>(rt: &R, alloc: Global) -> PlainRecv {
+    let mut seen = VecDeque::with_capacity(alloc, SEEN.len()).expect(rt, "memory");
+    for entry in &SEEN {
+        seen.push_back(*entry).expect(rt, "memory");
     }
-    Ok(PlainRecv::new(alloc, seen))
+    PlainRecv::new(alloc, seen)
 }
 
-/// Lets node 1 work below an upper end that sees 7, 7, 8 and the close.
-fn work_below<G: Gate>(alloc: Global, acknowledge: &[bool], turns: u32, gate: &G) -> Answer
-    requires { 1 ≤ turns }
-{
-    let up = plain_up(alloc)?;
-    let downs = plain_downs(alloc, acknowledge)?;
-    work(&(), alloc, 1, Some(up), downs, &[], turns, gate)
-}
-
-/// Lets node 1 begin with 50 and 51 and work below an upper end that sees 7, 7, 8 and the close.
-fn work_from_an_opening<G: Gate>(
+/// Lets node 1 begin with these items and work below an upper end that sees 7, 7, 8 and the close.
+fn work_below<R: Abort, G: Gate>(
+    rt: &R,
     alloc: Global,
+    first: &[Item],
     acknowledge: &[bool],
     turns: u32,
     gate: &G,
-) -> Answer
+) -> Result<Account, NodeFault>
     requires { 1 ≤ turns }
 {
-    let up = plain_up(alloc)?;
-    let downs = plain_downs(alloc, acknowledge)?;
-    work(&(), alloc, 1, Some(up), downs, &[50, 51], turns, gate)
+    let up = plain_up(rt, alloc);
+    let downs = plain_downs(rt, alloc, acknowledge);
+    work(&(), alloc, 1, Some(up), downs, first, turns, gate)
 }
 
-/// Lets node 0 work as a root.
-fn work_at_root<G: Gate>(
+/// What such a node leaves.
+fn left_below<R: Abort, G: Gate>(
+    rt: &R,
     alloc: Global,
+    first: &[Item],
     acknowledge: &[bool],
+    turns: u32,
+    gate: &G,
+) -> Account
+    requires { 1 ≤ turns }
+{
+    work_below(rt, alloc, first, acknowledge, turns, gate).expect(rt, "an account")
+}
+
+/// What node 0 leaves where it works as a root.
+fn left_at_root<R: Abort, G: Gate>(
+    rt: &R,
+    alloc: Global,
     published: &[Item],
+    acknowledge: &[bool],
     turns: u32,
     gate: &G,
-) -> Answer
+) -> Account
     requires { 1 ≤ turns }
 {
-    let downs = plain_downs(alloc, acknowledge)?;
+    let downs = plain_downs(rt, alloc, acknowledge);
     let up: Option<PlainRecv> = None;
-    work(&(), alloc, 0, up, downs, published, turns, gate)
+    work(&(), alloc, 0, up, downs, published, turns, gate).expect(rt, "an account")
 }
 
-/// Fails the test where a lower end is missing, has another account, or is open.
-fn assert_down<R: Abort>(rt: &R, down: Option<&SendAccount>, offered: &[Item], acked: u64) {
-    assert!(rt; down.is_some(), "the lower end");
-    if let Some(account) = down {
-        assert!(rt; account.offered.as_slice() == offered, "offered");
-        assert!(rt; account.acked == acked, "acknowledged");
-        assert!(rt; account.closed, "closed");
+/// Fails the test where a lower end has another account, or is open.
+fn assert_down<R: Abort>(rt: &R, account: &SendAccount, offered: &[Item], acked: u64) {
+    assert!(rt; account.offered.as_slice() == offered, "offered");
+    assert!(rt; account.acked == acked, "acknowledged");
+    assert!(rt; account.closed, "closed");
+}
+
+/// Fails the test where a worker left something else. Of each lower end the row has what it
+/// offered, and how many of these items are acknowledged.
+fn assert_left<R: Abort>(
+    rt: &R,
+    account: &Account,
+    received: &[Item],
+    ended: Ended,
+    downs: &[(&[Item], u64)],
+) {
+    assert!(rt; account.received.as_slice() == received, "received");
+    assert!(rt; account.ended == ended, "ended");
+    assert!(rt; account.downs.len() == downs.len(), "lower ends");
+    for (down, (offered, acked)) in account.downs.iter().zip(downs) {
+        assert_down(rt, down, offered, *acked);
     }
 }
 
@@ -134,181 +159,147 @@ fn assert_asked<R: Abort>(rt: &R, gate: &CountingGate, asked: u64) {
 }
 
 #[test]
-fn a_worker_over_plain_ends_ends_with_its_upstream(rt: HostRuntime) -> Result<(), Fail> {
-    let alloc = rt.alloc();
-    let account = work_below(alloc, &[true], 10, &Free::for_nodes(2))?;
-    assert!(rt; account.received.as_slice() == [7, 7, 8].as_slice());
-    assert!(rt; account.ended == Ended::Upstream);
-    assert!(rt; account.downs.len() == 1);
-    assert_down(&rt, account.downs.get(0), &[7, 7, 8], 3);
-    Ok(())
+fn a_worker_over_plain_ends_ends_with_its_upstream(rt: HostRuntime) {
+    let account = left_below(&rt, rt.alloc(), &[], &[true], 10, &Free::for_nodes(2));
+    assert_left(
+        &rt,
+        &account,
+        &[7, 7, 8],
+        Ended::Upstream,
+        &[(&[7, 7, 8], 3)],
+    );
 }
 
 #[test]
-fn a_worker_over_plain_ends_needs_four_turns(rt: HostRuntime) -> Result<(), Fail> {
+fn a_worker_over_plain_ends_needs_four_turns(rt: HostRuntime) {
     let gate = CountingGate::refusing(0);
-    let account = work_below(rt.alloc(), &[true], 10, &gate)?;
+    let account = left_below(&rt, rt.alloc(), &[], &[true], 10, &gate);
     assert!(rt; account.ended == Ended::Upstream);
     assert_asked(&rt, &gate, 4);
-    Ok(())
 }
 
 #[test]
-fn a_worker_over_plain_ends_ends_with_its_turns(rt: HostRuntime) -> Result<(), Fail> {
-    let alloc = rt.alloc();
+fn a_worker_over_plain_ends_ends_with_its_turns(rt: HostRuntime) {
     let gate = CountingGate::refusing(0);
-    let account = work_below(alloc, &[true], 3, &gate)?;
-    assert!(rt; account.received.as_slice() == [7, 7, 8].as_slice());
-    assert!(rt; account.ended == Ended::Turns);
-    assert_down(&rt, account.downs.get(0), &[7, 7, 8], 2);
+    let account = left_below(&rt, rt.alloc(), &[], &[true], 3, &gate);
+    assert_left(&rt, &account, &[7, 7, 8], Ended::Turns, &[(&[7, 7, 8], 2)]);
     assert_asked(&rt, &gate, 3);
-    Ok(())
+}
+
+/// Fails the test where a worker is not refused by its gate at this turn.
+fn assert_refused<R: Abort>(rt: &R, alloc: Global, turn: u32) {
+    let gate = CountingGate::refusing(turn);
+    let fault = work_below(rt, alloc, &[], &[true], 10, &gate).err();
+    assert!(rt; fault == Some(NodeFault::Gate));
+    assert_asked(rt, &gate, turn as u64);
 }
 
 #[test]
-fn a_worker_over_plain_ends_is_refused_its_second_turn(rt: HostRuntime) -> Result<(), Fail> {
-    let gate = CountingGate::refusing(2);
-    let answer = work_below(rt.alloc(), &[true], 10, &gate).map(|_| ());
-    assert!(rt; answer == Err(NodeFault::Gate));
-    assert_asked(&rt, &gate, 2);
-    Ok(())
+fn a_worker_over_plain_ends_is_refused_its_second_turn(rt: HostRuntime) {
+    assert_refused(&rt, rt.alloc(), 2);
 }
 
 #[test]
-fn a_gate_refuses_the_first_turn(rt: HostRuntime) -> Result<(), Fail> {
-    let gate = CountingGate::refusing(1);
-    let answer = work_below(rt.alloc(), &[true], 10, &gate).map(|_| ());
-    assert!(rt; answer == Err(NodeFault::Gate));
-    assert_asked(&rt, &gate, 1);
-    Ok(())
+fn a_gate_refuses_the_first_turn(rt: HostRuntime) {
+    assert_refused(&rt, rt.alloc(), 1);
 }
 
 #[test]
-fn one_lower_end_that_never_acknowledges(rt: HostRuntime) -> Result<(), Fail> {
-    let alloc = rt.alloc();
+fn one_lower_end_that_never_acknowledges(rt: HostRuntime) {
     let gate = CountingGate::refusing(0);
-    let account = work_below(alloc, &[true, false], 10, &gate)?;
-    assert!(rt; account.ended == Ended::Turns);
-    assert!(rt; account.downs.len() == 2);
-    assert_down(&rt, account.downs.get(0), &[7, 7, 8], 3);
-    assert_down(&rt, account.downs.get(1), &[7], 0);
+    let account = left_below(&rt, rt.alloc(), &[], &[true, false], 10, &gate);
+    let downs: &[(&[Item], u64)] = &[(&[7, 7, 8], 3), (&[7], 0)];
+    assert_left(&rt, &account, &[7, 7, 8], Ended::Turns, downs);
     assert_asked(&rt, &gate, 10);
-    Ok(())
 }
 
 #[test]
-fn an_opening_is_handed_on_before_what_is_delivered(rt: HostRuntime) -> Result<(), Fail> {
-    let alloc = rt.alloc();
+fn an_opening_is_handed_on_before_what_is_delivered(rt: HostRuntime) {
     let gate = CountingGate::refusing(0);
-    let account = work_from_an_opening(alloc, &[true, false], 10, &gate)?;
-    assert!(rt; account.received.as_slice() == [50, 51, 7, 7, 8].as_slice());
-    assert!(rt; account.ended == Ended::Turns);
-    assert_down(&rt, account.downs.get(0), &[50, 51, 7, 7, 8], 5);
-    assert_down(&rt, account.downs.get(1), &[50], 0);
+    let account = left_below(&rt, rt.alloc(), &[50, 51], &[true, false], 10, &gate);
+    let downs: &[(&[Item], u64)] = &[(&[50, 51, 7, 7, 8], 5), (&[50], 0)];
+    assert_left(&rt, &account, &[50, 51, 7, 7, 8], Ended::Turns, downs);
     assert_asked(&rt, &gate, 10);
-    Ok(())
 }
 
-#[test]
-fn an_opening_is_acknowledged_before_the_end(rt: HostRuntime) -> Result<(), Fail> {
-    let alloc = rt.alloc();
-    let gate = CountingGate::refusing(0);
-    let account = work_from_an_opening(alloc, &[true], 10, &gate)?;
-    assert!(rt; account.received.as_slice() == [50, 51, 7, 7, 8].as_slice());
-    assert!(rt; account.ended == Ended::Upstream);
-    assert!(rt; account.up.is_some());
-    if let Some(up) = &account.up {
+/// Fails the test where an upper end did not deliver 7, 7 and 8, or is open.
+fn assert_up<R: Abort>(rt: &R, up: &Option<RecvAccount>) {
+    assert!(rt; up.is_some());
+    if let Some(up) = up {
         assert!(rt; up.closed && up.delivered.as_slice() == [7, 7, 8].as_slice());
     }
-    assert_down(&rt, account.downs.get(0), &[50, 51, 7, 7, 8], 5);
+}
+
+#[test]
+fn an_opening_is_acknowledged_before_the_end(rt: HostRuntime) {
+    let gate = CountingGate::refusing(0);
+    let account = left_below(&rt, rt.alloc(), &[50, 51], &[true], 10, &gate);
+    let downs: &[(&[Item], u64)] = &[(&[50, 51, 7, 7, 8], 5)];
+    assert_left(&rt, &account, &[50, 51, 7, 7, 8], Ended::Upstream, downs);
+    assert_up(&rt, &account.up);
     assert_asked(&rt, &gate, 6);
-    Ok(())
 }
 
 #[test]
-fn an_opening_is_kept_where_no_further_item_comes(rt: HostRuntime) -> Result<(), Fail> {
-    let alloc = rt.alloc();
+fn an_opening_is_kept_where_no_further_item_comes(rt: HostRuntime) {
     let gate = CountingGate::refusing(0);
-    let account = work_from_an_opening(alloc, &[true], 1, &gate)?;
-    assert!(rt; account.received.as_slice() == [50, 51, 7].as_slice());
-    assert!(rt; account.ended == Ended::Turns);
-    assert_down(&rt, account.downs.get(0), &[50], 0);
+    let account = left_below(&rt, rt.alloc(), &[50, 51], &[true], 1, &gate);
+    assert_left(&rt, &account, &[50, 51, 7], Ended::Turns, &[(&[50], 0)]);
     assert_asked(&rt, &gate, 1);
-    Ok(())
 }
 
 #[test]
-fn a_root_hands_on_what_is_published(rt: HostRuntime) -> Result<(), Fail> {
-    let alloc = rt.alloc();
+fn a_root_hands_on_what_is_published(rt: HostRuntime) {
     let gate = CountingGate::refusing(0);
-    let account = work_at_root(alloc, &[true], &[4, 5], 10, &gate)?;
-    assert!(rt; account.received.as_slice() == [4, 5].as_slice());
-    assert!(rt; account.ended == Ended::Upstream);
+    let account = left_at_root(&rt, rt.alloc(), &[4, 5], &[true], 10, &gate);
     assert!(rt; account.up.is_none());
-    assert_down(&rt, account.downs.get(0), &[4, 5], 2);
+    assert_left(&rt, &account, &[4, 5], Ended::Upstream, &[(&[4, 5], 2)]);
     assert_asked(&rt, &gate, 3);
-    Ok(())
 }
 
 #[test]
-fn a_lone_root_ends_in_its_first_turn(rt: HostRuntime) -> Result<(), Fail> {
-    let alloc = rt.alloc();
+fn a_lone_root_ends_in_its_first_turn(rt: HostRuntime) {
     let gate = CountingGate::refusing(0);
-    let account = work_at_root(alloc, &[], &[5], 3, &gate)?;
-    assert!(rt; account.received.as_slice() == [5].as_slice());
-    assert!(rt; account.ended == Ended::Upstream);
-    assert!(rt; account.downs.is_empty());
+    let account = left_at_root(&rt, rt.alloc(), &[5], &[], 3, &gate);
+    assert_left(&rt, &account, &[5], Ended::Upstream, &[]);
     assert_asked(&rt, &gate, 1);
-    Ok(())
 }
 
-/// Lets a root that publishes 7 work for one turn.
-fn root_of_one_turn<'a, R: Wait>(
-    rt: &R,
-    alloc: Global,
-    send: LockSend<'a, R>,
-) -> Result<NodeAccount<RecvAccount, SendAccount>, NodeFault> {
-    let mut downs = Vec::with_capacity(alloc, 1)?;
+/// What the lower end of a root that publishes 7 leaves after one turn.
+fn send_of_root<'a, R: Wait + Abort>(rt: &R, alloc: Global, send: LockSend<'a, R>) -> SendAccount {
+    let mut downs = Vec::with_capacity(alloc, 1).expect(rt, "memory");
     downs.push_reserved(send);
     let up: Option<LockRecv<'a, R>> = None;
-    work(rt, alloc, 0, up, downs, &[7], 1, &Free::for_nodes(2))
-}
-
-/// Lets a leaf work for at most five turns.
-fn leaf_of_five_turns<'a, R: Wait>(
-    rt: &R,
-    alloc: Global,
-    recv: LockRecv<'a, R>,
-) -> Result<NodeAccount<RecvAccount, SendAccount>, NodeFault> {
-    let downs: Vec<LockSend<'a, R>> = Vec::new(alloc);
-    work(rt, alloc, 1, Some(recv), downs, &[], 5, &Free::for_nodes(2))
-}
-
-/// The accounts of both ends of a link, after its root and then its leaf have worked on one thread.
-fn work_in_turn<R: Wait + Abort>(
-    rt: &R,
-    alloc: Global,
-    link: &LockLink,
-) -> Result<(Option<SendAccount>, Option<RecvAccount>), NodeFault> {
-    let (send, recv) = link.split(Script::none(alloc));
-    let mut root = root_of_one_turn(rt, alloc, send)?;
+    let left = work(rt, alloc, 0, up, downs, &[7], 1, &Free::for_nodes(2));
+    let mut root = left.expect(rt, "a root");
     assert!(rt; root.ended == Ended::Turns);
-    let leaf = leaf_of_five_turns(rt, alloc, recv)?;
+    root.downs.pop().expect(rt, "the lower end")
+}
+
+/// What the upper end of a leaf leaves after at most five turns.
+fn recv_of_leaf<'a, R: Wait + Abort>(rt: &R, alloc: Global, recv: LockRecv<'a, R>) -> RecvAccount {
+    let downs: Vec<LockSend<'a, R>> = Vec::new(alloc);
+    let left = work(rt, alloc, 1, Some(recv), downs, &[], 5, &Free::for_nodes(2));
+    let leaf = left.expect(rt, "a leaf");
     assert!(rt; leaf.ended == Ended::Upstream);
     assert!(rt; leaf.received.is_empty());
-    Ok((root.downs.pop(), leaf.up))
+    leaf.up.expect(rt, "the upper end")
+}
+
+/// The accounts of both ends of a new link, settled, after its root and then its leaf have worked
+/// on one thread.
+fn work_in_turn<R: Wait + Abort>(rt: &R, alloc: Global) -> Settled {
+    let params = Params::new(1, 4).expect(rt, "parameters");
+    let link = LockLink::new(alloc, params, Start::clean(alloc)).expect(rt, "a link");
+    let (send, recv) = link.split(Script::none(alloc));
+    let send = send_of_root(rt, alloc, send);
+    let recv = recv_of_leaf(rt, alloc, recv);
+    link.settle(send, recv).expect(rt, "both accounts")
 }
 
 #[test]
-fn a_worker_over_one_locked_link(rt: HostRuntime) -> Result<(), Fail> {
-    let alloc = rt.alloc();
-    let link = LockLink::new(alloc, Params::new(1, 4)?, Start::clean(alloc))?;
-    let (send, recv) = work_in_turn(&rt, alloc, &link)?;
-    assert!(rt; send.is_some() && recv.is_some(), "both ends");
-    let send = send.unwrap_or(SendAccount::new(alloc));
-    let recv = recv.unwrap_or(RecvAccount::new(alloc));
-    let settled = link.settle(send, recv)?;
-    assert_down(&rt, Some(&settled.send), &[7], 0);
+fn a_worker_over_one_locked_link(rt: HostRuntime) {
+    let settled = work_in_turn(&rt, rt.alloc());
+    assert_down(&rt, &settled.send, &[7], 0);
     assert!(rt; settled.recv.closed && settled.recv.delivered.is_empty());
-    Ok(())
 }

@@ -1,7 +1,7 @@
 //! Runs of one worker per node: over ends without a link, whose answers depend on no schedule, and
 //! over a locked link under a gate that keeps the workers near to each other.
 
-ghost use Rattle.std.specs.Prelude.{◌≡◌, ⊤, [], ◌∷◌, IfOk, All};
+ghost use Rattle.std.specs.Prelude.{◌≡◌, ⊤, [], ◌∷◌, All};
 ghost use Rattle.stab_lock.specs.Accounts.{new_sender, new_receiver};
 ghost use Rattle.stab_treecore.specs.NodeOpenings.{FitTree};
 
@@ -12,15 +12,14 @@ use stab_lock::{FrameSeen, LockLink, RecvAccount, RecvSide, SendAccount, SendSid
 use stab_node::plain::{PlainRecv, PlainSend};
 use stab_node::{Ended, Gate, NodeFault};
 use stab_script::Script;
-use stab_tree::{Tree, TreeFault, read_tree};
-use stab_treecore::{OpeningFault, Openings};
+use stab_tree::{Tree, read_tree};
+use stab_treecore::Openings;
 use stab_workers::{Gathered, WorkersFault, run_workers};
-use std::alloc::{AllocError, Global};
+use std::alloc::Global;
 use std::collections::VecDeque;
 use std::process::Abort;
 use std::sync::Wait;
 use std::sync::atomic::{AtomicU64, Ordering};
-use std::test::Fail;
 use std::thread;
 use std::thread::Threads;
 
@@ -36,9 +35,9 @@ const PUBLISHED: [Item; 3] = [1, 2, 3];
 const TURNS: u32 = 1_000_000;
 
 /// The tree that this text describes.
-fn tree(rt: &impl Abort, alloc: Global, text: &str) -> Result<Tree, TreeFault> {
+fn tree(rt: &impl Abort, alloc: Global, text: &str) -> Tree {
     let value = Value::from_str(alloc, text).expect(rt, "JSON");
-    read_tree(alloc, &value)
+    read_tree(alloc, &value).expect(rt, "a tree")
 }
 
 /// A gate that refuses each turn of the nodes from this one on.
@@ -60,49 +59,46 @@ impl Gate for RefusesFrom {
 }
 
 /// A list of three.
-fn three<T: Drop>(alloc: Global, a: T, b: T, c: T) -> Result<Vec<T>, AllocError>
-    ensures { IfOk result (λ v. v.items ≡ a ∷ b ∷ c ∷ []) }
+fn three<T: Drop>(rt: &impl Abort, alloc: Global, a: T, b: T, c: T) -> Vec<T>
+    ensures { result.items ≡ a ∷ b ∷ c ∷ [] }
 {
-    let mut list = Vec::with_capacity(alloc, 3)?;
-    list.push(a)?;
-    list.push(b)?;
-    list.push(c)?;
-    Ok(list)
+    let mut list = Vec::with_capacity(alloc, 3).expect(rt, "memory");
+    list.push_reserved(a);
+    list.push_reserved(b);
+    list.push_reserved(c);
+    list
 }
 
 /// An upper end that sees one item and then the close.
-fn sees(alloc: Global, item: Item) -> Result<PlainRecv, AllocError>
-    ensures { IfOk result (λ end. ⟦<PlainRecv as RecvSide>⟧.received end ≡ new_receiver) }
+fn sees(rt: &impl Abort, alloc: Global, item: Item) -> PlainRecv
+    ensures { ⟦<PlainRecv as RecvSide>⟧.received result ≡ new_receiver }
 {
-    let mut seen = VecDeque::with_capacity(alloc, 2)?;
-    seen.push_back(FrameSeen::Fresh(item))?;
-    seen.push_back(FrameSeen::Closed)?;
-    Ok(PlainRecv::new(alloc, seen))
+    let mut seen = VecDeque::with_capacity(alloc, 2).expect(rt, "memory");
+    seen.push_back(FrameSeen::Fresh(item)).expect(rt, "memory");
+    seen.push_back(FrameSeen::Closed).expect(rt, "memory");
+    PlainRecv::new(alloc, seen)
 }
 
 /// The lower ends of three links, each of which acknowledges at once or never.
 #[tactic(auto, using(crate::proofs::Three::three_hold))]
-fn plain_sends(alloc: Global, acknowledge: [bool; 3]) -> Result<Vec<PlainSend>, AllocError>
-    ensures { IfOk result (λ v. All (λ d. ⟦<PlainSend as SendSide>⟧.sent d ≡ new_sender) v.items) }
+fn plain_sends(rt: &impl Abort, alloc: Global, acknowledge: [bool; 3]) -> Vec<PlainSend>
+    ensures { All (λ d. ⟦<PlainSend as SendSide>⟧.sent d ≡ new_sender) result.items }
 {
     let a = PlainSend::new(alloc, acknowledge[0]);
     let b = PlainSend::new(alloc, acknowledge[1]);
     let c = PlainSend::new(alloc, acknowledge[2]);
-    let sends = three(alloc, a, b, c)?;
-    Ok(sends)
+    three(rt, alloc, a, b, c)
 }
 
 /// The upper ends of three links, each of which sees one of these items.
 #[tactic(auto, using(crate::proofs::Three::three_hold))]
-fn plain_recvs(alloc: Global, seen: [Item; 3]) -> Result<Vec<PlainRecv>, AllocError>
-    ensures { IfOk result (λ v.
-        All (λ u. ⟦<PlainRecv as RecvSide>⟧.received u ≡ new_receiver) v.items) }
+fn plain_recvs(rt: &impl Abort, alloc: Global, seen: [Item; 3]) -> Vec<PlainRecv>
+    ensures { All (λ u. ⟦<PlainRecv as RecvSide>⟧.received u ≡ new_receiver) result.items }
 {
-    let a = sees(alloc, seen[0])?;
-    let b = sees(alloc, seen[1])?;
-    let c = sees(alloc, seen[2])?;
-    let recvs = three(alloc, a, b, c)?;
-    Ok(recvs)
+    let a = sees(rt, alloc, seen[0]);
+    let b = sees(rt, alloc, seen[1]);
+    let c = sees(rt, alloc, seen[2]);
+    three(rt, alloc, a, b, c)
 }
 
 /// What a run leaves.
@@ -150,7 +146,7 @@ fn run_plain<R: Threads + Wait + Sync + Abort>(
     requires lowers { All (λ d. ⟦<PlainSend as SendSide>⟧.sent d ≡ new_sender) sends.items }
     requires uppers { All (λ u. ⟦<PlainRecv as RecvSide>⟧.received u ≡ new_receiver) recvs.items }
 {
-    let openings = Openings::none(alloc, tree)?;
+    let openings = Openings::none(alloc, tree).expect(rt, "memory");
     run_plain_from(rt, alloc, tree, &openings, sends, recvs, gate)
 }
 
@@ -162,11 +158,37 @@ fn run_links<R: Threads + Wait + Sync + Abort>(
     seen: [Item; 3],
     acknowledge: [bool; 3],
     gate: &RefusesFrom,
-) -> Result<Result<Left, WorkersFault>, Fail> {
-    let tree = tree(rt, alloc, TREE)?;
-    let sends = plain_sends(alloc, acknowledge)?;
-    let recvs = plain_recvs(alloc, seen)?;
-    Ok(run_plain(rt, alloc, &tree, sends, recvs, gate))
+) -> Result<Left, WorkersFault> {
+    let tree = tree(rt, alloc, TREE);
+    let sends = plain_sends(rt, alloc, acknowledge);
+    let recvs = plain_recvs(rt, alloc, seen);
+    run_plain(rt, alloc, &tree, sends, recvs, gate)
+}
+
+/// What such a run leaves where no turn is refused.
+fn left_by<R: Threads + Wait + Sync + Abort>(
+    rt: &R,
+    alloc: Global,
+    seen: [Item; 3],
+    acknowledge: [bool; 3],
+) -> Left {
+    run_links(rt, alloc, seen, acknowledge, &RefusesFrom(4)).expect(rt, "a run")
+}
+
+/// The items that a node received.
+fn received(left: &Left, node: usize) -> Option<&[Item]> {
+    match left.received.get(node) {
+        Some(items) => Some(items.as_slice()),
+        None => None,
+    }
+}
+
+/// The items that a link delivered.
+fn delivered(left: &Left, link: usize) -> Option<&[Item]> {
+    match left.recvs.get(link) {
+        Some(recv) => Some(recv.delivered.as_slice()),
+        None => None,
+    }
 }
 
 /// Fails the test where the nodes received other items, in file order.
@@ -185,141 +207,141 @@ fn assert_ended(rt: &impl Abort, left: &Left, count: usize) {
     }
 }
 
+/// Whether a link was offered these items, and then closed.
+fn was_offered(send: &SendAccount, want: &[Item]) -> bool {
+    send.offered.as_slice() == want && send.closed
+}
+
 /// Fails the test where other items were offered on the links, or one of them was not acknowledged.
 fn assert_offered(rt: &impl Abort, left: &Left, want: &[&[Item]]) {
     assert!(rt; left.sends.len() == want.len(), "offered");
     for (send, want) in left.sends.iter().zip(want) {
-        assert!(rt; send.offered.as_slice() == *want && send.closed, "offered");
+        assert!(rt; was_offered(send, want), "offered");
         assert!(rt; send.acked == want.len() as u64, "acknowledged");
     }
+}
+
+/// Whether a link delivered these items, and then the close.
+fn has_delivered(recv: &RecvAccount, want: &[Item]) -> bool {
+    recv.delivered.as_slice() == want && recv.closed
 }
 
 /// Fails the test where the links delivered other items.
 fn assert_delivered(rt: &impl Abort, left: &Left, want: &[&[Item]]) {
     assert!(rt; left.recvs.len() == want.len(), "delivered");
     for (recv, want) in left.recvs.iter().zip(want) {
+        assert!(rt; has_delivered(recv, want), "delivered");
+    }
+}
+
+#[test]
+fn each_node_hands_on_what_it_received(rt: HostRuntime) {
+    let left = left_by(&rt, rt.alloc(), [10, 20, 30], [true; 3]);
+    assert_received(&rt, &left, &[&[10], &PUBLISHED, &[20], &[30]]);
+    assert_ended(&rt, &left, 4);
+    assert_offered(&rt, &left, &[&PUBLISHED, &[10], &PUBLISHED]);
+    assert_delivered(&rt, &left, &[&[10], &[20], &[30]]);
+}
+
+/// Whether the child of this link received what the upper end of the link sees, and its parent
+/// offered what it received.
+fn is_link(left: &Left, link: usize, seen: Item, child: usize, parent: usize) -> bool {
+    let Some(send) = left.sends.get(link) else {
+        return false;
+    };
+    received(left, child) == Some([seen].as_slice())
+        && received(left, parent) == Some(send.offered.as_slice())
+}
+
+#[test]
+fn the_ends_of_each_link_go_to_its_child_and_to_its_parent(rt: HostRuntime) {
+    let left = left_by(&rt, rt.alloc(), [11, 21, 31], [true; 3]);
+    assert!(rt; left.received.len() == 4);
+    for (link, seen, child, parent) in &[(0, 11, 0, 1), (1, 21, 2, 0), (2, 31, 3, 1)] {
         assert!(rt;
-            recv.delivered.as_slice() == *want && recv.closed,
-            "delivered"
+            is_link(&left, *link, *seen, *child, *parent),
+            "link {link}"
         );
     }
 }
 
-#[test]
-fn each_node_hands_on_what_it_received(rt: HostRuntime) -> Result<(), Fail> {
-    let left = run_links(&rt, rt.alloc(), [10, 20, 30], [true; 3], &RefusesFrom(4))??;
-    let published = PUBLISHED.as_slice();
-    assert_received(&rt, &left, &[&[10], published, &[20], &[30]]);
-    assert_ended(&rt, &left, 4);
-    assert_offered(&rt, &left, &[published, &[10], published]);
-    assert_delivered(&rt, &left, &[&[10], &[20], &[30]]);
-    Ok(())
-}
-
-/// Fails the test where the child of this link did not receive what the upper end of the link sees,
-/// or its parent offered something else than it received.
-fn assert_link(rt: &impl Abort, left: &Left, link: usize, seen: Item, child: usize, parent: usize) {
-    let received = left.received.get(child).map(|items| items.as_slice());
-    assert!(rt; received == Some([seen].as_slice()), "link {link}");
-    let offered = left.sends.get(link).map(|send| send.offered.as_slice());
-    let received = left.received.get(parent).map(|items| items.as_slice());
-    assert!(rt; offered.is_some() && offered == received, "link {link}");
+/// Whether the ends of a link are those that see this item and have that many of their items
+/// acknowledged.
+fn are_ends(left: &Left, link: usize, seen: Item, acked: u64) -> bool {
+    let Some(send) = left.sends.get(link) else {
+        return false;
+    };
+    delivered(left, link) == Some([seen].as_slice()) && send.acked == acked
 }
 
 #[test]
-fn the_ends_of_each_link_go_to_its_child_and_to_its_parent(rt: HostRuntime) -> Result<(), Fail> {
-    let left = run_links(&rt, rt.alloc(), [11, 21, 31], [true; 3], &RefusesFrom(4))??;
-    assert!(rt; left.received.len() == 4);
-    for (link, seen, child, parent) in [(0, 11, 0, 1), (1, 21, 2, 0), (2, 31, 3, 1)] {
-        assert_link(&rt, &left, link, seen, child, parent);
-    }
-    Ok(())
-}
-
-/// Fails the test where the ends of a link are not those that see this item and have that many of
-/// their items acknowledged.
-fn assert_ends(rt: &impl Abort, left: &Left, link: usize, seen: Item, acked: u64) {
-    let of_link = left.recvs.get(link).map(|recv| recv.delivered.as_slice());
-    assert!(rt; of_link == Some([seen].as_slice()), "link {link}");
-    let of_link = left.sends.get(link).map(|send| send.acked);
-    assert!(rt; of_link == Some(acked), "link {link}");
-}
-
-#[test]
-fn what_is_dealt_out_is_gathered_again(rt: HostRuntime) -> Result<(), Fail> {
-    let acknowledge = [true, false, true];
-    let left = run_links(&rt, rt.alloc(), [11, 21, 31], acknowledge, &RefusesFrom(4))??;
+fn what_is_dealt_out_is_gathered_again(rt: HostRuntime) {
+    let left = left_by(&rt, rt.alloc(), [11, 21, 31], [true, false, true]);
     assert!(rt; left.sends.len() == 3 && left.recvs.len() == 3);
-    for (link, seen, acked) in [(0, 11, 3), (1, 21, 0), (2, 31, 3)] {
-        assert_ends(&rt, &left, link, seen, acked);
+    for (link, seen, acked) in &[(0, 11, 3), (1, 21, 0), (2, 31, 3)] {
+        assert!(rt; are_ends(&left, *link, *seen, *acked), "link {link}");
     }
-    Ok(())
 }
 
 /// The openings of the tree: a, which is first, begins with 50 and 51.
-fn openings_at_a(alloc: Global, tree: &Tree) -> Result<Result<Openings, OpeningFault>, AllocError>
-    ensures { IfOk result (λ made. IfOk made (FitTree tree.now.parents)) }
+fn openings_at_a(rt: &impl Abort, alloc: Global, tree: &Tree) -> Openings
+    ensures { FitTree tree.now.parents result }
 {
-    let mut lists = Vec::with_capacity(alloc, 4)?;
-    lists.push(Sequence::from_vec(Vec::from_slice(alloc, &[50, 51])?))?;
+    let mut lists = Vec::with_capacity(alloc, 4).expect(rt, "memory");
+    let first = Vec::from_slice(alloc, &[50, 51]).expect(rt, "memory");
+    lists.push(Sequence::from_vec(first)).expect(rt, "memory");
     for _ in 0..3 {
-        lists.push(Sequence::new(alloc))?;
+        lists.push(Sequence::new(alloc)).expect(rt, "memory");
     }
-    Ok(Openings::new(tree, 2, lists))
+    Openings::new(tree, 2, lists).expect(rt, "openings")
 }
 
-/// A run of the tree of three links from those openings.
-fn run_from_an_opening<R: Threads + Wait + Sync + Abort>(
-    rt: &R,
-    alloc: Global,
-) -> Result<Left, Fail> {
-    let tree = tree(rt, alloc, TREE)?;
-    let openings = openings_at_a(alloc, &tree)??;
-    let sends = plain_sends(alloc, [true; 3])?;
-    let recvs = plain_recvs(alloc, [10, 20, 30])?;
-    Ok(run_plain_from(rt, alloc, &tree, &openings, sends, recvs, &RefusesFrom(4))?)
+/// What a run of the tree of three links from those openings leaves.
+fn left_from_an_opening<R: Threads + Wait + Sync + Abort>(rt: &R, alloc: Global) -> Left {
+    let tree = tree(rt, alloc, TREE);
+    let openings = openings_at_a(rt, alloc, &tree);
+    let sends = plain_sends(rt, alloc, [true; 3]);
+    let recvs = plain_recvs(rt, alloc, [10, 20, 30]);
+    let gate = RefusesFrom(4);
+    let left = run_plain_from(rt, alloc, &tree, &openings, sends, recvs, &gate);
+    left.expect(rt, "a run")
 }
 
 #[test]
-fn a_node_hands_on_its_opening_first(rt: HostRuntime) -> Result<(), Fail> {
-    let left = run_from_an_opening(&rt, rt.alloc())?;
-    let published = PUBLISHED.as_slice();
-    assert_received(&rt, &left, &[&[50, 51, 10], published, &[20], &[30]]);
+fn a_node_hands_on_its_opening_first(rt: HostRuntime) {
+    let left = left_from_an_opening(&rt, rt.alloc());
+    assert_received(&rt, &left, &[&[50, 51, 10], &PUBLISHED, &[20], &[30]]);
     assert_ended(&rt, &left, 4);
-    assert_offered(&rt, &left, &[published, &[50, 51, 10], published]);
-    Ok(())
+    assert_offered(&rt, &left, &[&PUBLISHED, &[50, 51, 10], &PUBLISHED]);
 }
 
 #[test]
-fn the_first_node_in_file_order_is_reported(rt: HostRuntime) -> Result<(), Fail> {
-    let refused = run_links(&rt, rt.alloc(), [10, 20, 30], [true; 3], &RefusesFrom(2))?.err();
+fn the_first_node_in_file_order_is_reported(rt: HostRuntime) {
+    let refused = run_links(&rt, rt.alloc(), [10, 20, 30], [true; 3], &RefusesFrom(2)).err();
     assert!(rt; matches!(refused, Some(WorkersFault::Node(2, NodeFault::Gate))));
-    Ok(())
 }
 
-/// A run of a root alone.
-fn run_root_alone<R: Threads + Wait + Sync + Abort>(rt: &R, alloc: Global) -> Result<Left, Fail> {
-    let tree = tree(rt, alloc, r#"[{"name":"r"}]"#)?;
+/// What a run of a root alone leaves.
+fn left_by_a_root<R: Threads + Wait + Sync + Abort>(rt: &R, alloc: Global) -> Left {
+    let tree = tree(rt, alloc, r#"[{"name":"r"}]"#);
     let sends: Vec<PlainSend> = Vec::new(alloc);
     let recvs: Vec<PlainRecv> = Vec::new(alloc);
-    Ok(run_plain(rt, alloc, &tree, sends, recvs, &RefusesFrom(1))?)
+    run_plain(rt, alloc, &tree, sends, recvs, &RefusesFrom(1)).expect(rt, "a run")
 }
 
 #[test]
-fn a_root_alone_has_what_is_published(rt: HostRuntime) -> Result<(), Fail> {
-    let left = run_root_alone(&rt, rt.alloc())?;
-    assert_received(&rt, &left, &[PUBLISHED.as_slice()]);
+fn a_root_alone_has_what_is_published(rt: HostRuntime) {
+    let left = left_by_a_root(&rt, rt.alloc());
+    assert_received(&rt, &left, &[&PUBLISHED]);
     assert!(rt; left.sends.is_empty() && left.recvs.is_empty());
-    Ok(())
 }
 
 #[test]
-fn a_node_alone_has_no_end(rt: HostRuntime) -> Result<(), Fail> {
-    let left = run_root_alone(&rt, rt.alloc())?;
+fn a_node_alone_has_no_end(rt: HostRuntime) {
+    let left = left_by_a_root(&rt, rt.alloc());
     assert_ended(&rt, &left, 1);
     assert_offered(&rt, &left, &[]);
     assert_delivered(&rt, &left, &[]);
-    Ok(())
 }
 
 /// The number of a node's last turn, once it is done.
@@ -375,12 +397,12 @@ fn comes_near(other: &AtomicU64, turn: u64) -> bool {
 }
 
 /// A list of one end.
-fn one<T: Drop>(alloc: Global, end: T) -> Result<Vec<T>, AllocError>
-    ensures { IfOk result (λ v. v.items ≡ end ∷ []) }
+fn one<T: Drop>(rt: &impl Abort, alloc: Global, end: T) -> Vec<T>
+    ensures { result.items ≡ end ∷ [] }
 {
-    let mut ends = Vec::with_capacity(alloc, 1)?;
-    ends.push(end)?;
-    Ok(ends)
+    let mut ends = Vec::with_capacity(alloc, 1).expect(rt, "memory");
+    ends.push_reserved(end);
+    ends
 }
 
 /// A run of a parent and its child over this link.
@@ -395,8 +417,8 @@ fn run_pair<R: Threads + Wait + Send + Sync + Abort>(
     requires { FitTree tree.now.parents openings.now }
 {
     let (send, recv) = link.split::<R>(Script::none(alloc));
-    let sends = one(alloc, send)?;
-    let recvs = one(alloc, recv)?;
+    let sends = one(rt, alloc, send);
+    let recvs = one(rt, alloc, recv);
     let links = tree.link_count() as usize;
     assert!(rt; links == sends.len() && links == recvs.len());
     let gate = Pace {
@@ -407,22 +429,18 @@ fn run_pair<R: Threads + Wait + Send + Sync + Abort>(
     )
 }
 
-/// A run of a root and its child over a new locked link.
-fn run_new_pair<R: Threads + Wait + Send + Sync + Abort>(
-    rt: &R,
-    alloc: Global,
-) -> Result<Left, Fail> {
-    let tree = tree(rt, alloc, r#"[{"name":"r"},{"name":"a","parent":"r"}]"#)?;
-    let openings = Openings::none(alloc, &tree)?;
-    let link = LockLink::new(alloc, Params::new(1, 4)?, Start::clean(alloc))?;
-    Ok(run_pair(rt, alloc, &tree, &openings, &link)?)
+/// What a run of a root and its child over a new locked link leaves.
+fn left_by_a_pair<R: Threads + Wait + Send + Sync + Abort>(rt: &R, alloc: Global) -> Left {
+    let tree = tree(rt, alloc, r#"[{"name":"r"},{"name":"a","parent":"r"}]"#);
+    let openings = Openings::none(alloc, &tree).expect(rt, "memory");
+    let params = Params::new(1, 4).expect(rt, "parameters");
+    let link = LockLink::new(alloc, params, Start::clean(alloc)).expect(rt, "a link");
+    run_pair(rt, alloc, &tree, &openings, &link).expect(rt, "a run")
 }
 
 #[test]
-fn a_parent_and_its_child_over_a_locked_link(rt: HostRuntime) -> Result<(), Fail> {
-    let left = run_new_pair(&rt, rt.alloc())?;
-    let published = PUBLISHED.as_slice();
-    assert_received(&rt, &left, &[published, published]);
+fn a_parent_and_its_child_over_a_locked_link(rt: HostRuntime) {
+    let left = left_by_a_pair(&rt, rt.alloc());
+    assert_received(&rt, &left, &[&PUBLISHED, &PUBLISHED]);
     assert_ended(&rt, &left, 2);
-    Ok(())
 }
