@@ -5,9 +5,8 @@ use stab_core::{
     origins_text, run_link, trace,
 };
 use stab_frames::{Frame, Item, Label, Params, Sequence};
-use std::alloc::{AllocError, Global};
+use std::alloc::Global;
 use std::process::Abort;
-use std::test::Fail;
 
 const TAKE_FRAME: Event = Event::RecvFrame { keep: false };
 
@@ -17,8 +16,7 @@ const TAKE_ACK: Event = Event::RecvAck { keep: false };
 
 const KEEP_ACK: Event = Event::RecvAck { keep: true };
 
-/// A start by its parts. The tests name constants of it, and the helpers make the start, so that no
-/// test owns what each of its exits would have to drop.
+/// A start by its parts, of which the helpers make it.
 struct Opening {
     frames: &'static [Frame],
     acks: &'static [Label],
@@ -27,7 +25,7 @@ struct Opening {
 }
 
 /// Nothing on its way, and a receiver that remembers the label before the sender's.
-const CLEAN: Opening = Opening {
+static CLEAN: Opening = Opening {
     frames: &[],
     acks: &[],
     send_label: 0,
@@ -35,7 +33,7 @@ const CLEAN: Opening = Opening {
 };
 
 /// A frame of nobody's item, and an acknowledgement that no receiver sent.
-const WORST: Opening = Opening {
+static WORST: Opening = Opening {
     frames: &[STRAY],
     acks: &[0],
     send_label: 0,
@@ -43,7 +41,7 @@ const WORST: Opening = Opening {
 };
 
 /// The frame alone.
-const ONE_FRAME: Opening = Opening {
+static ONE_FRAME: Opening = Opening {
     frames: &[STRAY],
     acks: &[],
     send_label: 0,
@@ -51,7 +49,7 @@ const ONE_FRAME: Opening = Opening {
 };
 
 /// The acknowledgement alone.
-const ONE_ACK: Opening = Opening {
+static ONE_ACK: Opening = Opening {
     frames: &[],
     acks: &[0],
     send_label: 0,
@@ -61,35 +59,42 @@ const ONE_ACK: Opening = Opening {
 const STRAY: Frame = Frame { label: 2, item: 99 };
 
 /// The start of these parts.
-fn start(alloc: Global, opening: &Opening) -> Result<Start, AllocError> {
-    Ok(Start {
-        frames: Sequence::from_vec(opening.frames.to_vec(alloc)?),
-        acks: Sequence::from_vec(opening.acks.to_vec(alloc)?),
+fn start(rt: &(impl Abort + Alloc<A = Global>), opening: &Opening) -> Start {
+    Start {
+        frames: Sequence::from_vec(opening.frames.to_vec(rt.alloc()).expect(rt, "frames")),
+        acks: Sequence::from_vec(
+            opening
+                .acks
+                .to_vec(rt.alloc())
+                .expect(rt, "acknowledgements"),
+        ),
         send_label: opening.send_label,
         recv_label: opening.recv_label,
-    })
+    }
+}
+
+/// The capacity 1 with four labels.
+fn narrow(rt: &impl Abort) -> Params {
+    Params::new(1, 4).expect(rt, "parameters")
 }
 
 /// What comes after an offer in an undisturbed round.
-const REST_OF_ROUND: [Event; 4] = [Event::SendFrame, TAKE_FRAME, Event::SendAck, TAKE_ACK];
-
-/// Adds an undisturbed round with this item.
-fn add_round(events: &mut Vec<Event>, item: Item) -> Result<(), AllocError> {
-    events.push(Event::Offer(item))?;
-    events.extend_from_slice(&REST_OF_ROUND)
-}
+static REST_OF_ROUND: [Event; 4] = [Event::SendFrame, TAKE_FRAME, Event::SendAck, TAKE_ACK];
 
 /// An undisturbed round with each of these items, one after the other.
-fn rounds(alloc: Global, items: &[Item]) -> Result<Vec<Event>, AllocError> {
-    let mut events = Vec::new(alloc);
+fn rounds(rt: &(impl Abort + Alloc<A = Global>), items: &[Item]) -> Vec<Event> {
+    let mut events = Vec::new(rt.alloc());
     for item in items {
-        add_round(&mut events, *item)?;
+        events.push(Event::Offer(*item)).expect(rt, "memory");
+        events
+            .extend_from_slice(&REST_OF_ROUND)
+            .expect(rt, "memory");
     }
-    Ok(events)
+    events
 }
 
 /// The twelve events that follow the worst start.
-const WORST_EVENTS: [Event; 12] = [
+static WORST_EVENTS: [Event; 12] = [
     Event::Offer(10),
     TAKE_ACK,
     Event::SendAck,
@@ -105,44 +110,17 @@ const WORST_EVENTS: [Event; 12] = [
 ];
 
 /// Fails the test where an event of these has not the effect beside it.
-fn assert_steps(
-    rt: &impl Abort,
-    link: &mut Link,
-    steps: &[(Event, Effect)],
-) -> Result<(), AllocError> {
+fn assert_steps(rt: &impl Abort, link: &mut Link, steps: &[(Event, Effect)]) {
     for (event, effect) in steps {
-        assert!(rt; link.apply(*event)? == *effect, "{event:?}");
+        let given = link.apply(*event).expect(rt, "memory");
+        assert!(rt; given == *effect, "{event:?}");
     }
-    Ok(())
 }
 
 /// Fails the test where the text of the link is another one.
-fn assert_text(
-    rt: &(impl Abort + Alloc<A = Global>),
-    link: &Link,
-    want: &str,
-) -> Result<(), AllocError> {
-    let text = link_text(rt.alloc(), link)?;
+fn assert_text(rt: &(impl Abort + Alloc<A = Global>), link: &Link, want: &str) {
+    let text = link_text(rt.alloc(), link).expect(rt, "a text");
     assert!(rt; text.as_str() == want, "{text}");
-    Ok(())
-}
-
-/// Fails the test where these steps of a link have not the effects beside them, or do not lead to
-/// this text.
-fn assert_goes_on(
-    rt: &(impl Abort + Alloc<A = Global>),
-    link: &mut Link,
-    steps: &[(Event, Effect)],
-    text: &str,
-) -> Result<(), AllocError> {
-    assert_steps(rt, link, steps)?;
-    assert_text(rt, link, text)
-}
-
-/// The link at this start.
-fn link_at(alloc: Global, params: Params, opening: &Opening) -> Result<Link, Fail> {
-    let start = start(alloc, opening)?;
-    Ok(Link::new(alloc, params, &start)?)
 }
 
 /// Fails the test where these steps of a link of these parameters have not the effects beside them,
@@ -153,9 +131,10 @@ fn assert_played_with(
     opening: &Opening,
     steps: &[(Event, Effect)],
     text: &str,
-) -> Result<(), Fail> {
-    let mut link = link_at(rt.alloc(), params, opening)?;
-    Ok(assert_goes_on(rt, &mut link, steps, text)?)
+) {
+    let mut link = Link::new(rt.alloc(), params, &start(rt, opening)).expect(rt, "a link");
+    assert_steps(rt, &mut link, steps);
+    assert_text(rt, &link, text);
 }
 
 /// The same for the capacity 1 and four labels.
@@ -164,15 +143,13 @@ fn assert_played(
     opening: &Opening,
     steps: &[(Event, Effect)],
     text: &str,
-) -> Result<(), Fail> {
-    assert_played_with(rt, Params::new(1, 4)?, opening, steps, text)
+) {
+    assert_played_with(rt, narrow(rt), opening, steps, text);
 }
 
 /// The link of the capacity 1 and four labels after these events.
-fn link_after(alloc: Global, opening: &Opening, events: &[Event]) -> Result<Link, Fail> {
-    let params = Params::new(1, 4)?;
-    let start = start(alloc, opening)?;
-    Ok(run_link(alloc, params, &start, events)?)
+fn link_after(rt: &(impl Abort + Alloc<A = Global>), opening: &Opening, events: &[Event]) -> Link {
+    run_link(rt.alloc(), narrow(rt), &start(rt, opening), events).expect(rt, "a link")
 }
 
 /// Fails the test where these events, for the capacity 1 and four labels, do not lead to this text.
@@ -181,26 +158,18 @@ fn assert_run(
     opening: &Opening,
     events: &[Event],
     text: &str,
-) -> Result<(), Fail> {
-    let link = link_after(rt.alloc(), opening, events)?;
-    Ok(assert_text(rt, &link, text)?)
+) {
+    assert_text(rt, &link_after(rt, opening, events), text);
 }
 
-/// The link of the capacity 1 and four labels after an undisturbed round with each of these items.
-fn link_after_rounds(alloc: Global, opening: &Opening, items: &[Item]) -> Result<Link, Fail> {
-    let events = rounds(alloc, items)?;
-    link_after(alloc, opening, &events)
-}
-
-/// Fails the test where these rounds do not lead to this text.
+/// The same for an undisturbed round with each of these items.
 fn assert_rounds(
     rt: &(impl Abort + Alloc<A = Global>),
     opening: &Opening,
     items: &[Item],
     text: &str,
-) -> Result<(), Fail> {
-    let link = link_after_rounds(rt.alloc(), opening, items)?;
-    Ok(assert_text(rt, &link, text)?)
+) {
+    assert_run(rt, opening, &rounds(rt, items), text);
 }
 
 /// What a link is after two undisturbed rounds.
@@ -216,19 +185,18 @@ closed: no
 ";
 
 #[test]
-fn two_clean_rounds(rt: HostRuntime) -> Result<(), Fail> {
-    assert_rounds(&rt, &CLEAN, &[7, 8], TWO_ROUNDS)
+fn two_clean_rounds(rt: HostRuntime) {
+    assert_rounds(&rt, &CLEAN, &[7, 8], TWO_ROUNDS);
 }
 
 #[test]
-fn idle_after_clean_rounds(rt: HostRuntime) -> Result<(), Fail> {
-    let link = link_after_rounds(rt.alloc(), &CLEAN, &[7, 8])?;
+fn idle_after_clean_rounds(rt: HostRuntime) {
+    let link = link_after(&rt, &CLEAN, &rounds(&rt, &[7, 8]));
     assert!(rt; link.is_idle());
-    Ok(())
 }
 
 /// A receiver that remembers the label of the first item already.
-const FIRST_HELD: Opening = Opening {
+static FIRST_HELD: Opening = Opening {
     frames: &[],
     acks: &[],
     send_label: 0,
@@ -248,8 +216,8 @@ closed: no
 ";
 
 #[test]
-fn first_item_already_held(rt: HostRuntime) -> Result<(), Fail> {
-    assert_rounds(&rt, &FIRST_HELD, &[7], FIRST_NOT_DELIVERED)
+fn first_item_already_held(rt: HostRuntime) {
+    assert_rounds(&rt, &FIRST_HELD, &[7], FIRST_NOT_DELIVERED);
 }
 
 /// What a link is after the worst start and its events.
@@ -265,35 +233,30 @@ closed: no
 ";
 
 #[test]
-fn worst_start(rt: HostRuntime) -> Result<(), Fail> {
-    assert_run(&rt, &WORST, &WORST_EVENTS, AFTER_THE_WORST_START)
+fn worst_start(rt: HostRuntime) {
+    assert_run(&rt, &WORST, &WORST_EVENTS, AFTER_THE_WORST_START);
 }
 
-/// The origins of what these events deliver, for the capacity 1 and four labels.
-fn origins_after(alloc: Global, opening: &Opening, events: &[Event]) -> Result<Vec<Origin>, Fail> {
-    let params = Params::new(1, 4)?;
-    let start = start(alloc, opening)?;
-    Ok(trace(alloc, params, &start, events)?)
-}
-
-/// Fails the test where these are other origins, or are printed as another line.
+/// Fails the test where the origins of what these events deliver, for the capacity 1 and four
+/// labels, are not these, or are printed as another line.
 fn assert_origins(
     rt: &(impl Abort + Alloc<A = Global>),
-    origins: &[Origin],
+    opening: &Opening,
+    events: &[Event],
     want: &[Origin],
     line: &str,
-) -> Result<(), AllocError> {
-    assert!(rt; origins == want);
-    let text = origins_text(rt.alloc(), origins)?;
+) {
+    let start = start(rt, opening);
+    let origins = trace(rt.alloc(), narrow(rt), &start, events).expect(rt, "origins");
+    assert!(rt; origins.as_slice() == want);
+    let text = origins_text(rt.alloc(), &origins).expect(rt, "a text");
     assert!(rt; text.as_str() == line);
-    Ok(())
 }
 
 #[test]
-fn origins_after_the_worst_start(rt: HostRuntime) -> Result<(), Fail> {
-    let origins = origins_after(rt.alloc(), &WORST, &WORST_EVENTS)?;
+fn origins_after_the_worst_start(rt: HostRuntime) {
     let want = [Origin::Stray(0), Origin::Sent(3)];
-    Ok(assert_origins(&rt, &origins, &want, "origins: s0 i3\n")?)
+    assert_origins(&rt, &WORST, &WORST_EVENTS, &want, "origins: s0 i3\n");
 }
 
 /// What a link is at the worst start.
@@ -309,8 +272,8 @@ closed: no
 ";
 
 #[test]
-fn no_events(rt: HostRuntime) -> Result<(), Fail> {
-    assert_run(&rt, &WORST, &[], AT_THE_WORST_START)
+fn no_events(rt: HostRuntime) {
+    assert_run(&rt, &WORST, &[], AT_THE_WORST_START);
 }
 
 /// What a link is that has lost what it began with, or ignored it.
@@ -326,12 +289,12 @@ closed: no
 ";
 
 #[test]
-fn idle_sender_ignores(rt: HostRuntime) -> Result<(), Fail> {
-    assert_played(&rt, &ONE_ACK, &[(TAKE_ACK, Effect::Ignored)], NOTHING_LEFT)
+fn idle_sender_ignores(rt: HostRuntime) {
+    assert_played(&rt, &ONE_ACK, &[(TAKE_ACK, Effect::Ignored)], NOTHING_LEFT);
 }
 
 /// A frame that meets a full queue.
-const SEND_TO_A_FULL_QUEUE: [(Event, Effect); 2] = [
+static SEND_TO_A_FULL_QUEUE: [(Event, Effect); 2] = [
     (Event::Offer(10), Effect::Held),
     (Event::SendFrame, Effect::Lost),
 ];
@@ -349,12 +312,12 @@ closed: no
 ";
 
 #[test]
-fn full_queue_loses_the_new_frame(rt: HostRuntime) -> Result<(), Fail> {
-    assert_played(&rt, &ONE_FRAME, &SEND_TO_A_FULL_QUEUE, STRAY_IN_THE_QUEUE)
+fn full_queue_loses_the_new_frame(rt: HostRuntime) {
+    assert_played(&rt, &ONE_FRAME, &SEND_TO_A_FULL_QUEUE, STRAY_IN_THE_QUEUE);
 }
 
 /// A frame that is received twice.
-const KEEP_A_FRAME: [(Event, Effect); 2] = [
+static KEEP_A_FRAME: [(Event, Effect); 2] = [
     (KEEP_FRAME, Effect::Fresh(99)),
     (KEEP_FRAME, Effect::Old),
 ];
@@ -372,12 +335,12 @@ closed: no
 ";
 
 #[test]
-fn kept_frame_delivers_once(rt: HostRuntime) -> Result<(), Fail> {
-    assert_played(&rt, &ONE_FRAME, &KEEP_A_FRAME, STRAY_DELIVERED_ONCE)
+fn kept_frame_delivers_once(rt: HostRuntime) {
+    assert_played(&rt, &ONE_FRAME, &KEEP_A_FRAME, STRAY_DELIVERED_ONCE);
 }
 
 /// An acknowledgement that is received twice.
-const KEEP_AN_ACK: [(Event, Effect); 4] = [
+static KEEP_AN_ACK: [(Event, Effect); 4] = [
     (Event::Offer(10), Effect::Held),
     (KEEP_ACK, Effect::Acked),
     (Event::Offer(11), Effect::Held),
@@ -397,12 +360,12 @@ closed: no
 ";
 
 #[test]
-fn kept_acknowledgement_counts_once(rt: HostRuntime) -> Result<(), Fail> {
-    assert_played(&rt, &ONE_ACK, &KEEP_AN_ACK, ACKNOWLEDGED_ONCE)
+fn kept_acknowledgement_counts_once(rt: HostRuntime) {
+    assert_played(&rt, &ONE_ACK, &KEEP_AN_ACK, ACKNOWLEDGED_ONCE);
 }
 
 /// A sender whose label is none of the four.
-const OUT_OF_RANGE: Opening = Opening {
+static OUT_OF_RANGE: Opening = Opening {
     frames: &[],
     acks: &[],
     send_label: 65535,
@@ -422,12 +385,12 @@ closed: no
 ";
 
 #[test]
-fn label_out_of_range(rt: HostRuntime) -> Result<(), Fail> {
-    assert_rounds(&rt, &OUT_OF_RANGE, &[5], BACK_IN_RANGE)
+fn label_out_of_range(rt: HostRuntime) {
+    assert_rounds(&rt, &OUT_OF_RANGE, &[5], BACK_IN_RANGE);
 }
 
 /// A close amid a round, and all events after it.
-const CLOSE_AMID_A_ROUND: [(Event, Effect); 12] = [
+static CLOSE_AMID_A_ROUND: [(Event, Effect); 12] = [
     (Event::Offer(7), Effect::Held),
     (Event::SendFrame, Effect::Sent),
     (TAKE_FRAME, Effect::Fresh(7)),
@@ -455,12 +418,12 @@ closed: yes
 ";
 
 #[test]
-fn nothing_after_the_close(rt: HostRuntime) -> Result<(), Fail> {
-    assert_played(&rt, &CLEAN, &CLOSE_AMID_A_ROUND, CLOSED_AMID_A_ROUND)
+fn nothing_after_the_close(rt: HostRuntime) {
+    assert_played(&rt, &CLEAN, &CLOSE_AMID_A_ROUND, CLOSED_AMID_A_ROUND);
 }
 
 /// Starts that hold more than the capacity 1, each beside the fault of its refusal.
-const OVERFULL: [(Opening, StartFault); 3] = [
+static OVERFULL: [(Opening, StartFault); 3] = [
     (
         Opening {
             frames: &TWO_FRAMES,
@@ -494,62 +457,37 @@ const TWO_FRAMES: [Frame; 2] = [Frame { label: 0, item: 1 }, Frame { label: 1, i
 
 /// Fails the test where one of the calls that begin a link accepts this start, or refuses it for
 /// another fault.
-fn assert_refused(
-    rt: &(impl Abort + Alloc<A = Global>),
-    params: Params,
-    start: &Start,
-    want: StartFault,
-) {
+fn assert_refused(rt: &(impl Abort + Alloc<A = Global>), start: &Start, want: StartFault) {
+    let params = narrow(rt);
     assert!(rt; Link::new(rt.alloc(), params, start).err() == Some(want));
     assert!(rt; run_link(rt.alloc(), params, start, &[]).err() == Some(want));
     assert!(rt; trace(rt.alloc(), params, start, &[]).err() == Some(want));
 }
 
-/// The same for each of these starts.
-fn assert_all_refused(
-    rt: &(impl Abort + Alloc<A = Global>),
-    params: Params,
-    rows: &[(Opening, StartFault)],
-) -> Result<(), Fail> {
-    for (opening, want) in rows {
-        assert_refused(rt, params, &start(rt.alloc(), opening)?, *want);
-    }
-    Ok(())
-}
-
 #[test]
-fn refuses_overfull_starts(rt: HostRuntime) -> Result<(), Fail> {
-    assert_all_refused(&rt, Params::new(1, 4)?, &OVERFULL)
+fn refuses_overfull_starts(rt: HostRuntime) {
+    for (opening, want) in &OVERFULL {
+        assert_refused(&rt, &start(&rt, opening), *want);
+    }
 }
 
 /// The text of each refusal of a start.
-const FAULTS: [(StartFault, &str); 3] = [
+static FAULTS: [(StartFault, &str); 3] = [
     (StartFault::TooManyFrames, "start: too many frames"),
     (StartFault::TooManyAcks, "start: too many acknowledgements"),
     (StartFault::Memory, "out of memory"),
 ];
 
-/// Fails the test where a fault prints another text.
-fn assert_prints(
-    rt: &(impl Abort + Alloc<A = Global>),
-    fault: StartFault,
-    want: &str,
-) -> Result<(), Fail> {
-    let text = fault.to_string(rt.alloc())?;
-    assert!(rt; text.as_str() == want);
-    Ok(())
-}
-
 #[test]
-fn texts_of_refused_starts(rt: HostRuntime) -> Result<(), Fail> {
+fn texts_of_refused_starts(rt: HostRuntime) {
     for (fault, want) in &FAULTS {
-        assert_prints(&rt, *fault, *want)?;
+        let text = fault.to_string(rt.alloc()).expect(&rt, "a text");
+        assert!(rt; text.as_str() == *want);
     }
-    Ok(())
 }
 
 /// Losses past the end of each queue, and then of what it holds.
-const LOSSES: [(Event, Effect); 4] = [
+static LOSSES: [(Event, Effect); 4] = [
     (Event::LoseFrame(5), Effect::Nothing),
     (Event::LoseAck(1), Effect::Nothing),
     (Event::LoseFrame(0), Effect::Lost),
@@ -557,12 +495,12 @@ const LOSSES: [(Event, Effect); 4] = [
 ];
 
 #[test]
-fn loss_by_place(rt: HostRuntime) -> Result<(), Fail> {
-    assert_played(&rt, &WORST, &LOSSES, NOTHING_LEFT)
+fn loss_by_place(rt: HostRuntime) {
+    assert_played(&rt, &WORST, &LOSSES, NOTHING_LEFT);
 }
 
 /// A start whose acknowledgement has the label of the sender, and its frame too.
-const TWO_LABELS: Opening = Opening {
+static TWO_LABELS: Opening = Opening {
     frames: &[Frame { label: 0, item: 99 }],
     acks: &[0],
     send_label: 0,
@@ -570,7 +508,7 @@ const TWO_LABELS: Opening = Opening {
 };
 
 /// The events that break a link of two labels.
-const TWO_LABELS_EVENTS: [Event; 23] = [
+static TWO_LABELS_EVENTS: [Event; 23] = [
     Event::Offer(10),
     TAKE_ACK,
     Event::SendAck,
@@ -610,12 +548,12 @@ closed: no
 
 /// With four labels the events that break a link of two labels do no harm.
 #[test]
-fn why_two_labels_are_too_few(rt: HostRuntime) -> Result<(), Fail> {
-    assert_run(&rt, &TWO_LABELS, &TWO_LABELS_EVENTS, FOUR_LABELS_SUFFICE)
+fn why_two_labels_are_too_few(rt: HostRuntime) {
+    assert_run(&rt, &TWO_LABELS, &TWO_LABELS_EVENTS, FOUR_LABELS_SUFFICE);
 }
 
 /// Two frames on their way.
-const TWO_FRAMES_QUEUED: Opening = Opening {
+static TWO_FRAMES_QUEUED: Opening = Opening {
     frames: &[Frame { label: 1, item: 20 }, Frame { label: 2, item: 21 }],
     acks: &[],
     send_label: 0,
@@ -623,7 +561,7 @@ const TWO_FRAMES_QUEUED: Opening = Opening {
 };
 
 /// The loss of the second one.
-const LOSE_THE_SECOND: [(Event, Effect); 2] = [
+static LOSE_THE_SECOND: [(Event, Effect); 2] = [
     (Event::LoseFrame(1), Effect::Lost),
     (TAKE_FRAME, Effect::Fresh(20)),
 ];
@@ -641,40 +579,42 @@ closed: no
 ";
 
 #[test]
-fn loss_after_the_front(rt: HostRuntime) -> Result<(), Fail> {
-    let params = Params::new(2, 6)?;
+fn loss_after_the_front(rt: HostRuntime) {
+    let params = Params::new(2, 6).expect(&rt, "parameters");
     assert_played_with(
         &rt,
         params,
         &TWO_FRAMES_QUEUED,
         &LOSE_THE_SECOND,
         FRONT_DELIVERED,
-    )
+    );
 }
 
 #[test]
-fn equal_items(rt: HostRuntime) -> Result<(), Fail> {
-    let link = link_after_rounds(rt.alloc(), &CLEAN, &[7, 7])?;
+fn equal_items(rt: HostRuntime) {
+    let link = link_after(&rt, &CLEAN, &rounds(&rt, &[7, 7]));
     assert!(rt; link.delivered() == [7, 7].as_slice());
-    Ok(())
-}
-
-/// The origins of what rounds with these items deliver.
-fn origins_after_rounds(
-    alloc: Global,
-    opening: &Opening,
-    items: &[Item],
-) -> Result<Vec<Origin>, Fail> {
-    let events = rounds(alloc, items)?;
-    origins_after(alloc, opening, &events)
 }
 
 #[test]
-fn origins_of_equal_items(rt: HostRuntime) -> Result<(), Fail> {
-    let origins = origins_after_rounds(rt.alloc(), &CLEAN, &[7, 7])?;
+fn origins_of_equal_items(rt: HostRuntime) {
     let want = [Origin::Sent(0), Origin::Sent(1)];
-    Ok(assert_origins(&rt, &origins, &want, "origins: i0 i1\n")?)
+    assert_origins(
+        &rt,
+        &CLEAN,
+        &rounds(&rt, &[7, 7]),
+        &want,
+        "origins: i0 i1\n",
+    );
 }
+
+/// The parts of a clean start.
+static CLEAN_START: Opening = Opening {
+    frames: &[],
+    acks: &[],
+    send_label: 0,
+    recv_label: 65535,
+};
 
 /// Fails the test where a start has other parts.
 fn assert_start(rt: &impl Abort, start: &Start, want: &Opening) {
@@ -684,49 +624,26 @@ fn assert_start(rt: &impl Abort, start: &Start, want: &Opening) {
     assert!(rt; start.recv_label == want.recv_label);
 }
 
-/// Fails the test where a start or its copy has other parts.
-fn assert_copied(
-    rt: &(impl Abort + Alloc<A = Global>),
-    start: &Start,
-    want: &Opening,
-) -> Result<(), AllocError> {
-    assert_start(rt, start, want);
-    assert_start(rt, &start.copy(rt.alloc())?, want);
-    Ok(())
+#[test]
+fn a_copy_is_the_same_start(rt: HostRuntime) {
+    assert_start(&rt, &Start::clean(rt.alloc()), &CLEAN_START);
+    let start = start(&rt, &WORST);
+    assert_start(&rt, &start, &WORST);
+    assert_start(&rt, &start.copy(rt.alloc()).expect(&rt, "a copy"), &WORST);
 }
-
-/// The parts of a clean start.
-const CLEAN_START: Opening = Opening {
-    frames: &[],
-    acks: &[],
-    send_label: 0,
-    recv_label: 65535,
-};
 
 #[test]
-fn a_copy_is_the_same_start(rt: HostRuntime) -> Result<(), Fail> {
-    assert_start(&rt, &Start::clean(rt.alloc()), &CLEAN_START);
-    let start = start(rt.alloc(), &WORST)?;
-    Ok(assert_copied(&rt, &start, &WORST)?)
-}
-
-/// Fails the test where an idle sender waits for an acknowledgement.
-fn assert_waits_for_nothing(rt: &impl Abort, params: Params) {
+fn an_idle_sender_waits_for_nothing(rt: HostRuntime) {
     let mut sender = Sender::new(3);
     assert!(rt; sender.is_idle());
     assert!(rt; sender.frame().is_none());
-    assert!(rt; !sender.on_ack(params, 3));
+    assert!(rt; !sender.on_ack(narrow(&rt), 3));
 }
 
 #[test]
-fn an_idle_sender_waits_for_nothing(rt: HostRuntime) -> Result<(), Fail> {
-    assert_waits_for_nothing(&rt, Params::new(1, 4)?);
-    Ok(())
-}
-
-/// Fails the test where a sender of the label 3 goes on at another acknowledgement, or does not at
-/// its own.
-fn assert_goes_on_at_its_label(rt: &impl Abort, params: Params, sender: &mut Sender) {
+fn a_sender_goes_on_at_its_own_label_alone(rt: HostRuntime) {
+    let params = narrow(&rt);
+    let mut sender = Sender::new(3);
     assert!(rt; sender.hold(7));
     assert!(rt; !sender.hold(8), "it holds an item");
     assert!(rt; sender.frame() == Some(Frame { label: 3, item: 7 }));
@@ -736,17 +653,12 @@ fn assert_goes_on_at_its_label(rt: &impl Abort, params: Params, sender: &mut Sen
 }
 
 #[test]
-fn a_sender_goes_on_at_its_own_label_alone(rt: HostRuntime) -> Result<(), Fail> {
-    assert_goes_on_at_its_label(&rt, Params::new(1, 4)?, &mut Sender::new(3));
-    Ok(())
-}
-
-#[test]
 fn a_receiver_delivers_a_frame_once(rt: HostRuntime) {
+    let frame = Frame { label: 3, item: 7 };
     let mut receiver = Receiver::new(2);
-    assert!(rt; receiver.is_fresh(Frame { label: 3, item: 7 }));
-    assert!(rt; receiver.on_frame(Frame { label: 3, item: 7 }) == Some(7));
-    assert!(rt; receiver.on_frame(Frame { label: 3, item: 7 }).is_none());
+    assert!(rt; receiver.is_fresh(frame));
+    assert!(rt; receiver.on_frame(frame) == Some(7));
+    assert!(rt; receiver.on_frame(frame).is_none());
     assert!(rt; receiver.ack() == 3);
 }
 

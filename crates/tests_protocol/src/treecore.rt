@@ -6,14 +6,13 @@ ghost use Rattle.stab_treecore.specs.NodeOpenings.{FitTree};
 use serde_json::Value;
 use stab_core::{Effect, Start, StartFault};
 use stab_frames::{Frame, Item, Params, Sequence};
-use stab_tree::{NodeId, Tree, TreeFault, read_tree};
+use stab_tree::{NodeId, Tree, read_tree};
 use stab_treecore::{
     LinkAct, OpeningFault, Openings, TreeEvent, TreeStartFault, TreeState, TreeStepFault,
     push_node_counts, run_schedule, schedule_text,
 };
-use std::alloc::{AllocError, Global};
+use std::alloc::Global;
 use std::process::Abort;
-use std::test::Fail;
 
 /// The chain r, a, b.
 const CHAIN: &str = r#"[{"name":"r"},{"name":"a","parent":"r"},{"name":"b","parent":"a"}]"#;
@@ -28,7 +27,7 @@ const B: u16 = 2;
 const STRANGER: u16 = 3;
 
 /// The published items of the chain's tests.
-const ITEMS: [Item; 7] = [10, 11, 12, 13, 14, 15, 16];
+static ITEMS: [Item; 7] = [10, 11, 12, 13, 14, 15, 16];
 
 /// The acts of the worst start, and the two after which the sender is idle.
 const WORST: [LinkAct; 14] = [
@@ -96,9 +95,10 @@ const ROUND: [LinkAct; 5] = [
     LinkAct::RecvAck { keep: false },
 ];
 
-fn tree(rt: &impl Abort, alloc: Global, text: &str) -> Result<Tree, TreeFault> {
-    let value = Value::from_str(alloc, text).expect(rt, "JSON");
-    read_tree(alloc, &value)
+/// The tree that this text describes.
+fn tree(rt: &(impl Abort + Alloc<A = Global>), text: &str) -> Tree {
+    let value = Value::from_str(rt.alloc(), text).expect(rt, "JSON");
+    read_tree(rt.alloc(), &value).expect(rt, "a tree")
 }
 
 /// A tree, and what its nodes begin with.
@@ -109,211 +109,191 @@ struct Opened {
 }
 
 /// The tree that this text describes, whose nodes begin with nothing.
-fn unopened(rt: &impl Abort, alloc: Global, text: &str) -> Result<Opened, Fail>
-    ensures fit { IfOk result (λ made. FitTree made.tree.parents made.openings) }
-    ensures one_per_node { IfOk result (λ made.
-        length made.openings.lists ≡ length made.tree.parents) }
+fn unopened(rt: &(impl Abort + Alloc<A = Global>), text: &str) -> Opened
+    ensures fit { FitTree result.tree.parents result.openings }
+    ensures one_per_node { length result.openings.lists ≡ length result.tree.parents }
 {
-    let tree = tree(rt, alloc, text)?;
-    let openings = Openings::none(alloc, &tree)?;
-    Ok(Opened { tree, openings })
+    let tree = tree(rt, text);
+    let openings = Openings::none(rt.alloc(), &tree).expect(rt, "openings");
+    Opened { tree, openings }
 }
 
 /// A start with these frames, and this number of acknowledgements, each 0.
-fn start(alloc: Global, frames: &[Frame], acks: usize) -> Result<Start, AllocError> {
-    Ok(Start {
-        frames: Sequence::from_vec(Vec::from_slice(alloc, frames)?),
-        acks: Sequence::from_vec(vec![in alloc; 0; acks]?),
+fn start(rt: &(impl Abort + Alloc<A = Global>), frames: &[Frame], acks: usize) -> Start {
+    Start {
+        frames: Sequence::from_vec(Vec::from_slice(rt.alloc(), frames).expect(rt, "frames")),
+        acks: Sequence::from_vec(vec![in rt.alloc(); 0; acks].expect(rt, "acks")),
         send_label: 0,
         recv_label: 1,
-    })
+    }
 }
 
 /// A start for each link, from its frames and the number of its acknowledgements.
-fn starts(alloc: Global, links: &[(&[Frame], usize)]) -> Result<Vec<Start>, AllocError> {
-    let mut starts = Vec::new(alloc);
+fn starts(rt: &(impl Abort + Alloc<A = Global>), links: &[(&[Frame], usize)]) -> Vec<Start> {
+    let mut starts = Vec::new(rt.alloc());
     for (frames, acks) in links {
-        starts.push(start(alloc, *frames, *acks)?)?;
+        starts.push(start(rt, *frames, *acks)).expect(rt, "memory");
     }
-    Ok(starts)
+    starts
+}
+
+/// The acts of a schedule: first all acts of the first row on the link into its node, and so on.
+fn schedule(rt: &(impl Abort + Alloc<A = Global>), rows: &[(u16, &[LinkAct])]) -> Vec<TreeEvent> {
+    let mut schedule = Vec::new(rt.alloc());
+    for (child, acts) in rows {
+        push_acts(rt, &mut schedule, NodeId::new(*child), *acts);
+    }
+    schedule
 }
 
 /// Adds these acts on the link into a node.
-fn push_acts(
-    schedule: &mut Vec<TreeEvent>,
-    child: NodeId,
-    acts: &[LinkAct],
-) -> Result<(), AllocError> {
+fn push_acts(rt: &impl Abort, schedule: &mut Vec<TreeEvent>, child: NodeId, acts: &[LinkAct]) {
     for act in acts {
-        schedule.push(TreeEvent { child, act: *act })?;
+        schedule
+            .push(TreeEvent { child, act: *act })
+            .expect(rt, "memory");
     }
-    Ok(())
 }
 
-/// The schedule of two links: each link meets the worst start, and then items go on undisturbed.
-fn two_links(alloc: Global) -> Result<Vec<TreeEvent>, AllocError> {
-    let mut schedule = Vec::new(alloc);
-    for (child, acts) in [
-        (A, WORST.as_slice()),
-        (A, ROUND.as_slice()),
-        (A, ROUND.as_slice()),
-        (A, ROUND.as_slice()),
-        (B, WORST.as_slice()),
-        (B, ROUND.as_slice()),
-    ] {
-        push_acts(&mut schedule, NodeId::new(child), acts)?;
-    }
-    Ok(schedule)
-}
+/// Each link meets the worst start, and then items go on undisturbed.
+static TWO_LINKS_SCHEDULE: [(u16, &[LinkAct]); 6] = [
+    (A, &WORST),
+    (A, &ROUND),
+    (A, &ROUND),
+    (A, &ROUND),
+    (B, &WORST),
+    (B, &ROUND),
+];
 
 /// The parameters of two links of capacity one with four labels.
-fn narrow() -> Result<[Params; 2], Fail> {
-    Ok([Params::new(1, 4)?; 2])
+fn narrow(rt: &impl Abort) -> [Params; 2] {
+    [Params::new(1, 4).expect(rt, "parameters"); 2]
 }
 
-/// The text of a tree after a schedule from these starts.
-fn text_after(
-    alloc: Global,
+/// Fails the test where this schedule from these starts does not lead to this text.
+fn assert_text(
+    rt: &(impl Abort + Alloc<A = Global>),
     params: &[Params],
     opened: &Opened,
     published: &[Item],
     starts: &[Start],
     events: &[TreeEvent],
-) -> Result<String, Fail>
+    want: &str,
+)
     requires { FitTree opened.now.tree.parents opened.now.openings }
 {
     let Opened { tree, openings } = opened;
-    let state = run_schedule(alloc, params, tree, published, starts, openings, events)?;
-    Ok(schedule_text(alloc, tree, &state)?)
+    let state = run_schedule(
+        rt.alloc(),
+        params,
+        tree,
+        published,
+        starts,
+        openings,
+        events,
+    )
+    .expect(rt, "a state");
+    let text = schedule_text(rt.alloc(), tree, &state).expect(rt, "a text");
+    assert!(rt; text.as_str() == want);
+}
+
+/// The same for the chain whose nodes begin with nothing.
+fn assert_chain(
+    rt: &(impl Abort + Alloc<A = Global>),
+    params: &[Params],
+    published: &[Item],
+    starts: &[Start],
+    events: &[TreeEvent],
+    want: &str,
+) {
+    assert_text(
+        rt,
+        params,
+        &unopened(rt, CHAIN),
+        published,
+        starts,
+        events,
+        want,
+    );
 }
 
 /// A clean link into a, and a link into b that holds two frames of nobody's items.
-fn starts_of_a_wider_second_link(alloc: Global) -> Result<[Start; 2], AllocError> {
+fn starts_of_a_wider_second_link(rt: &(impl Abort + Alloc<A = Global>)) -> [Start; 2] {
     let strays = [Frame { label: 1, item: 20 }, Frame { label: 2, item: 21 }];
-    Ok([
+    [
         Start {
-            frames: Sequence::from_vec(Vec::new(alloc)),
-            acks: Sequence::from_vec(Vec::new(alloc)),
+            frames: Sequence::new(rt.alloc()),
+            acks: Sequence::new(rt.alloc()),
             send_label: 0,
             recv_label: 65535,
         },
         Start {
-            frames: Sequence::from_vec(Vec::from_slice(alloc, &strays)?),
-            acks: Sequence::from_vec(Vec::new(alloc)),
+            frames: Sequence::from_vec(Vec::from_slice(rt.alloc(), &strays).expect(rt, "frames")),
+            acks: Sequence::new(rt.alloc()),
             send_label: 0,
             recv_label: 0,
         },
-    ])
+    ]
 }
 
 /// Two items go on undisturbed, after the two strays of the second link.
-fn schedule_of_a_wider_second_link(alloc: Global) -> Result<Vec<TreeEvent>, AllocError> {
-    let recv_frame = [LinkAct::RecvFrame { keep: false }];
-    let mut schedule = Vec::new(alloc);
-    for (child, acts) in [
-        (A, ROUND.as_slice()),
-        (A, ROUND.as_slice()),
-        (B, recv_frame.as_slice()),
-        (B, recv_frame.as_slice()),
-        (B, ROUND.as_slice()),
-        (B, ROUND.as_slice()),
-    ] {
-        push_acts(&mut schedule, NodeId::new(child), acts)?;
-    }
-    Ok(schedule)
-}
+static WIDER_SECOND_LINK_SCHEDULE: [(u16, &[LinkAct]); 6] = [
+    (A, &ROUND),
+    (A, &ROUND),
+    (B, &[LinkAct::RecvFrame { keep: false }]),
+    (B, &[LinkAct::RecvFrame { keep: false }]),
+    (B, &ROUND),
+    (B, &ROUND),
+];
 
-/// The text of the chain after this schedule of these published items, from these starts.
-fn chain_text(
-    rt: &impl Abort,
-    alloc: Global,
-    params: &[Params],
-    published: &[Item],
-    starts: &[Start],
-    events: &[TreeEvent],
-) -> Result<String, Fail> {
-    let chain = unopened(rt, alloc, CHAIN)?;
-    text_after(alloc, params, &chain, published, starts, events)
-}
-
-/// The text of the chain after this schedule from the worst starts.
-fn text_after_the_worst(
-    rt: &impl Abort,
-    alloc: Global,
-    events: &[TreeEvent],
-) -> Result<String, Fail> {
-    let params = narrow()?;
-    let starts = starts(alloc, &WORST_STARTS)?;
-    chain_text(rt, alloc, &params, &ITEMS, &starts, events)
-}
-
-/// Fails the test where this schedule from the worst starts does not lead to this text.
-fn assert_after_the_worst(
-    rt: &(impl Abort + Alloc<A = Global>),
-    events: &[TreeEvent],
-    want: &str,
-) -> Result<(), Fail> {
-    let text = text_after_the_worst(rt, rt.alloc(), events)?;
-    assert!(rt; text.as_str() == want);
-    Ok(())
+#[test]
+fn two_links_under_one_schedule_deliver_one_stray_each(rt: HostRuntime) {
+    let starts = starts(&rt, &WORST_STARTS);
+    let events = schedule(&rt, &TWO_LINKS_SCHEDULE);
+    assert_chain(&rt, &narrow(&rt), &ITEMS, &starts, &events, TWO_LINKS);
 }
 
 #[test]
-fn two_links_under_one_schedule_deliver_one_stray_each(rt: HostRuntime) -> Result<(), Fail> {
-    let events = two_links(rt.alloc())?;
-    assert_after_the_worst(&rt, &events, TWO_LINKS)
-}
-
-/// The text of the chain whose second link has these wider parameters, after its schedule.
-fn text_of_a_wider_second_link(
-    rt: &impl Abort,
-    alloc: Global,
-    params: &[Params],
-) -> Result<String, Fail> {
-    let events = schedule_of_a_wider_second_link(alloc)?;
-    let starts = starts_of_a_wider_second_link(alloc)?;
-    chain_text(rt, alloc, params, &[7, 8], &starts, &events)
-}
-
-#[test]
-fn a_wider_second_link_holds_two_strays(rt: HostRuntime) -> Result<(), Fail> {
-    let params = [Params::new(1, 4)?, Params::new(2, 6)?];
-    let text = text_of_a_wider_second_link(&rt, rt.alloc(), &params)?;
-    assert!(rt; text.as_str() == WIDER_SECOND_LINK);
-    Ok(())
+fn a_wider_second_link_holds_two_strays(rt: HostRuntime) {
+    let one = Params::new(1, 4).expect(&rt, "parameters");
+    let two = Params::new(2, 6).expect(&rt, "parameters");
+    let starts = starts_of_a_wider_second_link(&rt);
+    let events = schedule(&rt, &WIDER_SECOND_LINK_SCHEDULE);
+    assert_chain(
+        &rt,
+        &[one, two],
+        &[7, 8],
+        &starts,
+        &events,
+        WIDER_SECOND_LINK,
+    );
 }
 
 /// Why this schedule of these published items is refused on the chain, or `None` where it is not.
 fn refusal(
-    rt: &impl Abort,
-    alloc: Global,
+    rt: &(impl Abort + Alloc<A = Global>),
     params: &[Params],
     published: &[Item],
     starts: &[Start],
     events: &[TreeEvent],
-) -> Result<Option<TreeStartFault>, Fail> {
-    let Opened { tree, openings } = &unopened(rt, alloc, CHAIN)?;
-    Ok(run_schedule(alloc, params, tree, published, starts, openings, events).err())
-}
-
-/// Fails the test where the starts of a wider second link are refused with these parameters for
-/// another reason than the one beside them.
-fn assert_refusals(
-    rt: &(impl Abort + Alloc<A = Global>),
-    starts: &[Start],
-    rows: &[(&[Params], Option<TreeStartFault>)],
-) -> Result<(), Fail> {
-    for (params, want) in rows {
-        let fault = refusal(rt, rt.alloc(), *params, &[7, 8], starts, &[])?;
-        assert!(rt; fault == *want, "{want:?}");
-    }
-    Ok(())
+) -> Option<TreeStartFault> {
+    let Opened { tree, openings } = &unopened(rt, CHAIN);
+    run_schedule(
+        rt.alloc(),
+        params,
+        tree,
+        published,
+        starts,
+        openings,
+        events,
+    )
+    .err()
 }
 
 #[test]
-fn each_link_is_held_to_its_own_capacity(rt: HostRuntime) -> Result<(), Fail> {
-    let one = Params::new(1, 4)?;
-    let two = Params::new(2, 6)?;
+fn each_link_is_held_to_its_own_capacity(rt: HostRuntime) {
+    let one = Params::new(1, 4).expect(&rt, "parameters");
+    let two = Params::new(2, 6).expect(&rt, "parameters");
     let wide_second = [one, two, two];
     let narrow = [one, one];
     let wide_first = [two, one];
@@ -325,88 +305,72 @@ fn each_link_is_held_to_its_own_capacity(rt: HostRuntime) -> Result<(), Fail> {
         (&wide_second[..1], Some(TreeStartFault::StartCount)),
         (wide_second.as_slice(), Some(TreeStartFault::StartCount)),
     ];
-    let starts = starts_of_a_wider_second_link(rt.alloc())?;
-    assert_refusals(&rt, &starts, &rows)
+    let starts = starts_of_a_wider_second_link(&rt);
+    for (params, want) in &rows {
+        let fault = refusal(&rt, *params, &[7, 8], &starts, &[]);
+        assert!(rt; fault == *want, "{want:?}");
+    }
 }
 
 /// The openings of these lists of items.
 fn openings(
-    alloc: Global,
+    rt: &(impl Abort + Alloc<A = Global>),
     tree: &Tree,
     hold: u16,
     lists: &[&[Item]],
-) -> Result<Result<Openings, OpeningFault>, AllocError>
-    ensures fit { IfOk result (λ made. IfOk made (FitTree tree.now.parents)) }
-    ensures one_per_node { IfOk result (λ made. IfOk made (λ openings.
-        length openings.lists ≡ length tree.now.parents)) }
+) -> Result<Openings, OpeningFault>
+    ensures fit { IfOk result (FitTree tree.now.parents) }
+    ensures one_per_node { IfOk result (λ openings.
+        length openings.lists ≡ length tree.now.parents) }
 {
-    let mut its_lists = Vec::new(alloc);
+    let mut its_lists = Vec::new(rt.alloc());
     for list in lists {
-        its_lists.push(Sequence::from_vec(Vec::from_slice(alloc, *list)?))?;
+        let items = Vec::from_slice(rt.alloc(), *list).expect(rt, "items");
+        its_lists
+            .push(Sequence::from_vec(items))
+            .expect(rt, "memory");
     }
-    Ok(Openings::new(tree, hold, its_lists))
+    Openings::new(tree, hold, its_lists)
 }
 
 /// The chain in which a begins with 50 and 51.
-fn opened_chain(rt: &impl Abort, alloc: Global) -> Result<Opened, Fail>
-    ensures fit { IfOk result (λ made. FitTree made.tree.parents made.openings) }
-    ensures one_per_node { IfOk result (λ made.
-        length made.openings.lists ≡ length made.tree.parents) }
+fn opened_chain(rt: &(impl Abort + Alloc<A = Global>)) -> Opened
+    ensures fit { FitTree result.tree.parents result.openings }
+    ensures one_per_node { length result.openings.lists ≡ length result.tree.parents }
 {
-    let tree = tree(rt, alloc, CHAIN)?;
-    let openings = openings(alloc, &tree, 2, &[&[], &[50, 51], &[]])?.expect(rt, "openings");
-    Ok(Opened { tree, openings })
+    let tree = tree(rt, CHAIN);
+    let openings = openings(rt, &tree, 2, &[&[], &[50, 51], &[]]).expect(rt, "openings");
+    Opened { tree, openings }
 }
 
-/// Rounds on both links of the chain, first all on the upper one.
-fn rounds(alloc: Global, upper: u16, lower: u16) -> Result<Vec<TreeEvent>, AllocError> {
-    let mut schedule = Vec::new(alloc);
-    for (child, count) in [(A, upper), (B, lower)] {
-        for _ in 0..count {
-            push_acts(&mut schedule, NodeId::new(child), &ROUND)?;
-        }
-    }
-    Ok(schedule)
-}
-
-/// The text of the chain after this schedule of two published items, from clean starts, where a
-/// begins with 50 and 51.
-fn opened_chain_text(rt: &impl Abort, alloc: Global, events: &[TreeEvent]) -> Result<String, Fail> {
-    let params = narrow()?;
-    let chain = opened_chain(rt, alloc)?;
-    let starts = [Start::clean(alloc), Start::clean(alloc)];
-    text_after(alloc, &params, &chain, &[7, 8], &starts, events)
-}
-
-/// Fails the test where this schedule of that chain does not lead to this text.
-fn assert_opened_chain(
-    rt: &(impl Abort + Alloc<A = Global>),
-    events: &[TreeEvent],
-    want: &str,
-) -> Result<(), Fail> {
-    let text = opened_chain_text(rt, rt.alloc(), events)?;
-    assert!(rt; text.as_str() == want);
-    Ok(())
-}
+/// Two rounds on the upper link of the chain, and then four on the lower one.
+static ROUNDS: [(u16, &[LinkAct]); 6] = [
+    (A, &ROUND),
+    (A, &ROUND),
+    (B, &ROUND),
+    (B, &ROUND),
+    (B, &ROUND),
+    (B, &ROUND),
+];
 
 #[test]
-fn an_opening_passed_on(rt: HostRuntime) -> Result<(), Fail> {
-    let events = rounds(rt.alloc(), 2, 4)?;
-    assert_opened_chain(&rt, &events, PASSED_ON)
-}
-
-/// Why these lists are no openings, or `None` where they are.
-fn opening_fault(
-    alloc: Global,
-    tree: &Tree,
-    hold: u16,
-    lists: &[&[Item]],
-) -> Result<Option<OpeningFault>, AllocError> {
-    Ok(openings(alloc, tree, hold, lists)?.err())
+fn an_opening_passed_on(rt: HostRuntime) {
+    let starts = [Start::clean(rt.alloc()), Start::clean(rt.alloc())];
+    let events = schedule(&rt, &ROUNDS);
+    let chain = opened_chain(&rt);
+    assert_text(
+        &rt,
+        &narrow(&rt),
+        &chain,
+        &[7, 8],
+        &starts,
+        &events,
+        PASSED_ON,
+    );
 }
 
 /// The most items of an opening of the chain, the openings of its nodes, and why they are refused.
-const OPENINGS: [(u16, &[&[Item]], Option<OpeningFault>); 8] = [
+static OPENINGS: [(u16, &[&[Item]], Option<OpeningFault>); 8] = [
     (65, &[&[], &[50, 51]], Some(OpeningFault::HoldOutOfRange)),
     (2, &[&[], &[50, 51]], Some(OpeningFault::OpeningCount)),
     (2, &[&[1], &[], &[]], Some(OpeningFault::OpeningPlace)),
@@ -421,24 +385,13 @@ const OPENINGS: [(u16, &[&[Item]], Option<OpeningFault>); 8] = [
     (2, &[&[], &[50, 51], &[]], None),
 ];
 
-/// Fails the test where these openings of a tree are refused for another reason than the one beside
-/// them.
-fn assert_openings(
-    rt: &(impl Abort + Alloc<A = Global>),
-    tree: &Tree,
-    rows: &[(u16, &[&[Item]], Option<OpeningFault>)],
-) -> Result<(), AllocError> {
-    for (hold, lists, want) in rows {
-        let fault = opening_fault(rt.alloc(), tree, *hold, *lists)?;
+#[test]
+fn refused_openings(rt: HostRuntime) {
+    let tree = tree(&rt, CHAIN);
+    for (hold, lists, want) in &OPENINGS {
+        let fault = openings(&rt, &tree, *hold, *lists).err();
         assert!(rt; fault == *want, "{want:?}");
     }
-    Ok(())
-}
-
-#[test]
-fn refused_openings(rt: HostRuntime) -> Result<(), Fail> {
-    let tree = tree(&rt, rt.alloc(), CHAIN)?;
-    Ok(assert_openings(&rt, &tree, &OPENINGS)?)
 }
 
 /// Fails the test where the openings have another hold, or a node has another opening.
@@ -451,40 +404,14 @@ fn assert_opening(rt: &impl Abort, opened: &Opened, hold: u16, place: u16, items
     assert!(rt; opened.openings.list(NodeId::new(place)) == items);
 }
 
-/// Fails the test where the chain in which a begins with 50 and 51 has other openings.
-fn assert_opened(rt: &(impl Abort + Alloc<A = Global>)) -> Result<(), Fail> {
-    let chain = opened_chain(rt, rt.alloc())?;
-    assert_opening(rt, &chain, 2, A, &[50, 51]);
-    Ok(())
-}
-
-/// Fails the test where the chain that begins with nothing has openings.
-fn assert_unopened(rt: &(impl Abort + Alloc<A = Global>)) -> Result<(), Fail> {
-    let chain = unopened(rt, rt.alloc(), CHAIN)?;
-    assert_opening(rt, &chain, 0, B, &[]);
-    Ok(())
-}
-
 #[test]
-fn openings_are_read_back(rt: HostRuntime) -> Result<(), Fail> {
-    assert_opened(&rt)?;
-    assert_unopened(&rt)
-}
-
-/// Why this schedule from these starts is refused on the chain, or `None` where it is not.
-fn refusal_of_links(
-    rt: &impl Abort,
-    alloc: Global,
-    links: &[(&[Frame], usize)],
-    events: &[TreeEvent],
-) -> Result<Option<TreeStartFault>, Fail> {
-    let params = narrow()?;
-    let starts = starts(alloc, links)?;
-    refusal(rt, alloc, &params, &ITEMS, &starts, events)
+fn openings_are_read_back(rt: HostRuntime) {
+    assert_opening(&rt, &opened_chain(&rt), 2, A, &[50, 51]);
+    assert_opening(&rt, &unopened(&rt, CHAIN), 0, B, &[]);
 }
 
 /// Starts of the chain's links, and why they are refused.
-const STARTS: [(&[(&[Frame], usize)], Option<TreeStartFault>); 4] = [
+static STARTS: [(&[(&[Frame], usize)], Option<TreeStartFault>); 4] = [
     (&[(&[STRAY_99], 1)], Some(TreeStartFault::StartCount)),
     (
         &[(&[STRAY_99], 1), (&[STRAY_98, STRAY_99], 1)],
@@ -498,29 +425,27 @@ const STARTS: [(&[(&[Frame], usize)], Option<TreeStartFault>); 4] = [
 ];
 
 #[test]
-fn refuses_the_first_unlawful_start_in_file_order(rt: HostRuntime) -> Result<(), Fail> {
+fn refuses_the_first_unlawful_start_in_file_order(rt: HostRuntime) {
+    let params = narrow(&rt);
     for (links, want) in &STARTS {
-        let fault = refusal_of_links(&rt, rt.alloc(), *links, &[])?;
+        let fault = refusal(&rt, &params, &ITEMS, &starts(&rt, *links), &[]);
         assert!(rt; fault == *want, "{want:?}");
     }
-    Ok(())
 }
 
-/// An offer on the link into each of these nodes.
-fn offers(alloc: Global, children: &[u16]) -> Result<Vec<TreeEvent>, AllocError> {
-    let mut events = Vec::new(alloc);
-    for child in children {
-        push_acts(&mut events, NodeId::new(*child), &[LinkAct::Offer])?;
-    }
-    Ok(events)
-}
+/// Offers of which the second names no link.
+static OFFERS: [(u16, &[LinkAct]); 3] = [
+    (A, &[LinkAct::Offer]),
+    (ROOT, &[LinkAct::Offer]),
+    (A, &[LinkAct::Offer]),
+];
 
 #[test]
-fn refuses_the_first_event_that_names_no_link(rt: HostRuntime) -> Result<(), Fail> {
-    let events = offers(rt.alloc(), &[A, ROOT, A])?;
-    let fault = refusal_of_links(&rt, rt.alloc(), &WORST_STARTS, &events)?;
+fn refuses_the_first_event_that_names_no_link(rt: HostRuntime) {
+    let starts = starts(&rt, &WORST_STARTS);
+    let events = schedule(&rt, &OFFERS);
+    let fault = refusal(&rt, &narrow(&rt), &ITEMS, &starts, &events);
     assert!(rt; fault == Some(TreeStartFault::Step(TreeStepFault::NoSuchLink)));
-    Ok(())
 }
 
 /// Fails the test where an act on the link into a node has not the answer beside it.
@@ -538,26 +463,15 @@ fn assert_acts(
     }
 }
 
-/// The chain that begins with these starts.
-fn state_of(
-    rt: &impl Abort,
-    alloc: Global,
-    params: &[Params],
-    starts: &[Start],
-) -> Result<TreeState, Fail> {
-    let Opened { tree, openings } = &unopened(rt, alloc, CHAIN)?;
-    Ok(TreeState::new(alloc, params, tree, &ITEMS, starts, openings)?)
-}
-
 /// The chain that begins with the worst starts.
-fn worst_state(rt: &impl Abort, alloc: Global) -> Result<TreeState, Fail> {
-    let params = narrow()?;
-    let starts = starts(alloc, &WORST_STARTS)?;
-    state_of(rt, alloc, &params, &starts)
+fn worst_state(rt: &(impl Abort + Alloc<A = Global>)) -> TreeState {
+    let starts = starts(rt, &WORST_STARTS);
+    let Opened { tree, openings } = &unopened(rt, CHAIN);
+    TreeState::new(rt.alloc(), &narrow(rt), tree, &ITEMS, &starts, openings).expect(rt, "a state")
 }
 
 /// Acts on the chain that begins with the worst starts, each beside its answer.
-const ACTS: [(u16, LinkAct, Result<Effect, TreeStepFault>); 8] = [
+static ACTS: [(u16, LinkAct, Result<Effect, TreeStepFault>); 8] = [
     (B, LinkAct::Offer, Ok(Effect::Nothing)),
     (A, LinkAct::RecvFrame { keep: true }, Ok(Effect::Fresh(99))),
     (B, LinkAct::Offer, Ok(Effect::Held)),
@@ -568,43 +482,32 @@ const ACTS: [(u16, LinkAct, Result<Effect, TreeStepFault>); 8] = [
     (STRANGER, LinkAct::Close, Err(TreeStepFault::NoSuchLink)),
 ];
 
-/// Fails the test where a link leads into this place.
-fn assert_no_link(rt: &impl Abort, state: &TreeState, place: u16) {
-    assert!(rt; state.link(NodeId::new(place)).is_none());
-}
-
 #[test]
-fn an_offer_of_nothing_does_nothing(rt: HostRuntime) -> Result<(), Fail> {
-    let mut state = worst_state(&rt, rt.alloc())?;
+fn an_offer_of_nothing_does_nothing(rt: HostRuntime) {
+    let mut state = worst_state(&rt);
     assert_acts(&rt, &mut state, &ACTS);
-    assert_no_link(&rt, &state, ROOT);
-    assert_no_link(&rt, &state, STRANGER);
-    Ok(())
+    assert!(rt; state.link(NodeId::new(ROOT)).is_none());
+    assert!(rt; state.link(NodeId::new(STRANGER)).is_none());
 }
 
-/// The text of a tree of one node, which publishes 7 and 8.
-fn lone_text(rt: &impl Abort, alloc: Global) -> Result<String, Fail> {
-    let lone = unopened(rt, alloc, r#"[{"name":"r"}]"#)?;
-    text_after(alloc, &[], &lone, &[7, 8], &[], &[])
+/// What a tree of one node is, which publishes 7 and 8.
+const LONE_ROOT: &str = "r depth 0 received 2 acked -\nitems: 7 8\n";
+
+#[test]
+fn a_lone_root_has_what_it_publishes(rt: HostRuntime) {
+    let lone = unopened(&rt, r#"[{"name":"r"}]"#);
+    assert_text(&rt, &[], &lone, &[7, 8], &[], &[], LONE_ROOT);
 }
 
 #[test]
-fn a_lone_root_has_what_it_publishes(rt: HostRuntime) -> Result<(), Fail> {
-    let text = lone_text(&rt, rt.alloc())?;
-    assert!(rt; text.as_str() == "r depth 0 received 2 acked -\nitems: 7 8\n");
-    Ok(())
-}
-
-#[test]
-fn the_counts_of_a_node_are_a_line_without_its_end(rt: HostRuntime) -> Result<(), Fail> {
+fn the_counts_of_a_node_are_a_line_without_its_end(rt: HostRuntime) {
     let mut text = String::new(rt.alloc());
-    push_node_counts(&mut text, "a", 1, 5, Some(7))?;
+    push_node_counts(&mut text, "a", 1, 5, Some(7)).expect(&rt, "memory");
     assert!(rt; text.as_str() == "a depth 1 received 5 acked 7");
-    Ok(())
 }
 
 /// The text of each refusal of a start or of a step.
-const FAULTS: [(TreeStartFault, &str); 5] = [
+static FAULTS: [(TreeStartFault, &str); 5] = [
     (TreeStartFault::StartCount, "start: wrong number of starts"),
     (
         TreeStartFault::Start(StartFault::TooManyFrames),
@@ -619,7 +522,7 @@ const FAULTS: [(TreeStartFault, &str); 5] = [
 ];
 
 /// The text of each refusal of openings.
-const OPENING_FAULTS: [(OpeningFault, &str); 4] = [
+static OPENING_FAULTS: [(OpeningFault, &str); 4] = [
     (OpeningFault::HoldOutOfRange, "job: h out of range"),
     (OpeningFault::OpeningCount, "job: wrong number of openings"),
     (
@@ -629,35 +532,14 @@ const OPENING_FAULTS: [(OpeningFault, &str); 4] = [
     (OpeningFault::OpeningTooLong, "job: opening too long"),
 ];
 
-/// Fails the test where a fault prints another text.
-fn assert_prints(
-    rt: &(impl Abort + Alloc<A = Global>),
-    fault: TreeStartFault,
-    want: &str,
-) -> Result<(), Fail> {
-    let text = fault.to_string(rt.alloc())?;
-    assert!(rt; text.as_str() == want, "{want}");
-    Ok(())
-}
-
-/// The same for a refusal of openings.
-fn assert_prints_of_openings(
-    rt: &(impl Abort + Alloc<A = Global>),
-    fault: OpeningFault,
-    want: &str,
-) -> Result<(), Fail> {
-    let text = fault.to_string(rt.alloc())?;
-    assert!(rt; text.as_str() == want, "{want}");
-    Ok(())
-}
-
 #[test]
-fn each_fault_prints_its_text(rt: HostRuntime) -> Result<(), Fail> {
+fn each_fault_prints_its_text(rt: HostRuntime) {
     for (fault, want) in &FAULTS {
-        assert_prints(&rt, *fault, *want)?;
+        let text = fault.to_string(rt.alloc()).expect(&rt, "a text");
+        assert!(rt; text.as_str() == *want, "{want}");
     }
     for (fault, want) in &OPENING_FAULTS {
-        assert_prints_of_openings(&rt, *fault, *want)?;
+        let text = fault.to_string(rt.alloc()).expect(&rt, "a text");
+        assert!(rt; text.as_str() == *want, "{want}");
     }
-    Ok(())
 }
