@@ -2,11 +2,17 @@
 
 use anyhow::ensure;
 use std::alloc::{AllocError, Global};
+use std::fmt::{Debug, Display};
 
 /// An object, with the calls that are made on it.
-pub trait Calls {
+pub trait Calls: Drop {
     /// Which call it is, with its arguments.
     type Call;
+
+    /// What comes before the name of a call.
+    fn owner(&self, _call: &Self::Call) -> &'static str {
+        ""
+    }
 
     /// Adds everything that the object holds.
     fn push_object(&self, text: &mut String) -> Result<(), AllocError>;
@@ -15,8 +21,23 @@ pub trait Calls {
     fn make(&mut self, call: &Self::Call, text: &mut String) -> Result<(), AllocError>;
 }
 
+/// An object that is made of what is given.
+pub trait Made: Calls {
+    /// What it is made of.
+    type Given: Copy;
+
+    /// The object.
+    fn new(alloc: Global, given: Self::Given) -> anyhow::Result<Self>;
+}
+
+/// Calls with their names, and how often they are made one after the other.
+pub type Row<'a, C> = (u32, &'a [(&'a str, C)]);
+
 /// How long a text may be.
 const ROOM: usize = 1 << 16;
+
+/// What a fault says at its end where memory, or the start of a worker, was refused.
+const REFUSALS: [&str; 2] = ["out of memory", "a worker could not be started"];
 
 /// What an object holds before and after a call, and what the call answers. The texts are made
 /// once, with so much room that they take no memory later: what is refused then is the call's.
@@ -38,8 +59,13 @@ impl Texts {
     }
 
     /// Names a call that was refused, and prints both states of its object where it changed it.
-    pub fn print_refused<R: Print + Eprint>(&mut self, rt: &R, name: &str) -> anyhow::Result<()> {
-        eprintln!(rt; "refused {name}")?;
+    pub fn print_refused<R: Print + Eprint>(
+        &mut self,
+        rt: &R,
+        owner: &str,
+        name: &str,
+    ) -> anyhow::Result<()> {
+        eprintln!(rt; "refused {owner}{name}")?;
         if self.before != self.after {
             println!(rt;
                 "{name} was refused and changed\n{}\nto\n{}",
@@ -51,14 +77,19 @@ impl Texts {
     }
 
     /// Prints an answer after the name of its call, in lines of its own where it has several.
-    pub fn print_answer<R: Print>(&mut self, rt: &R, name: &str) -> anyhow::Result<()> {
+    pub fn print_answer<R: Print>(
+        &mut self,
+        rt: &R,
+        owner: &str,
+        name: &str,
+    ) -> anyhow::Result<()> {
         ensure!(
             self.before.len() < ROOM && self.answer.len() < ROOM,
             "{name} has a long text"
         );
         let answer = self.answer.trim_end();
         let between = if answer.contains('\n') { "\n" } else { " " };
-        println!(rt; "{name}:{between}{answer}")?;
+        println!(rt; "{owner}{name}:{between}{answer}")?;
         self.before.clear();
         self.after.clear();
         self.answer.clear();
@@ -68,18 +99,85 @@ impl Texts {
 
 /// Makes a call, once more if it is refused, and prints its answer. If the refused call changed its
 /// object, both states are printed.
-pub fn again<R: Print + Eprint, C: Calls>(
+fn again<R: Print + Eprint, C: Calls>(
     rt: &R,
     texts: &mut Texts,
     name: &str,
     object: &mut C,
     call: &C::Call,
 ) -> anyhow::Result<()> {
+    let owner = object.owner(call);
     object.push_object(&mut texts.before)?;
     if object.make(call, &mut texts.answer).is_err() {
         object.push_object(&mut texts.after)?;
-        texts.print_refused(rt, name)?;
+        texts.print_refused(rt, owner, name)?;
         object.make(call, &mut texts.answer)?;
     }
-    texts.print_answer(rt, name)
+    texts.print_answer(rt, owner, name)
+}
+
+/// Prints what an object holds.
+pub fn print_object<R: Print, C: Calls>(
+    rt: &R,
+    texts: &mut Texts,
+    name: &str,
+    object: &C,
+) -> anyhow::Result<()> {
+    object.push_object(&mut texts.answer)?;
+    texts.print_answer(rt, "", name)
+}
+
+/// Makes the calls of a row.
+pub fn make_row<R: Print + Eprint, C: Calls>(
+    rt: &R,
+    texts: &mut Texts,
+    object: &mut C,
+    row: &Row<'_, C::Call>,
+) -> anyhow::Result<()> {
+    let (times, calls) = *row;
+    for _ in 0..times {
+        for (name, call) in calls {
+            again(rt, texts, name, object, call)?;
+        }
+    }
+    Ok(())
+}
+
+/// Makes an object, once more where memory was refused, and the calls of some rows on it. The
+/// object is handed out.
+pub fn make_rows<R: Print + Eprint + AllocGlobal, C: Made>(
+    rt: &R,
+    texts: &mut Texts,
+    given: C::Given,
+    rows: &[Row<'_, C::Call>],
+) -> anyhow::Result<C> {
+    let mut object = match C::new(rt.alloc(), given) {
+        Ok(object) => object,
+        Err(_) => C::new(rt.alloc(), given)?,
+    };
+    for row in rows {
+        make_row(rt, texts, &mut object, row)?;
+    }
+    Ok(object)
+}
+
+/// Adds an answer, or its fault.
+pub fn push_answer<T: Debug + Drop, E: Display + Drop>(
+    text: &mut String,
+    answer: Result<T, E>,
+) -> Result<(), AllocError> {
+    match answer {
+        Ok(answer) => write!(text, "{answer:?}"),
+        Err(fault) => push_fault(text, &fault),
+    }
+}
+
+/// Adds a fault, or says that memory, or the start of a worker, was refused.
+pub fn push_fault<E: Display>(text: &mut String, fault: &E) -> Result<(), AllocError> {
+    write!(text, "{fault}")?;
+    if text.ends_with(REFUSALS[0]) || text.ends_with(REFUSALS[1]) {
+        Err(AllocError)
+    } else {
+        Ok(())
+    }
 }

@@ -1,6 +1,8 @@
 //! What the program `stab` gives for an example: its command line and its standard input are files.
 
-use crate::listing::file_or_none;
+use crate::commands::words_of;
+use crate::listing::if_there;
+use crate::table::run_table;
 use stab_task::{CliFault, act, parse};
 use std::rt::Files;
 use std::sync::Wait;
@@ -20,60 +22,51 @@ pub(crate) fn answer<R: Files + Threads + Wait + Send + Sync + AllocGlobal>(
     rt: &R,
     name: &str,
 ) -> io::Result<Given> {
-    let words = words_of(rt, name)?;
-    let job = fs_bytes(rt, name)?;
     let mut written = Vec::new(rt.alloc());
-    let ended = perform(rt, words.as_slice(), job.as_slice(), &mut written);
-    Ok(match ended {
-        Ok(()) => Given {
-            kind: "out",
-            text: text_of(rt, written)?,
-        },
+    let ended = perform_files(rt, name, &mut written)?;
+    given_of(rt, &written, ended)
+}
+
+/// Does what the lines of NAME.args ask for, with the bytes of NAME.json, which are none where
+/// there is no such file.
+fn perform_files<R: Files + Threads + Wait + Send + Sync + AllocGlobal>(
+    rt: &R,
+    name: &str,
+    written: &mut Vec<u8>,
+) -> io::Result<Result<(), CliFault>> {
+    let file = format!(in rt.alloc(); "{name}.args")?;
+    let line = if_there(fs::read_to_string(rt, &file))?.unwrap_or(String::new(rt.alloc()));
+    let words = words_of(rt.alloc(), &line)?;
+    let job = job_of(rt, name)?;
+    Ok(perform(rt, &words, &job, written))
+}
+
+/// The bytes of NAME.json, or none if there is no such file.
+fn job_of<R: Files + AllocGlobal>(rt: &R, name: &str) -> io::Result<Vec<u8>> {
+    let file = format!(in rt.alloc(); "{name}.json")?;
+    let bytes = if_there(fs::read(rt, &file))?;
+    Ok(bytes.unwrap_or(Vec::new(rt.alloc())))
+}
+
+/// The text that was written, or the line of a fault.
+fn given_of<R: AllocGlobal>(
+    rt: &R,
+    written: &[u8],
+    ended: Result<(), CliFault>,
+) -> io::Result<Given> {
+    let alloc = rt.alloc();
+    let (kind, text) = match ended {
+        Ok(()) => {
+            let text = std::str::from_utf8(written).unwrap_or("(no text)");
+            ("out", String::from_str(alloc, text)?)
+        }
         Err(fault) => {
             let kind = if written.is_empty() { "err" } else { "part" };
             let status = fault.status();
-            Given {
-                kind,
-                text: format!(in rt.alloc(); "stab: {fault}\nstatus {status}\n")?,
-            }
+            (kind, format!(in alloc; "stab: {fault}\nstatus {status}\n")?)
         }
-    })
-}
-
-/// What was written, which is text.
-fn text_of<R: AllocGlobal>(rt: &R, written: Vec<u8>) -> io::Result<String> {
-    match std::str::from_utf8(written.as_slice()) {
-        Ok(text) => Ok(String::from_str(rt.alloc(), text)?),
-        Err(_) => Ok(String::from_str(rt.alloc(), "(no text)")?),
-    }
-}
-
-/// The words of the command line: the name of the program, and the lines of NAME.args.
-fn words_of<R: Files + AllocGlobal>(rt: &R, name: &str) -> io::Result<Vec<String>> {
-    let mut words = Vec::new(rt.alloc());
-    words.push(String::from_str(rt.alloc(), "stab")?)?;
-    let file = format!(in rt.alloc(); "{name}.args")?;
-    if let Some(text) = file_or_none(rt, &file)? {
-        for line in text.lines() {
-            words.push(String::from_str(rt.alloc(), line)?)?;
-        }
-    }
-    Ok(words)
-}
-
-/// The bytes of the standard input: those of NAME.json, or none if there is no such file.
-fn fs_bytes<R: Files + AllocGlobal>(rt: &R, name: &str) -> io::Result<Vec<u8>> {
-    let file = format!(in rt.alloc(); "{name}.json")?;
-    match fs::read(rt, &file) {
-        Ok(bytes) => Ok(bytes),
-        Err(error) => {
-            if error.kind() == io::ErrorKind::NotFound {
-                Ok(Vec::new(rt.alloc()))
-            } else {
-                Err(error)
-            }
-        }
-    }
+    };
+    Ok(Given { kind, text })
 }
 
 /// Does what the words ask for, with the named file or else with the bytes of the job.
@@ -94,4 +87,16 @@ fn perform<R: Files + Threads + Wait + Send + Sync + AllocGlobal>(
             Err(_) => Err(CliFault::Open),
         },
     }
+}
+
+/// The run of a link job, step by step, or the fault for which it has none.
+pub(crate) fn run_of<R: Files + AllocGlobal>(rt: &R, name: &str) -> io::Result<Given> {
+    let job = job_of(rt, name)?;
+    Ok(match run_table(rt.alloc(), &job) {
+        Ok(text) => Given { kind: "run", text },
+        Err(fault) => Given {
+            kind: "err",
+            text: fault.to_string(rt.alloc())?,
+        },
+    })
 }

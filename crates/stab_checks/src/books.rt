@@ -1,141 +1,152 @@
 //! The calls on the book of a link.
 
-use crate::again::{Calls, Texts, again};
-use crate::end_calls::{EndCall, ROWS, Row, item_after, script_of, start_of};
-use crate::links::params;
-use stab_core::{Event, Start, StartFault, push_link_text};
+use crate::again::{Calls, Made, Row, Texts, make_rows, print_object, push_fault};
+use crate::end_calls::{EndCall, ROWS, item_after, params, script_of, start_of};
+use stab_core::{Event, Start, push_link_text};
 use stab_frames::Params;
 use stab_lock::{LinkBook, LockLink};
 use stab_script::HalfScript;
 use std::alloc::{AllocError, Global};
 
-/// An event of each kind.
-const EVENTS: [Event; 10] = [
-    Event::Offer(7),
-    Event::SendFrame,
-    Event::RecvFrame { keep: true },
-    Event::RecvFrame { keep: false },
-    Event::SendAck,
-    Event::RecvAck { keep: true },
-    Event::RecvAck { keep: false },
-    Event::LoseFrame(0),
-    Event::LoseAck(0),
-    Event::Close,
-];
+/// The calls that make a book, and an event of each kind.
+const NOTES: Row<'static, NoteCall> = (
+    1,
+    &[
+        ("LinkBook::new", NoteCall::New),
+        ("LockLink::new", NoteCall::NewLock),
+        ("LinkBook::note", NoteCall::Note(Event::Offer(7))),
+        ("LinkBook::note", NoteCall::Note(Event::SendFrame)),
+        ("LinkBook::note", NoteCall::Note(KEPT_FRAME)),
+        ("LinkBook::note", NoteCall::Note(TAKEN_FRAME)),
+        ("LinkBook::note", NoteCall::Note(Event::SendAck)),
+        ("LinkBook::note", NoteCall::Note(KEPT_ACK)),
+        ("LinkBook::note", NoteCall::Note(TAKEN_ACK)),
+        ("LinkBook::note", NoteCall::Note(Event::LoseFrame(0))),
+        ("LinkBook::note", NoteCall::Note(Event::LoseAck(0))),
+        ("LinkBook::note", NoteCall::Note(Event::Close)),
+        ("the book holds", NoteCall::Hold),
+    ],
+);
 
-/// The names of the six calls.
-const NAMES: [&str; 6] = [
-    "LinkBook::offer",
-    "LinkBook::send",
-    "LinkBook::poll_ack",
-    "LinkBook::close",
-    "LinkBook::poll_frame",
-    "LinkBook::send_ack",
-];
+const KEPT_FRAME: Event = Event::RecvFrame { keep: true };
 
-/// A book with both halves of its script, and starts that calls give up.
+const TAKEN_FRAME: Event = Event::RecvFrame { keep: false };
+
+const KEPT_ACK: Event = Event::RecvAck { keep: true };
+
+const TAKEN_ACK: Event = Event::RecvAck { keep: false };
+
+/// A book, and starts for two calls that each give one up and may be made twice.
 #[derive(Drop)]
-struct Books {
+struct Notes {
     alloc: Global,
     params: Params,
     starts: Vec<Start>,
+    book: LinkBook,
+}
+
+/// A call that makes a book or notes an event.
+#[derive(Clone, Copy)]
+enum NoteCall {
+    New,
+    NewLock,
+    Note(Event),
+    Hold,
+}
+
+/// A book with both halves of its script.
+#[derive(Drop)]
+struct Books {
     book: LinkBook,
     sender: HalfScript,
     receiver: HalfScript,
 }
 
-/// A call on a book, or one that makes a book.
-#[derive(Clone, Copy)]
-enum BookCall {
-    New,
-    NewLock,
-    Note(Event),
-    Of(&'static EndCall),
-}
-
-/// Makes the calls: each on a book of its own that makes a book or notes an event, and each row.
+/// Makes the calls: those that make a book or note an event, and each row on a book of its own.
 pub fn make_all<R: Print + Eprint + AllocGlobal>(rt: &R, texts: &mut Texts) -> anyhow::Result<()> {
-    if make_notes(rt, texts).is_err() {
-        make_notes(rt, texts)?;
-    }
-    for row in &ROWS {
-        if make_row(rt, texts, row).is_err() {
-            make_row(rt, texts, row)?;
-        }
+    make_rows::<R, Notes>(rt, texts, (), &[NOTES])?;
+    for row in ROWS {
+        let books = make_rows::<R, Books>(rt, texts, row.0, &[row])?;
+        print_object(rt, texts, "the book holds", &books)?;
     }
     Ok(())
 }
 
-/// Makes books, and notes an event of each kind in one.
-fn make_notes<R: Print + Eprint + AllocGlobal>(rt: &R, texts: &mut Texts) -> anyhow::Result<()> {
-    let mut books = Books::new(rt.alloc(), &ROWS[0])?;
-    again(rt, texts, "LinkBook::new", &mut books, &BookCall::New)?;
-    again(rt, texts, "LockLink::new", &mut books, &BookCall::NewLock)?;
-    for event in EVENTS {
-        again(
-            rt,
-            texts,
-            "LinkBook::note",
-            &mut books,
-            &BookCall::Note(event),
-        )?;
+impl Made for Notes {
+    type Given = ();
+
+    fn new(alloc: Global, _given: ()) -> anyhow::Result<Notes> {
+        let book = book_of(alloc, 1)?;
+        Ok(Notes {
+            alloc,
+            params: params()?,
+            starts: starts_of(alloc)?,
+            book,
+        })
     }
-    push_book(&mut texts.answer, &books.book)?;
-    texts.print_answer(rt, "the book holds")
 }
 
-/// Makes a row of calls on a new book.
-fn make_row<R: Print + Eprint + AllocGlobal>(
-    rt: &R,
-    texts: &mut Texts,
-    row: &'static Row<'static>,
-) -> anyhow::Result<()> {
-    let mut books = Books::new(rt.alloc(), row)?;
-    let (times, calls) = row;
-    for _ in 0..*times {
-        for call in *calls {
-            again(
-                rt,
-                texts,
-                call.name(&NAMES),
-                &mut books,
-                &BookCall::Of(call),
-            )?;
+impl Calls for Notes {
+    type Call = NoteCall;
+
+    fn push_object(&self, text: &mut String) -> Result<(), AllocError> {
+        push_book(text, &self.book)
+    }
+
+    fn make(&mut self, call: &NoteCall, text: &mut String) -> Result<(), AllocError> {
+        let (alloc, params) = (self.alloc, self.params);
+        match call {
+            NoteCall::New => {
+                let start = self.starts.pop().ok_or(AllocError)?;
+                match LinkBook::new(alloc, params, start) {
+                    Ok(book) => push_book(text, &book),
+                    Err(fault) => push_fault(text, &fault),
+                }
+            }
+            NoteCall::NewLock => {
+                let start = self.starts.pop().ok_or(AllocError)?;
+                match LockLink::new(alloc, params, start) {
+                    Ok(link) => push_book(text, &link.into_book()),
+                    Err(fault) => push_fault(text, &fault),
+                }
+            }
+            NoteCall::Note(event) => {
+                let effect = self.book.note(*event)?;
+                write!(text, "{event:?} gives {effect:?}")
+            }
+            NoteCall::Hold => push_book(text, &self.book),
         }
     }
-    books.push_object(&mut texts.answer)?;
-    texts.print_answer(rt, "the book holds")
 }
 
-impl Books {
-    /// The book of a link that begins as this row wants it, and starts for two calls that may each
-    /// be made twice.
-    fn new(alloc: Global, row: &Row<'_>) -> anyhow::Result<Books> {
-        let params = params()?;
-        let script = script_of(alloc, row)?;
-        let starts = starts_of(alloc, row)?;
-        let book = LinkBook::new(alloc, params, start_of(alloc, row)?)?;
-        let (sender, receiver) = script.split();
+impl Made for Books {
+    type Given = u32;
+
+    fn new(alloc: Global, times: u32) -> anyhow::Result<Books> {
+        let (sender, receiver) = script_of(alloc, times)?.split();
         Ok(Books {
-            alloc,
-            params,
-            starts,
-            book,
+            book: book_of(alloc, times)?,
             sender,
             receiver,
         })
     }
+}
 
-    /// The next start, which a call gives up.
-    fn next_start(&mut self) -> Result<Start, AllocError> {
-        match self.starts.pop() {
-            Some(start) => Ok(start),
-            None => Err(AllocError),
-        }
+impl Calls for Books {
+    type Call = EndCall;
+
+    fn owner(&self, _call: &EndCall) -> &'static str {
+        "LinkBook::"
     }
 
-    /// Makes one of the six calls.
-    fn make_of(&mut self, call: &EndCall, text: &mut String) -> Result<(), AllocError> {
+    fn push_object(&self, text: &mut String) -> Result<(), AllocError> {
+        push_book(text, &self.book)?;
+        let sender = (self.sender.peek_out(), self.sender.peek_in());
+        let receiver = (self.receiver.peek_out(), self.receiver.peek_in());
+        writeln!(text, "next acts: {sender:?} {receiver:?}")
+    }
+
+    fn make(&mut self, call: &EndCall, text: &mut String) -> Result<(), AllocError> {
         match call {
             EndCall::Offer => {
                 let item = item_after(self.book.link().offered());
@@ -150,43 +161,17 @@ impl Books {
     }
 }
 
-impl Calls for Books {
-    type Call = BookCall;
-
-    fn push_object(&self, text: &mut String) -> Result<(), AllocError> {
-        push_book(text, &self.book)?;
-        let sender = (self.sender.peek_out(), self.sender.peek_in());
-        let receiver = (self.receiver.peek_out(), self.receiver.peek_in());
-        writeln!(text, "next acts: {sender:?} {receiver:?}")
-    }
-
-    fn make(&mut self, call: &BookCall, text: &mut String) -> Result<(), AllocError> {
-        let (alloc, params) = (self.alloc, self.params);
-        match call {
-            BookCall::New => match LinkBook::new(alloc, params, self.next_start()?) {
-                Ok(book) => push_book(text, &book),
-                Err(StartFault::Memory) => Err(AllocError),
-                Err(fault) => write!(text, "{fault}"),
-            },
-            BookCall::NewLock => match LockLink::new(alloc, params, self.next_start()?) {
-                Ok(link) => push_book(text, &link.into_book()),
-                Err(StartFault::Memory) => Err(AllocError),
-                Err(fault) => write!(text, "{fault}"),
-            },
-            BookCall::Note(event) => {
-                let effect = self.book.note(*event)?;
-                write!(text, "{event:?} gives {effect:?}")
-            }
-            BookCall::Of(call) => self.make_of(call, text),
-        }
-    }
+/// The book of the link of a row that is made so often.
+fn book_of(alloc: Global, times: u32) -> anyhow::Result<LinkBook> {
+    let start = start_of(alloc, times)?;
+    Ok(LinkBook::new(alloc, params()?, start)?)
 }
 
 /// Starts for two calls that may each be made twice.
-fn starts_of(alloc: Global, row: &Row<'_>) -> Result<Vec<Start>, AllocError> {
+fn starts_of(alloc: Global) -> anyhow::Result<Vec<Start>> {
     let mut starts = Vec::new(alloc);
     for _ in 0..4 {
-        starts.push(start_of(alloc, row)?)?;
+        starts.push(start_of(alloc, 1)?)?;
     }
     Ok(starts)
 }

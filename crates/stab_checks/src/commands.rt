@@ -1,23 +1,23 @@
 //! The calls of the program `stab` before it does a task: its command line and its file.
 
-use crate::again::{Calls, Texts, again};
-use stab_task::{CliFault, load, parse};
+use crate::again::{Calls, Made, Texts, make_rows, push_answer, push_fault};
+use stab_task::{load, parse};
 use std::alloc::{AllocError, Global};
 use std::io::{self, ErrorKind, Read};
 
-/// Command lines, without the name of the program: each task with its flags, and four that are
-/// refused.
+/// Command lines, without the name of the program, a word a line: each task with its flags, and
+/// four that are refused.
 const LINES: [&str; 11] = [
     "",
-    "link job.json",
-    "link --trace job.json",
-    "tree job.json",
-    "run job.json",
-    "run --words job.json",
-    "run --mixed job.json",
-    "run --fast",
-    "run --words --mixed",
-    "tree one.json two.json",
+    "link\njob.json",
+    "link\n--trace\njob.json",
+    "tree\njob.json",
+    "run\njob.json",
+    "run\n--words\njob.json",
+    "run\n--mixed\njob.json",
+    "run\n--fast",
+    "run\n--words\n--mixed",
+    "tree\none.json\ntwo.json",
     "--help",
 ];
 
@@ -27,19 +27,18 @@ const FILE_LENGTHS: [usize; 3] = [0, 5_000, 200_000];
 /// How many bytes one read gives at most.
 const PIECE: usize = 1_000;
 
-/// The words of a command line, and the bytes of a file.
+/// The words of a command line.
 #[derive(Drop)]
-struct Command {
+struct Line {
     alloc: Global,
     words: Vec<String>,
-    bytes: Vec<u8>,
 }
 
-/// A call on a command line or a file.
-#[derive(Clone, Copy)]
-enum CommandCall {
-    Parse,
-    Load,
+/// The bytes of a file.
+#[derive(Drop)]
+struct File {
+    alloc: Global,
+    bytes: Vec<u8>,
 }
 
 /// A reader that gives its bytes in pieces, and is interrupted before the first.
@@ -63,53 +62,72 @@ impl Read for Pieces<'_> {
 /// Makes the calls on command lines and on files.
 pub fn make_all<R: Print + Eprint + AllocGlobal>(rt: &R, texts: &mut Texts) -> anyhow::Result<()> {
     for line in LINES {
-        if make_one(rt, texts, "parse", line, 0, &CommandCall::Parse).is_err() {
-            make_one(rt, texts, "parse", line, 0, &CommandCall::Parse)?;
-        }
+        make_rows::<R, Line>(rt, texts, line, &[(1, &[("parse", ())])])?;
     }
     for len in FILE_LENGTHS {
-        if make_one(rt, texts, "load", "", len, &CommandCall::Load).is_err() {
-            make_one(rt, texts, "load", "", len, &CommandCall::Load)?;
-        }
+        make_rows::<R, File>(rt, texts, len, &[(1, &[("load", ())])])?;
     }
     Ok(())
 }
 
-/// Makes a call on a command line and a file of this length.
-fn make_one<R: Print + Eprint + AllocGlobal>(
-    rt: &R,
-    texts: &mut Texts,
-    name: &str,
-    line: &str,
-    len: usize,
-    call: &CommandCall,
-) -> anyhow::Result<()> {
-    let mut command = Command::new(rt.alloc(), line, len)?;
-    again(rt, texts, name, &mut command, call)
+/// The words of a command line: the name of the program, and each line of a text.
+pub fn words_of(alloc: Global, text: &str) -> Result<Vec<String>, AllocError> {
+    let mut words = Vec::new(alloc);
+    words.push(String::from_str(alloc, "stab")?)?;
+    for word in text.lines() {
+        words.push(String::from_str(alloc, word)?)?;
+    }
+    Ok(words)
 }
 
-impl Command {
-    /// The words of a line, the name of the program first, and a file in which no two pieces that
-    /// are read are the same.
-    fn new(alloc: Global, line: &str, len: usize) -> Result<Command, AllocError> {
-        let mut words = Vec::new(alloc);
-        words.push(String::from_str(alloc, "stab")?)?;
-        for word in line.split_whitespace() {
-            words.push(String::from_str(alloc, word)?)?;
+impl Made for Line {
+    type Given = &'static str;
+
+    fn new(alloc: Global, line: &'static str) -> anyhow::Result<Line> {
+        Ok(Line {
+            alloc,
+            words: words_of(alloc, line)?,
+        })
+    }
+}
+
+impl Calls for Line {
+    type Call = ();
+
+    fn push_object(&self, text: &mut String) -> Result<(), AllocError> {
+        write!(text, "{:?}", self.words)
+    }
+
+    fn make(&mut self, _call: &(), text: &mut String) -> Result<(), AllocError> {
+        match parse(self.alloc, &self.words) {
+            Ok((task, file)) => write!(text, "{task:?} {file:?}"),
+            Err(fault) => push_fault(text, &fault),
         }
+    }
+}
+
+impl Made for File {
+    type Given = usize;
+
+    /// A file in which no two pieces that are read are the same.
+    fn new(alloc: Global, len: usize) -> anyhow::Result<File> {
         let mut bytes = Vec::with_capacity(alloc, len)?;
         for place in 0..len {
             bytes.push((place % 251) as u8)?;
         }
-        Ok(Command {
-            alloc,
-            words,
-            bytes,
-        })
+        Ok(File { alloc, bytes })
+    }
+}
+
+impl Calls for File {
+    type Call = ();
+
+    fn push_object(&self, text: &mut String) -> Result<(), AllocError> {
+        write!(text, "{} {:?}", self.bytes.len(), self.bytes.last())
     }
 
     /// Loads the file from its beginning: what a reader that refused has still to give is not said.
-    fn load(&self, text: &mut String) -> Result<(), AllocError> {
+    fn make(&mut self, _call: &(), text: &mut String) -> Result<(), AllocError> {
         let mut pieces = Pieces {
             rest: self.bytes.as_slice(),
             interrupted: false,
@@ -119,27 +137,7 @@ impl Command {
                 let is_same = bytes.as_slice() == self.bytes.as_slice();
                 write!(text, "{} bytes, those of the file: {is_same}", bytes.len())
             }
-            Err(CliFault::Memory) => Err(AllocError),
-            Err(fault) => write!(text, "{fault}"),
-        }
-    }
-}
-
-impl Calls for Command {
-    type Call = CommandCall;
-
-    fn push_object(&self, text: &mut String) -> Result<(), AllocError> {
-        write!(text, "{:?} {}", self.words, self.bytes.len())
-    }
-
-    fn make(&mut self, call: &CommandCall, text: &mut String) -> Result<(), AllocError> {
-        match call {
-            CommandCall::Parse => match parse(self.alloc, &self.words) {
-                Ok((task, file)) => write!(text, "{task:?} {file:?}"),
-                Err(CliFault::Memory) => Err(AllocError),
-                Err(fault) => write!(text, "{fault}"),
-            },
-            CommandCall::Load => self.load(text),
+            Err(fault) => push_fault(text, &fault),
         }
     }
 }

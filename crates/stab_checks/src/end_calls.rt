@@ -1,10 +1,11 @@
 //! The six calls that the two ends of a link make, as data, and the links that they are made on.
 
-use crate::links::worst_start;
+use crate::again::Row;
+use crate::readers;
 use stab_core::Start;
-use stab_frames::Item;
-use stab_script::{InAct, OutAct, Script};
-use std::alloc::{AllocError, Global};
+use stab_frames::{Item, Params, ParamsFault};
+use stab_script::Script;
+use std::alloc::Global;
 
 /// A call of one of the two ends of a link, or the call of that name of a book.
 #[derive(Clone, Copy)]
@@ -17,49 +18,44 @@ pub enum EndCall {
     SendAck,
 }
 
-/// Calls on a new link, and how often they are made: once where a link begins full, and more often
-/// where it begins empty.
-pub type Row<'a> = (u32, &'a [EndCall]);
-
-/// The rows. At the first call of each of the others, the history of a link grows; so it does at
+/// Calls on a new link, which are made once where the link begins full, and more often where it
+/// begins empty. At the first call of each of the others, the history of a link grows; so it does at
 /// the second call of the first row, where a frame takes the place of the stray. By the rounds of
 /// the last row the lists of both ends grow twice.
-pub const ROWS: [Row<'static>; 6] = [
-    (1, &[EndCall::Offer, EndCall::Send]),
-    (1, &[EndCall::PollAck]),
-    (1, &[EndCall::Close]),
-    (1, &[EndCall::PollFrame]),
-    (1, &[EndCall::SendAck]),
+pub const ROWS: [Row<'static, EndCall>; 6] = [
+    (1, &[("offer", EndCall::Offer), ("send", EndCall::Send)]),
+    (1, &[("poll_ack", EndCall::PollAck)]),
+    (1, &[("close", EndCall::Close)]),
+    (1, &[("poll_frame", EndCall::PollFrame)]),
+    (1, &[("send_ack", EndCall::SendAck)]),
     ROUNDS,
 ];
 
 /// Items are taken, delivered and acknowledged, one after the other.
-pub const ROUNDS: Row<'static> = (
+pub const ROUNDS: Row<'static, EndCall> = (
     5,
     &[
-        EndCall::Offer,
-        EndCall::Send,
-        EndCall::PollFrame,
-        EndCall::SendAck,
-        EndCall::PollAck,
+        ("offer", EndCall::Offer),
+        ("send", EndCall::Send),
+        ("poll_frame", EndCall::PollFrame),
+        ("send_ack", EndCall::SendAck),
+        ("poll_ack", EndCall::PollAck),
     ],
 );
+
+/// A stray, and an acknowledgement that no sender waits for.
+const FULL_START: &str = r#"{"frames":[[2,99]],"acks":[3],"send":0,"recv":1}"#;
+
+/// The first frame and the first acknowledgement that go out take the place of what is there, and
+/// the first that come in stay.
+const SCRIPT: &str = r#"{"frames_out":"E","frames_in":"K","acks_out":"E","acks_in":"K"}"#;
 
 /// No row offers so many items.
 const MOST_ITEMS: usize = 100;
 
-impl EndCall {
-    /// The name of the call, among the names of the six calls.
-    pub fn name<'n>(&self, names: &[&'n str; 6]) -> &'n str {
-        match self {
-            EndCall::Offer => names[0],
-            EndCall::Send => names[1],
-            EndCall::PollAck => names[2],
-            EndCall::Close => names[3],
-            EndCall::PollFrame => names[4],
-            EndCall::SendAck => names[5],
-        }
-    }
+/// The parameters of a link of capacity one.
+pub fn params() -> Result<Params, ParamsFault> {
+    Params::new(1, 4)
 }
 
 /// The item that is offered after these.
@@ -67,28 +63,19 @@ pub fn item_after(offered: &[Item]) -> Item {
     (offered.len() % MOST_ITEMS) as Item + 1
 }
 
-/// The start of the link of a row. A link that begins full has a stray, and an acknowledgement that
-/// no sender waits for.
-pub fn start_of(alloc: Global, row: &Row<'_>) -> Result<Start, AllocError> {
-    if row.0 == 1 {
-        worst_start(alloc, 99, 3)
+/// The start of the link of a row that is made so often.
+pub fn start_of(alloc: Global, times: u32) -> anyhow::Result<Start> {
+    if times == 1 {
+        readers::start_of(alloc, FULL_START)
     } else {
         Ok(Start::clean(alloc))
     }
 }
 
-/// The script of the link of a row. On a link that begins full, the first frame and the first
-/// acknowledgement that go out take the place of what is there, and the first that come in stay.
-pub fn script_of(alloc: Global, row: &Row<'_>) -> anyhow::Result<Script> {
-    if row.0 == 1 {
-        let outs = [OutAct::Evict];
-        let ins = [InAct::Keep];
-        Ok(Script::new(
-            outs.to_vec(alloc)?,
-            ins.to_vec(alloc)?,
-            outs.to_vec(alloc)?,
-            ins.to_vec(alloc)?,
-        )?)
+/// The script of the link of such a row.
+pub fn script_of(alloc: Global, times: u32) -> anyhow::Result<Script> {
+    if times == 1 {
+        readers::script_of(alloc, SCRIPT)
     } else {
         Ok(Script::none(alloc))
     }

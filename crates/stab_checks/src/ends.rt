@@ -1,9 +1,8 @@
 //! The calls of the two ends of a link: behind a lock, of two words, and of either kind.
 
-use crate::again::{Calls, Texts, again};
+use crate::again::{Calls, Row, Texts, make_row, print_object};
 use crate::books::push_book;
-use crate::end_calls::{EndCall, ROUNDS, ROWS, Row, item_after, script_of, start_of};
-use crate::links::params;
+use crate::end_calls::{EndCall, ROUNDS, ROWS, item_after, params, script_of, start_of};
 use stab_core::Start;
 use stab_lock::{LockLink, RecvSide, SendSide};
 use stab_script::Script;
@@ -11,37 +10,22 @@ use stab_word::{AnyRecv, AnySend, WordLink, WordRecv, WordSend};
 use std::alloc::AllocError;
 use std::sync::Wait;
 
-/// The names of the six calls, by what the link is.
-const LOCKED: [&str; 6] = [
-    "LockSend::offer",
-    "LockSend::send",
-    "LockSend::poll_ack",
-    "LockSend::close",
-    "LockRecv::poll_frame",
-    "LockRecv::send_ack",
-];
+/// What a link is: behind a lock, of two words, or of either kind.
+#[derive(Clone, Copy)]
+enum Kind {
+    Lock,
+    Words,
+    Any,
+}
 
-const OF_WORDS: [&str; 6] = [
-    "WordSend::offer",
-    "WordSend::send",
-    "WordSend::poll_ack",
-    "WordSend::close",
-    "WordRecv::poll_frame",
-    "WordRecv::send_ack",
-];
+const OF_WORDS: [&str; 2] = ["WordSend::", "WordRecv::"];
 
-const ANY: [&str; 6] = [
-    "AnySend::offer",
-    "AnySend::send",
-    "AnySend::poll_ack",
-    "AnySend::close",
-    "AnyRecv::poll_frame",
-    "AnyRecv::send_ack",
-];
+const ANY: [&str; 2] = ["AnySend::", "AnyRecv::"];
 
-/// Both ends of a link.
+/// Both ends of a link, and what the link is.
 #[derive(Drop)]
 struct Ends<'p, S: SendSide, T: RecvSide<Pass = S::Pass>> {
+    kind: Kind,
     pass: &'p S::Pass,
     send: S,
     recv: T,
@@ -49,6 +33,18 @@ struct Ends<'p, S: SendSide, T: RecvSide<Pass = S::Pass>> {
 
 impl<'p, S: SendSide, T: RecvSide<Pass = S::Pass>> Calls for Ends<'p, S, T> {
     type Call = EndCall;
+
+    fn owner(&self, call: &EndCall) -> &'static str {
+        let is_recv = matches!(call, EndCall::PollFrame | EndCall::SendAck);
+        match self.kind {
+            Kind::Lock if is_recv => "LockRecv::",
+            Kind::Lock => "LockSend::",
+            Kind::Words if is_recv => "WordRecv::",
+            Kind::Words => "WordSend::",
+            Kind::Any if is_recv => "AnyRecv::",
+            Kind::Any => "AnySend::",
+        }
+    }
 
     /// The accounts of both ends.
     fn push_object(&self, text: &mut String) -> Result<(), AllocError> {
@@ -95,14 +91,13 @@ fn make_locked<R: Print + Eprint + Wait + AllocGlobal>(
     rt: &R,
     texts: &mut Texts,
     is_any: bool,
-    row: &Row<'_>,
+    row: &Row<'_, EndCall>,
 ) -> anyhow::Result<()> {
-    let start = start_of(rt.alloc(), row)?;
+    let start = start_of(rt.alloc(), row.0)?;
     let link = LockLink::new(rt.alloc(), params()?, start)?;
-    let script = script_of(rt.alloc(), row)?;
-    make_split(rt, texts, is_any, &link, script, row)?;
+    make_split(rt, texts, is_any, &link, row)?;
     push_book(&mut texts.answer, &link.into_book())?;
-    texts.print_answer(rt, "the book holds")
+    texts.print_answer(rt, "", "the book holds")
 }
 
 /// Makes a row of calls on the ends of a link behind a lock, as such or as ends of either kind.
@@ -111,35 +106,14 @@ fn make_split<R: Print + Eprint + Wait + AllocGlobal>(
     texts: &mut Texts,
     is_any: bool,
     link: &LockLink,
-    script: Script,
-    row: &Row<'_>,
+    row: &Row<'_, EndCall>,
 ) -> anyhow::Result<()> {
-    let (send, recv) = link.split::<R>(script);
+    let (send, recv) = link.split::<R>(script_of(rt.alloc(), row.0)?);
     if is_any {
-        let (send, recv) = (AnySend::Lock(send), AnyRecv::Lock(recv));
-        make_row(
-            rt,
-            texts,
-            &ANY,
-            &mut Ends {
-                pass: rt,
-                send,
-                recv,
-            },
-            row,
-        )
+        let ends = (AnySend::Lock(send), AnyRecv::Lock(recv));
+        make_on(rt, texts, Kind::Any, rt, ends, row)
     } else {
-        make_row(
-            rt,
-            texts,
-            &LOCKED,
-            &mut Ends {
-                pass: rt,
-                send,
-                recv,
-            },
-            row,
-        )
+        make_on(rt, texts, Kind::Lock, rt, (send, recv), row)
     }
 }
 
@@ -153,7 +127,7 @@ fn make_on_words<R: Print + Eprint + Wait + AllocGlobal>(
     let alloc = rt.alloc();
     let (link, opening) = WordLink::new(alloc, params()?, &Start::clean(alloc))?;
     match link.split(alloc, opening, Script::none(alloc)) {
-        Ok((send, recv)) => make_rounds(rt, texts, is_any, send, recv),
+        Ok(ends) => make_rounds(rt, texts, is_any, ends),
         Err(refused) => {
             eprintln!(rt; "refused WordLink::split")?;
             Err(refused.into())
@@ -166,48 +140,31 @@ fn make_rounds<R: Print + Eprint + Wait + AllocGlobal>(
     rt: &R,
     texts: &mut Texts,
     is_any: bool,
-    send: WordSend<'_>,
-    recv: WordRecv<'_>,
+    (send, recv): (WordSend<'_>, WordRecv<'_>),
 ) -> anyhow::Result<()> {
     if is_any {
-        let (send, recv) = (AnySend::Word(send), AnyRecv::Word(recv));
-        make_row(
-            rt,
-            texts,
-            &ANY,
-            &mut Ends {
-                pass: rt,
-                send,
-                recv,
-            },
-            &ROUNDS,
-        )
+        let ends = (AnySend::Word(send), AnyRecv::Word(recv));
+        make_on(rt, texts, Kind::Any, rt, ends, &ROUNDS)
     } else {
-        let pass = &();
-        make_row(
-            rt,
-            texts,
-            &OF_WORDS,
-            &mut Ends { pass, send, recv },
-            &ROUNDS,
-        )
+        make_on(rt, texts, Kind::Words, &(), (send, recv), &ROUNDS)
     }
 }
 
 /// Makes a row of calls on two ends, and prints their accounts.
-fn make_row<R: Print + Eprint, S: SendSide, T: RecvSide<Pass = S::Pass>>(
+fn make_on<R: Print + Eprint, S: SendSide, T: RecvSide<Pass = S::Pass>>(
     rt: &R,
     texts: &mut Texts,
-    names: &[&str; 6],
-    ends: &mut Ends<'_, S, T>,
-    row: &Row<'_>,
+    kind: Kind,
+    pass: &S::Pass,
+    (send, recv): (S, T),
+    row: &Row<'_, EndCall>,
 ) -> anyhow::Result<()> {
-    let (times, calls) = row;
-    for _ in 0..*times {
-        for call in *calls {
-            again(rt, texts, call.name(names), ends, call)?;
-        }
-    }
-    ends.push_object(&mut texts.answer)?;
-    texts.print_answer(rt, "the ends hold")
+    let mut ends = Ends {
+        kind,
+        pass,
+        send,
+        recv,
+    };
+    make_row(rt, texts, &mut ends, row)?;
+    print_object(rt, texts, "the ends hold", &ends)
 }

@@ -5,13 +5,13 @@
 //! link step by step. For each file it prints a line, and after a difference both texts. A file
 //! that is not in the list is a difference as well. The last line counts.
 
-use crate::answer::{Given, answer};
-use crate::listing::{expected_files, file_or_none, listed_files};
-use crate::table::{run_table, squeezed};
-use std::io;
+use crate::answer::{Given, answer, run_of};
+use crate::listing::{expected_files, if_there, listed_files};
+use crate::table::squeezed;
 use std::rt::Files;
 use std::sync::Wait;
 use std::thread::Threads;
+use std::{fs, io};
 
 /// Compares the listed files and looks for files that are not listed; says whether all is as
 /// expected.
@@ -38,42 +38,38 @@ pub(crate) fn compare_all<
     Ok(other == 0 && same > 0)
 }
 
-/// Compares one file with what is given for it, prints a line and any difference, and says whether
-/// both are the same.
+/// Compares one file with what is given for it, and says whether both are the same.
 fn compare<R: Files + Print + Threads + Wait + Send + Sync + AllocGlobal>(
     rt: &R,
     file: &str,
 ) -> io::Result<bool> {
-    let Some(expected) = file_or_none(rt, file)? else {
+    let Some(expected) = if_there(fs::read_to_string(rt, file))? else {
         println!(rt; "OTHER  {file}\nThere is no such file.")?;
         return Ok(false);
     };
     let (name, kind) = file.rsplit_once('.').unwrap_or((file, ""));
-    let (expected, given) = if kind == "run" {
-        (squeezed(rt.alloc(), &expected)?, run_of(rt, name)?)
+    if kind == "run" {
+        let expected = squeezed(rt.alloc(), &expected)?;
+        print_same(rt, file, kind, &expected, &run_of(rt, name)?)
     } else {
-        (expected, answer(rt, name)?)
-    };
-    if given.kind == kind && given.text == expected {
-        println!(rt; "same   {file}")?;
-        return Ok(true);
+        print_same(rt, file, kind, &expected, &answer(rt, name)?)
     }
-    println!(rt;
-        "OTHER  {file}\nexpected:\n{expected}\ngiven, as .{}:\n{}",
-        given.kind, given.text
-    )?;
-    Ok(false)
 }
 
-/// The run of a link job, step by step, or the fault for which it has none.
-fn run_of<R: Files + AllocGlobal>(rt: &R, name: &str) -> io::Result<Given> {
-    let job = format!(in rt.alloc(); "{name}.json")?;
-    let job = file_or_none(rt, &job)?.unwrap_or(String::new(rt.alloc()));
-    Ok(match run_table(rt.alloc(), job.as_bytes()) {
-        Ok(text) => Given { kind: "run", text },
-        Err(fault) => Given {
-            kind: "err",
-            text: fault.to_string(rt.alloc())?,
-        },
-    })
+/// Prints a line and any difference, and says whether what is given is as expected.
+fn print_same<R: Print>(
+    rt: &R,
+    file: &str,
+    kind: &str,
+    expected: &str,
+    given: &Given,
+) -> io::Result<bool> {
+    let is_same = given.kind == kind && given.text.as_str() == expected;
+    if is_same {
+        println!(rt; "same   {file}")?;
+    } else {
+        let (kind, text) = (given.kind, given.text.as_str());
+        println!(rt; "OTHER  {file}\nexpected:\n{expected}\ngiven, as .{kind}:\n{text}")?;
+    }
+    Ok(is_same)
 }

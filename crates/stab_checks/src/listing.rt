@@ -51,13 +51,10 @@ fn says_what_is_expected(name: &str) -> bool {
     name.ends_with(".out") || name.ends_with(".err") || name.ends_with(".run")
 }
 
-/// The text of a file, or nothing if there is no such file.
-pub(crate) fn file_or_none<R: Files + AllocGlobal>(
-    rt: &R,
-    file: &str,
-) -> io::Result<Option<String>> {
-    match fs::read_to_string(rt, file) {
-        Ok(text) => Ok(Some(text)),
+/// What was read, or nothing if there is no such file.
+pub(crate) fn if_there<T: Drop>(read: io::Result<T>) -> io::Result<Option<T>> {
+    match read {
+        Ok(read) => Ok(Some(read)),
         Err(error) => {
             if error.kind() == ErrorKind::NotFound {
                 Ok(None)

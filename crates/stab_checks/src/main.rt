@@ -18,6 +18,7 @@ mod end_calls;
 mod ends;
 mod examples;
 mod gate;
+mod jobs;
 mod links;
 mod listing;
 mod readers;
@@ -28,8 +29,11 @@ mod table;
 mod trees;
 mod works;
 
-use crate::again::Texts;
+use crate::again::{Texts, make_rows};
 use crate::examples::compare_all;
+use crate::links::Links;
+use crate::trees::Chain;
+use crate::works::Works;
 use stab_task::words;
 use std::process::ExitCode;
 use std::rt::{Env, Files};
@@ -94,13 +98,13 @@ fn make_with<R: Print + Eprint + Threads + Wait + Send + Sync + AllocGlobal>(
     rt: &R,
     texts: &mut Texts,
 ) -> anyhow::Result<()> {
-    links::make_all(rt, texts)?;
+    make_rows::<R, Links>(rt, texts, (), &links::ROWS)?;
     readers::make_all(rt, texts)?;
     scripts::make_all(rt, texts)?;
-    trees::make_all(rt, texts)?;
+    make_rows::<R, Chain>(rt, texts, (), &trees::ROWS)?;
     books::make_all(rt, texts)?;
     ends::make_all(rt, texts)?;
-    works::make_all(rt, texts)?;
+    make_rows::<R, Works>(rt, texts, (), &[works::ROW])?;
     commands::make_all(rt, texts)?;
     runs::make_all(rt, texts)
 }

@@ -1,10 +1,12 @@
 //! The readers of starts, scripts, trees and jobs. The object of such a call is what it reads.
 
-use crate::again::{Calls, Texts, again};
+use crate::again::{Calls, Made, Texts, make_rows, push_answer};
+use crate::jobs::WORST_START;
 use serde_json::Value;
-use stab_run::{JobFault, read_job};
-use stab_script::{LinkJobFault, PartFault, read_link_job, read_script, read_start};
-use stab_tree::{TreeFault, read_tree};
+use stab_core::Start;
+use stab_run::read_job;
+use stab_script::{Script, read_link_job, read_script, read_start};
+use stab_tree::read_tree;
 use std::alloc::{AllocError, Global};
 
 /// What is read: starts with all members, without lists, and of a wrong shape behind two good lists;
@@ -46,7 +48,7 @@ const TEXTS: [(&str, Reader, &[&str]); 5] = [
         "read_link_job",
         Reader::LinkJob,
         &[
-            r#"{"capacity":1,"labels":4,"start":{"frames":[[2,99]],"acks":[0],"send":0,"recv":1},"events":[["offer",10],"recv_ack","send_ack",["offer",11],"recv_ack","recv_frame","send_ack",["offer",12],"recv_ack",["offer",13],"send_frame","recv_frame"]}"#,
+            WORST_START,
             r#"{"capacity":1,"labels":4,"start":{"acks":[0],"send":0,"recv":1},"events":["close","jump"]}"#,
         ],
     ),
@@ -77,38 +79,44 @@ enum Reader {
 
 /// A text, and the JSON value of it.
 #[derive(Drop)]
-struct Read<'a> {
+struct Read {
     alloc: Global,
-    text: &'a str,
+    text: &'static str,
     value: Value,
 }
 
 /// Makes the calls of the readers.
 pub fn make_all<R: Print + Eprint + AllocGlobal>(rt: &R, texts: &mut Texts) -> anyhow::Result<()> {
-    for (name, reader, given) in &TEXTS {
-        for text in *given {
-            if make_one(rt, texts, name, reader, text).is_err() {
-                make_one(rt, texts, name, reader, text)?;
-            }
+    for (name, reader, given) in TEXTS {
+        for text in given {
+            make_rows::<R, Read>(rt, texts, text, &[(1, &[(name, reader)])])?;
         }
     }
     Ok(())
 }
 
-/// Reads a text.
-fn make_one<R: Print + Eprint + AllocGlobal>(
-    rt: &R,
-    texts: &mut Texts,
-    name: &str,
-    reader: &Reader,
-    text: &str,
-) -> anyhow::Result<()> {
-    let alloc = rt.alloc();
+/// The start that a text means.
+pub fn start_of(alloc: Global, text: &str) -> anyhow::Result<Start> {
     let value = Value::from_str(alloc, text)?;
-    again(rt, texts, name, &mut Read { alloc, text, value }, reader)
+    Ok(read_start(alloc, &value)?)
 }
 
-impl Calls for Read<'_> {
+/// The script that a text means.
+pub fn script_of(alloc: Global, text: &str) -> anyhow::Result<Script> {
+    let value = Value::from_str(alloc, text)?;
+    Ok(read_script(alloc, &value)?)
+}
+
+impl Made for Read {
+    type Given = &'static str;
+
+    fn new(alloc: Global, text: &'static str) -> anyhow::Result<Read> {
+        let value = Value::from_str(alloc, text)?;
+        Ok(Read { alloc, text, value })
+    }
+}
+
+impl Calls for Read {
     type Call = Reader;
 
     fn push_object(&self, text: &mut String) -> Result<(), AllocError> {
@@ -117,31 +125,11 @@ impl Calls for Read<'_> {
 
     fn make(&mut self, reader: &Reader, text: &mut String) -> Result<(), AllocError> {
         match reader {
-            Reader::Start => match read_start(self.alloc, &self.value) {
-                Ok(start) => write!(text, "{start:?}"),
-                Err(PartFault::Memory) => Err(AllocError),
-                Err(fault) => write!(text, "{fault}"),
-            },
-            Reader::Script => match read_script(self.alloc, &self.value) {
-                Ok(script) => write!(text, "{script:?}"),
-                Err(PartFault::Memory) => Err(AllocError),
-                Err(fault) => write!(text, "{fault}"),
-            },
-            Reader::Tree => match read_tree(self.alloc, &self.value) {
-                Ok(tree) => write!(text, "{tree:?}"),
-                Err(TreeFault::Memory) => Err(AllocError),
-                Err(fault) => write!(text, "{fault}"),
-            },
-            Reader::LinkJob => match read_link_job(self.alloc, self.text.as_bytes()) {
-                Ok(job) => write!(text, "{job:?}"),
-                Err(LinkJobFault::Memory) => Err(AllocError),
-                Err(fault) => write!(text, "{fault}"),
-            },
-            Reader::Job => match read_job(self.alloc, self.text.as_bytes()) {
-                Ok(job) => write!(text, "{job:?}"),
-                Err(JobFault::Memory) => Err(AllocError),
-                Err(fault) => write!(text, "{fault}"),
-            },
+            Reader::Start => push_answer(text, read_start(self.alloc, &self.value)),
+            Reader::Script => push_answer(text, read_script(self.alloc, &self.value)),
+            Reader::Tree => push_answer(text, read_tree(self.alloc, &self.value)),
+            Reader::LinkJob => push_answer(text, read_link_job(self.alloc, self.text.as_bytes())),
+            Reader::Job => push_answer(text, read_job(self.alloc, self.text.as_bytes())),
         }
     }
 }

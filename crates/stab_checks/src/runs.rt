@@ -6,35 +6,23 @@
 ghost use Rattle.std.specs.Prelude.{◌≡◌, IsTrue};
 ghost use Rattle.stab_run.specs.Reports.{OnePerNode};
 
-use crate::again::Texts;
+use crate::again::{Texts, push_fault};
 use crate::gate::{CountingGate, NODES};
-use crate::record::Record;
-use stab_core::StartFault;
-use stab_frames::{Item, Sequence};
-use stab_node::{Ended, NodeFault};
-use stab_run::{
-    Job, JobFault, Report, RunFault, read_job, report_text, run_locked, run_mixed, run_words,
+use crate::jobs::{
+    CHAIN, LONE_ROOT, LOSSY_CHAIN, OPENED_CHAIN, TWO_LINKS, UNLAWFUL_START, WIDER_CHAIN,
+    WIDER_LOSSY_CHAIN, WORST_START,
 };
-use stab_script::LinkJobFault;
-use stab_task::{CliFault, Links, Task, act};
+use crate::record::Record;
+use stab_frames::{Item, Sequence};
+use stab_node::Ended;
+use stab_run::{Job, Report, read_job, report_text, run_locked, run_mixed, run_words};
+use stab_task::{Links, Task, act};
 use stab_tree::Tree;
-use stab_treecore::{TreeStartFault, TreeStepFault};
 use std::alloc::{AllocError, Global};
 use std::sync::Wait;
 use std::thread::Threads;
 
-/// A chain of three nodes, where the one between begins with two strays.
-const CHAIN: &str = r#"{"version":2,"h":2,"openings":[[],[50,51],[]],
-    "capacity":1,"labels":4,"items":[1,2,3,4,5],"turns":50,
-    "tree":[{"name":"r"},{"name":"a","parent":"r"},{"name":"b","parent":"a"}]}"#;
-
-/// The same chain, whose second link is wider than the first.
-const WIDER_CHAIN: &str = r#"{"version":2,"h":2,"openings":[[],[50,51],[]],
-    "capacity":1,"labels":4,"items":[1,2,3,4,5],"turns":50,
-    "links":[null,{"capacity":3,"labels":8}],
-    "tree":[{"name":"r"},{"name":"a","parent":"r"},{"name":"b","parent":"a"}]}"#;
-
-/// What its root publishes.
+/// What the root of the chain publishes.
 const PUBLISHED: [Item; 5] = [1, 2, 3, 4, 5];
 
 /// What the node between begins with.
@@ -44,93 +32,50 @@ const OPENED: [Item; 2] = [50, 51];
 const HANDED_ON: &str = "the root has what is published, the node below it what it begins with and \
     then some of that, and the leaf some of what the node above it has, in its order";
 
-/// The worst start of capacity one and its events.
-const WORST_START: &str =
-    r#"{"capacity":1,"labels":4,"start":{"frames":[[2,99]],"acks":[0],"send":0,"recv":1},"events":[["offer",10],"recv_ack","send_ack",["offer",11],"recv_ack","recv_frame","send_ack",["offer",12],"recv_ack",["offer",13],"send_frame","recv_frame"]}"#;
-
-/// A start that holds too many acknowledgements.
-const UNLAWFUL_START: &str =
-    r#"{"capacity":1,"labels":4,"start":{"acks":[0,1],"send":0,"recv":1},"events":[["offer",7]]}"#;
-
-/// Two links with a schedule; the script of the second is drawn.
-const TWO_LINKS: &str =
-    r#"{"capacity":1,"labels":4,"tree":[{"name":"r"},{"name":"a","parent":"r"},{"name":"b","parent":"a"}],"items":[7,8],"starts":[{"send":0,"recv":65535},{"frames":[[2,99]],"send":0,"recv":1}],"scripts":[null,{"seed":[42,54],"length":6,"loss":300,"repeat":400}],"turns":50,"schedule":[["a","offer"],["a","send_frame"],["a","recv_frame"],["b","recv_frame"],["b","offer"],["b","send_frame"],["b","recv_frame"]]}"#;
-
-/// Two items go down a chain whose inner node begins with two strays: two rounds on its first link,
-/// and four on the second.
-const OPENED_CHAIN: &str =
-    r#"{"version":2,"h":2,"openings":[[],[50,51],[]],"capacity":1,"labels":4,"tree":[{"name":"r"},{"name":"a","parent":"r"},{"name":"b","parent":"a"}],"items":[7,8],"schedule":[["a","offer"],["a","send_frame"],["a","recv_frame"],["a","send_ack"],["a","recv_ack"],["a","offer"],["a","send_frame"],["a","recv_frame"],["a","send_ack"],["a","recv_ack"],["b","offer"],["b","send_frame"],["b","recv_frame"],["b","send_ack"],["b","recv_ack"],["b","offer"],["b","send_frame"],["b","recv_frame"],["b","send_ack"],["b","recv_ack"],["b","offer"],["b","send_frame"],["b","recv_frame"],["b","send_ack"],["b","recv_ack"],["b","offer"],["b","send_frame"],["b","recv_frame"],["b","send_ack"],["b","recv_ack"]]}"#;
-
-/// A root without children, and its items.
-const LONE_ROOT: &str = r#"{"capacity":1,"labels":4,"tree":[{"name":"r"}],"items":[7,8]}"#;
-
-/// A chain of three nodes, and its items.
-const LOSSY_CHAIN: &str =
-    r#"{"capacity":1,"labels":4,"tree":[{"name":"r"},{"name":"a","parent":"r"},{"name":"b","parent":"a"}],"items":[1,2,3,4,5],"scripts":[{"frames_out":"D","acks_in":"K"},{"seed":[42,54],"length":6,"loss":300,"repeat":400}],"turns":50}"#;
-
-/// The same, where the second link is wider than the first, and the node between begins with
-/// strays.
-const WIDER_LOSSY_CHAIN: &str =
-    r#"{"version":2,"h":2,"openings":[[],[50,51],[]],"capacity":1,"labels":4,"links":[null,{"capacity":3,"labels":8}],"tree":[{"name":"r"},{"name":"a","parent":"r"},{"name":"b","parent":"a"}],"items":[1,2,3,4,5],"scripts":[{"frames_out":"D","acks_in":"K"},{"seed":[42,54],"length":6,"loss":300,"repeat":400}],"turns":50}"#;
-
-/// The runs, and the text of a report, each with its job.
-const RUNS: [(&str, RunCall, &str); 4] = [
+/// The calls, each with the chain that it is made on.
+const CALLS: [(&str, RunCall, &str); 15] = [
     ("run_locked", RunCall::Run(Links::Locked), CHAIN),
     ("run_words", RunCall::Run(Links::Words), CHAIN),
     ("run_mixed", RunCall::Run(Links::Mixed), WIDER_CHAIN),
     ("report_text", RunCall::ReportText, CHAIN),
+    ("act", RunCall::Act(LINK, WORST_START), CHAIN),
+    ("act", RunCall::Act(TRACE, WORST_START), CHAIN),
+    ("act", RunCall::Act(LINK, UNLAWFUL_START), CHAIN),
+    ("act", RunCall::Act(Task::Tree, TWO_LINKS), CHAIN),
+    ("act", RunCall::Act(Task::Tree, OPENED_CHAIN), CHAIN),
+    ("act", RunCall::Act(LOCKED, LONE_ROOT), CHAIN),
+    ("act", RunCall::ActInPart(LOCKED, LOSSY_CHAIN), CHAIN),
+    ("act", RunCall::Act(WORDS, LONE_ROOT), CHAIN),
+    ("act", RunCall::ActInPart(WORDS, LOSSY_CHAIN), CHAIN),
+    ("act", RunCall::Act(MIXED, LONE_ROOT), CHAIN),
+    ("act", RunCall::ActInPart(MIXED, WIDER_LOSSY_CHAIN), CHAIN),
 ];
 
-/// The tasks with their jobs, and whether all lines that one writes are the same on every schedule.
-const TASKS: [(Task, &str, bool); 11] = [
-    (Task::Link { trace: false }, WORST_START, true),
-    (Task::Link { trace: true }, WORST_START, true),
-    (Task::Link { trace: false }, UNLAWFUL_START, true),
-    (Task::Tree, TWO_LINKS, true),
-    (Task::Tree, OPENED_CHAIN, true),
-    (
-        Task::Run {
-            links: Links::Locked,
-        },
-        LONE_ROOT,
-        true,
-    ),
-    (
-        Task::Run {
-            links: Links::Locked,
-        },
-        LOSSY_CHAIN,
-        false,
-    ),
-    (
-        Task::Run {
-            links: Links::Words,
-        },
-        LONE_ROOT,
-        true,
-    ),
-    (
-        Task::Run {
-            links: Links::Words,
-        },
-        LOSSY_CHAIN,
-        false,
-    ),
-    (
-        Task::Run {
-            links: Links::Mixed,
-        },
-        LONE_ROOT,
-        true,
-    ),
-    (
-        Task::Run {
-            links: Links::Mixed,
-        },
-        WIDER_LOSSY_CHAIN,
-        false,
-    ),
-];
+const LINK: Task = Task::Link { trace: false };
+
+const TRACE: Task = Task::Link { trace: true };
+
+const LOCKED: Task = Task::Run {
+    links: Links::Locked,
+};
+
+const WORDS: Task = Task::Run {
+    links: Links::Words,
+};
+
+const MIXED: Task = Task::Run {
+    links: Links::Mixed,
+};
+
+/// A run, the text of a report, or a task with its job. Of a task in part not all lines that it
+/// writes are the same on every schedule.
+#[derive(Clone, Copy)]
+enum RunCall {
+    Run(Links),
+    ReportText,
+    Act(Task, &'static str),
+    ActInPart(Task, &'static str),
+}
 
 /// A chain, a report of it, and what a task has written.
 #[derive(Debug, Drop)]
@@ -140,34 +85,21 @@ struct Runs {
     record: Record,
 }
 
-/// A run, the text of a report, or a task.
-#[derive(Clone, Copy)]
-enum RunCall {
-    Run(Links),
-    ReportText,
-    Act(Task, &'static str, bool),
-}
-
 /// Makes the calls.
 pub fn make_all<R: Print + Eprint + Threads + Wait + Send + Sync + AllocGlobal>(
     rt: &R,
     texts: &mut Texts,
 ) -> anyhow::Result<()> {
-    for (name, call, job) in &RUNS {
+    for (name, call, job) in &CALLS {
         if make_one(rt, texts, name, call, job).is_err() {
             make_one(rt, texts, name, call, job)?;
-        }
-    }
-    for (task, job, is_whole) in TASKS {
-        let call = RunCall::Act(task, job, is_whole);
-        if make_one(rt, texts, "act", &call, CHAIN).is_err() {
-            make_one(rt, texts, "act", &call, CHAIN)?;
         }
     }
     Ok(())
 }
 
-/// Makes a call on a chain, or does a task.
+/// Makes a call on a chain, or does a task. The chain is read last, so that no fault has to let it
+/// go.
 fn make_one<R: Print + Eprint + Threads + Wait + Send + Sync + AllocGlobal>(
     rt: &R,
     texts: &mut Texts,
@@ -175,7 +107,14 @@ fn make_one<R: Print + Eprint + Threads + Wait + Send + Sync + AllocGlobal>(
     call: &RunCall,
     job: &str,
 ) -> anyhow::Result<()> {
-    let mut runs = Runs::new(rt.alloc(), job)?;
+    let record = Record::new(rt.alloc())?;
+    let report = chain_report(rt.alloc())?;
+    let job = read_job(rt.alloc(), job.as_bytes())?;
+    let mut runs = Runs {
+        job,
+        report,
+        record,
+    };
     again_in_threads(rt, texts, name, &mut runs, call)
 }
 
@@ -189,118 +128,83 @@ fn again_in_threads<R: Print + Eprint + Threads + Wait + Send + Sync + AllocGlob
     call: &RunCall,
 ) -> anyhow::Result<()> {
     write!(texts.before, "{runs:?}")?;
-    if runs.make(rt, call, &mut texts.answer).is_err() {
+    if make(rt, runs, call, &mut texts.answer).is_err() {
         write!(texts.after, "{runs:?}")?;
-        texts.print_refused(rt, name)?;
-        runs.make(rt, call, &mut texts.answer)?;
+        texts.print_refused(rt, "", name)?;
+        make(rt, runs, call, &mut texts.answer)?;
     }
-    texts.print_answer(rt, name)
+    texts.print_answer(rt, "", name)
 }
 
-impl Runs {
-    /// The chain of this job, and nothing written. The job is read last, so that no fault has to
-    /// let it go.
-    fn new(alloc: Global, job: &str) -> anyhow::Result<Runs> {
-        let record = Record::new(alloc)?;
-        let report = chain_report(alloc)?;
-        let job = read_job(alloc, job.as_bytes())?;
-        Ok(Runs {
-            job,
-            report,
-            record,
-        })
-    }
-
-    /// Makes a call.
-    fn make<R: Threads + Wait + Send + Sync + AllocGlobal>(
-        &mut self,
-        rt: &R,
-        call: &RunCall,
-        text: &mut String,
-    ) -> Result<(), AllocError> {
-        match call {
-            RunCall::Run(links) => self.run(rt, *links, text),
-            RunCall::ReportText => {
-                let tree = self.job.tree();
-                if !is_of(&self.report, tree) {
-                    return text.push_str("no report of this job");
-                }
-                text.push_str(&report_text(rt.alloc(), tree, &self.report)?)
-            }
-            RunCall::Act(task, job, is_whole) => self.act(rt, *task, job, *is_whole, text),
-        }
-    }
-
-    /// Runs a chain. Where memory, or the start of a worker, was refused, that is no answer.
-    fn run<R: Threads + Wait + Send + Sync + AllocGlobal>(
-        &self,
-        rt: &R,
-        links: Links,
-        text: &mut String,
-    ) -> Result<(), AllocError> {
-        let gate = CountingGate::new();
-        let answer = match links {
-            Links::Locked => run_locked(rt, rt.alloc(), &self.job, &gate),
-            Links::Words => run_words(rt, rt.alloc(), &self.job, &gate),
-            Links::Mixed => run_mixed(rt, rt.alloc(), &self.job, &gate),
-        };
-        if !gate.is_done_once(answer.is_ok()) {
-            return text.push_str("a node did not ask, or asked and was not done once");
-        }
-        match answer {
-            Ok(report) if is_handed_on(&report) => text.push_str(HANDED_ON),
-            Ok(report) => write!(text, "{report:?}"),
-            Err(fault) if is_refused(&fault) => Err(AllocError),
-            Err(fault) => write!(text, "{fault}"),
-        }
-    }
-
-    /// Does a task. What it wrote is taken out of the record.
-    fn act<R: Threads + Wait + Send + Sync + AllocGlobal>(
-        &mut self,
-        rt: &R,
-        task: Task,
-        job: &str,
-        is_whole: bool,
-        text: &mut String,
-    ) -> Result<(), AllocError> {
-        let mut reader = job.as_bytes();
-        match act(rt, rt.alloc(), task, &mut reader, &mut self.record) {
-            Ok(()) => writeln!(text, "{task:?}, done")?,
-            Err(fault) if is_refusal(&fault) => return Err(AllocError),
-            Err(fault) => writeln!(text, "{task:?}, {fault}")?,
-        }
-        self.record.move_into(text, is_whole)
+/// Makes a call.
+fn make<R: Threads + Wait + Send + Sync + AllocGlobal>(
+    rt: &R,
+    runs: &mut Runs,
+    call: &RunCall,
+    text: &mut String,
+) -> Result<(), AllocError> {
+    match *call {
+        RunCall::Run(links) => run(rt, &runs.job, links, text),
+        RunCall::ReportText => push_report(rt.alloc(), text, &runs.job, &runs.report),
+        RunCall::Act(task, job) => do_task(rt, task, job, true, &mut runs.record, text),
+        RunCall::ActInPart(task, job) => do_task(rt, task, job, false, &mut runs.record, text),
     }
 }
 
-/// Whether a run says that memory, or the start of a worker, was refused.
-fn is_refused(fault: &RunFault) -> bool {
-    matches!(
-        fault,
-        RunFault::Memory
-            | RunFault::Start(_, StartFault::Memory)
-            | RunFault::Thread(_)
-            | RunFault::Node(_, NodeFault::Memory)
-    )
+/// Runs a chain. Where memory, or the start of a worker, was refused, that is no answer.
+fn run<R: Threads + Wait + Send + Sync + AllocGlobal>(
+    rt: &R,
+    job: &Job,
+    links: Links,
+    text: &mut String,
+) -> Result<(), AllocError> {
+    let gate = CountingGate::new();
+    let answer = match links {
+        Links::Locked => run_locked(rt, rt.alloc(), job, &gate),
+        Links::Words => run_words(rt, rt.alloc(), job, &gate),
+        Links::Mixed => run_mixed(rt, rt.alloc(), job, &gate),
+    };
+    if !gate.is_done_once(answer.is_ok()) {
+        return text.push_str("a node did not ask, or asked and was not done once");
+    }
+    match answer {
+        Ok(report) if is_handed_on(&report) => text.push_str(HANDED_ON),
+        Ok(report) => write!(text, "{report:?}"),
+        Err(fault) => push_fault(text, &fault),
+    }
 }
 
-/// Whether a task says so.
-fn is_refusal(fault: &CliFault) -> bool {
-    match fault {
-        CliFault::Run(fault) => is_refused(fault),
-        _ => matches!(
-            fault,
-            CliFault::Memory
-                | CliFault::LinkJob(LinkJobFault::Memory)
-                | CliFault::Job(JobFault::Memory)
-                | CliFault::Start(StartFault::Memory)
-                | CliFault::Tree(
-                    TreeStartFault::Start(StartFault::Memory)
-                        | TreeStartFault::Step(TreeStepFault::Memory)
-                )
-        ),
+/// Adds the text of a report of a chain.
+fn push_report(
+    alloc: Global,
+    text: &mut String,
+    job: &Job,
+    report: &Report,
+) -> Result<(), AllocError> {
+    if is_of(report, job.tree()) {
+        text.push_str(&report_text(alloc, job.tree(), report)?)
+    } else {
+        text.push_str("no report of this job")
     }
+}
+
+/// Does a task. What it wrote is taken out of the record.
+fn do_task<R: Threads + Wait + Send + Sync + AllocGlobal>(
+    rt: &R,
+    task: Task,
+    job: &str,
+    is_whole: bool,
+    record: &mut Record,
+    text: &mut String,
+) -> Result<(), AllocError> {
+    write!(text, "{task:?}, ")?;
+    let mut reader = job.as_bytes();
+    match act(rt, rt.alloc(), task, &mut reader, record) {
+        Ok(()) => text.push_str("done")?,
+        Err(fault) => push_fault(text, &fault)?,
+    }
+    text.push_str("\n")?;
+    record.move_into(text, is_whole)
 }
 
 /// Whether the root of the chain has what is published, its child what that begins with and then

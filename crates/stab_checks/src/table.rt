@@ -1,11 +1,12 @@
 //! A run as a table: the link at its start and after each event.
 
 ghost use Rattle.std.specs.Prelude.{◌≡◌, ◌++◌, false, string_bytes, OnOk, IfErr};
+ghost use Rattle.stab_core.specs.Link.{IsReason};
 ghost use Rattle.stab_checks.specs.Tables.{delivered, effect_word, event_word, number_word};
 ghost use Rattle.stab_checks.specs.Tables.{IsRunFault};
 
-use stab_core::{Effect, Event, Link};
-use stab_script::read_link_job;
+use stab_core::{Effect, Event, Link, StartFault};
+use stab_script::{LinkJob, read_link_job};
 use stab_task::CliFault;
 use std::alloc::{AllocError, Global};
 
@@ -18,17 +19,31 @@ pub(crate) fn run_table(alloc: Global, bytes: &[u8]) -> Result<String, CliFault>
     ensures fault { IfErr result (IsRunFault bytes.now) }
 {
     let job = read_link_job(alloc, bytes)?;
+    let text = table_of(alloc, &job)?;
+    Ok(text)
+}
+
+/// The table of a link job that was read.
+fn table_of(alloc: Global, job: &LinkJob) -> Result<String, StartFault>
+    ensures refused { IfErr result (IsReason job.now.params job.now.start) }
+{
     let mut link = Link::new(alloc, job.params, &job.start)?;
     let mut text = String::from_str(alloc, HEAD)?;
-    text.push_str("start -")?;
-    push_link(&mut text, &link, None)?;
-    for event in job.events.as_slice() {
-        let effect = link.apply(*event)?;
-        push_event(&mut text, *event)?;
-        push_effect(&mut text, effect)?;
-        push_link(&mut text, &link, delivered(effect))?;
-    }
+    push_steps(&mut text, &mut link, job.events.as_slice())?;
     Ok(text)
+}
+
+/// Adds the line of a link at its start, and a line for each event.
+fn push_steps(text: &mut String, link: &mut Link, events: &[Event]) -> Result<(), AllocError> {
+    text.push_str("start -")?;
+    push_link(text, link, None)?;
+    for event in events {
+        let effect = link.apply(*event)?;
+        push_event(text, *event)?;
+        push_effect(text, effect)?;
+        push_link(text, link, delivered(effect))?;
+    }
+    Ok(())
 }
 
 /// A table with one space between two words and a newline after each line.
@@ -140,11 +155,11 @@ fn push_frames(text: &mut String, link: &Link) -> Result<(), AllocError> {
         return text.push_str("-");
     }
     for place in 0..link.frame_count() {
-        push_comma(text, place)?;
+        if place > 0 {
+            text.push_str(",")?;
+        }
         if let Some(frame) = link.frame_at(place) {
-            let label = frame.label;
-            let item = frame.item;
-            write!(text, "{label}={item}")?;
+            write!(text, "{}={}", frame.label, frame.item)?;
         }
     }
     Ok(())
@@ -156,19 +171,12 @@ fn push_acks(text: &mut String, link: &Link) -> Result<(), AllocError> {
         return text.push_str("-");
     }
     for place in 0..link.ack_count() {
-        push_comma(text, place)?;
+        if place > 0 {
+            text.push_str(",")?;
+        }
         if let Some(label) = link.ack_at(place) {
             write!(text, "{label}")?;
         }
     }
     Ok(())
-}
-
-/// Adds a comma before each entry of a list but the first.
-fn push_comma(text: &mut String, place: u16) -> Result<(), AllocError> {
-    if place == 0 {
-        Ok(())
-    } else {
-        text.push_str(",")
-    }
 }

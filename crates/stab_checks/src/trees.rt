@@ -2,258 +2,105 @@
 
 ghost use Rattle.std.specs.Prelude.{◌≡◌, IfOk};
 
-use crate::again::{Calls, Texts, again};
-use crate::links::{ITEMS, params, worst_start};
-use serde_json::Value;
-use stab_core::{LinkAct, Start, StartFault, push_link_text};
-use stab_frames::{Item, Params, Sequence};
-use stab_tree::{NodeId, Tree, read_tree};
-use stab_treecore::{
-    Openings, TreeEvent, TreeStartFault, TreeState, TreeStepFault, run_schedule, schedule_text,
-};
+use crate::again::{Calls, Made, Row, push_answer, push_fault};
+use crate::jobs::WORST_CHAIN;
+use crate::links::ITEMS;
+use stab_core::{LinkAct, push_link_text};
+use stab_run::{Job, read_job};
+use stab_tree::NodeId;
+use stab_treecore::{Openings, TreeEvent, TreeStartFault, TreeState, run_schedule, schedule_text};
 use std::alloc::{AllocError, Global};
 use std::marker::Model;
-
-/// The chain r, a, b.
-const CHAIN: &str = r#"[{"name":"r"},{"name":"a","parent":"r"},{"name":"b","parent":"a"}]"#;
 
 /// The places of the nodes that have a parent.
 const CHILDREN: [u16; 2] = [1, 2];
 
-/// What each node of the chain begins with, and the most that it may.
-const OPENED: [&[Item]; 3] = [&[], &[50, 51], &[]];
-
-const HOLD: u16 = 2;
-
-/// What the schedule publishes.
-const PUBLISHED: [Item; 7] = [10, 11, 12, 13, 14, 15, 16];
-
-/// The stray and the old acknowledgement are received.
-const STRAY: [LinkAct; 2] = [
-    LinkAct::RecvFrame { keep: false },
-    LinkAct::RecvAck { keep: false },
+/// The calls on a chain. Then its links step: each delivers its stray, each item goes to the first
+/// child, and one goes on to the second.
+pub const ROWS: [Row<'static, ChainCall>; 3] = [
+    (
+        1,
+        &[
+            ("Openings::none", ChainCall::NoOpenings),
+            ("TreeState::new", ChainCall::NewState),
+            ("run_schedule", ChainCall::Run),
+            ("schedule_text", ChainCall::Text),
+            ("TreeState::apply", ChainCall::Step(1, RECV_FRAME)),
+            ("TreeState::apply", ChainCall::Step(1, RECV_ACK)),
+            ("TreeState::apply", ChainCall::Step(2, RECV_FRAME)),
+            ("TreeState::apply", ChainCall::Step(2, RECV_ACK)),
+        ],
+    ),
+    (
+        9,
+        &[
+            ("TreeState::apply", ChainCall::Step(1, LinkAct::Offer)),
+            ("TreeState::apply", ChainCall::Step(1, LinkAct::SendFrame)),
+            ("TreeState::apply", ChainCall::Step(1, RECV_FRAME)),
+            ("TreeState::apply", ChainCall::Step(1, LinkAct::SendAck)),
+            ("TreeState::apply", ChainCall::Step(1, RECV_ACK)),
+        ],
+    ),
+    (
+        1,
+        &[
+            ("TreeState::apply", ChainCall::Step(2, LinkAct::Offer)),
+            ("TreeState::apply", ChainCall::Step(2, LinkAct::SendFrame)),
+            ("TreeState::apply", ChainCall::Step(2, RECV_FRAME)),
+            ("TreeState::apply", ChainCall::Step(2, LinkAct::SendAck)),
+            ("TreeState::apply", ChainCall::Step(2, RECV_ACK)),
+            ("the links hold", ChainCall::Links),
+        ],
+    ),
 ];
 
-/// One item goes from the parent to the child, undisturbed.
-const ROUND: [LinkAct; 5] = [
-    LinkAct::Offer,
-    LinkAct::SendFrame,
-    LinkAct::RecvFrame { keep: false },
-    LinkAct::SendAck,
-    LinkAct::RecvAck { keep: false },
-];
+const RECV_FRAME: LinkAct = LinkAct::RecvFrame { keep: false };
 
-/// The acts of the worst start, and the two after which the sender is idle.
-const WORST: [LinkAct; 14] = [
-    LinkAct::Offer,
-    LinkAct::RecvAck { keep: false },
-    LinkAct::SendAck,
-    LinkAct::Offer,
-    LinkAct::RecvAck { keep: false },
-    LinkAct::RecvFrame { keep: false },
-    LinkAct::SendAck,
-    LinkAct::Offer,
-    LinkAct::RecvAck { keep: false },
-    LinkAct::Offer,
-    LinkAct::SendFrame,
-    LinkAct::RecvFrame { keep: false },
-    LinkAct::SendAck,
-    LinkAct::RecvAck { keep: false },
-];
+const RECV_ACK: LinkAct = LinkAct::RecvAck { keep: false };
 
-/// The schedule in which each link meets the worst start, and then items go on undisturbed.
-const SCHEDULE: [(u16, &[LinkAct]); 6] = [
-    (1, &WORST),
-    (1, &ROUND),
-    (1, &ROUND),
-    (1, &ROUND),
-    (2, &WORST),
-    (2, &ROUND),
-];
-
-/// The calls on a chain.
-const ON_CHAIN: [(&str, ChainCall); 4] = [
-    ("Openings::none", ChainCall::NoOpenings),
-    ("TreeState::new", ChainCall::NewState),
-    ("run_schedule", ChainCall::Run),
-    ("schedule_text", ChainCall::Text),
-];
-
-/// The chain, with the worst start of each link, whose inner node begins with strays; a schedule,
-/// and the links after it.
+/// A job of a chain, its links after the schedule, and links that step from their opening.
 #[derive(Drop)]
-struct Chain {
+pub struct Chain {
     alloc: Global,
-    params: [Params; 2],
-    tree: Tree,
-    starts: Vec<Start>,
-    openings: Openings,
-    events: Vec<TreeEvent>,
+    job: Job,
     state: TreeState,
+    steps: TreeState,
 }
 
-/// A call on a chain.
+/// A call on a chain, or a step of the link into a child.
 #[derive(Clone, Copy)]
-enum ChainCall {
+pub enum ChainCall {
     NoOpenings,
     NewState,
     Run,
     Text,
+    Step(u16, LinkAct),
+    Links,
 }
 
 impl Model for Chain {
     ghost use Rattle.std.specs.Prelude.{ℕ, List, Option, ◌≡◌};
-    ghost use Rattle.stab_treecore.specs.NodeOpenings.{FitTree};
 
     ghost Value = { List (Option ℕ) };
 
-    ghost view = { λ chain. chain.tree.parents };
+    ghost view = { λ chain. chain.job.tree.parents };
 
-    ghost invariant = { λ chain. FitTree chain.tree.parents chain.openings
-        × (chain.state.parents ≡ chain.tree.parents) };
+    ghost invariant = { λ chain. chain.state.parents ≡ chain.job.tree.parents };
 }
 
-/// The links of a tree, which make steps.
-#[derive(Drop)]
-struct Steps {
-    state: TreeState,
-}
+impl Made for Chain {
+    type Given = ();
 
-/// Makes the calls.
-pub fn make_all<R: Print + Eprint + AllocGlobal>(rt: &R, texts: &mut Texts) -> anyhow::Result<()> {
-    if make_chain(rt, texts).is_err() {
-        make_chain(rt, texts)?;
-    }
-    Ok(())
-}
-
-/// Makes the calls on a chain, and steps its links.
-fn make_chain<R: Print + Eprint + AllocGlobal>(rt: &R, texts: &mut Texts) -> anyhow::Result<()> {
-    let mut chain = Chain::new(rt.alloc())?;
-    let state = chain.opened()?;
-    make_calls(rt, texts, &mut chain)?;
-    make_steps(rt, texts, &mut Steps { state })
-}
-
-/// Makes the calls on a chain.
-fn make_calls<R: Print + Eprint>(
-    rt: &R,
-    texts: &mut Texts,
-    chain: &mut Chain,
-) -> anyhow::Result<()> {
-    for (name, call) in &ON_CHAIN {
-        again(rt, texts, name, chain, call)?;
-    }
-    Ok(())
-}
-
-/// Steps a tree: each link delivers its stray, then each item goes to the first child, then one
-/// goes on to the second.
-fn make_steps<R: Print + Eprint>(
-    rt: &R,
-    texts: &mut Texts,
-    steps: &mut Steps,
-) -> anyhow::Result<()> {
-    for child in CHILDREN {
-        make_acts(rt, texts, steps, child, &STRAY)?;
-    }
-    for _item in ITEMS {
-        make_acts(rt, texts, steps, CHILDREN[0], &ROUND)?;
-    }
-    make_acts(rt, texts, steps, CHILDREN[1], &ROUND)?;
-    push_links(&mut texts.answer, &steps.state)?;
-    texts.print_answer(rt, "the links hold")
-}
-
-/// Steps the link into a child.
-fn make_acts<R: Print + Eprint>(
-    rt: &R,
-    texts: &mut Texts,
-    steps: &mut Steps,
-    child: u16,
-    acts: &[LinkAct],
-) -> anyhow::Result<()> {
-    for act in acts {
-        again(rt, texts, "TreeState::apply", steps, &act_on(child, *act))?;
-    }
-    Ok(())
-}
-
-/// An act on the link into a child.
-fn act_on(child: u16, act: LinkAct) -> TreeEvent {
-    TreeEvent {
-        child: NodeId::new(child),
-        act,
-    }
-}
-
-/// The events of the schedule.
-fn schedule(alloc: Global) -> Result<Vec<TreeEvent>, AllocError> {
-    let mut events = Vec::new(alloc);
-    for (child, acts) in SCHEDULE {
-        for act in acts {
-            events.push(act_on(child, *act))?;
-        }
-    }
-    Ok(events)
-}
-
-/// The lists that the nodes of the chain begin with.
-fn opened(alloc: Global) -> Result<Vec<Sequence<Item>>, AllocError> {
-    let mut lists = Vec::new(alloc);
-    for list in OPENED {
-        lists.push(Sequence::from_vec(Vec::from_slice(alloc, list)?))?;
-    }
-    Ok(lists)
-}
-
-impl Chain {
-    /// The chain at its opening, and after the schedule.
-    fn new(alloc: Global) -> anyhow::Result<Chain> {
-        let tree = read_tree(alloc, &Value::from_str(alloc, CHAIN)?)?;
-        let mut starts = Vec::new(alloc);
-        starts.push(worst_start(alloc, 99, 0)?)?;
-        starts.push(worst_start(alloc, 98, 0)?)?;
-        let params = [params()?, params()?];
-        let openings = Openings::new(&tree, HOLD, opened(alloc)?)?;
-        let events = schedule(alloc)?;
-        let state = run_schedule(
-            alloc, &params, &tree, &PUBLISHED, &starts, &openings, &events,
-        )?;
+    fn new(alloc: Global, _given: ()) -> anyhow::Result<Chain> {
+        let job = read_job(alloc, WORST_CHAIN.as_bytes())?;
+        let state = after(alloc, &job)?;
+        let steps = opened(alloc, &job)?;
         Ok(Chain {
             alloc,
-            params,
-            tree,
-            starts,
-            openings,
-            events,
+            job,
             state,
+            steps,
         })
-    }
-
-    /// The links at their opening.
-    fn opened(&self) -> Result<TreeState, TreeStartFault> {
-        TreeState::new(
-            self.alloc,
-            &self.params,
-            &self.tree,
-            &ITEMS,
-            &self.starts,
-            &self.openings,
-        )
-    }
-
-    /// The links after the schedule.
-    fn after(&self) -> Result<TreeState, TreeStartFault> {
-        run_schedule(
-            self.alloc,
-            &self.params,
-            &self.tree,
-            &PUBLISHED,
-            &self.starts,
-            &self.openings,
-            &self.events,
-        )
     }
 }
 
@@ -261,42 +108,57 @@ impl Calls for Chain {
     type Call = ChainCall;
 
     fn push_object(&self, text: &mut String) -> Result<(), AllocError> {
-        write!(
-            text,
-            "{:?} {:?} {:?}",
-            self.tree, self.starts, self.openings
-        )?;
-        write!(text, "{:?} {:?}", self.events, self.state)
+        write!(text, "{:?} {:?} {:?}", self.job, self.state, self.steps)
     }
 
     fn make(&mut self, call: &ChainCall, text: &mut String) -> Result<(), AllocError> {
-        match call {
-            ChainCall::NoOpenings => write!(text, "{:?}", Openings::none(self.alloc, &self.tree)?),
-            ChainCall::NewState => push_state(text, self.opened()),
-            ChainCall::Run => push_state(text, self.after()),
-            ChainCall::Text => {
-                text.push_str(&schedule_text(self.alloc, &self.tree, &self.state)?)
-            }
+        let (alloc, tree) = (self.alloc, self.job.tree());
+        match *call {
+            ChainCall::NoOpenings => push_answer(text, Openings::none(alloc, tree)),
+            ChainCall::NewState => push_state(text, opened(alloc, &self.job)),
+            ChainCall::Run => push_state(text, after(alloc, &self.job)),
+            ChainCall::Text => text.push_str(&schedule_text(alloc, tree, &self.state)?),
+            ChainCall::Step(child, act) => step(&mut self.steps, child, act, text),
+            ChainCall::Links => push_links(text, &self.steps),
         }
     }
 }
 
-impl Calls for Steps {
-    type Call = TreeEvent;
+/// The links of a job at their opening, with items of their own.
+fn opened(alloc: Global, job: &Job) -> Result<TreeState, TreeStartFault> {
+    let (params, starts) = (job.params(), job.starts());
+    TreeState::new(alloc, params, job.tree(), &ITEMS, starts, job.openings())
+}
 
-    fn push_object(&self, text: &mut String) -> Result<(), AllocError> {
-        write!(text, "{:?}", self.state)
-    }
+/// The links of a job after its schedule.
+fn after(alloc: Global, job: &Job) -> Result<TreeState, TreeStartFault>
+    ensures { IfOk result (λ state. state.parents ≡ job.now.tree.parents) }
+{
+    run_schedule(
+        alloc,
+        job.params(),
+        job.tree(),
+        job.items(),
+        job.starts(),
+        job.openings(),
+        job.schedule(),
+    )
+}
 
-    fn make(&mut self, event: &TreeEvent, text: &mut String) -> Result<(), AllocError> {
-        match self.state.apply(*event) {
-            Ok(effect) => {
-                let child = event.child.place();
-                write!(text, "{:?} into {child} gives {effect:?}", event.act)
-            }
-            Err(TreeStepFault::Memory) => Err(AllocError),
-            Err(fault) => write!(text, "{fault}"),
-        }
+/// Steps the link into a child.
+fn step(
+    state: &mut TreeState,
+    child: u16,
+    act: LinkAct,
+    text: &mut String,
+) -> Result<(), AllocError> {
+    let event = TreeEvent {
+        child: NodeId::new(child),
+        act,
+    };
+    match state.apply(event) {
+        Ok(effect) => write!(text, "{act:?} into {child} gives {effect:?}"),
+        Err(fault) => push_fault(text, &fault),
     }
 }
 
@@ -307,10 +169,7 @@ fn push_state(
 ) -> Result<(), AllocError> {
     match state {
         Ok(state) => push_links(text, &state),
-        Err(
-            TreeStartFault::Start(StartFault::Memory) | TreeStartFault::Step(TreeStepFault::Memory),
-        ) => Err(AllocError),
-        Err(fault) => write!(text, "{fault}"),
+        Err(fault) => push_fault(text, &fault),
     }
 }
 

@@ -1,12 +1,15 @@
 //! The work of a node, over ends without a link.
 
-use crate::again::{Calls, Texts, again};
+use crate::again::{Calls, Made, Row, push_answer};
 use stab_frames::Item;
 use stab_lock::FrameSeen;
 use stab_node::plain::{PlainRecv, PlainSend};
-use stab_node::{Free, NodeFault, work};
+use stab_node::{Free, work};
 use std::alloc::{AllocError, Global};
 use std::collections::VecDeque;
+
+/// The one call.
+pub const ROW: Row<'static, ()> = (1, &[("work", ())]);
 
 /// What the upper end sees: so many items that each list grows twice, and the close.
 const SEEN: [FrameSeen; 6] = [
@@ -26,37 +29,39 @@ const TURNS: u32 = 50;
 
 /// The ends of a node: two of each, since the work gives up its ends.
 #[derive(Drop)]
-struct Works {
+pub struct Works {
     alloc: Global,
     ups: Vec<PlainRecv>,
     downs: Vec<Vec<PlainSend>>,
 }
 
-/// Makes the call.
-pub fn make_all<R: Print + Eprint + AllocGlobal>(rt: &R, texts: &mut Texts) -> anyhow::Result<()> {
-    let mut works = match Works::new(rt.alloc()) {
-        Ok(works) => works,
-        Err(_) => Works::new(rt.alloc())?,
-    };
-    again(rt, texts, "work", &mut works, &())
+impl Made for Works {
+    type Given = ();
+
+    fn new(alloc: Global, _given: ()) -> anyhow::Result<Works> {
+        let mut works = Works {
+            alloc,
+            ups: Vec::new(alloc),
+            downs: Vec::new(alloc),
+        };
+        works.add_ends()?;
+        works.add_ends()?;
+        Ok(works)
+    }
 }
 
 impl Works {
-    /// Upper ends, and lower ends that acknowledge at once.
-    fn new(alloc: Global) -> Result<Works, AllocError> {
-        let mut ups = Vec::new(alloc);
-        let mut downs = Vec::new(alloc);
-        for _ in 0..2 {
-            let mut seen = VecDeque::with_capacity(alloc, SEEN.len())?;
-            for entry in SEEN {
-                seen.push_back(entry)?;
-            }
-            ups.push(PlainRecv::new(alloc, seen))?;
-            let mut ends = Vec::new(alloc);
-            ends.push(PlainSend::new(alloc, true))?;
-            downs.push(ends)?;
+    /// Adds an upper end, and a lower end that acknowledges at once.
+    fn add_ends(&mut self) -> Result<(), AllocError> {
+        let mut seen = VecDeque::with_capacity(self.alloc, SEEN.len())?;
+        for entry in SEEN {
+            seen.push_back(entry)?;
         }
-        Ok(Works { alloc, ups, downs })
+        self.ups.push(PlainRecv::new(self.alloc, seen))?;
+        let mut ends = Vec::new(self.alloc);
+        ends.push(PlainSend::new(self.alloc, true))?;
+        self.downs.push(ends)?;
+        Ok(())
     }
 }
 
@@ -68,13 +73,10 @@ impl Calls for Works {
     }
 
     fn make(&mut self, _call: &(), text: &mut String) -> Result<(), AllocError> {
-        let up = self.ups.pop();
-        let downs = self.downs.pop().unwrap_or(Vec::new(self.alloc));
+        let (alloc, up) = (self.alloc, self.ups.pop());
+        let downs = self.downs.pop().unwrap_or(Vec::new(alloc));
         let gate = Free::for_nodes(1);
-        match work(&(), self.alloc, 0, up, downs, &OPENED, TURNS, &gate) {
-            Ok(account) => write!(text, "{account:?}"),
-            Err(NodeFault::Memory) => Err(AllocError),
-            Err(fault) => write!(text, "{fault}"),
-        }
+        let account = work(&(), alloc, 0, up, downs, &OPENED, TURNS, &gate);
+        push_answer(text, account)
     }
 }
