@@ -1,6 +1,6 @@
 //! The calls of the program `stab` before it does a task: its command line and its file.
 
-use crate::again::{Calls, Made, Texts, make_rows, push_answer, push_fault};
+use stab_calls::again::{Calls, Made, Texts, make_rows, push_answer, push_fault};
 use stab_task::{load, parse};
 use std::alloc::{AllocError, Global};
 use std::io::{self, ErrorKind, Read};

@@ -10,30 +10,18 @@
 //! gives for it. Without a word it does both.
 #![tactic(auto)]
 
-mod again;
 mod answer;
-mod books;
 mod commands;
-mod end_calls;
-mod ends;
 mod examples;
 mod gate;
-mod jobs;
-mod links;
 mod listing;
-mod readers;
 mod record;
 mod runs;
-mod scripts;
 mod table;
-mod trees;
-mod works;
 
-use crate::again::{Texts, make_rows};
 use crate::examples::compare_all;
-use crate::links::Links;
-use crate::trees::Chain;
-use crate::works::Works;
+use stab_calls::again::Texts;
+use stab_calls::make_calls;
 use stab_task::words;
 use std::process::ExitCode;
 use std::rt::{Env, Files};
@@ -77,13 +65,13 @@ fn run<
         None => "",
     };
     if word != "examples" {
-        make_calls(rt)?;
+        make_all(rt)?;
     }
     Ok(word == "calls" || compare_all(rt)?)
 }
 
 /// Makes the calls, those of the lowest layer first.
-fn make_calls<R: Print + Eprint + Threads + Wait + Send + Sync + AllocGlobal>(
+fn make_all<R: Print + Eprint + Threads + Wait + Send + Sync + AllocGlobal>(
     rt: &R,
 ) -> anyhow::Result<()> {
     let mut texts = match Texts::new(rt.alloc()) {
@@ -98,13 +86,7 @@ fn make_with<R: Print + Eprint + Threads + Wait + Send + Sync + AllocGlobal>(
     rt: &R,
     texts: &mut Texts,
 ) -> anyhow::Result<()> {
-    make_rows::<R, Links>(rt, texts, (), &links::ROWS)?;
-    readers::make_all(rt, texts)?;
-    scripts::make_all(rt, texts)?;
-    make_rows::<R, Chain>(rt, texts, (), &trees::ROWS)?;
-    books::make_all(rt, texts)?;
-    ends::make_all(rt, texts)?;
-    make_rows::<R, Works>(rt, texts, (), &[works::ROW])?;
+    make_calls(rt, texts)?;
     commands::make_all(rt, texts)?;
     runs::make_all(rt, texts)
 }

@@ -6,13 +6,13 @@
 ghost use Rattle.std.specs.Prelude.{◌≡◌, IsTrue};
 ghost use Rattle.stab_run.specs.Reports.{OnePerNode};
 
-use crate::again::{Texts, push_fault};
 use crate::gate::{CountingGate, NODES};
-use crate::jobs::{
+use crate::record::Record;
+use stab_calls::again::{Texts, push_fault};
+use stab_calls::jobs::{
     CHAIN, LONE_ROOT, LOSSY_CHAIN, OPENED_CHAIN, TWO_LINKS, UNLAWFUL_START, WIDER_CHAIN,
     WIDER_LOSSY_CHAIN, WORST_START,
 };
-use crate::record::Record;
 use stab_frames::{Item, Sequence};
 use stab_node::Ended;
 use stab_run::{Job, Report, read_job, report_text, run_locked, run_mixed, run_words};

@@ -6,7 +6,7 @@ use crate::again::{Calls, Made, Row, push_answer, push_fault};
 use crate::jobs::WORST_CHAIN;
 use crate::links::ITEMS;
 use stab_core::{LinkAct, push_link_text};
-use stab_run::{Job, read_job};
+use stab_job::{Job, read_job};
 use stab_tree::NodeId;
 use stab_treecore::{Openings, TreeEvent, TreeStartFault, TreeState, run_schedule, schedule_text};
 use std::alloc::{AllocError, Global};

@@ -4,7 +4,7 @@ use crate::again::{Calls, Made, Texts, make_rows, push_answer};
 use crate::jobs::WORST_START;
 use serde_json::Value;
 use stab_core::Start;
-use stab_run::read_job;
+use stab_job::read_job;
 use stab_script::{Script, read_link_job, read_script, read_start};
 use stab_tree::read_tree;
 use std::alloc::{AllocError, Global};
