@@ -109,16 +109,16 @@ pub(crate) fn assert_each<'t, T: Abort + Alloc<A = Global>>(
     Ok(())
 }
 
-/// Fails the test where this does not hold of the job of these bytes.
+/// Fails the test where this does not hold of the job of this text.
 fn assert_holds<T: Abort + Alloc<A = Global>>(
     rt: &T,
-    bytes: &[u8],
+    text: &str,
     holds: &dyn Fn(&Job) -> bool,
 ) -> Result<(), JobFault>
     requires { IsAlwaysCallable holds.now }
 {
-    let job = read_job(rt.alloc(), bytes)?;
-    assert!(rt; holds(&job));
+    let job = read_job(rt.alloc(), text.as_bytes())?;
+    assert!(rt; holds(&job), "{text}");
     Ok(())
 }
 
@@ -131,5 +131,5 @@ pub(crate) fn assert_read<T: Abort + Alloc<A = Global>>(
     requires { IsAlwaysCallable holds.now }
 {
     let text = pieces.concat(rt.alloc())?;
-    assert_holds(rt, text.as_bytes(), holds)
+    assert_holds(rt, &text, holds)
 }

@@ -1,6 +1,6 @@
 //! Tasks over a single link.
 
-use crate::tasks::{PLAIN, TRACED, WORST_START, WORST_TEXT, assert_answer, assert_told};
+use crate::tasks::{PLAIN, TRACED, WORST_START, WORST_TEXT, assert_answer, assert_fault_of};
 use stab_core::StartFault;
 use stab_frames::ParamsFault;
 use stab_script::LinkJobFault;
@@ -56,10 +56,10 @@ fn refuses_link_jobs_by_name(rt: HostRuntime) -> Result<(), AllocError> {
         ),
     ];
     for &(job, fault, text) in JOBS {
-        assert_told(&rt, &[PLAIN], job, &CliFault::LinkJob(fault), 1, text)?;
+        assert_fault_of(&rt, &[PLAIN], job, &CliFault::LinkJob(fault), 1, text)?;
     }
     for &(job, fault, text) in STARTS {
-        assert_told(&rt, &[PLAIN], job, &CliFault::Start(fault), 3, text)?;
+        assert_fault_of(&rt, &[PLAIN], job, &CliFault::Start(fault), 3, text)?;
     }
     Ok(())
 }

@@ -1,7 +1,7 @@
 //! Jobs whose links have parameters of their own.
 
 use crate::tasks::{
-    LOCKED, LONE_REPORT, LONE_ROOT, MIXED, OF_TREES, RUNS, WORDS, assert_answer, assert_told,
+    LOCKED, LONE_REPORT, LONE_ROOT, MIXED, OF_TREES, RUNS, WORDS, assert_answer, assert_fault_of,
     outcome,
 };
 use crate::words::is_refused;
@@ -34,7 +34,7 @@ fn assert_no_links<T: Threads + Wait + Send + Sync + Abort + Alloc<A = Global>>(
     text: &str,
 ) -> Result<(), AllocError> {
     let job = WIDER.replace(rt.alloc(), LINKS, links)?;
-    assert_told(rt, tasks, &job, fault, status, text)
+    assert_fault_of(rt, tasks, &job, fault, status, text)
 }
 
 /// Fails the test where a task over a tree does not refuse the job with one of these links so.
@@ -90,7 +90,7 @@ fn refused_link_parameters(rt: HostRuntime) -> Result<(), AllocError> {
     assert_no_job(&rt, TOO_WIDE, first, "job: capacity out of range")?;
     assert_no_job(&rt, MISSHAPEN, JobFault::Shape, "job: wrong shape")?;
     let not_one = CliFault::Run(RunFault::CapacityNotOne);
-    assert_told(
+    assert_fault_of(
         &rt,
         &[WORDS],
         WIDER,

@@ -1,8 +1,8 @@
 //! Tasks that run the workers of a job.
 
 use crate::tasks::{
-    LOCKED, LONE_REPORT, LONE_ROOT, MIXED, RUNS, WORDS, assert_answer, assert_fault, assert_told,
-    outcome,
+    LOCKED, LONE_REPORT, LONE_ROOT, MIXED, RUNS, WORDS, assert_answer, assert_fault,
+    assert_fault_of, outcome,
 };
 use stab_core::StartFault;
 use stab_node::NodeFault;
@@ -25,7 +25,7 @@ fn refuses_a_start_that_is_not_lawful(rt: HostRuntime) -> Result<(), AllocError>
     let job =
         r#"{"capacity":1,"labels":4,"tree":[{"name":"r"},{"name":"a","parent":"r"}],"items":[7],"starts":[{"frames":[[0,1],[1,2]],"send":0,"recv":1}]}"#;
     let fault = CliFault::Run(RunFault::Start(NodeId::new(1), StartFault::TooManyFrames));
-    assert_told(&rt, RUNS, job, &fault, 3, "start: too many frames")
+    assert_fault_of(&rt, RUNS, job, &fault, 3, "start: too many frames")
 }
 
 #[test]
@@ -33,7 +33,7 @@ fn words_need_capacity_one(rt: HostRuntime) -> Result<(), AllocError> {
     let job =
         r#"{"capacity":2,"labels":6,"tree":[{"name":"r"},{"name":"a","parent":"r"}],"items":[7,8]}"#;
     let fault = CliFault::Run(RunFault::CapacityNotOne);
-    assert_told(&rt, &[WORDS], job, &fault, 3, "run: capacity is not one")?;
+    assert_fault_of(&rt, &[WORDS], job, &fault, 3, "run: capacity is not one")?;
     let no_link = r#"{"capacity":2,"labels":6,"tree":[{"name":"r"}],"items":[7,8]}"#;
     for &task in RUNS {
         assert_answer(&rt, task, no_link, LONE_REPORT);
@@ -88,7 +88,7 @@ fn refuses_a_cycle_beside_the_root(rt: HostRuntime) -> Result<(), AllocError> {
     let job =
         r#"{"capacity":1,"labels":4,"tree":[{"name":"r"},{"name":"a","parent":"b"},{"name":"b","parent":"a"}],"items":[7]}"#;
     let fault = CliFault::Job(JobFault::Tree(TreeFault::Cycle));
-    assert_told(&rt, RUNS, job, &fault, 1, "tree: cycle")
+    assert_fault_of(&rt, RUNS, job, &fault, 1, "tree: cycle")
 }
 
 #[test]

@@ -150,7 +150,7 @@ pub(crate) fn assert_fault<T: Abort + Alloc<A = Global>>(
 
 /// Fails the test where one of these tasks does not refuse the job with this fault, or the fault
 /// has another status or another text.
-pub(crate) fn assert_told<T: Threads + Wait + Send + Sync + Abort + Alloc<A = Global>>(
+pub(crate) fn assert_fault_of<T: Threads + Wait + Send + Sync + Abort + Alloc<A = Global>>(
     rt: &T,
     tasks: &[Task],
     job: &str,

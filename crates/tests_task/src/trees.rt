@@ -1,6 +1,6 @@
 //! Tasks over a whole tree under one schedule.
 
-use crate::tasks::{LONE_ROOT, LONE_TEXT, assert_answer, assert_told};
+use crate::tasks::{LONE_ROOT, LONE_TEXT, assert_answer, assert_fault_of};
 use stab_core::StartFault;
 use stab_run::JobFault;
 use stab_script::ScriptFault;
@@ -147,7 +147,7 @@ fn refuses_trees_and_schedules_by_name(rt: HostRuntime) -> Result<(), AllocError
         ),
     ];
     for (job, fault, status, text) in &rows {
-        assert_told(&rt, &[Task::Tree], job, fault, *status, text)?;
+        assert_fault_of(&rt, &[Task::Tree], job, fault, *status, text)?;
     }
     Ok(())
 }
