@@ -1,4 +1,4 @@
-ghost use Rattle.std.specs.Prelude.{◌≡◌, ◌≢◌, ◌++◌, List, ℕ, string_bytes};
+ghost use Rattle.std.specs.Prelude.{◌≡◌, ◌≢◌, ◌++◌, List, ℕ, true, string_bytes};
 ghost use Rattle.std.specs.Prelude.{All, IfSome, IfOk, IfErr, OnOk};
 ghost use Rattle.std.specs.List.{AllZip};
 ghost use Rattle.std.specs.Io.KnownBytes.{Appends, Keeps};
@@ -104,10 +104,19 @@ fn job_text(alloc: Global, with_trace: bool, job: &LinkJob) -> Result<String, St
     ensures lawful { OnOk result (IsLawful job.now.params job.now.start) }
     ensures refused { IfErr result (IsReason job.now.params job.now.start) }
 {
-    if !with_trace {
-        let link = replay_link(alloc, job)?;
-        return Ok(link_text(alloc, &link)?);
+    if with_trace {
+        return traced_text(alloc, job);
     }
+    let link = replay_link(alloc, job)?;
+    Ok(link_text(alloc, &link)?)
+}
+
+/// The text of a link job that was read, with the origins of what it delivers.
+fn traced_text(alloc: Global, job: &LinkJob) -> Result<String, StartFault>
+    ensures text { IfOk result (λ text. string_bytes text ≡ link_answer true job.now) }
+    ensures lawful { OnOk result (IsLawful job.now.params job.now.start) }
+    ensures refused { IfErr result (IsReason job.now.params job.now.start) }
+{
     let (link, origins) = run_traced(alloc, job.params, &job.start, job.events.as_slice())?;
     let mut text = link_text(alloc, &link)?;
     push_origins_text(&mut text, &origins)?;

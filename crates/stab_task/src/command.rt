@@ -1,6 +1,6 @@
 ghost use Rattle.std.specs.Prelude.{◌≡◌, ◌≢◌, ◌≤◌, ◌⊎◌, [], codes, false, length, map, None};
 ghost use Rattle.std.specs.Prelude.{option_map, string_bytes, IfOk, IfErr, IsOkAnd};
-ghost use Rattle.clap.specs.Words.{app_of, fault_of, first_of, found_of, kind_of, rows_of};
+ghost use Rattle.clap.specs.Words.{App, app_of, with_subcommand, fault_of, first_of, found_of, kind_of, rows_of};
 ghost use Rattle.clap.specs.Words.{rule_of};
 ghost use Rattle.clap.specs.Words.{subcommand_of, subcommand_rows_of};
 ghost use Rattle.clap.specs.declared.builder.command.Command.TheViews.{out-Command as fields_of};
@@ -80,12 +80,24 @@ fn matches_of<'a>(alloc: Global, words: &'a [String]) -> Result<ArgMatches<'a>, 
 fn stab<'a>(alloc: Global) -> Result<Command<'a>, AllocError>
     ensures { IfOk result (λ command. app_of command ≡ stab_line) }
 {
-    let stab = Command::new(alloc, "stab")
-        .disable_help_subcommand(true)
-        .subcommand(link(alloc)?)?
-        .subcommand(tree(alloc)?)?
-        .subcommand(run(alloc)?)?;
+    let bare = Command::new(alloc, "stab").disable_help_subcommand(true);
+    let with_link = add_to(bare, link(alloc))?;
+    let with_tree = add_to(with_link, tree(alloc))?;
+    let stab = add_to(with_tree, run(alloc))?;
     Ok(stab)
+}
+
+/// The command with this subcommand, where that could be made.
+fn add_to<'a>(
+    command: Command<'a>,
+    subcommand: Result<Command<'a>, AllocError>,
+) -> Result<Command<'a>, AllocError>
+    ensures { IfOk result (λ whole. (line : App)
+        → IfOk subcommand.entry (λ added. app_of added ≡ line)
+        → IfOk subcommand.entry (λ added. (fields_of added).has_globals ≡ false)
+        → app_of whole ≡ with_subcommand (app_of command.entry) line.top) }
+{
+    command.subcommand(subcommand?)
 }
 
 /// The subcommand `link [--trace] [FILE]`.
