@@ -1,12 +1,11 @@
 //! The calls of the two ends of a link as data, each beside its answer, and the helpers that make
 //! them on the ends of a link of either kind.
 
-ghost use Rattle.std.specs.Prelude.{◌≡◌, IfOk};
+ghost use Rattle.std.specs.Prelude.{◌≡◌};
 
 use stab_core::Effect;
 use stab_frames::Item;
 use stab_lock::{FrameSeen, RecvSide, SendSide, Settled};
-use std::alloc::AllocError;
 use std::process::Abort;
 
 /// A call of one of the two ends, beside the answer that it must give.
@@ -20,34 +19,6 @@ pub enum Ask {
     SendAck(Effect),
 }
 
-/// Whether a call gave the answer that it must give.
-pub fn gave<A: Copy + PartialEq>(
-    given: Result<A, AllocError>,
-    want: A,
-) -> Result<bool, AllocError> {
-    Ok(given? == want)
-}
-
-/// Makes a call. It answers whether the call gave its answer.
-fn make<S: SendSide, T: RecvSide<Pass = S::Pass>>(
-    pass: &S::Pass,
-    send: &mut S,
-    recv: &mut T,
-    ask: Ask,
-) -> Result<bool, AllocError>
-    ensures sender { S.link send.new ≡ S.link send.old }
-    ensures receiver { T.link recv.new ≡ T.link recv.old }
-{
-    match ask {
-        Ask::Offer(item, taken) => gave(send.offer(pass, item), taken),
-        Ask::Send(effect) => gave(send.send(pass), effect),
-        Ask::PollAck(effect) => gave(send.poll_ack(pass), effect),
-        Ask::Close(effect) => gave(send.close(pass), effect),
-        Ask::PollFrame(seen) => gave(recv.poll_frame(pass), seen),
-        Ask::SendAck(effect) => gave(recv.send_ack(pass), effect),
-    }
-}
-
 /// Makes a call, and compares the answer.
 pub fn ask_one<S: SendSide, T: RecvSide<Pass = S::Pass>, R: Abort>(
     rt: &R,
@@ -55,13 +26,19 @@ pub fn ask_one<S: SendSide, T: RecvSide<Pass = S::Pass>, R: Abort>(
     send: &mut S,
     recv: &mut T,
     ask: Ask,
-) -> Result<(), AllocError>
+)
     ensures sender { S.link send.new ≡ S.link send.old }
     ensures receiver { T.link recv.new ≡ T.link recv.old }
 {
-    let is_answered = make(pass, send, recv, ask)?;
+    let is_answered = match ask {
+        Ask::Offer(item, taken) => send.offer(pass, item).expect(rt, "memory") == taken,
+        Ask::Send(effect) => send.send(pass).expect(rt, "memory") == effect,
+        Ask::PollAck(effect) => send.poll_ack(pass).expect(rt, "memory") == effect,
+        Ask::Close(effect) => send.close(pass).expect(rt, "memory") == effect,
+        Ask::PollFrame(seen) => recv.poll_frame(pass).expect(rt, "memory") == seen,
+        Ask::SendAck(effect) => recv.send_ack(pass).expect(rt, "memory") == effect,
+    };
     assert!(rt; is_answered, "{ask:?}");
-    Ok(())
 }
 
 /// Makes the calls on both ends, in their order, and compares the answers.
@@ -71,14 +48,13 @@ pub fn ask_all<S: SendSide, T: RecvSide<Pass = S::Pass>, R: Abort>(
     send: &mut S,
     recv: &mut T,
     asks: &[Ask],
-) -> Result<(), AllocError>
+)
     ensures sender { S.link send.new ≡ S.link send.old }
     ensures receiver { T.link recv.new ≡ T.link recv.old }
 {
     'asks: for ask in asks {
-        ask_one(rt, pass, send, recv, *ask)?;
+        ask_one(rt, pass, send, recv, *ask);
     }
-    Ok(())
 }
 
 /// Makes the calls on both ends, and finishes the ends.
@@ -88,12 +64,12 @@ pub fn ask_and_finish<S: SendSide, T: RecvSide<Pass = S::Pass>, R: Abort>(
     mut send: S,
     mut recv: T,
     asks: &[Ask],
-) -> Result<(S::Done, T::Done), AllocError>
-    ensures sender { IfOk result (λ done. S.done_link done.0 ≡ S.link send) }
-    ensures receiver { IfOk result (λ done. T.done_link done.1 ≡ T.link recv) }
+) -> (S::Done, T::Done)
+    ensures sender { S.done_link result.0 ≡ S.link send }
+    ensures receiver { T.done_link result.1 ≡ T.link recv }
 {
-    ask_all(rt, pass, &mut send, &mut recv, asks)?;
-    Ok((send.finish(), recv.finish()))
+    ask_all(rt, pass, &mut send, &mut recv, asks);
+    (send.finish(), recv.finish())
 }
 
 /// Fails the test where the accounts are others: the offered items, how many of them are

@@ -13,12 +13,11 @@ use stab_script::{OutAct, Script};
 use stab_word::{WordFault, WordLink, WordOpening};
 use std::alloc::{AllocError, Global};
 use std::process::Abort;
-use std::test::Fail;
 use std::thread;
 use std::thread::Threads;
 
 /// Three items are acknowledged before the receiver has taken one.
-const WORST_START: [Ask; 12] = [
+static WORST_START: [Ask; 12] = [
     Ask::Offer(10, true),
     Ask::PollAck(Effect::Acked),
     Ask::SendAck(Effect::Sent),
@@ -34,7 +33,7 @@ const WORST_START: [Ask; 12] = [
 ];
 
 /// A round with 7, and the close.
-const ROUND_AND_CLOSE: [Ask; 12] = [
+static ROUND_AND_CLOSE: [Ask; 12] = [
     Ask::Offer(7, true),
     Ask::Send(Effect::Sent),
     Ask::PollFrame(FrameSeen::Fresh(7)),
@@ -50,25 +49,29 @@ const ROUND_AND_CLOSE: [Ask; 12] = [
 ];
 
 /// A start with as many equal frames and equal acknowledgements as counted.
-fn start_with(
+fn start_with<R: Abort>(
+    rt: &R,
     alloc: Global,
     frames: usize,
     acks: usize,
     labels: (Label, Label),
-) -> Result<Start, AllocError> {
-    Ok(Start {
-        frames: Sequence::from_vec(vec![in alloc; Frame { label: 2, item: 99 }; frames]?),
-        acks: Sequence::from_vec(vec![in alloc; 0; acks]?),
+) -> Start {
+    let frames = vec![in alloc; Frame { label: 2, item: 99 }; frames].expect(rt, "frames");
+    let acks = vec![in alloc; 0; acks].expect(rt, "acknowledgements");
+    Start {
+        frames: Sequence::from_vec(frames),
+        acks: Sequence::from_vec(acks),
         send_label: labels.0,
         recv_label: labels.1,
-    })
+    }
 }
 
 /// A link of capacity 1 with 4 labels at this start, beside its opening.
-fn link_at(alloc: Global, start: &Start) -> Result<(WordLink, WordOpening), Fail>
-    ensures { IfOk result (λ made. made.1 ≡ made.0) }
+fn link_at<R: Abort>(rt: &R, alloc: Global, start: &Start) -> (WordLink, WordOpening)
+    ensures { result.1 ≡ result.0 }
 {
-    Ok(WordLink::new(alloc, Params::new(1, 4)?, start)?)
+    let params = Params::new(1, 4).expect(rt, "parameters");
+    WordLink::new(alloc, params, start).expect(rt, "a link")
 }
 
 /// The accounts of both ends of a link under this script after these calls.
@@ -78,56 +81,56 @@ fn settled<R: Abort>(
     start: &Start,
     script: Script,
     asks: &[Ask],
-) -> Result<Settled, Fail> {
-    let (link, opening) = link_at(alloc, start)?;
-    let (send, recv) = link.split(alloc, opening, script)?;
-    let (sent, received) = ask_and_finish(rt, &(), send, recv, asks)?;
-    Ok(link.settle(sent, received))
-}
-
-/// The same from a start with as many frames and acknowledgements as counted, with no script.
-fn settled_from<R: Abort>(
-    rt: &R,
-    alloc: Global,
-    frames: usize,
-    acks: usize,
-    labels: (Label, Label),
-    asks: &[Ask],
-) -> Result<Settled, Fail> {
-    let start = start_with(alloc, frames, acks, labels)?;
-    settled(rt, alloc, &start, Script::none(alloc), asks)
+) -> Settled {
+    let (link, opening) = link_at(rt, alloc, start);
+    let (send, recv) = link.split(alloc, opening, script).expect(rt, "ends");
+    let (sent, received) = ask_and_finish(rt, &(), send, recv, asks);
+    link.settle(sent, received)
 }
 
 #[test]
-fn the_worst_start_in_words(rt: HostRuntime) -> Result<(), Fail> {
-    let settled = settled_from(&rt, rt.alloc(), 1, 1, (0, 1), &WORST_START)?;
+fn the_worst_start_in_words(rt: HostRuntime) {
+    let start = start_with(&rt, rt.alloc(), 1, 1, (0, 1));
+    let settled = settled(
+        &rt,
+        rt.alloc(),
+        &start,
+        Script::none(rt.alloc()),
+        &WORST_START,
+    );
     assert_settled(&rt, &settled, &[10, 11, 12, 13], 3, &[99, 13], false);
-    Ok(())
 }
 
 #[test]
-fn a_round_and_a_close_in_words(rt: HostRuntime) -> Result<(), Fail> {
-    let settled = settled_from(&rt, rt.alloc(), 0, 0, (0, 3), &ROUND_AND_CLOSE)?;
+fn a_round_and_a_close_in_words(rt: HostRuntime) {
+    let start = start_with(&rt, rt.alloc(), 0, 0, (0, 3));
+    let settled = settled(
+        &rt,
+        rt.alloc(),
+        &start,
+        Script::none(rt.alloc()),
+        &ROUND_AND_CLOSE,
+    );
     assert_settled(&rt, &settled, &[7], 1, &[7], true);
-    Ok(())
 }
 
 /// Why a link of this capacity with as many labels, frames and acknowledgements as counted is
 /// refused, or `None` where it is made.
-fn refusal(
+fn refusal<R: Abort>(
+    rt: &R,
     alloc: Global,
     params: (u16, u16),
     frames: usize,
     acks: usize,
-) -> Result<Option<WordFault>, Fail> {
-    let start = start_with(alloc, frames, acks, (0, 3))?;
-    let params = Params::new(params.0, params.1)?;
-    Ok(WordLink::new(alloc, params, &start).err())
+) -> Option<WordFault> {
+    let start = start_with(rt, alloc, frames, acks, (0, 3));
+    let params = Params::new(params.0, params.1).expect(rt, "parameters");
+    WordLink::new(alloc, params, &start).err()
 }
 
 /// The capacity and the labels of a link, how many frames and acknowledgements its start has, and
 /// why it is refused.
-const REFUSALS: [((u16, u16), usize, usize, Option<WordFault>); 6] = [
+static REFUSALS: [((u16, u16), usize, usize, Option<WordFault>); 6] = [
     ((2, 6), 0, 0, Some(WordFault::CapacityNotOne)),
     ((2, 6), 5, 0, Some(WordFault::CapacityNotOne)),
     (
@@ -152,16 +155,15 @@ const REFUSALS: [((u16, u16), usize, usize, Option<WordFault>); 6] = [
 ];
 
 #[test]
-fn refuses_capacities_and_starts(rt: HostRuntime) -> Result<(), Fail> {
+fn refuses_capacities_and_starts(rt: HostRuntime) {
     for (params, frames, acks, want) in &REFUSALS {
-        let fault = refusal(rt.alloc(), *params, *frames, *acks)?;
+        let fault = refusal(&rt, rt.alloc(), *params, *frames, *acks);
         assert!(rt; fault == *want, "{want:?}");
     }
-    Ok(())
 }
 
 /// The text of each refusal.
-const FAULTS: [(WordFault, &str); 4] = [
+static FAULTS: [(WordFault, &str); 4] = [
     (WordFault::CapacityNotOne, "run: capacity is not one"),
     (
         WordFault::Start(StartFault::TooManyFrames),
@@ -174,28 +176,16 @@ const FAULTS: [(WordFault, &str); 4] = [
     (WordFault::Memory, "out of memory"),
 ];
 
-/// Fails the test where a fault prints another text.
-fn assert_prints<R: Abort>(
-    rt: &R,
-    alloc: Global,
-    fault: WordFault,
-    want: &str,
-) -> Result<(), Fail> {
-    let text = fault.to_string(alloc)?;
-    assert!(rt; text.as_str() == want, "{want}");
-    Ok(())
-}
-
 #[test]
-fn prints_each_fault(rt: HostRuntime) -> Result<(), Fail> {
+fn prints_each_fault(rt: HostRuntime) {
     for (fault, want) in &FAULTS {
-        assert_prints(&rt, rt.alloc(), *fault, *want)?;
+        let text = fault.to_string(rt.alloc()).expect(&rt, "a text");
+        assert!(rt; text.as_str() == *want, "{want}");
     }
-    Ok(())
 }
 
 /// Frames out and acknowledgements out under Drop, and then under Evict.
-const SCRIPTED: [Ask; 10] = [
+static SCRIPTED: [Ask; 10] = [
     Ask::Offer(7, true),
     Ask::Send(Effect::Lost),
     Ask::PollFrame(FrameSeen::Nothing),
@@ -209,31 +199,25 @@ const SCRIPTED: [Ask; 10] = [
 ];
 
 /// Drop, Evict, for what goes out of either end.
-fn script_of_losses(alloc: Global) -> Result<Script, Fail> {
-    let frames = drop_then_evict(alloc)?;
-    let acks = drop_then_evict(alloc)?;
-    Ok(Script::new(frames, Vec::new(alloc), acks, Vec::new(alloc))?)
+fn script_of_losses<R: Abort>(rt: &R, alloc: Global) -> Script {
+    let frames = drop_then_evict(rt, alloc);
+    let acks = drop_then_evict(rt, alloc);
+    Script::new(frames, Vec::new(alloc), acks, Vec::new(alloc)).expect(rt, "a script")
 }
 
 /// Drop, Evict.
-fn drop_then_evict(alloc: Global) -> Result<Vec<OutAct>, AllocError> {
-    let mut acts = Vec::with_capacity(alloc, 2)?;
+fn drop_then_evict<R: Abort>(rt: &R, alloc: Global) -> Vec<OutAct> {
+    let mut acts = Vec::with_capacity(alloc, 2).expect(rt, "room");
     acts.push_reserved(OutAct::Drop);
     acts.push_reserved(OutAct::Evict);
-    Ok(acts)
-}
-
-/// The accounts of both ends of a link after the scripted calls.
-fn settled_by_script<R: Abort>(rt: &R, alloc: Global, start: &Start) -> Result<Settled, Fail> {
-    let script = script_of_losses(alloc)?;
-    settled(rt, alloc, start, script, &SCRIPTED)
+    acts
 }
 
 #[test]
-fn a_script_in_words(rt: HostRuntime) -> Result<(), Fail> {
-    let start = start_with(rt.alloc(), 0, 0, (0, 3))?;
-    settled_by_script(&rt, rt.alloc(), &start)?;
-    Ok(())
+fn a_script_in_words(rt: HostRuntime) {
+    let start = start_with(&rt, rt.alloc(), 0, 0, (0, 3));
+    let script = script_of_losses(&rt, rt.alloc());
+    settled(&rt, rt.alloc(), &start, script, &SCRIPTED);
 }
 
 /// How many items the receiver's account has room for.
@@ -251,83 +235,38 @@ fn fill<S: SendSide<Pass = ()>, T: RecvSide<Pass = ()>, R: Abort>(
     send: &mut S,
     recv: &mut T,
     first: Item,
-) -> Result<Item, AllocError> {
+) -> Item {
     for item in first..MOST_ROUNDS {
         if recv.account().delivered.len() == room(recv) {
-            return Ok(item);
+            return item;
         }
-        let round = [
-            Ask::Offer(item, true),
-            Ask::Send(Effect::Sent),
-            Ask::PollFrame(FrameSeen::Fresh(item)),
-            Ask::SendAck(Effect::Sent),
-            Ask::PollAck(Effect::Acked),
-        ];
-        ask_all(rt, &(), send, recv, &round)?;
+        ask_round(rt, send, recv, item);
     }
-    Ok(MOST_ROUNDS)
+    MOST_ROUNDS
 }
 
-/// Looks for a frame after the close, with no place: the account makes no room.
-fn look_at_the_close<S: SendSide<Pass = ()>, T: RecvSide<Pass = ()>, R: Abort>(
+/// An undisturbed round with this item.
+fn ask_round<S: SendSide<Pass = ()>, T: RecvSide<Pass = ()>, R: Abort>(
     rt: &R,
     send: &mut S,
     recv: &mut T,
-) -> Result<(), AllocError> {
-    fill(rt, send, recv, 0)?;
-    let full = room(recv);
-    let close = [
-        Ask::Close(Effect::Closed),
-        Ask::PollFrame(FrameSeen::Closed),
-    ];
-    ask_all(rt, &(), send, recv, &close)?;
-    assert!(rt; room(recv) == full, "the close");
-    Ok(())
-}
-
-/// Looks for a frame on an empty word: the account makes no room.
-fn look_at_an_empty_word<S: SendSide<Pass = ()>, T: RecvSide<Pass = ()>, R: Abort>(
-    rt: &R,
-    send: &mut S,
-    recv: &mut T,
-) -> Result<(), AllocError> {
-    let empty = room(recv);
-    ask_one(rt, &(), send, recv, Ask::PollFrame(FrameSeen::Nothing))?;
-    assert!(rt; room(recv) == empty, "an empty word");
-    Ok(())
-}
-
-/// Looks for a frame with no place under an old label: the account makes no room.
-fn look_at_an_old_label<S: SendSide<Pass = ()>, T: RecvSide<Pass = ()>, R: Abort>(
-    rt: &R,
-    send: &mut S,
-    recv: &mut T,
-) -> Result<(), AllocError> {
-    let full = room(recv);
-    ask_one(rt, &(), send, recv, Ask::PollFrame(FrameSeen::Old))?;
-    assert!(rt; room(recv) == full, "an old label");
-    Ok(())
-}
-
-/// Looks for a frame with no place under another label: the account makes room.
-fn look_at_another_label<S: SendSide<Pass = ()>, T: RecvSide<Pass = ()>, R: Abort>(
-    rt: &R,
-    send: &mut S,
-    recv: &mut T,
-    next: Item,
-) -> Result<(), AllocError> {
-    let full = room(recv);
+    item: Item,
+) {
     let round = [
-        Ask::Offer(next, true),
+        Ask::Offer(item, true),
         Ask::Send(Effect::Sent),
-        Ask::PollFrame(FrameSeen::Fresh(next)),
+        Ask::PollFrame(FrameSeen::Fresh(item)),
         Ask::SendAck(Effect::Sent),
         Ask::PollAck(Effect::Acked),
     ];
-    ask_all(rt, &(), send, recv, &round)?;
-    assert!(rt; room(recv) > full, "another label");
-    Ok(())
+    ask_all(rt, &(), send, recv, &round);
 }
+
+/// The close, and a look for a frame after it.
+static CLOSE: [Ask; 2] = [
+    Ask::Close(Effect::Closed),
+    Ask::PollFrame(FrameSeen::Closed),
+];
 
 /// Looks for a frame on an empty word, then with no place under an old label, under another label
 /// and after the close: the account makes room under another label alone.
@@ -335,24 +274,31 @@ fn look_without_a_place<S: SendSide<Pass = ()>, T: RecvSide<Pass = ()>, R: Abort
     rt: &R,
     send: &mut S,
     recv: &mut T,
-) -> Result<(), AllocError> {
-    look_at_an_empty_word(rt, send, recv)?;
-    let next = fill(rt, send, recv, 0)?;
-    look_at_an_old_label(rt, send, recv)?;
-    look_at_another_label(rt, send, recv, next)?;
-    look_at_the_close(rt, send, recv)
-}
+) {
+    let empty = room(recv);
+    ask_one(rt, &(), send, recv, Ask::PollFrame(FrameSeen::Nothing));
+    assert!(rt; room(recv) == empty, "an empty word");
 
-/// The same with the ends of a clean link.
-fn look_on_a_clean_link<R: Abort>(rt: &R, alloc: Global) -> Result<(), Fail> {
-    let (link, opening) = link_at(alloc, &Start::clean(alloc))?;
-    let (mut send, mut recv) = link.split(alloc, opening, Script::none(alloc))?;
-    Ok(look_without_a_place(rt, &mut send, &mut recv)?)
+    let next = fill(rt, send, recv, 0);
+    let full = room(recv);
+    ask_one(rt, &(), send, recv, Ask::PollFrame(FrameSeen::Old));
+    assert!(rt; room(recv) == full, "an old label");
+
+    ask_round(rt, send, recv, next);
+    assert!(rt; room(recv) > full, "another label");
+
+    fill(rt, send, recv, 0);
+    let full = room(recv);
+    ask_all(rt, &(), send, recv, &CLOSE);
+    assert!(rt; room(recv) == full, "the close");
 }
 
 #[test]
-fn makes_room_for_another_label_alone(rt: HostRuntime) -> Result<(), Fail> {
-    look_on_a_clean_link(&rt, rt.alloc())
+fn makes_room_for_another_label_alone(rt: HostRuntime) {
+    let (link, opening) = link_at(&rt, rt.alloc(), &Start::clean(rt.alloc()));
+    let script = Script::none(rt.alloc());
+    let (mut send, mut recv) = link.split(rt.alloc(), opening, script).expect(&rt, "ends");
+    look_without_a_place(&rt, &mut send, &mut recv);
 }
 
 /// How many items the two threads exchange.
@@ -410,18 +356,18 @@ fn recv_all<T: RecvSide<Pass = ()>>(mut recv: T) -> Result<T::Done, AllocError>
 }
 
 /// Both parts, each in a thread of its own.
-fn both<S, T, R>(rt: &R, send: S, recv: T) -> Result<(S::Done, T::Done), AllocError>
+fn both<S, T, R>(rt: &R, send: S, recv: T) -> (S::Done, T::Done)
 where
     S: SendSide<Pass = ()> + Send,
     T: RecvSide<Pass = ()> + Send,
     S::Done: Send,
     T::Done: Send,
-    R: Threads,
-    ensures sender { IfOk result (λ done. S.done_link done.0 ≡ S.link send) }
-    ensures receiver { IfOk result (λ done. T.done_link done.1 ≡ T.link recv) }
+    R: Threads + Abort,
+    ensures sender { S.done_link result.0 ≡ S.link send }
+    ensures receiver { T.done_link result.1 ≡ T.link recv }
 {
     let (sent, received) = thread::join(rt, || send_all(send), || recv_all(recv));
-    Ok((sent?, received?))
+    (sent.expect(rt, "memory"), received.expect(rt, "memory"))
 }
 
 /// Fails the test where the delivered items do not rise, so that one came twice or out of order, or
@@ -435,19 +381,6 @@ fn assert_rising<R: Abort>(rt: &R, delivered: &[Item], offered: usize) {
     assert!(rt; last as usize <= offered, "{last} was not offered");
 }
 
-/// The accounts that a clean link settles after two threads have worked on its ends under this
-/// script.
-fn settled_by_threads<R: Threads + Abort>(
-    rt: &R,
-    alloc: Global,
-    script: Script,
-) -> Result<Settled, Fail> {
-    let (link, opening) = link_at(alloc, &Start::clean(alloc))?;
-    let (send, recv) = link.split(alloc, opening, script)?;
-    let (sent, received) = both(rt, send, recv)?;
-    Ok(link.settle(sent, received))
-}
-
 /// Fails the test where the accounts break the law of a link of capacity one, or the sender did not
 /// close.
 fn assert_lawful<R: Abort>(rt: &R, settled: &Settled) {
@@ -458,9 +391,10 @@ fn assert_lawful<R: Abort>(rt: &R, settled: &Settled) {
 }
 
 #[test]
-fn two_threads(rt: HostRuntime) -> Result<(), Fail> {
-    let script = Script::from_seed(rt.alloc(), 42, 54, 20_000, 300, 300)?;
-    let settled = settled_by_threads(&rt, rt.alloc(), script)?;
-    assert_lawful(&rt, &settled);
-    Ok(())
+fn two_threads(rt: HostRuntime) {
+    let (link, opening) = link_at(&rt, rt.alloc(), &Start::clean(rt.alloc()));
+    let script = Script::from_seed(rt.alloc(), 42, 54, 20_000, 300, 300).expect(&rt, "a script");
+    let (send, recv) = link.split(rt.alloc(), opening, script).expect(&rt, "ends");
+    let (sent, received) = both(&rt, send, recv);
+    assert_lawful(&rt, &link.settle(sent, received));
 }

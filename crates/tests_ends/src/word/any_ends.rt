@@ -6,7 +6,7 @@ use stab_word::{AnyRecv, AnyRecvDone, AnySend, AnySendDone};
 use std::sync::Wait;
 
 /// A round with 7, and the close, as a link of either kind answers.
-const EITHER_KIND: [Ask; 11] = [
+static EITHER_KIND: [Ask; 11] = [
     Ask::Offer(7, true),
     Ask::Send(Effect::Sent),
     Ask::PollFrame(FrameSeen::Fresh(7)),
@@ -20,52 +20,47 @@ const EITHER_KIND: [Ask; 11] = [
     Ask::Close(Effect::Nothing),
 ];
 
-/// A locked link with empty queues.
-fn lock_link(alloc: Global) -> Result<LockLink, Fail> {
-    let params = Params::new(1, 4)?;
-    Ok(LockLink::new(alloc, params, start_with(alloc, 0, 0, (0, 3))?)?)
-}
-
 /// The accounts of a locked link after that round, which its ends make as ends of either kind.
-fn settled_with_a_lock<R: Wait + Abort>(rt: &R, alloc: Global) -> Result<Settled, Fail> {
-    let link = lock_link(alloc)?;
+fn settled_with_a_lock<R: Wait + Abort>(rt: &R, alloc: Global, start: Start) -> Settled {
+    let params = Params::new(1, 4).expect(rt, "parameters");
+    let link = LockLink::new(alloc, params, start).expect(rt, "a link");
     let (send, recv) = link.split::<R>(Script::none(alloc));
     let (send, recv) = (AnySend::Lock(send), AnyRecv::Lock(recv));
-    let (sent, received) = ask_and_finish(rt, rt, send, recv, &EITHER_KIND)?;
+    let (sent, received) = ask_and_finish(rt, rt, send, recv, &EITHER_KIND);
     match (sent, received) {
-        (AnySendDone::Lock(sent), AnyRecvDone::Lock(received)) => Ok(link.settle(sent, received)?),
+        (AnySendDone::Lock(sent), AnyRecvDone::Lock(received)) => {
+            link.settle(sent, received)
+                .expect(rt, "accounts that agree")
+        }
         _ => unreachable!(),
     }
 }
 
 /// The accounts of a link of two words after that round, which its ends make as ends of either
 /// kind.
-fn settled_with_two_words<R: Wait + Abort>(
-    rt: &R,
-    alloc: Global,
-    start: &Start,
-) -> Result<Settled, Fail> {
-    let (link, opening) = link_at(alloc, start)?;
-    let (send, recv) = link.split(alloc, opening, Script::none(alloc))?;
+fn settled_with_two_words<R: Wait + Abort>(rt: &R, alloc: Global, start: &Start) -> Settled {
+    let (link, opening) = link_at(rt, alloc, start);
+    let (send, recv) = link
+        .split(alloc, opening, Script::none(alloc))
+        .expect(rt, "ends");
     let (send, recv) = (AnySend::<R>::Word(send), AnyRecv::<R>::Word(recv));
-    let (sent, received) = ask_and_finish(rt, rt, send, recv, &EITHER_KIND)?;
+    let (sent, received) = ask_and_finish(rt, rt, send, recv, &EITHER_KIND);
     match (sent, received) {
-        (AnySendDone::Word(sent), AnyRecvDone::Word(received)) => Ok(link.settle(sent, received)),
+        (AnySendDone::Word(sent), AnyRecvDone::Word(received)) => link.settle(sent, received),
         _ => unreachable!(),
     }
 }
 
 #[test]
-fn a_round_and_a_close_over_a_lock(rt: HostRuntime) -> Result<(), Fail> {
-    let settled = settled_with_a_lock(&rt, rt.alloc())?;
+fn a_round_and_a_close_over_a_lock(rt: HostRuntime) {
+    let start = start_with(&rt, rt.alloc(), 0, 0, (0, 3));
+    let settled = settled_with_a_lock(&rt, rt.alloc(), start);
     assert_settled(&rt, &settled, &[7], 1, &[7], true);
-    Ok(())
 }
 
 #[test]
-fn a_round_and_a_close_over_two_words(rt: HostRuntime) -> Result<(), Fail> {
-    let start = start_with(rt.alloc(), 0, 0, (0, 3))?;
-    let settled = settled_with_two_words(&rt, rt.alloc(), &start)?;
+fn a_round_and_a_close_over_two_words(rt: HostRuntime) {
+    let start = start_with(&rt, rt.alloc(), 0, 0, (0, 3));
+    let settled = settled_with_two_words(&rt, rt.alloc(), &start);
     assert_settled(&rt, &settled, &[7], 1, &[7], true);
-    Ok(())
 }
