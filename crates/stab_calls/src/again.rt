@@ -37,7 +37,11 @@ pub type Row<'a, C> = (u32, &'a [(&'a str, C)]);
 const ROOM: usize = 1 << 16;
 
 /// What a fault says at its end where memory, or the start of a worker, was refused.
-const REFUSALS: [&str; 2] = ["out of memory", "a worker could not be started"];
+const REFUSALS: [&str; 3] = [
+    "out of memory",
+    "memory allocation failed",
+    "a worker could not be started",
+];
 
 /// What an object holds before and after a call, and what the call answers. The texts are made
 /// once, with so much room that they take no memory later: what is refused then is the call's.
@@ -175,7 +179,8 @@ pub fn push_answer<T: Debug + Drop, E: Display + Drop>(
 /// Adds a fault, or says that memory, or the start of a worker, was refused.
 pub fn push_fault<E: Display>(text: &mut String, fault: &E) -> Result<(), AllocError> {
     write!(text, "{fault}")?;
-    if text.ends_with(REFUSALS[0]) || text.ends_with(REFUSALS[1]) {
+    let out_of_memory = text.ends_with(REFUSALS[0]) || text.ends_with(REFUSALS[1]);
+    if out_of_memory || text.ends_with(REFUSALS[2]) {
         Err(AllocError)
     } else {
         Ok(())
