@@ -56,7 +56,8 @@ gave() {
         grep -qE "^$house: rt ci, [0-9]+$" "$work/out" &&
         grep -qxF "$house: check " "$work/out" &&
         [ "$(grep -c ': a script of tests' "$work/out")" -eq 4 ] &&
-        grep -qxF "$house: release --check" "$work/out" && [ -z "$(ls -A "$work/temporary")" ]
+        grep -qxF "$house: release --check" "$work/out" &&
+        grep -qxF "$house: pages --check" "$work/out" && [ -z "$(ls -A "$work/temporary")" ]
 }
 
 # Whether the gate, with --only, ended with this status and this last line, after these steps.
@@ -133,7 +134,8 @@ for script in gate stab release refused; do
     write "$house/tests/check_$script.sh" \
         "echo \"\$PWD: a script of tests\"; echo '1 passed, 0 failed'"
 done
-write "$house/release.sh" "echo \"\$PWD: release \$*\"; echo '6 passed, 0 failed'"
+write "$house/release.sh" "echo \"\$PWD: release \$*\"; echo '4 passed, 0 failed'"
+write "$house/tests/pages.py" "echo \"\$PWD: pages \$*\"; echo '2 passed, 0 failed'"
 
 run 'echo 300 passed, 0 failed' 'echo 42 passed, 0 failed'
 holds 'the counts of all parts are added' gave 0 '352 passed, 0 failed'
@@ -171,14 +173,19 @@ holds 'which the environment decides, if it does' all_in_output \
     'gate: 3 tasks at once: as RT_JOBS says' "$house: rt ci, 3"
 holds 'never more than the processors' bash -c '
     [ "$(taskset -c 0 "$0/bench/gate.py" jobs | cut -d" " -f1)" -eq 1 ]' "$house"
-write "$house/release.sh" "echo '5 passed, 1 failed'; exit 1"
+write "$house/release.sh" "echo '3 passed, 1 failed'; exit 1"
 run 'echo 300 passed, 0 failed' 'echo 42 passed, 0 failed'
 holds 'a release that differs fails the gate' \
     [ "$status, $(tail -n 1 "$work/out")" = '1, 351 passed, 1 failed' ]
 rm "$house/release.sh"
 run_gate
-holds 'and so does none' [ "$status, $(tail -n 1 "$work/out")" = '1, 346 passed, 1 failed' ]
-write "$house/release.sh" "echo \"\$PWD: release \$*\"; echo '6 passed, 0 failed'"
+holds 'and so does none' [ "$status, $(tail -n 1 "$work/out")" = '1, 348 passed, 1 failed' ]
+write "$house/release.sh" "echo \"\$PWD: release \$*\"; echo '4 passed, 0 failed'"
+write "$house/tests/pages.py" "echo '1 passed, 1 failed'; exit 1"
+run 'echo 300 passed, 0 failed' 'echo 42 passed, 0 failed'
+holds 'and so does a page that is out of date' \
+    [ "$status, $(tail -n 1 "$work/out")" = '1, 351 passed, 1 failed' ]
+write "$house/tests/pages.py" "echo \"\$PWD: pages \$*\"; echo '2 passed, 0 failed'"
 run 'echo 300 passed, 0 failed' 'echo 42 passed, 0 failed'
 rm "$house/tests/refused/check.py"
 TMPDIR="$work/temporary" PATH=$work/bin:$PATH "$house/gate" >"$work/out" 2>"$work/err"

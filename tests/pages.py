@@ -1,0 +1,359 @@
+#!/usr/bin/env python3
+"""Writes the lists of the pages that are made from the sources, and checks all pages.
+
+    tests/pages.py            writes the lists: what is between the two marks of docs/CLAIMS.md
+    tests/pages.py --check    writes nothing, and says what is out of date or leads nowhere
+
+The lists have, crate by crate: the comment of the crate; its public types and functions, with the
+names of their clauses, the comments at them and what they require; the first comments of the files
+of definitions and of lemmas; and the names of the planted bugs. A comment of `//` lines between
+the clauses of a function speaks of those after it, up to the next comment or empty line.
+
+The check sees that the lists are those of the sources, and that in every page of the repository
+each link leads to a file and a heading that exist. In the pages that speak of these sources each
+clause that is cited must exist, and so must each file and each name that is in backticks. The last
+line is 'N passed, M failed'.
+"""
+
+import re
+import sys
+from pathlib import Path
+
+TOP = Path(__file__).resolve().parent.parent
+LISTS = "docs/CLAIMS.md"
+BEGIN = "<!-- begin: made by tests/pages.py, do not edit -->"
+END = "<!-- end -->"
+# The endings of the files that a page may name.
+ENDINGS = "antt|rt|edit|md|py|sh|c|json|run|out|txt|bazel"
+# A page about the past may name what is no more, and the lists cite what they were made of.
+UNCITED = {"CHANGELOG.md", LISTS}
+# What only a build makes.
+MADE = re.compile(r"(out|bench/build)/")
+# Names that pages cite of other programs, or as an example.
+OTHERS = {"conflicts_with", "in_room", "sched_autogroup_enabled"}
+
+
+class Function:
+    """A function with what it requires and ensures, or a type, which has no clauses."""
+
+    def __init__(self, owner, name, public, doc):
+        self.owner, self.name, self.public = owner, name, public
+        # each group: what is said of it, and the names of its clauses, of which one may be none
+        self.groups = [(doc, [])]
+        self.requires = []
+
+    def path(self):
+        return f"{self.owner}::{self.name}" if self.owner else self.name
+
+    def clauses(self):
+        return [clause for _, clauses in self.groups for clause in clauses]
+
+
+def in_one_line(lines):
+    """The text of a comment as a cell of a table has it, without its examples in code."""
+    kept, code = [], False
+    for line in lines:
+        if line.startswith("```"):
+            code = not code
+        elif line and not code:
+            kept.append(line)
+    return re.sub(r"\[(`[^`]*`)\]", r"\1", " ".join(kept)).replace("|", "\\|")
+
+
+def read_head(function, lines, at):
+    """Reads the clauses of a function from its first line on."""
+    notes, group = [], function.groups[0]
+    while True:
+        line = lines[at].strip()
+        clause = re.match(r"(requires|ensures)(?: (\w+))? \{", line)
+        if clause:
+            text = line[clause.end():]
+            while text.count("{") + 1 > text.count("}"):
+                at += 1
+                text += " " + lines[at].strip()
+            if clause[1] == "requires":
+                function.requires.append(text[:text.rindex("}")].strip())
+            else:
+                if notes:
+                    group = (in_one_line(notes), [])
+                    function.groups.append(group)
+                    notes = []
+                group[1].append(clause[2])
+            if text.endswith(";"):
+                return
+        elif line.startswith("// "):
+            notes.append(line[3:])
+        elif not line:
+            group = function.groups[0]
+        elif line.endswith(("{", "}", ";")):
+            return
+        at += 1
+
+
+def functions(path):
+    """The functions and types of a file of code, each function with what it belongs to."""
+    found, doc, owner, trait = [], [], None, None
+    lines = path.read_text().splitlines()
+    for at, line in enumerate(lines):
+        said = in_one_line(doc)
+        kind = re.match(r"pub (?:struct|enum|trait) (\w+)", line)
+        if kind and said:
+            found.append(Function(None, kind[1], True, said))
+        block = re.match(r"(?:pub )?trait (\w+)|impl(?:<.*?>)? (?:(\w+)(?:<.*>)? for )?(\w+)", line)
+        if block:
+            # (what a trait declares, and what a type has of it, is as public as they are)
+            owner, trait = block[1] or block[3], block[1] or block[2]
+        elif line == "}":
+            owner, trait = None, None
+        fn = re.match(r"(|    )(pub )?fn (\w+)", line)
+        if fn:
+            if trait and trait != owner and not said:
+                said = f"As `{trait}` says."
+            module = "laws" if path.stem == "laws" else None
+            function = Function(owner or module, fn[3], bool(fn[2] or trait), said)
+            read_head(function, lines, at)
+            found.append(function)
+        if line.strip().startswith("///"):
+            doc.append(line.strip()[3:].strip())
+        elif not line.strip().startswith(("#", "//")):
+            doc = []
+    return found
+
+
+def listed_crates():
+    """The crates, the lowest layer first."""
+    lines = (TOP / "crates.txt").read_text().splitlines()
+    return [re.match(r"\w+", line)[0] for line in lines if re.match(r"\w+.*:", line)]
+
+
+def exported(crate):
+    """The names that other crates can use."""
+    text = (TOP / "crates" / crate / "src/lib.rt").read_text()
+    names = set(re.findall(r"^pub mod (\w+)", text, re.M))
+    for use in re.findall(r"^pub use (?!stab_)\w+::(?:\{([^}]*)\}|(\w+))", text, re.M):
+        names.update(re.findall(r"\w+", " ".join(use)))
+    return names
+
+
+def first_comment(path, mark="--"):
+    """The comment at the beginning of a file, without what it says of its source."""
+    lines = []
+    for line in path.read_text().splitlines():
+        if not line.startswith(mark):
+            break
+        lines.append(line[len(mark):].strip())
+    text = re.sub(r" \(this project's profile\)", "", in_one_line(lines))
+    text = re.sub(r" Source: [^.;]*[.;]", "", text)
+    return re.sub(r"\. ([a-z])", lambda found: ". " + found[1].upper(), text)
+
+
+def claims(crate):
+    """The rows of a crate's claims: its clauses, and what its comments say of them."""
+    names, rows = exported(crate), []
+    for path in sorted((TOP / "crates" / crate / "src").glob("*.rt"), key=lambda p: p.stem):
+        for function in functions(path):
+            known = function.owner or function.name
+            said = function.groups[0][0]
+            if not function.public or known not in names or not (function.clauses() or said):
+                continue
+            if not function.clauses() and said.startswith("As `"):
+                continue
+            said += "".join(f" Requires `{text}`." for text in function.requires)
+            for at, (text, clauses) in enumerate(function.groups):
+                shown = ", ".join(f"`.{clause}`" for clause in clauses if clause)
+                if at == 0:
+                    shown = f"`{function.path()}` {shown}".strip()
+                if at == 0 or clauses:
+                    rows.append(f"| {shown} | {said if at == 0 else text} |")
+    return rows
+
+
+def files(crate, folder):
+    """The rows of the files of definitions, or of lemmas, of a crate."""
+    paths = sorted((TOP / "crates" / crate / folder).glob("*.antt"))
+    return [f"| `{path.name}` | {first_comment(path)} |" for path in paths if path.stem != "Lib"]
+
+
+def lists():
+    """The lines of the lists."""
+    lines = []
+    for crate in listed_crates():
+        home = TOP / "crates" / crate
+        root = home / "src/lib.rt"
+        if not root.exists() or crate.startswith("tests_"):
+            continue
+        lines += [f"## `{crate}`", "", first_comment(root, "//!"), ""]
+        tables = [("Claim", "What it says", claims(crate)),
+                  ("Definitions", "What they say", files(crate, "specs")),
+                  ("Lemmas", "What they say", files(crate, "proofs"))]
+        for name, says, rows in tables:
+            if rows:
+                lines += [f"| {name} | {says} |", "|---|---|", *rows, ""]
+        bugs = [f"`{path.stem}`" for path in sorted((home / "must-fail").glob("*.edit"))]
+        if bugs:
+            lines += [f"Planted bugs: {', '.join(bugs)}.", ""]
+    return lines
+
+
+def with_lists(text):
+    """A page with the lists of now between its marks."""
+    before, rest = text.split(BEGIN + "\n")
+    after = rest.split("\n" + END)[1]
+    return before + BEGIN + "\n\n" + "\n".join(lists()) + "\n" + END + after
+
+
+def pages():
+    """The pages of the repository."""
+    return [path for path in all_files() if path.suffix == ".md"]
+
+
+def all_files():
+    """The files of the repository, without what was built."""
+    built = {"out", "build", ".git", "__pycache__"}
+    for path in sorted(TOP.glob("*")) + sorted(TOP.glob("*/**/*")):
+        if path.is_file() and path.resolve() == path:
+            if not built & set(path.relative_to(TOP).parts):
+                yield path
+
+
+def without_code(text):
+    """A page in which blocks of code are empty lines, so that all lines keep their numbers."""
+    shown, code = [], False
+    for line in text.splitlines():
+        fence = line.lstrip("> ").startswith("```")
+        shown.append("" if code or fence else line)
+        code = code != fence
+    return shown
+
+
+def headings(path):
+    """What a link may name in a page, as the forges make it from its headings."""
+    found, counts = [], {}
+    for line in without_code(path.read_text()):
+        heading = re.match(r"#+ (.*)", line)
+        if heading:
+            text = re.sub(r"\[([^]]*)\]\([^)]*\)", r"\1", heading[1])
+            name = re.sub(r"[^\w\- ]", "", text.lower()).replace(" ", "-")
+            counts[name] = counts.get(name, -1) + 1
+            found.append(f"{name}-{counts[name]}" if counts[name] else name)
+    return found
+
+
+def bad_links(path):
+    """The links of a page that lead nowhere."""
+    for number, line in enumerate(without_code(path.read_text()), 1):
+        for target in re.findall(r"\]\(([^)\s]+)\)", re.sub(r"`[^`]*`", "", line)):
+            if re.match(r"\w+:", target):
+                continue
+            place, _, heading = target.partition("#")
+            there = (path.parent / place).resolve() if place else path
+            if not there.exists():
+                yield number, f"no file {place}"
+            elif heading and heading not in headings(there):
+                yield number, f"no heading {target}"
+
+
+class Sources:
+    """What the sources have that a page may cite."""
+
+    def __init__(self):
+        self.clauses, self.words, self.files = {}, set(), set()
+        for path in all_files():
+            place = str(path.relative_to(TOP))
+            self.files.add("/" + place)
+            self.words.update(re.findall(r"\w+", place))
+            if path.suffix not in (".md", ".gz"):
+                self.words.update(re.findall(r"\w+", path.read_text(errors="replace")))
+            if path.suffix == ".rt":
+                for function in functions(path):
+                    for name in {function.name, function.path()}:
+                        self.clauses.setdefault(name, set()).update(function.clauses())
+            if path.suffix == ".antt" and path.parent.name == "specs":
+                self.add_records(path)
+
+    def add_records(self, path):
+        """Adds what each record of a file of definitions says, as the clauses of its name."""
+        record = None
+        for line in path.read_text().splitlines():
+            head = re.match(r"pub record (\w+)", line)
+            field = re.match(r"  pub (\w+) :", line)
+            if head:
+                record = self.clauses.setdefault(head[1], set())
+            elif field and record is not None:
+                record.add(field[1])
+            elif line and not line.startswith(" "):
+                record = None
+
+    def has_file(self, name):
+        """Whether there is such a file or folder. The folders above may be left out, and the ending
+        of an example."""
+        name = "/" + name.removeprefix("./").removeprefix("examples/").rstrip("/")
+        return (TOP / name[1:]).exists() or any(
+            file.endswith(name) or name + "/" in file or name + "." in file for file in self.files)
+
+    def missing(self, page):
+        """What a page cites and the sources do not have."""
+        for number, line in enumerate(without_code(page.read_text()), 1):
+            tokens = re.findall(r"`([^`]+)`", line)
+            cited = {clause for token in tokens
+                     for clause in self.clauses.get(self.function(token), ())}
+            for token in tokens:
+                function, _, clause = token.rpartition(".")
+                if re.fullmatch(r"\.\w+", token):
+                    if clause not in cited | {"err", "out", "run", "json"}:
+                        yield number, f"no clause {token} of what this line names"
+                elif clause in self.clauses.get(self.function(function), ()):
+                    continue
+                elif re.fullmatch(r"[\w./-]+\.(" + ENDINGS + r")|[\w.-]+/[\w./-]*", token):
+                    # (a name in capitals is one to be filled in)
+                    filled_in = re.search(r"\b[A-Z]{2,}\b|\.\.", token)
+                    if not filled_in and not MADE.match(token) and not self.has_file(token):
+                        yield number, f"no file {token}"
+                elif clause and self.function(function) in self.clauses:
+                    yield number, f"no clause {token}"
+                elif re.fullmatch(r"(\w+::)*[A-Za-z]*(_|[a-z][A-Z]|::|\.)\w*", token):
+                    if not set(re.findall(r"\w+", token)) <= self.words | OTHERS:
+                        yield number, f"no such name in the sources: {token}"
+
+    def function(self, token):
+        """The function that a token names, without the crate before it."""
+        name = re.sub(r"^(?:stab|tests)_\w+::", "", token)
+        whole = name if name in self.clauses else name.rpartition(".")[0]
+        return whole if whole in self.clauses else name.rpartition("::")[2].partition(".")[0]
+
+
+def check():
+    """Looks at all pages. It prints what is wrong, and the last line."""
+    passed, wrong = 0, []
+    page = TOP / LISTS
+    old, new = page.read_text(), with_lists(page.read_text())
+    if old == new:
+        passed += 1
+    else:
+        pairs = zip(old.splitlines() + [""], new.splitlines() + [""])
+        line = next(at for at, (now, then) in enumerate(pairs, 1) if now != then)
+        wrong.append(f"{LISTS}:{line}: out of date; tests/pages.py writes it anew")
+    sources = Sources()
+    for path in pages():
+        name = str(path.relative_to(TOP))
+        found = list(bad_links(path))
+        if name not in UNCITED:
+            found += sources.missing(path)
+        if not found:
+            passed += 1
+        wrong += [f"{name}:{number}: {what}" for number, what in sorted(found)]
+    print(*wrong, sep="\n" if wrong else "")
+    print(f"{passed} passed, {len(wrong)} failed")
+    return not wrong
+
+
+def main():
+    if sys.argv[1:] == ["--check"]:
+        sys.exit(0 if check() else 1)
+    if sys.argv[1:]:
+        sys.exit("tests/pages.py takes --check, or no words at all")
+    page = TOP / LISTS
+    page.write_text(with_lists(page.read_text()))
+
+
+main()
