@@ -1,4 +1,5 @@
 -- What every event keeps of a link, where the frames in transit and the delivered items are given by their places.
+-- `Kept` is the one record of all invariants, and there is a lemma for each kind of event.
 use Rattle.std.proofs.Common.{◌≡◌, ◌≢◌, ℕ, ◌+◌, Bool, true, List, [], ◌∷◌, ◌++◌, map, length, ◌∙◌, ap, subst, eqb-true}
 use mathlib.Core.List.{map-map}
 use Rattle.stab_frames.specs.declared.frame.Frame.{Frame}

@@ -1,5 +1,12 @@
 -- The laws of one link, over lists and places alone: what was delivered comes from the start's
 -- frames and then from the offered list, and only few acknowledged items are missing.
+-- They know no queue, event or label. `LinkLawWithin` takes both bounds, and the link law is it at
+-- `c` and `2c + 1`.
+-- Example: The worst start: 3 acknowledged, 4 offered, and 3 <= 4 <= 4. The delivered list 99, 13
+-- is 99 and then 13. 99 is picked from the start's items, 99 alone, at place 0, and one stray is at
+-- most `c` = 1. 13 is picked from the offered list at place 3. None is missing from number 2c + 1 =
+-- 3 on that is below 3: there is no such number. So the law holds, and it could not be sharper
+-- here: 0, 1 and 2 are all acknowledged and all missing.
 -- Source: this project's own; no number here is ascribed to the book.
 use Rattle.std.specs.Prelude.{◌≡◌, ℕ, ◌+◌, ◌*◌, ◌<◌, ◌≤◌, List, ◌++◌, length, Contains}
 use Rattle.stab_core.specs.Picks.{Picks}

@@ -1,5 +1,8 @@
 -- The opening of a link, and the replay of an event list from a state: its steps, one after the
 -- other.
+-- Example: The worst start has 1 frame and 1 acknowledgement, and both are at most the capacity 1,
+-- so it is lawful. Its replay of no events is the opening: nothing is offered, delivered or
+-- acknowledged (`examples/links/no_events`).
 -- Source: this project's profile. A start is arbitrary, but for the capacity of its two queues.
 use Rattle.std.specs.Prelude.{ℕ, ◌≤◌, List, [], ◌∷◌, length, map, false}
 use Rattle.stab_frames.specs.Parameters.{Parameters}

@@ -1,4 +1,6 @@
 -- Turning a list, and taking one entry out of it.
+-- Once round without the entry at a place is `without`; after the last entry there is nothing to
+-- take out.
 use Rattle.std.proofs.Common.{◌≡◌, ℕ, zero, suc, ◌+◌, ◌<◌, ◌≤◌, List, [], ◌∷◌, ◌++◌, length, take, drop}
 use Rattle.std.proofs.Common.{refl, sym, ap, arith, append_assoc, add-one, drop_at, take_at, drop-drop, take-add, length-drop, slice_get, unwrap_or, Some}
 use Rattle.std.proofs.lemmas.List.{drop-append-le, take-append-le}

@@ -1,4 +1,5 @@
 -- Numbers of entries.
+-- As many scripts as entries are made, and right numbers of entries make a job.
 use Rattle.std.proofs.Common.{nat_lt, ◌≡◌, ℕ, suc, false, List, [], ◌∷◌, length, replicate, All, Option, Some, None, Result, Ok, Err, refl, sym, ap, ◌∙◌}
 use Rattle.std.proofs.lemmas.Bool.{eqb-true, ltb-false, or_parts}
 use Rattle.std.proofs.lemmas.List.{length-replicate}

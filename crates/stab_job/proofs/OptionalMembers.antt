@@ -1,4 +1,5 @@
 -- Members that a job has to have.
+-- A member that must be there is read as one that may be absent.
 use Rattle.std.proofs.Common.{◌≡◌, Option, Some, None, option_and_then, refl}
 use Rattle.std.specs.Option.{option_flatten}
 use Rattle.serde_json.specs.Data.{Data}

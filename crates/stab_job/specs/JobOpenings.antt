@@ -1,5 +1,12 @@
 -- What a job says of the openings of its nodes: nothing in version 1; in version 2 how many items
 -- an opening has at most, and the lists themselves, or none, which means empty ones.
+-- Example: Nodes r, a, b in a chain. By version 2, `"h": 2` and `[[], [50, 51], []]` node a begins
+-- with 50, 51; by the same members in version 1 no node begins with anything. Without `openings`
+-- there are three empty lists, which are openings for every `h` up to 64; 65 is `HoldOutOfRange`,
+-- and no `h` at all is `Shape`. `[[], [50, 51]]` are two lists for three nodes, so `OpeningCount`.
+-- In `[[1], [], []]` the root has an item and in `[[], [], [1]]` the leaf, so `OpeningPlace`. Three
+-- items at a are `OpeningTooLong`. With `"links": []` beside `"h": 65` the links are checked first,
+-- so `LinkCount`.
 -- Source: this project's profile.
 use Rattle.std.specs.Prelude.{ℕ, codes, List, [], length, replicate, ◌==◌, if◌then◌else◌, Option, Some, None}
 use Rattle.std.specs.Prelude.{Result, Ok, option_map}

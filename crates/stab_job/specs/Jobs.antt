@@ -1,4 +1,9 @@
 -- Jobs: what the bytes of a job mean, or the first check, in the stated order, that they fail.
+-- Example: `{"version": 3}`: the version is neither the whole number 1 nor 2, so `Version`; that
+-- all members are missing is not looked at. The lone root with labels 3 and an empty tree:
+-- `fault_of 1 3` comes before the tree, so `Params LabelsTooFew`. A schedule of `["x", "offer"]`
+-- and `["r", "jump"]`: the second entry is no act, so `Event`; that no node is called x is not
+-- looked at.
 -- Source: this project's profile. Each line of the lists below is a check beside its fault: `job`
 -- has the first three, `job_of_members` the next two, `job_on_tree` those that follow once there is
 -- a tree, `job_of_scripts` the one after the scripts, `schedule` the two after that, `link_params`

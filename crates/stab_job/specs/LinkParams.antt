@@ -1,4 +1,9 @@
 -- The parameters of each link of a job: the job's own, or those that its entry says.
+-- Example: Nodes r, a, b in a chain, and a job whose own parameters are 1 and 4. By `[null,
+-- {"capacity": 2, "labels": 6}]` the link into a has 1 and 4 and the link into b has 2 and 6. By
+-- `[null, {"capacity": 2, "labels": 5}]` five labels are fewer than 2 * 2 + 2, so `LinkParams` of
+-- node 2 and `LabelsTooFew`. `[{"capacity": 0, "labels": 4}]` is one entry for two links, so
+-- `LinkCount`; its numbers are not looked at.
 -- Source: this project's profile.
 use Rattle.std.specs.Prelude.{ℕ, List, [], ◌∷◌, replicate, Option, Some, None, Result, Ok}
 use Rattle.stab_frames.specs.Parameters.{Parameters, fault_of}

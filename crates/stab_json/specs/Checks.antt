@@ -1,4 +1,7 @@
 -- Checks: the words for a list of checks in their order, each beside the fault that it reports.
+-- Example: `TooManyEvents when` a test says so, and then `Event` where an entry means nothing: for
+-- a list that is too long and has such an entry the fault is `TooManyEvents`, and the entries are
+-- not looked at.
 -- Source: this project's own. In a `do` block of these words a check is made only where those
 -- before it pass.
 use Rattle.std.specs.Prelude.{Bool, true, false, Option, Some, None, Result, Ok, Err}

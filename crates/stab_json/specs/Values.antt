@@ -1,5 +1,8 @@
 -- Values: what one JSON value means as a whole number, a label, an item, a pair, a frame or a list;
 -- None where it means nothing such.
+-- Example: `capped 65535` of 65536 is 65535; so a capacity of 65536 has the right shape and is
+-- refused as out of range. `label` of 65536 is nothing, so a frame with that label is a wrong
+-- shape.
 -- Source: this project's profile, over the values of `serde_json`.
 use Rattle.std.specs.Prelude.{ℕ, suc, nat_le, min, List, [], ◌∷◌, if◌then◌else◌}
 use Rattle.std.specs.Prelude.{Option, Some, None, option_and_then, option_map}

@@ -1,4 +1,5 @@
 -- When two starts are the same.
+-- Starts with the same parts are the same; so are lists that a test finds equal, entry by entry.
 use Rattle.std.proofs.Common.{◌≡◌, Bool, true, List, [], ◌∷◌, ap, ◌∙◌, refl, rules}
 use lib.Pointwise.{pointwise}
 use Rattle.stab_frames.specs.declared.frame.Frame.{Frame}

@@ -1,5 +1,8 @@
 -- The account of an end of a link: what this end did by its own calls, as plain data that no call
 -- of the other end changes.
+-- Example: A sender with offered 7 and acked 0, after `poll_ack` answered Acked, has acked 1; after
+-- Ignored it is the same. `MayOffer` of it fails before: 1 item is offered and 0 are acknowledged,
+-- so it is not idle.
 -- Source: this project's profile.
 use Rattle.std.specs.Prelude.{◌≡◌, ℕ, ◌+◌, Bool, true, false, List, [], ◌∷◌, ◌++◌, length}
 use Rattle.std.specs.Prelude.{Result, Ok, Err}

@@ -1,5 +1,10 @@
 -- A link with its history: the events that happened to it since its start, which explain all that
 -- it is.
+-- Example: The book of the worst start with the history of its first two events: one item is
+-- offered and acknowledged, and the acknowledgement is gone. After a third event, `book_after` has
+-- three events, and the start and the parameters are the same. `MayRefuse` says when noting a third
+-- event may be refused: the second one again only where it makes a list grow, or after
+-- 18,446,744,073,709,551,615 events.
 -- Source: this project's profile.
 use Rattle.std.specs.Prelude.{◌≡◌, ◌⊎◌, List, [], ◌∷◌, ◌++◌, length}
 use Rattle.stab_frames.specs.Parameters.{Parameters}

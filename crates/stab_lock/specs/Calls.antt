@@ -1,6 +1,11 @@
 -- What a call of an end notes: from the state of the link and the acts that remain, to the events
 -- that happen, the answer, and the acts that remain afterwards. On a closed link nothing is noted,
 -- and an event that would change nothing is not noted.
+-- Example: Capacity 1, label 0 at the sender, 3 at the receiver, and the acts Drop, Pass, Evict for
+-- frames. After an offer of 7: a first send notes nothing and answers Lost, and its act is taken; a
+-- second notes `SendFrame` and answers Sent; a third notes `LoseFrame 0` and `SendFrame` and
+-- answers Sent; a fourth, past the end of the acts, notes `SendFrame` and answers Lost, since the
+-- queue is full.
 -- Source: this project's profile.
 use Rattle.std.specs.Prelude.{◌≡◌, ℕ, Bool, true, false, List, [], ◌∷◌, ◌++◌, if◌then◌else◌}
 use Rattle.stab_frames.specs.Parameters.{Parameters}

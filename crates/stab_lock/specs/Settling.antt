@@ -1,5 +1,7 @@
 -- When two accounts agree with the state of one link, and the first thing in which they differ from
 -- it.
+-- Example: A sender whose account is open and a link that is closed: the lists and the count are
+-- compared before, so `ClosedDiffer` is the difference only where those agree.
 -- Source: this project's profile.
 use Rattle.std.specs.Prelude.{◌≡◌, ◌≢◌, true, false, List}
 use Rattle.stab_frames.specs.Parameters.{Parameters}

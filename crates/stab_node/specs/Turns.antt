@@ -1,4 +1,7 @@
 -- Which turns a worker made, by what is known of each turn that its gate let begin.
+-- Example: Of 10 turns, where the worker ended as Turns, each of 1 to 10 was let begin; where it
+-- ended as Upstream, each of 1 to some number from 1 to 10. Where the gate refused turn 3,
+-- `IsRefused` asks that turn 3 may be refused and that 1 and 2 were let begin.
 -- Source: this project's profile.
 use Rattle.std.specs.Prelude.{◌≤◌, ◌<◌, ℕ}
 use Rattle.stab_node.specs.declared.account.Ended.{Ended}

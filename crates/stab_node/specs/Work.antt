@@ -1,4 +1,10 @@
 -- What a worker leaves at a node: what the node received, and what it handed on.
+-- Example: In the turns drawn in docs/PROTOCOL.md the upper end delivered 7, 7, 8 and was shown the
+-- close, and the lower end offered 7, 7, 8 with 3 acknowledged and is closed. So `IsWork` holds
+-- with Upstream and with Turns. After 3 turns only 2 are acknowledged, and the upper end was shown
+-- no close: `IsHandedOn` fails twice, and `IsWork` holds with Turns alone. A lower end that offered
+-- 7, 8 is not served: 7, 8 is no prefix of 7, 7, 8. Had the node begun with 50, 51, it would have
+-- received 50, 51, 7, 7, 8, and the lower end would have offered 50 first.
 -- Source: this project's profile.
 use Rattle.std.specs.Prelude.{◌≡◌, ℕ, true, List, ◌++◌, length, All, Option, Some, None, IfSome}
 use Rattle.stab_lock.specs.Accounts.{Sender, Receiver, new_sender, new_receiver}

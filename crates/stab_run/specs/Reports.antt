@@ -1,4 +1,6 @@
 -- What a run of workers answers, and the lines that it prints: two for each node, in file order.
+-- Example: For a node a at depth 1 that received 7, 8, with 2 acknowledged, and ended as Turns: `a
+-- depth 1 received 2 acked 2 ended turns`, a newline, `items: 7 8`, a newline.
 -- Source: this project's profile; numbers are in plain decimal, as std prints them.
 use Rattle.std.specs.Prelude.{◌≡◌, ℕ, List, [], ◌++◌, length, codes, Option, None, slice_index_or}
 use Rattle.std.specs.List.{flat_map, range_with_len}

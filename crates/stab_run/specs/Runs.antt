@@ -1,4 +1,10 @@
 -- What holds of the report of a run, and why a run is refused.
+-- Example: The root r published 7, 8. The report says that a, below it, received 7 with none
+-- acknowledged, and the link has the clean start. The events `["offer", 7]`, `"send_frame"`,
+-- `"recv_frame"`, `"close"` explain it: the link is closed, delivered 7, acknowledged none, and
+-- offered 7, which is a prefix of 7, 8. Had a received 9, which r does not have, nothing would
+-- explain it. If r ended as Upstream, `HandsOn` asks that 2 are acknowledged on the link into a,
+-- since r has two items; so here r ended as Turns.
 -- Source: this project's profile.
 use Rattle.std.specs.Prelude.{◌≡◌, ℕ, suc, ◌+◌, ◌*◌, ◌<◌, List, ◌++◌, length, Option, Some, None}
 use Rattle.stab_core.specs.declared.start.Start.{Start}

@@ -1,4 +1,5 @@
 -- Taking acts one by one.
+-- Also acts of both lists in any order, and the act taken after `n` others.
 use Rattle.std.proofs.Common.{◌≡◌, ℕ, zero, suc, ◌+◌, List, [], ◌∷◌, drop, refl, ap, ◌∙◌, sym}
 use Rattle.std.proofs.lemmas.List.{drop-drop}
 use Rattle.std.specs.List.{slice_get}

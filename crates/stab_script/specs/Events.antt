@@ -1,4 +1,7 @@
 -- Events: what the words of a job mean as acts on a link, and what a JSON value means as an event.
+-- Example: `{"send": 0}` has no `recv`, so it means no start. `["lose_frame", 1]` is a pair whose
+-- word is not `offer`, so it is looked up as a loss: `LoseFrame 1`. `"jump"` is none of the words,
+-- so it means no event.
 -- Source: this project's profile.
 use Rattle.std.specs.Prelude.{ℕ, codes, true, false, List, if◌then◌else◌}
 use Rattle.std.specs.Prelude.{Option, Some, None, option_map}

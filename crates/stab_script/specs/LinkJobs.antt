@@ -1,5 +1,8 @@
 -- Link jobs: what the bytes of a link job mean, or the first check, in the stated order, that they
 -- fail.
+-- Example: `{}`: there is a value, but no members, so `Shape`. The worst start with 3 labels:
+-- members, then `fault_of 1 3`, so `Params LabelsTooFew`. With `"jump"` as its last event: members,
+-- lawful parameters, 12 events, and then an entry that means nothing, so `Event`.
 -- Source: this project's profile.
 use Rattle.std.specs.Prelude.{ℕ, List, nat_lt, option_map, Result, Ok}
 use Rattle.stab_frames.specs.Parameters.{fault_of}

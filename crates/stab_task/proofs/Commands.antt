@@ -1,4 +1,6 @@
 -- What the clauses of the command line cite of the model of `clap`.
+-- The model covers this command line; the first value and the source of an argument; an error other
+-- than memory comes only of refused words.
 use Rattle.std.proofs.Common.{◌≡◌, ◌≢◌, ◌≤◌, ◌⊎◌, ◌∙◌, List, [], ◌∷◌, Option, Some, None, inl, inr, true, ap, refl, sym, length, arith, codes}
 use Rattle.std.specs.Prelude.{find, option_and_then, option_map}
 use Rattle.std.specs.Str.{bytes_eq}

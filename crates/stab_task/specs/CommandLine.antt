@@ -1,4 +1,9 @@
 -- The command line of `stab`, and the task and the file that its words name.
+-- Example: The words `stab`, `link`, `--trace`, `job`: the command word is `link`, the flag is
+-- among the words after it, and `job` is the first value of `FILE`. So the task is a link job with
+-- its trace, from the file `job`. The words `stab`, `--` have no command word, so the task is a
+-- link job without a trace, from standard input. The words `stab`, `run`, `--words`, `--mixed`
+-- match the model, and `has_both_flags` of them is true, so they are not taken.
 -- Source: this project's own; which words match is the model of the crate `clap`.
 use Rattle.std.specs.Prelude.{◌≡◌, ◌⊎◌, Bool, true, false, List, [], Option, Some, None}
 use Rattle.std.specs.Prelude.{◌&&◌, codes, find, option_and_then, if◌then◌else◌}

@@ -1,4 +1,6 @@
 -- Facts of trees for the crates above.
+-- Induction from the root: what holds of the root and passes from parent to child holds of every
+-- node, with or without its depth; a child is one deeper than its parent.
 pub use Rattle.stab_tree.proofs.Steps.{child_is_node}
 use Rattle.std.proofs.Common.{◌≡◌, ℕ, zero, suc, ◌<◌, List, length, Option, Some, inl, inr, sym, subst, ◌∙◌, add-one, arith}
 use Rattle.stab_tree.specs.IsTree.{IsTree}

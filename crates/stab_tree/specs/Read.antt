@@ -1,5 +1,7 @@
 -- The tree that a JSON value describes, or the fault of the first check that fails. Each check is
 -- made over the whole list before the next (this project's profile).
+-- Example: Two nodes that are both called r: 2 is at most 64, both names are lawful, and one name
+-- occurs twice, so `SameName`; no parent is looked at.
 use Rattle.std.specs.Prelude.{◌≡◌, ℕ, List, length, not, true, false, ◌==◌, nat_lt, Option, Some, Result, Ok}
 use Rattle.std.specs.List.{list_all}
 use Rattle.serde_json.specs.Data.{Data}

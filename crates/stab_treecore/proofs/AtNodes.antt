@@ -1,4 +1,5 @@
 -- The tree law at each node, from the root down.
+-- The bounds are sums along the path, and products where all links have one capacity.
 use Rattle.std.proofs.Common.{◌≡◌, ℕ, zero, suc, ◌+◌, ◌*◌, ◌<◌, ◌≤◌, List, [], ◌++◌, length, Option, Some, None, All, Bool, true, false, if◌then◌else◌, refl, sym, ◌∙◌, ap, arith, append_assoc}
 use Rattle.std.proofs.Math.Nat.{zero-mul, suc-mul}
 use Rattle.std.specs.Option.{option_map_or}

@@ -1,4 +1,5 @@
 -- What the openings of a tree keep.
+-- Openings that fit a tree have at most `hold_at` items at each node.
 use Rattle.std.proofs.Common.{◌≡◌, ◌≤◌, ◌+◌, ◌∷◌, ◌==◌, ℕ, zero, suc, [], List, Bool, true, false, not, nat_lt, if◌then◌else◌, ◌&&◌, ◌||◌, length, get_or, replicate, Option, Some, None, refl, ap, sym, ◌∙◌, subst, arith, is_some, eq-eqb}
 use Rattle.std.proofs.lemmas.Bool.{eqb-true, lt-ltb, ltb-false}
 use Rattle.std.proofs.lemmas.List.{length-replicate, nil_from_length}

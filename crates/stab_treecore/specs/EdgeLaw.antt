@@ -1,5 +1,11 @@
 -- The edge law, which a run tells of each link whatever ran it: some events explain what the link
 -- has done.
+-- Under the link's own parameters these events give its delivered list, its count and an offered
+-- list that is a prefix of the parent's list, and leave it closed. `EdgeInto` says so of the link
+-- into a child, whose own list is its opening and then the delivered list.
+-- Example: The worst start with a close after its twelve events: they deliver 99, 13, acknowledge 3
+-- and offer 10, 11, 12, 13, which is a prefix of 10, 11, 12, 13, 14. So the edge law holds of 99,
+-- 13 and 3 under that list.
 -- Source: this project's own.
 use Rattle.std.specs.Prelude.{◌≡◌, ℕ, List, ◌++◌, Option, Some, IsTrue}
 use mathlib.Core.List.{IsPrefix}

@@ -1,4 +1,8 @@
 -- The laws of all nodes: the bounds of a node are sums over the links on its path.
+-- `most_strays` is C + E, the sums of `c` over the links on the path and of `h` over its inner
+-- nodes; `most_missing` is M, the sum of `2c + 1`. The strays are picked from `garbage_past`, the
+-- openings and the items of the links on the path. The complete law says more: no published item is
+-- missing at all, except among the first ones.
 -- Source: this project's own.
 use Rattle.std.specs.Prelude.{◌≡◌, ℕ, ◌+◌, ◌*◌, ◌<◌, List, [], ◌++◌, length, Option, None}
 use Rattle.std.specs.Prelude.{slice_index_or}

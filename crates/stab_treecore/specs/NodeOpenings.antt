@@ -1,5 +1,11 @@
 -- Openings: what inner nodes begin with, items that nobody published. An inner node is neither the
 -- root nor a leaf.
+-- Example: Nodes r, a, b with the parents nothing, 0, 1: a link leads into a and one leads from it,
+-- so a alone is inner, and with the hold 2 `hold_at` is 0, 2, 0. The lists none, 50 51, none: 2 is
+-- at most 64, there are three lists, items are at a alone, and no list has more than 2; so they
+-- fit. With the lists 1, none, none the fault is `OpeningPlace`, and so it is with none, none, 1 2
+-- 3, since places are checked before lengths. With none, 1 2 3, none it is `OpeningTooLong`, with
+-- two lists `OpeningCount`, and with the hold 65 `HoldOutOfRange`, whatever the lists are.
 -- Source: this project's profile.
 use Rattle.std.specs.List.{list_any}
 use Rattle.std.specs.Option.{option_map_or}

@@ -1,4 +1,9 @@
 -- Why a whole tree cannot begin or go on: the first check that fails, or memory.
+-- Example: One start for two links: `StartCount`, and so it is with the parameters of one link
+-- alone. Two starts of which the second has two frames, where both links have capacity 1: the first
+-- is lawful and the second is not, so `TooManyFrames`. Where the second link has capacity 2, both
+-- are lawful. A schedule of acknowledgements alone makes no list grow, so no reason of memory at a
+-- step exists for it.
 -- Source: this project's own.
 use Rattle.std.specs.List.{AllZip}
 use Rattle.std.specs.Prelude.{◌≡◌, ◌⊎◌, ℕ, List, [], ◌∷◌, length, Option, IsSome, IsNone}

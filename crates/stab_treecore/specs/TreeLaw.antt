@@ -1,6 +1,18 @@
 -- The laws of a node in the tree, over lists and places alone: what a node received are strays from
 -- the links on its path, then published items, and only few published items before its last one are
 -- missing.
+-- Example: Node b of the example two_links_under_one_schedule received 98, 15, 16. Its path garbage
+-- is 98, of the link into b, and then 99, of the link into a. 98 is picked from these at place 0,
+-- and one stray is at most 1 + 1. 15 and 16 are picked from the published 10 to 16 at the places 5
+-- and 6. Nothing is missing from 3 + 3 = 6 on before place 6. With a bound of 4 in place of 6 the
+-- law would fail: 4 is below 5, and 4 is not among the places. With the bound 6 even the complete
+-- law holds: of the numbers from 6 on there is only 6, which b has. Had b received 98, 15 alone,
+-- the tree law would hold and the complete law would not. Where the link into b has capacity 2, as
+-- in the example a_wider_second_link, the bounds of b are 1 + 2 = 3 strays and 3 + 5 = 8. If a's
+-- list began with the opening 50, 51 under an `h` of 2, then b's path garbage would be 98, 50, 51,
+-- 99: b has no opening, and that of a comes before the item of its link. The strays of b would be
+-- at most (1 + 1) + (0 + 2) = 4, those of a at most 1 + 2 = 3, and the other bounds would stay 6
+-- and 3.
 -- Source: this project's own; no number here is ascribed to the book.
 use Rattle.std.specs.Prelude.{◌≡◌, ℕ, ◌<◌, ◌≤◌, List, ◌++◌, length, Contains}
 use Rattle.stab_core.specs.LinkLaw.{NoneMissingFrom}

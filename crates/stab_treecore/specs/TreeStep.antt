@@ -1,5 +1,9 @@
 -- The step of the whole tree: one act on the link into one node. An offer is of the item of the
 -- parent's list that comes next.
+-- Example: Before a has received anything, an offer on the link into b looks for item number 0 of
+-- a's empty list. There is none, so there is no event, and nothing changes
+-- (`examples/trees/an_offer_of_nothing`). Where a's opening is 50, 51, the same offer is of 50
+-- (`examples/trees/an_opening_passed_on`).
 -- Source: this project's profile.
 use Rattle.std.specs.Prelude.{ℕ, length, slice_get, slice_set, Option, Some, None, option_map}
 use Rattle.std.specs.Prelude.{option_and_then}

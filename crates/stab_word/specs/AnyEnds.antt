@@ -1,6 +1,9 @@
 -- What contracts see of an end of either kind of link, and of what remains of it once it is
 -- finished; and when a call over a link of two words is the call of the end inside. The kind is
 -- part of what names a link, so an end that keeps its link keeps its kind.
+-- Example: The end of a link with a lock has the link `locked`, whichever it is; that of a link of
+-- two words names its table. So where a finished end names a table, it is not the end of a link
+-- with a lock.
 -- Source: this project's own.
 use Rattle.std.specs.Prelude.{◌≡◌}
 use Rattle.stab_lock.specs.Accounts.{Sender, Receiver}

@@ -1,5 +1,11 @@
 -- What each call of an end of a link of two words answers, which loads and stores it makes, and
 -- what it leaves of the end. What a load shows is the other end's doing; the answer goes by it.
+-- Example: A sender with label 0 that offered 7 and is not acknowledged, with the acts Drop, Pass:
+-- `send` answers Lost and makes no step; then Sent, with one store of the frame 0=7; and then the
+-- same again, past the end of its acts. A sender that has no item that waits answers Nothing, makes
+-- no step and takes no act. A receiver that remembers 1 and has no place for an item: a look that
+-- shows the frame 1=5 is the one step of its call, which answers Old; one that shows 2=99 is
+-- followed by a load, or by a refusal of memory.
 -- Source: this project's profile.
 use Rattle.std.specs.Prelude.{◌≡◌, ◌≢◌, ◌⊎◌, ℕ, ◌+◌, ◌==◌, ◌&&◌, not, Bool, true, false, length}
 use Rattle.std.specs.Prelude.{List, [], ◌∷◌, ◌++◌, if◌then◌else◌, Result, Ok, Err, IsOk, IsErr}

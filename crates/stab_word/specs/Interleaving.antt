@@ -1,6 +1,12 @@
 -- An interleaving of the steps of both ends: all of them in one order, which keeps the order of
 -- each end's own; and the events of a link that they stand for. A load keeps what it shows, and a
 -- store loses what it finds.
+-- Example: The first three steps of the worst start over two words, in docs/PROTOCOL.md: the
+-- sender's end made an offer load of 10 and a load of the acknowledgement 0, the receiver's a store
+-- of the acknowledgement 1. In this order they stand for `["offer", 10]`, `"recv_ack_keep"`,
+-- `["lose_ack", 0]`, `"send_ack"`. With the load before the offer it is no interleaving of them,
+-- since the order of the sender's own steps is not kept. With the store before the load it is one,
+-- but the load does not fit: the word shows 1 by then, and not 0.
 -- Source: this project's own.
 use Rattle.std.specs.Prelude.{◌≡◌, true, List, [], ◌∷◌, ◌++◌}
 use Rattle.stab_frames.specs.Parameters.{Parameters}

@@ -1,6 +1,12 @@
 -- The rule of a link of two words, which holds between any two atomic steps: the steps that its
 -- ends made, in some order, lead from the link's start to a state that the words and both views
 -- show.
+-- Example: After step 3 of the worst start over two words, in docs/PROTOCOL.md: the words show the
+-- frame 2=99 and the acknowledgement 1; the sender has label 1 and one acknowledged item; the
+-- receiver remembers 1 and delivered nothing. The state after `["offer", 10]`, `"recv_ack_keep"`,
+-- `["lose_ack", 0]`, `"send_ack"` is shown by these words and views. Were the acknowledgement in
+-- the word 2, it would not be: before the receiver takes the frame, no state has an acknowledgement
+-- 2.
 -- Source: this project's own.
 use Rattle.std.specs.Prelude.{◌≡◌, ℕ, List, [], ◌∷◌}
 use Rattle.atomic_table.specs.Table.{State}

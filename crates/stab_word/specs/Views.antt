@@ -1,5 +1,9 @@
 -- What the ends of a link of two words know of it, and how it changes with what they do and see. A
 -- view holds the account of its end and the steps that it made, so these are what its view says.
+-- Example: A sender with label 0 that offered 10 sees the acknowledgement 0: one item is
+-- acknowledged and the label is 1. It sees the same word again: its item does not wait any more, so
+-- nothing changes. A receiver that remembers 1 sees the frame 2=99: it remembers 2 and delivered
+-- 99. Without a place for the item, `after_look` leaves it as it was.
 -- Source: this project's own.
 use Rattle.std.specs.Prelude.{ℕ, ◌+◌, ◌==◌, ◌&&◌, Bool, true, [], ◌∷◌, ◌++◌, length}
 use Rattle.std.specs.Prelude.{slice_index, if◌then◌else◌}

@@ -1,4 +1,6 @@
 -- Why a link of two words is refused: the first check that fails, or memory where none does.
+-- Example: Capacity 2 and a start with five frames: the capacity is not 1, so `CapacityNotOne`, and
+-- of the start nothing is said.
 -- Source: this project's profile.
 use Rattle.std.specs.Prelude.{◌≡◌, ◌≢◌}
 use Rattle.stab_core.specs.declared.start.Start.{Start}

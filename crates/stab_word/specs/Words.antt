@@ -1,4 +1,8 @@
 -- What the two words of a link of capacity one show, and the numbers that code it.
+-- Example: The frame with label 2 and item 99 has the number 2^48 + 2 * 2^32 + 99 =
+-- 281483566645347. The words of the worst start are this number and 2^16 + 0 = 65536, and they show
+-- its opening. Frames have numbers from 2^48 on, and the largest, of label 65535 and item
+-- 4294967295, is 2^49 - 1; so none is the number of the close.
 -- Source: this project's own.
 use Rattle.std.specs.Prelude.{◌≡◌, ℕ, ◌+◌, ◌*◌, ◌^◌, ◌<◌, Bool, true, false, List, [], ◌∷◌}
 use Rattle.stab_frames.specs.declared.frame.Frame.{Frame}

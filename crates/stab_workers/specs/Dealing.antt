@@ -1,5 +1,8 @@
 -- What there is one of per link, dealt out to the nodes that the links lead from. Its twin, which
 -- deals it out to the nodes that the links lead into, is `by_child` of the layer below.
+-- Example: Nodes a, r, b, c with the parents 1, nothing, 0, 1: the links are those into 0, 2 and 3.
+-- Of 10, 20, 30, one per link, `by_parent` is 20 at a, then 10, 30 at r, and nothing at b and c;
+-- `by_child` is 10 at a, nothing at r, 20 at b and 30 at c.
 -- Source: this project's profile.
 use Rattle.std.specs.Prelude.{ℕ, List, length, map, Option}
 use Rattle.std.specs.List.{range_with_len}

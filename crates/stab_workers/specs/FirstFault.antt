@@ -1,4 +1,6 @@
 -- The fault that the workers of a tree give up with: the first of them.
+-- Example: Of the answers Ok, Gate, Memory of the nodes 0, 1 and 2 the first fault is that of node
+-- 1, Gate.
 -- Source: this project's profile.
 use Rattle.std.specs.Prelude.{◌≡◌, ◌<◌, ◌⊎◌, ℕ, ◌+◌, List, [], ◌∷◌, Option, Some, None}
 use Rattle.std.specs.Prelude.{Result, Ok, Err}
