@@ -48,15 +48,26 @@ where
     D: SendSide<Pass = P>,
     G: Gate,
     requires turns { 1 ≤ turns }
+    // Where the ends had made no call before: the node received what it began with, followed by
+    // what its finished upper end delivered, where it has one. Each finished lower end offered a
+    // prefix of that, and is closed. Ended as Upstream, the upper end was shown the close, and each
+    // lower end offered all of it and has all of it acknowledged.
     ensures work { IfOk result (λ a. AreNew (option_map U.received up) (map D.sent downs.items)
         → IsWork first.now a.received.items
         (option_map U.done_received a.up) (map D.done_sent a.downs.items) a.ended) }
+    // There is a finished upper end where one was given, of the same link, and the finished lower
+    // ends are of the links of those that were given, in their order.
     ensures upper_link { IfOk result (λ a. option_map U.done_link a.up ≡ option_map U.link up) }
     ensures lower_links { IfOk result (λ a.
         map D.done_link a.downs.items ≡ map D.link downs.items) }
+    // Ended as Turns, the gate let every turn begin; ended as Upstream, every turn up to some turn,
+    // at least the first.
     ensures turns { IfOk result (λ a. IsOver (G.has_passed gate.now node) turns a.ended) }
+    // That the gate refused is answered only for a turn that it may refuse, after it let every turn
+    // before that one begin.
     ensures refused { IfErr result (λ fault. fault ≡ NodeFault.Gate
         → IsRefused (G.has_passed gate.now node) (G.may_refuse gate.now node) turns) }
+    // In every case, also after a fault, the gate was told that the node is done.
     ensures done { G.is_done gate.now node }
 {
     let mut up = up;

@@ -52,20 +52,28 @@ where
     requires receivers { length recvs.items ≡ length (links_of tree.now.parents) }
     requires new_senders { All (λ d. D.sent d ≡ new_sender) sends.items }
     requires new_receivers { All (λ u. U.received u ≡ new_receiver) recvs.items }
+    // There is one list and one reason for each node.
     ensures received { IfOk result (λ g. length g.received.items ≡ length tree.now.parents) }
     ensures ended { IfOk result (λ g. length g.ended.items ≡ length tree.now.parents) }
+    // The finished ends are of the links of those that were given, in the order of the links.
     ensures sender_links { IfOk result (λ g. map D.done_link g.sends.items ≡ map D.link sends.items) }
     ensures receiver_links { IfOk result (λ g. map U.done_link g.recvs.items ≡ map U.link recvs.items) }
+    // The root received the published items, and each other node its opening, followed by what the
+    // finished receiver's end of the link into it delivered.
     ensures root { IfOk result (λ g.
         received_at g.received.items (root_of tree.now.parents) ≡ published.now) }
     ensures delivered { IfOk result (λ g. (child : ℕ) (done : U.Done)
         → entry_into tree.now.parents g.recvs.items child ≡ Some done
         → received_at g.received.items child
         ≡ opening_at openings.now.lists child ++ (U.done_received done).delivered) }
+    // The finished sender's end of each link offered a prefix of what the parent received, and is
+    // closed.
     ensures served { IfOk result (λ g. (child parent : ℕ) (done : D.Done)
         → parent_at tree.now.parents child ≡ Some parent
         → entry_into tree.now.parents g.sends.items child ≡ Some done
         → IsServed (received_at g.received.items parent) (D.done_sent done)) }
+    // Where a node ended as Upstream, the receiver's end of the link into it was shown the close,
+    // and each link to its children offered all that it received and has all of it acknowledged.
     ensures upstream { IfOk result (λ g. (child : ℕ) (done : U.Done)
         → entry_into tree.now.parents g.recvs.items child ≡ Some done
         → ended_at g.ended.items child ≡ Ended.Upstream
@@ -75,16 +83,21 @@ where
         → entry_into tree.now.parents g.sends.items child ≡ Some done
         → ended_at g.ended.items parent ≡ Ended.Upstream
         → HasAll (received_at g.received.items parent) (D.done_sent done)) }
+    // The gate let each turn begin that a worker made, and was told by each node that it is done.
     ensures turns { IfOk result (λ g. (node : ℕ) → node < length tree.now.parents
         → IsOver (G.has_passed gate.now node) turns (ended_at g.ended.items node)) }
     ensures done { IfOk result (λ g. (node : ℕ) → node < length tree.now.parents
         → G.is_done gate.now node) }
+    // Where a worker could not be started, every node before it is done. Where a worker gave up,
+    // the turns of every node before it are over, and all nodes are done.
     ensures unstarted { IfErr result (λ fault. (node : ℕ) → fault ≡ WorkersFault.Thread node
         → IsFirstUnstarted (length tree.now.parents) (G.is_done gate.now) node) }
     ensures gave_up { IfErr result (λ fault. (node : ℕ) (why : NodeFault)
         → fault ≡ WorkersFault.Node node why
         → IsFirstToGiveUp (length tree.now.parents) (G.has_passed gate.now) (G.is_done gate.now)
         turns node) }
+    // That a gate refused at a node is answered only for a turn of this node that it may refuse,
+    // after it let every turn before that one begin.
     ensures refused { IfErr result (λ fault. (node : ℕ)
         → fault ≡ WorkersFault.Node node NodeFault.Gate
         → IsRefused (G.has_passed gate.now node) (G.may_refuse gate.now node) turns) }
