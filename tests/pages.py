@@ -57,7 +57,7 @@ def in_one_line(lines):
             code = not code
         elif line and not code:
             kept.append(line)
-    return re.sub(r"\[(`[^`]*`)\]", r"\1", " ".join(kept)).replace("|", "\\|")
+    return re.sub(r"\[(`[^`]*`)\](?:\([^)]*\))?", r"\1", " ".join(kept)).replace("|", "\\|")
 
 
 def read_head(function, lines, at):

@@ -43,6 +43,7 @@ impl<T: Copy + Eq> FrameQueue<T> {
     /// How many entries there are.
     pub fn len(&self) -> u16
         ensures len { result ≡ length self.now.entries }
+        // A queue never has more entries than its capacity.
         ensures fit { length self.now.entries ≤ self.now.capacity }
     {
         self.ring.len() as u16
@@ -58,6 +59,7 @@ impl<T: Copy + Eq> FrameQueue<T> {
     /// Whether there is no room for another entry.
     pub fn is_full(&self) -> bool
         ensures full { IsTrue result ↔ (length self.now.entries ≡ self.now.capacity) }
+        // A queue never has more entries than its capacity.
         ensures fit { length self.now.entries ≤ self.now.capacity }
     {
         self.ring.is_full()

@@ -53,9 +53,10 @@ pub fn read_job(alloc: Global, bytes: &[u8]) -> Result<Job, JobFault>
     ensures job { MatchResult result
         (λ its_job. job bytes.now ≡ Ok its_job)
         (λ fault. fault ≢ JobFault.Memory → job bytes.now ≡ Err fault) }
+    // `Json` comes only where the bytes have no value.
     ensures json { result ≡ Err JobFault.Json → value_of bytes.now ≡ None }
 
-    // Refused memory is reported as that alone.
+    // Refused memory is reported as that alone, and only where there is at least one byte.
     ensures memory { result ≡ Err JobFault.Memory → 0 < length bytes.now }
     ensures tree_memory { result ≢ Err (JobFault.Tree TreeFault.Memory) }
     ensures script_memory { result ≢ Err (JobFault.Script ScriptFault.Memory) }

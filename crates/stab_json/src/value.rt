@@ -18,6 +18,7 @@ const MAX_U32: u64 = 4_294_967_295;
 #[tactic(auto, using(crate::proofs::Bytes::value_of_read, crate::proofs::Bytes::value_of_unread))]
 pub fn read_value(alloc: Global, bytes: &[u8]) -> Result<Option<Value>, AllocError>
     ensures value { IfOk result (λ its_value. option_map view its_value ≡ value_of bytes.now) }
+    // Memory is refused only where there is at least one byte.
     ensures memory { OnErr result (0 < length bytes.now) }
 {
     match Value::from_slice(alloc, bytes) {

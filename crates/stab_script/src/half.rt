@@ -61,7 +61,7 @@ impl HalfScript {
             .unwrap_or(InAct::Take)
     }
 
-    /// Takes the act for what goes out next.
+    /// Takes the act for what goes out next: the first that remains, and past the end `Pass`.
     #[tactic(auto, using(crate::proofs::Taking::drop_one_more))]
     pub fn next_out(&mut self) -> OutAct
         ensures act { result ≡ out_act self.old.outs }
@@ -74,7 +74,7 @@ impl HalfScript {
         act
     }
 
-    /// Takes the act for what comes in next.
+    /// Takes the act for what comes in next: the first that remains, and past the end `Take`.
     #[tactic(auto, using(crate::proofs::Taking::drop_one_more))]
     pub fn next_in(&mut self) -> InAct
         ensures act { result ≡ in_act self.old.ins }

@@ -80,6 +80,7 @@ pub fn read_link_job(alloc: Global, bytes: &[u8]) -> Result<LinkJob, LinkJobFaul
     ensures job { MatchResult result
         (λ job. link_job bytes.now ≡ Ok job)
         (λ fault. fault ≢ LinkJobFault.Memory → link_job bytes.now ≡ Err fault) }
+    // `Json` comes only where the bytes have no value, and `Memory` only where there is a byte.
     ensures json { result ≡ Err LinkJobFault.Json → value_of bytes.now ≡ None }
     ensures memory { result ≡ Err LinkJobFault.Memory → 0 < length bytes.now }
 {

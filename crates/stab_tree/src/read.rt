@@ -20,7 +20,8 @@ use serde_json::Value;
 use stab_json::read_entries;
 use std::alloc::Global;
 
-/// Reads a list of nodes, each an object with a `name` and, but for the root, a `parent`.
+/// Reads a list of nodes, each an object with a `name` and, but for the root, a `parent`: the tree
+/// of the list, or the first check that it fails, each made over the whole list.
 #[tactic(auto, unfolding(crate::specs::Read::tree_of))]
 pub fn read_tree(alloc: Global, value: &Value) -> Result<Tree, TreeFault>
     ensures ok { IfOk result (λ tree. tree_of (view value.now) ≡ Ok tree) }

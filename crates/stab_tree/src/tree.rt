@@ -59,7 +59,7 @@ impl Tree {
         }
     }
 
-    /// The number of nodes.
+    /// The number of nodes, 1 to 64.
     pub fn len(&self) -> u16
         ensures value { result ≡ length self.now.parents }
         ensures some { 1 ≤ result }
@@ -71,6 +71,7 @@ impl Tree {
     /// The one node without a parent.
     pub fn root(&self) -> NodeId
         ensures value { result ≡ root_of self.now.parents }
+        // A value of this type is a tree.
         ensures tree { IsTree self.now }
     {
         self.root
