@@ -55,7 +55,7 @@ gave() {
     [ "$status" -eq "$1" ] && [ "$(tail -n 1 "$work/out")" = "$2" ] &&
         grep -qE "^$house: rt ci, [0-9]+$" "$work/out" &&
         grep -qxF "$house: check " "$work/out" &&
-        [ "$(grep -c ': a script of tests' "$work/out")" -eq 4 ] &&
+        [ "$(grep -c ': a script of tests' "$work/out")" -eq 5 ] &&
         grep -qxF "$house: release --check" "$work/out" &&
         grep -qxF "$house: pages --check" "$work/out" && [ -z "$(ls -A "$work/temporary")" ]
 }
@@ -130,11 +130,11 @@ given_up() {
     [ "$status" -eq "$1" ] && [ -e "$work/ended" ] && [ -z "$(ls -A "$work/temporary")" ]
 }
 
-for script in gate stab release refused; do
+for script in gate stab release refused pages; do
     write "$house/tests/check_$script.sh" \
         "echo \"\$PWD: a script of tests\"; echo '1 passed, 0 failed'"
 done
-write "$house/release.sh" "echo \"\$PWD: release \$*\"; echo '4 passed, 0 failed'"
+write "$house/release.sh" "echo \"\$PWD: release \$*\"; echo '3 passed, 0 failed'"
 write "$house/tests/pages.py" "echo \"\$PWD: pages \$*\"; echo '2 passed, 0 failed'"
 
 run 'echo 300 passed, 0 failed' 'echo 42 passed, 0 failed'
@@ -173,14 +173,14 @@ holds 'which the environment decides, if it does' all_in_output \
     'gate: 3 tasks at once: as RT_JOBS says' "$house: rt ci, 3"
 holds 'never more than the processors' bash -c '
     [ "$(taskset -c 0 "$0/bench/gate.py" jobs | cut -d" " -f1)" -eq 1 ]' "$house"
-write "$house/release.sh" "echo '3 passed, 1 failed'; exit 1"
+write "$house/release.sh" "echo '2 passed, 1 failed'; exit 1"
 run 'echo 300 passed, 0 failed' 'echo 42 passed, 0 failed'
 holds 'a release that differs fails the gate' \
     [ "$status, $(tail -n 1 "$work/out")" = '1, 351 passed, 1 failed' ]
 rm "$house/release.sh"
 run_gate
-holds 'and so does none' [ "$status, $(tail -n 1 "$work/out")" = '1, 348 passed, 1 failed' ]
-write "$house/release.sh" "echo \"\$PWD: release \$*\"; echo '4 passed, 0 failed'"
+holds 'and so does none' [ "$status, $(tail -n 1 "$work/out")" = '1, 349 passed, 1 failed' ]
+write "$house/release.sh" "echo \"\$PWD: release \$*\"; echo '3 passed, 0 failed'"
 write "$house/tests/pages.py" "echo '1 passed, 1 failed'; exit 1"
 run 'echo 300 passed, 0 failed' 'echo 42 passed, 0 failed'
 holds 'and so does a page that is out of date' \

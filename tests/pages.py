@@ -143,8 +143,7 @@ def first_comment(path, mark="--"):
             break
         lines.append(line[len(mark):].strip())
     text = re.sub(r" \(this project's profile\)", "", in_one_line(lines))
-    text = re.sub(r" Source: [^.;]*[.;]", "", text)
-    return re.sub(r"\. ([a-z])", lambda found: ". " + found[1].upper(), text)
+    return re.sub(r" Source: [^.;]*[.;]( \w)?", lambda found: (found[1] or "").upper(), text)
 
 
 def claims(crate):
@@ -258,18 +257,27 @@ class Sources:
 
     def __init__(self):
         self.clauses, self.words, self.files = {}, set(), set()
+        private = []
         for path in all_files():
             place = str(path.relative_to(TOP))
             self.files.add("/" + place)
             self.words.update(re.findall(r"\w+", place))
             if path.suffix not in (".md", ".gz"):
                 self.words.update(re.findall(r"\w+", path.read_text(errors="replace")))
-            if path.suffix == ".rt":
-                for function in functions(path):
-                    for name in {function.name, function.path()}:
-                        self.clauses.setdefault(name, set()).update(function.clauses())
+            if path.suffix == ".rt" and not place.startswith("crates/tests_"):
+                of_all = functions(path)
+                self.add([function for function in of_all if function.public])
+                private += [function for function in of_all if not function.public]
             if path.suffix == ".antt" and path.parent.name == "specs":
                 self.add_records(path)
+        # (where a public function has the name, it is the one that is meant)
+        self.add([function for function in private if function.name not in self.clauses])
+
+    def add(self, some):
+        """Adds the clauses of some functions, by their names with and without what they are of."""
+        for function in some:
+            for name in {function.name, function.path()}:
+                self.clauses.setdefault(name, set()).update(function.clauses())
 
     def add_records(self, path):
         """Adds what each record of a file of definitions says, as the clauses of its name."""
@@ -342,7 +350,8 @@ def check():
         if not found:
             passed += 1
         wrong += [f"{name}:{number}: {what}" for number, what in sorted(found)]
-    print(*wrong, sep="\n" if wrong else "")
+    for line in wrong:
+        print(line)
     print(f"{passed} passed, {len(wrong)} failed")
     return not wrong
 
