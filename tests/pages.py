@@ -109,7 +109,7 @@ def functions(path):
         if fn:
             if trait and trait != owner and not said:
                 said = f"As `{trait}` says."
-            module = "laws" if path.stem == "laws" else None
+            module = path.stem if path.stem in ("laws", "examples") else None
             function = Function(owner or module, fn[3], bool(fn[2] or trait), said)
             read_head(function, lines, at)
             found.append(function)

@@ -2,10 +2,6 @@
 -- its sender counts through.
 -- `AreLawful` says which capacities and numbers of labels go together, `fault_of` is the first
 -- check that two numbers fail, and `next` the label after a label.
--- Example: For 64 and 130: 64 is at most 64, and 2 * 64 + 2 = 130 is at most 130, so they are
--- lawful. For 1 and 3: 2 * 1 + 2 = 4 is more than 3, so `fault_of 1 3` passes its first test and
--- answers `LabelsTooFew` at the second. With 4 labels `next` of 0 is 1, of 3 is 0 (3 + 1 is no
--- label), and of 65535 is 0.
 -- Source: this project's profile of the stop-and-wait data link of Dolev, Self-Stabilization, MIT
 -- Press 2000.
 use Rattle.std.specs.Prelude.{ℕ, ◌+◌, ◌*◌, ◌≤◌, nat_lt, nat_le, ◌||◌, if◌then◌else◌}

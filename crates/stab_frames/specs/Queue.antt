@@ -1,9 +1,6 @@
 -- A queue of bounded capacity: its entries, the front first, and how many it may hold.
 -- `without` is a list without the entry at a place, and `turned` a list whose first entries went to
 -- the back.
--- Example: `without 1` of 5, 6, 7: place 1 is not the front, so 5 stays and `without 0` of 6, 7 is
--- taken, which is 7. Together 5, 7. `without 3` of the list 5 alone runs past its end and leaves 5.
--- `turned 1` of 5, 6, 7 is 6, 7, 5.
 -- Source: the bounded FIFO queue of one direction of a link in this project's profile.
 use Rattle.std.specs.Prelude.{ℕ, zero, suc, List, [], ◌∷◌, ◌++◌, take, drop, refl}
 use Rattle.std.specs.Coded.{Coded, code_by, coded×, coded_list, coded_ℕ}

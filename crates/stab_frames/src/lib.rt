@@ -7,6 +7,7 @@
 //! entries than its capacity.
 #![tactic(auto)]
 
+pub mod examples;
 mod frame;
 mod params;
 mod queue;
