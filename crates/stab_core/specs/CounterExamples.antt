@@ -1,17 +1,6 @@
 -- Why the link is as it is: event lists that break its laws where one rule of it is left out, and
 -- one for each capacity that reaches the bounds where none is. Where a rule is left out the
 -- capacity is 1, for which four labels are the fewest lawful ones.
--- Example: The run with two labels of docs/PROTOCOL.md: 5 acknowledged, and the delivered 11, 12,
--- 13 have the places 1, 2, 3 of the offered list. Number 4 is at least 3 and below 5, but 4 is none
--- of these places, so the law is broken. `worst_start 1 99` is the worst start. `worst_events 1 10`
--- is `Offer 10`, `RecvAck` (one round of `acked_by_start`), then `SendAck`, `Offer 11`, `RecvAck`,
--- `RecvFrame` (one round of `acked_by_receiver`), then `SendAck`, `Offer 12`, `RecvAck`, `Offer
--- 13`, `SendFrame`, `RecvFrame` (`delivered_at_last`): these are its twelve events. For capacity 2,
--- `worst_start 2 98` has the frames (3, 98) and (4, 99), the acknowledgements 0 and 1, send label 0
--- and receive label 2. `worst_events 2 10` has two rounds of either kind, which offer 10, 11 and
--- 12, 13, and then offers 14 and 15: these are the first 17 events of the run with capacity two of
--- docs/PROTOCOL.md, and then `RecvFrame`. That both are so is proved
--- (`laws::worst_events_written_out`).
 -- Source: this project's own.
 use Rattle.std.specs.Prelude.{ℕ, zero, suc, ◌+◌, ◌*◌, Bool, true, false, List, [], ◌∷◌, ◌++◌}
 use Rattle.std.specs.Prelude.{slice_get, if◌then◌else◌, Option, Some, None}

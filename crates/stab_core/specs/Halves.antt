@@ -1,7 +1,5 @@
 -- The two halves of a link's step: what a sender remembers. (A receiver remembers one label and
 -- nothing else.)
--- Example: A sender with label 0 and item 10 waits for 0 and not for 1; a sender with label 0 and
--- no item waits for nothing (`examples/links/idle_sender_ignores`).
 -- Source: the stop-and-wait data link of Dolev, Self-Stabilization, MIT Press 2000.
 use Rattle.std.specs.Prelude.{ℕ, ◌==◌, ◌&&◌, Bool, Option, is_some}
 

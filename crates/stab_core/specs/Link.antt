@@ -1,8 +1,5 @@
 -- What contracts see of a link of the code: its parameters beside its state; and the fault of a
 -- start that is refused.
--- Example: Two frames and two acknowledgements at capacity 1: `IsReason` at `TooManyFrames` asks
--- for 1 < 2, which holds. At `TooManyAcks` it asks first that the frames fit, which fails. So only
--- the first reason holds.
 -- Source: this project's own.
 use Rattle.std.specs.Prelude.{◌≡◌, ◌<◌, ◌≤◌, length}
 use Rattle.stab_frames.specs.Parameters.{Parameters}

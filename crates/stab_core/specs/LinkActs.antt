@@ -1,6 +1,4 @@
 -- The event of an act: an act is an event whose offer names no item.
--- Example: The act `Offer` with the item 7 is the event `Offer 7`; with no item it is no event. The
--- act `Close` is the event `Close` with either.
 -- Source: this project's own.
 use Rattle.std.specs.Prelude.{ℕ, Option, Some, option_map}
 use Rattle.stab_core.specs.declared.act.LinkAct.{LinkAct}

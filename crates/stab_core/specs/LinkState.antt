@@ -1,8 +1,5 @@
 -- The state of one link: the entries of its two queues, what its sender and its receiver remember,
 -- and whether it is closed.
--- Example: After event 10 of the worst start 10, 11, 12, 13 are offered and 3 are acknowledged. 4 =
--- 3 + 1, so the link is holding, and `current_frame` is the send label 3 with the offered item at
--- place 3, which is 13.
 -- Source: the stop-and-wait data link of Dolev, Self-Stabilization, MIT Press 2000, over queues of
 -- bounded capacity.
 use Rattle.std.specs.Prelude.{ℕ, ◌+◌, ◌==◌, Bool, List, length, nat_lt, slice_index}

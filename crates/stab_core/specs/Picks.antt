@@ -1,8 +1,5 @@
 -- Picks: a list is picked from another at strictly rising places. Places are meant, not values:
 -- equal items count apart.
--- Example: 13 is picked from 10, 11, 12, 13 at place 3. 7, 7 is picked from 7, 7 at the places 0,
--- 1: after place 0 the next one must be at least 1. It is not picked at 0, 0. So equal items count
--- apart.
 -- Source: this project's own.
 use Rattle.std.specs.Prelude.{◌≡◌, ℕ, ◌+◌, ◌<◌, ◌≤◌, List, [], ◌∷◌, length, map, slice_index}
 

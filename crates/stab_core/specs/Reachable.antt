@@ -1,5 +1,4 @@
 -- A state is reachable from a start when it is the replay of some event list from there.
--- Example: The opening is reachable, by no events.
 -- Source: this project's own.
 use Rattle.std.specs.Prelude.{◌≡◌, List}
 use Rattle.stab_frames.specs.Parameters.{Parameters}

@@ -1,9 +1,5 @@
 -- The step: what one event makes of a link, and the effect that it reports. An event that does not
 -- apply changes nothing.
--- Example: Event 6 of the worst start is `RecvFrame` that does not keep. The front frame is (2,
--- 99). `after_front` takes the front off, so no frames remain. `sees_frame` compares 2 with the
--- remembered 1: they differ, so the remembered label becomes 2 and 99 is delivered. The effect is
--- `Fresh 99`. So for all twelve events: the states are those drawn in docs/PROTOCOL.md.
 -- Source: this project's profile of the stop-and-wait link; losses and repetitions are events like
 -- any other.
 use Rattle.std.specs.Prelude.{ℕ, ◌+◌, ◌==◌, ◌&&◌, Bool, true, List, [], ◌∷◌, ◌++◌, length, drop}

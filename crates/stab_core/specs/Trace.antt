@@ -1,8 +1,5 @@
 -- Origins: the replay in which every queued frame carries where it comes from, and what is
 -- delivered carries it along.
--- Example: At the opening of the worst start the one frame carries `Stray 0`. Event 6 takes it: the
--- origins are `Stray 0`. Event 11 puts a frame with `Sent 3`, since 4 items are offered. Event 12
--- takes it: `Stray 0, Sent 3`, printed as `s0 i3`.
 -- Source: this project's own, to say of each delivered item whether it is a stray or which offered
 -- item it is.
 use Rattle.std.specs.Prelude.{◌≡◌, ℕ, ◌+◌, ◌-◌, ◌==◌, ◌&&◌, List, [], ◌∷◌, ◌++◌, length, map}

@@ -8,6 +8,7 @@
 
 mod act;
 mod event;
+pub mod examples;
 pub mod laws;
 mod link;
 mod origin;
