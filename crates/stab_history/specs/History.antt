@@ -1,8 +1,5 @@
 -- A history as contracts see it: its events, the first one first, and for how many more of them it
 -- surely has room. An event that repeats the last one needs no room.
--- Example: Of the events SendAck, SendAck, Close the last one is Close: the length is 3, and at
--- place 2 is Close. So there is room for another Close, also where there is no room for a SendAck.
--- No event is the last one of the empty list.
 -- Source: this project's own.
 use Rattle.std.specs.Prelude.{◌≡◌, ℕ, ◌-◌, ◌≤◌, ◌⊎◌, List, length, slice_get, Some}
 use Rattle.stab_core.specs.declared.event.Event.{Event}

@@ -9,6 +9,7 @@
 
 mod digits;
 mod entry;
+pub mod examples;
 mod history;
 mod packed;
 

@@ -1,7 +1,4 @@
 -- Script entries: what a JSON value says as a script of one link.
--- Example: `{"frames_out": "PDE"}` says the lists pass, drop, evict and three empty ones, which
--- make a script. `{"seed": [1, 2], "length": 3, "loss": 1001, "repeat": 0}` says a draw, which is
--- refused as `RateOutOfRange`.
 -- Source: this project's profile. An entry has texts of letters, an act each, or the numbers of a
 -- draw.
 use Rattle.std.specs.Prelude.{ℕ, ◌==◌, codes, List, [], ◌∷◌, if◌then◌else◌, Option, Some, None}

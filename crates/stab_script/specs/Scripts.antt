@@ -1,6 +1,4 @@
 -- Scripts: what a link is to lose and to repeat, as four lists of acts, and how its ends take them.
--- Example: Words 2707161783 and 97 at a loss of 100: modulo 1000 they are 783 and 97; 783 is not
--- below 100, so pass; 97 is, so drop. The first act of an empty list is pass, or take.
 -- Source: this project's profile.
 use Rattle.std.specs.Prelude.{ℕ, zero, suc, nat_lt, Bool, ◌||◌, if◌then◌else◌, Result, Ok, Err}
 use Rattle.std.specs.Prelude.{List, [], ◌∷◌, drop, length, slice_get, unwrap_or}

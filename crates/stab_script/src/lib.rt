@@ -12,6 +12,7 @@
 mod act;
 mod draw;
 mod events;
+pub mod examples;
 mod fault;
 mod half;
 pub mod laws;

@@ -1,6 +1,4 @@
 -- The depth of a node is the number of its parent steps to the root (this project's profile).
--- Example: From b, at place 2: one step leads to 1, two lead to 0, which has no parent. So the
--- depth of b is 2.
 use Rattle.std.specs.Prelude.{◌≡◌, ℕ, ◌+◌, ◌<◌, List, length, Option, Some, None}
 use Rattle.stab_tree.specs.Nodes.{parent_at, root_of}
 use Rattle.stab_tree.specs.Steps.{ancestor, depth_of}

@@ -1,7 +1,5 @@
 -- A tree: each node but one root has one parent, and reaches the root by parent steps
 -- (this project's profile).
--- Example: The parents nothing, 2, 1: node 1 leads to 2, and 2 to 1. No number of steps leads from
--- 1 to node 0, so it is no tree.
 use Rattle.std.specs.Prelude.{◌≡◌, ◌≢◌, ℕ, ◌<◌, ◌≤◌, length, Some, None, AllPairs, IsTrue}
 use Rattle.std.specs.List.{list_all}
 use Rattle.stab_tree.specs.Name.{is_name}

@@ -1,7 +1,5 @@
 -- A link is named by its child; links are in the file order of their children
 -- (this project's profile).
--- Example: For the parents nothing, 0, 1 the links are those into 1 and 2. Where the root is in the
--- middle, as for 1, nothing, 1, they are those into 0 and 2.
 use Rattle.std.specs.Prelude.{◌≡◌, ℕ, suc, ◌+◌, ◌<◌, ◌==◌, List, [], ◌∷◌, length, slice_get, Option, Some, None}
 use Rattle.std.specs.List.{position}
 use Rattle.stab_tree.specs.Nodes.{parent_at}

@@ -1,7 +1,5 @@
 -- The nodes of a tree in file order: the name of each, and the place of its parent
 -- (this project's profile).
--- Example: `A b` has a capital letter and a space, so it is no name. The list of r, a with parent
--- r, b with parent a has the parents nothing, 0, 1.
 use Rattle.std.specs.Prelude.{ℕ, List, Option, None, is_none, slice_index_or}
 use Rattle.std.specs.List.{position, position_or_len}
 use Rattle.std.specs.Str.{bytes_eq}

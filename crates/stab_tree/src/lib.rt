@@ -10,6 +10,7 @@
 #![tactic(auto)]
 
 mod entry;
+pub mod examples;
 mod fault;
 pub mod laws;
 mod name;
