@@ -109,12 +109,12 @@ interrupt() {
     write "$work/bin/rt" "trap 'kill \$!; echo >\"$work/ended\"; exit 1' TERM
         sleep 600 & echo >\"$work/started\"; wait"
     local words=("${@:2}")
-    # (without job control, the signal INT would be ignored by what is started so)
-    set -m
-    TMPDIR="$work/temporary" PATH=$work/bin:$PATH "$house/gate" "${words[@]}" \
+    # (a signal that is ignored here, as INT is in what runs in the background and HUP under nohup,
+    # would be ignored there)
+    TMPDIR="$work/temporary" PATH=$work/bin:$PATH \
+        env --default-signal=INT,TERM,HUP "$house/gate" "${words[@]}" \
         >"$work/out" 2>"$work/err" &
     pid=$!
-    set +m
     for ((count = 0; count < 100; count++)); do
         [ ! -e "$work/started" ] || break
         sleep 0.1

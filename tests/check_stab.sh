@@ -172,11 +172,11 @@ copied() {
 interrupt() {
     write_text mid slow
     rm -f "$work/started" "$work/ended"
-    # (without job control, the signal INT would be ignored by what is started so)
-    set -m
-    WORK=$work PATH=$work/bin:$PATH "$house/stab" </dev/null >"$work/out" 2>"$work/err" &
+    # (a signal that is ignored here, as INT is in what runs in the background and HUP under nohup,
+    # would be ignored there)
+    WORK=$work PATH=$work/bin:$PATH env --default-signal=INT,TERM,HUP "$house/stab" \
+        </dev/null >"$work/out" 2>"$work/err" &
     local pid=$! count
-    set +m
     for ((count = 0; count < 100; count++)); do
         [ ! -s "$work/started" ] || break
         sleep 0.1
