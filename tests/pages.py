@@ -29,8 +29,9 @@ ENDINGS = "antt|rt|edit|md|py|sh|c|json|run|out|txt|bazel"
 UNCITED = {"CHANGELOG.md", LISTS}
 # What only a build makes.
 MADE = re.compile(r"(out|bench/build)/")
-# Names that pages cite of other programs, or as an example.
-OTHERS = {"conflicts_with", "in_room", "sched_autogroup_enabled"}
+# Names that pages cite of other programs and of the system, or as an example.
+OTHERS = {"conflicts_with", "in_room", "sched_autogroup_enabled", "F_SETPIPE_SZ", "O_DIRECT",
+          "O_NONBLOCK"}
 
 
 class Function:
