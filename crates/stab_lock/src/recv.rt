@@ -13,7 +13,7 @@ use std::marker::PhantomData;
 use std::sync::Wait;
 
 /// The receiver's end of a locked link. Each call takes the lock once, and makes the book's call of
-/// its name.
+/// its name. A refused call leaves the account and the acts of the end as they were.
 pub struct LockRecv<'a, R> {
     link: &'a LockLink,
     account: RecvAccount,

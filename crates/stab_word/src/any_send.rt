@@ -15,6 +15,7 @@ use std::sync::Wait;
 /// The sender's end of a link of either kind. Each call makes the call of its name of the end
 /// inside. Over two words contracts say so: it makes the loads and stores that [`WordSend`] makes
 /// in that call, and no other; it takes no runtime value and waits for nothing.
+/// A refused call leaves the account and the acts of the end as they were.
 pub enum AnySend<'a, R> {
     /// The end of a link with a lock.
     Lock(LockSend<'a, R>),
