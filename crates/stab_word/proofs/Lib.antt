@@ -5,4 +5,5 @@ pub mod Shown
 pub mod Turns
 pub mod Calls
 pub mod StepLists
+pub mod Followings
 pub mod Settled
