@@ -81,14 +81,14 @@ def below(crate, lines, found):
 
 
 def copied(crate, lines, work):
-    """Copies a crate, and those that it stands on, with what was kept, and answers its folder."""
+    """Copies what was kept of a crate, and of those that it stands on, and answers its folder."""
     for it in below(crate, lines, []):
-        if it == crate or not os.path.isdir(f"{work}/crates/{it}"):
+        kept, copy = f"{TOP}/crates/{it}/out", f"{work}/crates/{it}/out"
+        if os.path.isdir(kept) and (it == crate or not os.path.isdir(copy)):
             # (what a check keeps of a crate's own proof is large, and is of use to this one alone)
-            unused = ["must-fail"] if it == crate else ["must-fail", "incremental"]
-            ignore = shutil.ignore_patterns(*unused)
-            shutil.rmtree(f"{work}/crates/{it}", ignore_errors=True)
-            shutil.copytree(f"{TOP}/crates/{it}", f"{work}/crates/{it}", ignore=ignore)
+            ignore = None if it == crate else shutil.ignore_patterns("incremental")
+            shutil.rmtree(copy, ignore_errors=True)
+            shutil.copytree(kept, copy, ignore=ignore)
     return f"{work}/crates/{crate}"
 
 
@@ -161,6 +161,8 @@ def main(words):
     with tempfile.TemporaryDirectory(prefix="check-edits-") as work:
         for name in ("crates.txt", "HANDLES"):
             shutil.copy(f"{TOP}/{name}", work)
+        unused = shutil.ignore_patterns("out", "must-fail")
+        shutil.copytree(f"{TOP}/crates", f"{work}/crates", ignore=unused)
         for crate in words or lines:
             bugs = edits_in(f"{TOP}/crates/{crate}/must-fail")
             bugs.update(edits_in(f"{TOP}/tests/more_edits/{crate}"))
