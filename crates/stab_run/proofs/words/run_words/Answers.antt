@@ -1,6 +1,7 @@
-use Rattle.std.proofs.Common.{rules, ◌≡◌, ◌≢◌, ℕ, All, subst}
+use Rattle.std.proofs.Common.{rules, ◌≡◌, ◌≢◌, ℕ, All}
 use Rattle.stab_lock.specs.declared.settle.SettleFault.{SettleFault}
-use Rattle.stab_tree.specs.IsTree.{IsTree}
+use Rattle.stab_core.proofs.Setups.{all_have}
+use Rattle.stab_job.specs.JobValues.{network}
 use Rattle.stab_workers.proofs.ForCallers.{at_error}
 use Rattle.stab_workers.specs.ByNode.{received_at}
 use Rattle.stab_run.specs.declared.run_fault.RunFault.TheVariants.{Settle}
@@ -30,7 +31,7 @@ returns-in_err-report-clause-never_differ g c =
 pub returns-clause-tree_law_by_depth : goal.returns-clause-tree_law_by_depth
 returns-clause-tree_law_by_depth g c =
     let job = c.args.job.now in
-    let its_job = c.tree-2.ensures.job in
+    let its_network = c.in_ok-report.ensures.network in
     let one_place : All (λ p. p.capacity ≡ 1) job.params = search rules in
-    c.tree_law_of_one_place.ensures job.tree job.params job.openings job.starts job.items (received_at c.in_ok-report.report.received)
-    (subst IsTree c.tree-2.ensures.tree c.root-tree.ensures.tree) its_job.one_params_each one_place c.in_ok-report.ensures.tree_law
+    c.tree_law_of_one_place.ensures (network job) (received_at c.in_ok-report.report.received) its_network.tree its_network.one_per_link
+    (all_have (λ p. p.capacity ≡ 1) job.params job.starts one_place) c.in_ok-report.ensures.tree_law
