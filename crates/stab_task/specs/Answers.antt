@@ -61,7 +61,8 @@ abbrev pub tree_answer : JobValue → List ℕ
 tree_answer job = schedule_text job.tree
     (tree_replay (tree_opening (network job)) job.schedule)
 
--- these bytes are a job, whose starts are lawful and whose schedule names links alone, and this is its text
+-- these bytes are a job, whose starts are lawful and whose schedule names links alone, and this is
+-- its text
 pub record IsTreeAnswer (input text : List ℕ) : Type 0 where
   pub job : JobValue
   pub read : whole_job input ≡ Ok job
