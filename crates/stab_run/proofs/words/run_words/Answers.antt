@@ -1,10 +1,12 @@
-use Rattle.std.proofs.Common.{rules, ◌≡◌, ◌≢◌, ℕ, All}
+use Rattle.std.proofs.Common.{rules, ◌≡◌, ◌≢◌, ℕ, All, true}
+use Rattle.stab_core.specs.LinkSetup.{CanBegin}
 use Rattle.stab_lock.specs.declared.settle.SettleFault.{SettleFault}
 use Rattle.stab_core.proofs.Setups.{all_have}
 use Rattle.stab_job.specs.JobValues.{network}
 use Rattle.stab_workers.proofs.ForCallers.{at_error}
 use Rattle.stab_workers.specs.ByNode.{received_at}
 use Rattle.stab_run.specs.declared.run_fault.RunFault.TheVariants.{Settle}
+use Rattle.stab_run.specs.RunFaults.{comes_after_starts}
 use Rattle.stab_run.proofs.Paired.{paired_alike}
 use Rattle.stab_run.proofs.words.run_words.Goals as goal
 
@@ -35,3 +37,11 @@ returns-clause-tree_law_by_depth g c =
     let one_place : All (λ p. p.capacity ≡ 1) job.params = search rules in
     c.tree_law_of_one_place.ensures (network job) (received_at c.in_ok-report.report.received) its_network.tree its_network.one_per_link
     (all_have (λ p. p.capacity ≡ 1) job.params job.starts one_place) c.in_ok-report.ensures.tree_law
+
+-- the links are settled only where all starts are lawful
+pub returns-in_err-report-clause-starts_first : goal.returns-in_err-report-clause-starts_first
+returns-in_err-report-clause-starts_first g c =
+    at_error _ _
+    (λ fault. comes_after_starts fault ≡ true → All CanBegin (network c.args.job.now).links)
+    c.from_residual-in_err-report.ensures.1
+    (λ after. rw (c.params-2.ensures.params, c.starts.ensures.starts) at c.in_ok-check_starts.ensures.can_begin)
