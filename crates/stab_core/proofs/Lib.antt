@@ -1,4 +1,5 @@
 pub mod ForCallers
+pub mod Setups
 pub mod Growing
 pub mod Entries
 pub mod Tracing

@@ -9,6 +9,7 @@ pub mod Trace
 pub mod Halves
 pub mod Link
 pub mod LinkActs
+pub mod LinkSetup
 pub mod LinkInside
 pub mod Texts
 pub mod Tracer

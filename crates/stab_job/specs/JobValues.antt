@@ -8,6 +8,7 @@ use Rattle.stab_script.specs.Scripts.{Acts}
 use Rattle.stab_tree.specs.Links.{links_of}
 use Rattle.stab_tree.specs.Nodes.{Nodes}
 use Rattle.stab_treecore.specs.declared.event.TreeEvent.{TreeEvent}
+use Rattle.stab_treecore.specs.Network.{Network, network_of}
 use Rattle.stab_treecore.specs.NodeOpenings.{FitTree, OpeningsValue}
 
 pub record JobValue : Type 0 where
@@ -31,6 +32,10 @@ most_turns = 1000000
 -- how many links the nodes have
 abbrev pub links : Nodes → ℕ
 links t = length (links_of t.parents)
+
+-- the network of a job: all that its runs and its schedule are about
+abbrev pub network : JobValue → Network
+network j = network_of j.params j.tree j.items j.starts j.openings
 
 -- each link has lawful parameters, a start and a script, the openings are those of the tree, and
 -- the items and turns are within their limits

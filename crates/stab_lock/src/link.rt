@@ -5,7 +5,6 @@ ghost use Rattle.stab_core.specs.Replay.{IsLawful, opening, replay, start_items}
 ghost use Rattle.stab_core.specs.declared.event.Event.{Event};
 ghost use Rattle.stab_script.specs.Scripts.{sender_half, receiver_half};
 ghost use Rattle.stab_lock.specs.Accounts.{new_sender, new_receiver};
-ghost use Rattle.stab_lock.specs.Book.{Given};
 ghost use Rattle.stab_lock.specs.Ends.{send_end, recv_end};
 ghost use Rattle.stab_lock.specs.Settling.{Agree, DifferFromReplay};
 
@@ -35,10 +34,10 @@ pub struct LockLink {
 }
 
 impl Model for LockLink {
+    ghost use Rattle.stab_core.specs.LinkSetup.{LinkSetup};
     ghost use Rattle.stab_core.specs.Replay.{IsLawful};
-    ghost use Rattle.stab_lock.specs.Book.{Given};
 
-    ghost Value = { Given };
+    ghost Value = { LinkSetup };
 
     ghost view = { λ l. record { params = l.params; start = l.start } };
 

@@ -3,8 +3,8 @@ use Rattle.std.proofs.Common.{◌≡◌, ◌<◌, ◌+◌, ℕ, zero, suc, inl, 
 use Rattle.std.proofs.lemmas.Bool.{cases_lt}
 use Rattle.std.proofs.lemmas.List.{append-nil, drop_more, drop_all}
 use Rattle.std.proofs.lemmas.Option.{none-some, same_Some}
+use Rattle.stab_core.specs.LinkSetup.{LinkSetup}
 use Rattle.stab_lock.specs.Accounts.{Sender, Receiver}
-use Rattle.stab_lock.specs.Book.{Given}
 use Rattle.stab_tree.specs.Links.{links_from, links_of}
 use Rattle.stab_tree.specs.Nodes.{parent_at}
 use Rattle.stab_treecore.specs.ByChild.{by_child}
@@ -65,7 +65,7 @@ module _ {A : Type 0} (parents : List (Option ℕ)) (all : List A) (node : ℕ) 
         ∙ (sym (before.at 0) ∙ (ap (λ k. entry_into parents all k) place ∙ found))))
 
 -- what holds of the first link that is left holds of the link into this child
-pub holds_into : (P : Given → Type 0) (parents : List (Option ℕ)) (links : List Given) (node parent : ℕ) (left : List Given)
+pub holds_into : (P : LinkSetup → Type 0) (parents : List (Option ℕ)) (links : List LinkSetup) (node parent : ℕ) (left : List LinkSetup)
     → node < length parents → parent_at parents node ≡ Some parent → IsLeftOf parents links left node → HoldsOfFirst P left
     → HoldsInto P parents links node
 holds_into P parents links node parent [] within is before first = absurd first
@@ -82,16 +82,16 @@ holds_into P parents links node parent (link ∷ left) within is before first =
     }
 
 -- the accounts of the links into the nodes before this one are settled
-abbrev pub SettledBefore : List (Option ℕ) → List Given → List Sender → List Receiver → ℕ → Type 0
+abbrev pub SettledBefore : List (Option ℕ) → List LinkSetup → List Sender → List Receiver → ℕ → Type 0
 SettledBefore parents links sends recvs node =
-    (earlier : ℕ) (link : Given) (send : Sender) (recv : Receiver) → earlier < node
+    (earlier : ℕ) (link : LinkSetup) (send : Sender) (recv : Receiver) → earlier < node
     → entry_into parents links earlier ≡ Some link → entry_into parents sends earlier ≡ Some send
     → entry_into parents recvs earlier ≡ Some recv → IsSettled link send recv
 
 -- The counts so far, and then those of the nodes that are left, are all counts; where the links that are left are settled, all are;
 -- and there is what is needed for each link that is left.
-pub record SettledSoFar (parents : List (Option ℕ)) (links : List Given) (sends : List Sender) (recvs : List Receiver)
-    (acked : List (Option ℕ)) (links_left : List Given) (sends_left : List Sender) (recvs_left : List Receiver) (node : ℕ) : Type 0 where
+pub record SettledSoFar (parents : List (Option ℕ)) (links : List LinkSetup) (sends : List Sender) (recvs : List Receiver)
+    (acked : List (Option ℕ)) (links_left : List LinkSetup) (sends_left : List Sender) (recvs_left : List Receiver) (node : ℕ) : Type 0 where
   pub counts : acked ++ by_child (drop node parents) (map acked_of sends_left) ≡ by_child parents (map acked_of sends)
   pub settled : AreSettled links_left sends_left recvs_left → AreSettled links sends recvs
   pub links_enough : length links_left ≡ length (links_of (drop node parents))
@@ -103,7 +103,7 @@ pub record SettledSoFar (parents : List (Option ℕ)) (links : List Given) (send
   pub recvs_from_here : IsLeftOf parents recvs recvs_left node
 
 -- before the first node nothing is settled
-pub none_settled : (parents : List (Option ℕ)) (links : List Given) (sends : List Sender) (recvs : List Receiver)
+pub none_settled : (parents : List (Option ℕ)) (links : List LinkSetup) (sends : List Sender) (recvs : List Receiver)
     → length links ≡ length (links_of parents) → length sends ≡ length (links_of parents) → length recvs ≡ length (links_of parents)
     → SettledSoFar parents links sends recvs [] links sends recvs 0
 none_settled parents links sends recvs counted_links counted_sends counted_recvs = record {
@@ -118,8 +118,8 @@ none_settled parents links sends recvs counted_links counted_sends counted_recvs
   recvs_from_here = record { at = λ i. let place : 0 + i ≡ i = omega arith in ap (λ k. entry_into parents recvs k) place };
 }
 
-module _ (parents : List (Option ℕ)) (links : List Given) (sends : List Sender) (recvs : List Receiver) (acked : List (Option ℕ))
-    (links_left : List Given) (sends_left : List Sender) (recvs_left : List Receiver) (node : ℕ)
+module _ (parents : List (Option ℕ)) (links : List LinkSetup) (sends : List Sender) (recvs : List Receiver) (acked : List (Option ℕ))
+    (links_left : List LinkSetup) (sends_left : List Sender) (recvs_left : List Receiver) (node : ℕ)
     (so_far : SettledSoFar parents links sends recvs acked links_left sends_left recvs_left node) where
   -- the next node and those after it
   rest : (o : Option ℕ) → node < length parents → parent_at parents node ≡ o → drop node parents ≡ o ∷ drop (node + 1) parents
@@ -171,15 +171,15 @@ module _ (parents : List (Option ℕ)) (links : List Given) (sends : List Sender
       sym (append-nil acked) ∙ (ap (λ ps. acked ++ by_child ps (map acked_of sends_left)) (sym none) ∙ so_far.counts)
 
 -- no link, and no account, is settled
-nothing_left : (links : List Given) (sends : List Sender) (recvs : List Receiver) → length links ≡ 0 → length sends ≡ 0 → length recvs ≡ 0
+nothing_left : (links : List LinkSetup) (sends : List Sender) (recvs : List Receiver) → length links ≡ 0 → length sends ≡ 0 → length recvs ≡ 0
     → AreSettled links sends recvs
 nothing_left [] [] [] no_link no_send no_recv = tt
 nothing_left [] [] (r ∷ rs) no_link no_send no_recv = absurd (omega arith)
 nothing_left [] (s ∷ ss) rs no_link no_send no_recv = absurd (omega arith)
 nothing_left (l ∷ ls) ss rs no_link no_send no_recv = absurd (omega arith)
 
-pub all_settled : (parents : List (Option ℕ)) (links : List Given) (sends : List Sender) (recvs : List Receiver) (acked : List (Option ℕ))
-    (links_left : List Given) (sends_left : List Sender) (recvs_left : List Receiver) (node : ℕ)
+pub all_settled : (parents : List (Option ℕ)) (links : List LinkSetup) (sends : List Sender) (recvs : List Receiver) (acked : List (Option ℕ))
+    (links_left : List LinkSetup) (sends_left : List Sender) (recvs_left : List Receiver) (node : ℕ)
     → SettledSoFar parents links sends recvs acked links_left sends_left recvs_left node
     → length parents ≡ node → AreSettled links sends recvs
 all_settled parents links sends recvs acked links_left sends_left recvs_left node so_far over =
@@ -188,8 +188,8 @@ all_settled parents links sends recvs acked links_left sends_left recvs_left nod
     (nothing_left links_left sends_left recvs_left (so_far.links_enough ∙ none) (so_far.sends_enough ∙ none) (so_far.recvs_enough ∙ none))
 
 -- one more link is settled
-pub child_settled : (parents : List (Option ℕ)) (links : List Given) (sends : List Sender) (recvs : List Receiver) (acked : List (Option ℕ))
-    (node parent : ℕ) (link : Given) (send : Sender) (recv : Receiver) (links_before links_left : List Given) (sends_before sends_left : List Sender)
+pub child_settled : (parents : List (Option ℕ)) (links : List LinkSetup) (sends : List Sender) (recvs : List Receiver) (acked : List (Option ℕ))
+    (node parent : ℕ) (link : LinkSetup) (send : Sender) (recv : Receiver) (links_before links_left : List LinkSetup) (sends_before sends_left : List Sender)
     (recvs_before recvs_left : List Receiver)
     → SettledSoFar parents links sends recvs acked links_before sends_before recvs_before node
     → node < length parents → parent_at parents node ≡ Some parent → IsSettled link send recv

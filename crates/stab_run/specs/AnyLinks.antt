@@ -3,7 +3,7 @@
 -- Source: this project's own.
 use Rattle.std.specs.Prelude.{◌≡◌, ◌≢◌}
 use Rattle.stab_frames.specs.Parameters.{Parameters}
-use Rattle.stab_lock.specs.Book.{Given}
+use Rattle.stab_core.specs.LinkSetup.{LinkSetup}
 use Rattle.stab_word.specs.AnyEnds.{AnyLinkId, locked, of_words}
 use Rattle.stab_run.specs.declared.any_link.AnyLink.{AnyLink}
 use Rattle.stab_run.specs.declared.any_link.AnyLink.TheVariants.{Lock, Word}
@@ -11,7 +11,7 @@ use Rattle.stab_run.specs.declared.any_link.AnyOpening.{AnyOpening}
 use Rattle.stab_run.specs.declared.any_link.AnyOpening.TheVariants as opening
 
 -- its parameters and its start
-abbrev pub given_to : AnyLink → Given
+abbrev pub given_to : AnyLink → LinkSetup
 given_to (Lock link) = link
 given_to (Word link) = link.given
 

@@ -1,8 +1,8 @@
 -- Which links have a lock where a run has links of either kind: those whose capacity is not one.
 -- Source: this project's own.
 use Rattle.std.specs.Prelude.{◌≢◌}
-use Rattle.stab_lock.specs.Book.{Given}
+use Rattle.stab_core.specs.LinkSetup.{LinkSetup}
 
 -- the capacity of the link is not one
-abbrev pub IsLarge : Given → Type 0
+abbrev pub IsLarge : LinkSetup → Type 0
 IsLarge link = link.params.capacity ≢ 1

@@ -6,53 +6,40 @@
 -- explain it. If r ended as Upstream, `HandsOn` asks that 2 are acknowledged on the link into a,
 -- since r has two items; so here r ended as Turns.
 -- Source: this project's profile.
-use Rattle.std.specs.Prelude.{◌≡◌, ℕ, suc, ◌+◌, ◌*◌, ◌<◌, List, ◌++◌, length, Option, Some, None}
-use Rattle.stab_core.specs.declared.start.Start.{Start}
+use Rattle.std.specs.Prelude.{◌≡◌, ℕ, suc, ◌+◌, ◌*◌, ◌<◌, List, length, Option, Some, None}
 use Rattle.stab_core.specs.declared.start.StartFault.{StartFault}
 use Rattle.stab_core.specs.Link.{IsReason}
+use Rattle.stab_core.specs.LinkSetup.{CanBegin, LinkSetup}
 use Rattle.stab_core.specs.Replay.{IsLawful}
-use Rattle.stab_frames.specs.Parameters.{Parameters}
 use Rattle.stab_node.specs.declared.account.Ended.{Ended}
 use Rattle.stab_node.specs.declared.account.Ended.TheVariants.{Upstream}
 use Rattle.stab_tree.specs.Nodes.{parent_at, root_of}
 use Rattle.stab_tree.specs.Steps.{ancestor, depth_of}
-use Rattle.stab_treecore.specs.EdgeLaw.{EdgeLaw}
-use Rattle.stab_treecore.specs.NodeLaws.{params_into, start_into, garbage_past, held_bound}
-use Rattle.stab_treecore.specs.NodeLaws.{most_missing, most_strays, TreeLawOfNodes}
-use Rattle.stab_treecore.specs.NodeOpenings.{OpeningsValue, hold_at, opening_at}
-use Rattle.stab_treecore.specs.TreeLaw.{CompleteLaw}
-use Rattle.stab_workers.specs.ByNode.{ended_at, received_at}
+use Rattle.stab_treecore.specs.EdgeLaw.{EdgeInto}
+use Rattle.stab_treecore.specs.Network.{Network}
+use Rattle.stab_treecore.specs.NodeLaws.{held_bound, most_missing, most_strays, path_garbage}
+use Rattle.stab_treecore.specs.TreeLaw.{CompleteLaw, TreeLaw}
+use Rattle.stab_workers.specs.ByNode.{ended_at, entry_into, received_at}
 use Rattle.stab_run.specs.Reports.{Reported, acked_at}
 
 -- the root has the published items, and no link leads into it
-pub record RootHas (parents : List (Option ℕ)) (published : List ℕ) (r : Reported) : Type 0 where
-  pub received : received_at r.received (root_of parents) ≡ published
-  pub acked : acked_at r.acked (root_of parents) ≡ None
+pub record RootHas (net : Network) (r : Reported) : Type 0 where
+  pub received : received_at r.received (root_of net.tree.parents) ≡ net.published
+  pub acked : acked_at r.acked (root_of net.tree.parents) ≡ None
 
--- The link into a child: some events, from the start of this link and under its parameters, explain
--- what the report says of it. They end with the link closed, the child has its opening and then
--- what was delivered, so many items are acknowledged as the report says, and what was offered is a
--- prefix of what the parent has.
-pub record IsExplained (params : List Parameters) (openings : OpeningsValue)
-    (parents : List (Option ℕ)) (starts : List Start) (r : Reported) (child parent : ℕ)
-    : Type 0 where
-  pub its_params : Parameters
-  pub has_params : params_into parents params child ≡ Some its_params
-  pub start : Start
-  pub begins : start_into parents starts child ≡ Some start
-  pub lawful : IsLawful its_params start
-  pub acked : ℕ
-  pub counted : acked_at r.acked child ≡ Some acked
-  pub delivered : List ℕ
-  pub has : received_at r.received child ≡ opening_at openings.lists child ++ delivered
-  pub edge : EdgeLaw its_params start (received_at r.received parent) acked delivered
+-- The link into a child: it can begin, and some events, from its start and under its parameters,
+-- explain what the report says of it. They end with the link closed, the child has its opening and
+-- then what was delivered, so many items are acknowledged as the report says, and what was offered
+-- is a prefix of what the parent has.
+pub record IsExplained (net : Network) (r : Reported) (child parent : ℕ) : Type 0 where
+  pub edge : EdgeInto net child (received_at r.received parent) (received_at r.received child)
+  pub counted : acked_at r.acked child ≡ Some edge.acked
 
 -- every link is explained
-abbrev pub AreExplained : List Parameters → OpeningsValue → List (Option ℕ) → List Start → Reported
-    → Type 0
-AreExplained params openings parents starts r =
-    (child parent : ℕ) → parent_at parents child ≡ Some parent
-    → IsExplained params openings parents starts r child parent
+abbrev pub AreExplained : Network → Reported → Type 0
+AreExplained net r =
+    (child parent : ℕ) → parent_at net.tree.parents child ≡ Some parent
+    → IsExplained net r child parent
 
 -- what a node received whose worker ended with its upstream is acknowledged on the link into each
 -- child
@@ -69,33 +56,27 @@ AllAboveEnded parents ended node =
 
 -- No published item is missing at such a node, except among as many of the first as 2c + 1 of each
 -- link on its path adds up to.
-abbrev pub CompleteBelowEnded : List Parameters → OpeningsValue → List (Option ℕ) → List Start
-    → List ℕ → Reported → Type 0
-CompleteBelowEnded params openings parents starts published r =
-    (node : ℕ) → node < length parents → AllAboveEnded parents r.ended node
-    → CompleteLaw (most_strays params openings parents node) (most_missing params parents node)
-    (garbage_past openings parents starts node) published (received_at r.received node)
+abbrev pub CompleteBelowEnded : Network → Reported → Type 0
+CompleteBelowEnded net r =
+    (node : ℕ) → node < length net.tree.parents → AllAboveEnded net.tree.parents r.ended node
+    → CompleteLaw (most_strays net node) (most_missing net node) (path_garbage net node)
+    net.published (received_at r.received node)
 
 -- the tree law at each node, where a node at depth d has at most d strays from its links, beside
 -- those of openings, and none is missing but among the first 3d
-abbrev pub TreeLawByDepth : OpeningsValue → List (Option ℕ) → List Start → List ℕ → (ℕ → List ℕ)
-    → Type 0
-TreeLawByDepth openings parents starts published received =
-    TreeLawOfNodes
-    (λ node. depth_of parents node + held_bound parents (hold_at parents openings.hold) node)
-    (λ node. 3 * depth_of parents node) (garbage_past openings parents starts) parents published
-    received
+abbrev pub TreeLawByDepth : Network → (ℕ → List ℕ) → Type 0
+TreeLawByDepth net received =
+    (node : ℕ) → node < length net.tree.parents
+    → TreeLaw (depth_of net.tree.parents node + held_bound net node)
+    (3 * depth_of net.tree.parents node) (path_garbage net node) net.published (received node)
 
 -- This node is the first in file order into which a link leads that cannot begin from its start
 -- under its parameters, for this reason.
-pub record IsFirstUnlawful (params : List Parameters) (parents : List (Option ℕ))
-    (starts : List Start) (child : ℕ) (fault : StartFault) : Type 0 where
-  pub its_params : Parameters
-  pub has_params : params_into parents params child ≡ Some its_params
-  pub start : Start
-  pub begins : start_into parents starts child ≡ Some start
-  pub unlawful : ¬ IsLawful its_params start
-  pub reason : IsReason its_params start fault
-  pub lawful_before : (earlier : ℕ) (p : Parameters) (other : Start) → earlier < child
-      → params_into parents params earlier ≡ Some p
-      → start_into parents starts earlier ≡ Some other → IsLawful p other
+pub record IsFirstUnlawful (parents : List (Option ℕ)) (links : List LinkSetup) (child : ℕ)
+    (fault : StartFault) : Type 0 where
+  pub link : LinkSetup
+  pub leads : entry_into parents links child ≡ Some link
+  pub unlawful : ¬ IsLawful link.params link.start
+  pub reason : IsReason link.params link.start fault
+  pub begins_before : (earlier : ℕ) (other : LinkSetup) → earlier < child
+      → entry_into parents links earlier ≡ Some other → CanBegin other

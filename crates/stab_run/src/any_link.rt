@@ -1,6 +1,7 @@
 //! A link of either kind: of two words where its capacity is one, and with a lock elsewhere.
 
 ghost use Rattle.std.specs.Prelude.{◌≡◌, IfOk};
+ghost use Rattle.stab_core.specs.LinkSetup.{setup};
 ghost use Rattle.stab_core.specs.Replay.{IsLawful};
 ghost use Rattle.stab_run.specs.AnyLinks.{IsOfKind, IsOpenedBy, given_to};
 ghost use Rattle.stab_run.specs.LinkKinds.{IsLarge};
@@ -21,10 +22,10 @@ pub(crate) struct LargeLink {
 }
 
 impl Model for LargeLink {
-    ghost use Rattle.stab_lock.specs.Book.{Given};
+    ghost use Rattle.stab_core.specs.LinkSetup.{LinkSetup};
     ghost use Rattle.stab_run.specs.LinkKinds.{IsLarge};
 
-    ghost Value = { Given };
+    ghost Value = { LinkSetup };
 
     ghost view = { λ l. l.link };
 
@@ -102,8 +103,7 @@ impl RunLink for AnyLink {
         start: &Start,
     ) -> Result<(AnyLink, AnyOpening), AllocError>
         requires lawful { IsLawful params start.now }
-        ensures given { IfOk result (λ made.
-            given_to made.0 ≡ record { params = params; start = start.now }) }
+        ensures given { IfOk result (λ made. given_to made.0 ≡ setup params start.now) }
         ensures opens { IfOk result (λ made. IsOpenedBy made.0 made.1) }
         ensures kind { IfOk result (λ made. IsOfKind params made.0) }
     {

@@ -2,6 +2,7 @@
 
 ghost use Rattle.std.specs.List.{AllZip};
 ghost use Rattle.std.specs.Prelude.{◌≡◌, ◌∷◌, ℕ, ◌<◌, true, All, IfErr, IfOk, OnOk, length, map};
+ghost use Rattle.stab_job.specs.JobValues.{network};
 ghost use Rattle.stab_lock.specs.Accounts.{new_receiver, new_sender};
 ghost use Rattle.stab_node.specs.declared.fault.NodeFault.{NodeFault};
 ghost use Rattle.stab_node.specs.Turns.{IsOver, IsRefused};
@@ -84,7 +85,7 @@ where
     requires receivers { length recvs.items ≡ length (links_of job.now.tree.parents) }
     requires new_senders { All (λ d. D.sent d ≡ new_sender) sends.items }
     requires new_receivers { All (λ u. U.received u ≡ new_receiver) recvs.items }
-    ensures run { IfOk result (λ g. IsRun job.now.openings job.now.tree.parents job.now.items
+    ensures run { IfOk result (λ g. IsRun (network job.now)
         g.received.items g.ended.items (map D.done_sent g.sends.items)
         (map U.done_received g.recvs.items)) }
     ensures sender_links { IfOk result (λ g.

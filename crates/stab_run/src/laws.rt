@@ -1,37 +1,29 @@
 //! Laws over the definitions alone: they name no job, report or link of the code, so that they hold
 //! of whatever ran the workers. Each is a function with an empty body; its contract is the law.
 
-ghost use Rattle.std.specs.Prelude.{◌≡◌, ℕ, All, List, Option, Some};
-ghost use Rattle.stab_core.specs.declared.start.Start.{Start};
-ghost use Rattle.stab_frames.specs.Parameters.{AreLawful, Parameters};
+ghost use Rattle.std.specs.Prelude.{◌≡◌, ℕ, All, List, Some};
 ghost use Rattle.stab_run.specs.Reports.{Reported};
 ghost use Rattle.stab_run.specs.Runs.{AreExplained, CompleteBelowEnded, HandsOn, RootHas};
 ghost use Rattle.stab_run.specs.Runs.{TreeLawByDepth};
 ghost use Rattle.stab_tree.specs.IsTree.{IsTree};
-ghost use Rattle.stab_tree.specs.Nodes.{Nodes, parent_at};
-ghost use Rattle.stab_treecore.specs.NodeLaws.{HalfTreeLawAtNodes, TreeLawAtNodes};
-ghost use Rattle.stab_treecore.specs.NodeLaws.{LinkLawPastOpening, capacity_into, garbage_into};
-ghost use Rattle.stab_treecore.specs.NodeOpenings.{FitTree, OpeningsValue, opening_at};
+ghost use Rattle.stab_tree.specs.Nodes.{parent_at};
+ghost use Rattle.stab_treecore.specs.Network.{Network};
+ghost use Rattle.stab_treecore.specs.NodeLaws.{HalfTreeLawAtNodes, LinkLawInto, TreeLawAtNodes};
+ghost use Rattle.stab_treecore.specs.NodeOpenings.{FitTree};
 ghost use Rattle.stab_treecore.specs.Refusals.{OnePerLink};
 ghost use Rattle.stab_workers.specs.ByNode.{received_at};
 
 /// Where every link of a report is explained, each node obeys the tree law, and so the half tree
 /// law.
 pub fn explained_reports_obey_the_tree_law()
-    ensures tree_law { (nodes : Nodes) (params : List Parameters) (openings : OpeningsValue)
-        (starts : List Start) (published : List ℕ) (report : Reported)
-        → IsTree nodes → FitTree nodes.parents openings → All AreLawful params
-        → RootHas nodes.parents published report
-        → AreExplained params openings nodes.parents starts report
-        → TreeLawAtNodes params openings nodes.parents starts published
-        (received_at report.received) }
-    ensures half_tree_law { (nodes : Nodes) (params : List Parameters) (openings : OpeningsValue)
-        (starts : List Start) (published : List ℕ) (report : Reported)
-        → IsTree nodes → FitTree nodes.parents openings → All AreLawful params
-        → RootHas nodes.parents published report
-        → AreExplained params openings nodes.parents starts report
-        → HalfTreeLawAtNodes params openings nodes.parents starts published
-        (received_at report.received) }
+    ensures tree_law { (net : Network) (report : Reported)
+        → IsTree net.tree → FitTree net.tree.parents net.openings
+        → RootHas net report → AreExplained net report
+        → TreeLawAtNodes net (received_at report.received) }
+    ensures half_tree_law { (net : Network) (report : Reported)
+        → IsTree net.tree → FitTree net.tree.parents net.openings
+        → RootHas net report → AreExplained net report
+        → HalfTreeLawAtNodes net (received_at report.received) }
 {
     stab_treecore::laws::tree_law_of_edges();
     stab_treecore::laws::half_tree_law_at_every_node();
@@ -40,13 +32,11 @@ pub fn explained_reports_obey_the_tree_law()
 /// Where every link of a report is explained, each obeys the link law: between what the parent
 /// received and what the child received after its opening.
 pub fn explained_links_obey_the_link_law()
-    ensures { (params : List Parameters) (openings : OpeningsValue) (parents : List (Option ℕ))
-        (starts : List Start) (report : Reported)
-        → All AreLawful params → AreExplained params openings parents starts report
-        → (child parent : ℕ) → parent_at parents child ≡ Some parent
-        → LinkLawPastOpening (opening_at openings.lists child)
-        (capacity_into parents params child) (garbage_into parents starts child)
-        (received_at report.received parent) (received_at report.received child) }
+    ensures { (net : Network) (report : Reported)
+        → AreExplained net report
+        → (child parent : ℕ) → parent_at net.tree.parents child ≡ Some parent
+        → LinkLawInto net child (received_at report.received parent)
+        (received_at report.received child) }
 {
     stab_treecore::laws::link_law_of_an_edge();
 }
@@ -55,13 +45,10 @@ pub fn explained_links_obey_the_link_law()
 /// into each child, no published item is missing below nodes that all ended so, except among the
 /// first M, where M is the sum of 2c + 1 over the links on a node's path to the root.
 pub fn nothing_is_missing_below_ended_nodes()
-    ensures { (nodes : Nodes) (params : List Parameters) (openings : OpeningsValue)
-        (starts : List Start) (published : List ℕ) (report : Reported)
-        → IsTree nodes → FitTree nodes.parents openings → All AreLawful params
-        → RootHas nodes.parents published report
-        → AreExplained params openings nodes.parents starts report
-        → HandsOn nodes.parents report
-        → CompleteBelowEnded params openings nodes.parents starts published report }
+    ensures { (net : Network) (report : Reported)
+        → IsTree net.tree → FitTree net.tree.parents net.openings
+        → RootHas net report → AreExplained net report → HandsOn net.tree.parents report
+        → CompleteBelowEnded net report }
 {
     stab_core::laws::every_replay_obeys_the_link_law();
     stab_treecore::laws::root_obeys_the_complete_law();
@@ -73,12 +60,11 @@ pub fn nothing_is_missing_below_ended_nodes()
 /// Where each link has room for one entry, a node at depth d received at most d strays beside those
 /// of openings, and no item is missing before its last one except among the first 3d.
 pub fn tree_law_of_one_place()
-    ensures { (nodes : Nodes) (params : List Parameters) (openings : OpeningsValue)
-        (starts : List Start) (published : List ℕ) (received : ℕ → List ℕ)
-        → IsTree nodes
-        → OnePerLink nodes.parents params → All (λ p. p.capacity ≡ 1) params
-        → TreeLawAtNodes params openings nodes.parents starts published received
-        → TreeLawByDepth openings nodes.parents starts published received }
+    ensures { (net : Network) (received : ℕ → List ℕ)
+        → IsTree net.tree → OnePerLink net.tree.parents net.links
+        → All (λ link. link.params.capacity ≡ 1) net.links
+        → TreeLawAtNodes net received
+        → TreeLawByDepth net received }
 {
     stab_treecore::laws::bounds_of_one_capacity();
 }

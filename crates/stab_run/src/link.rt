@@ -2,10 +2,10 @@
 //! runtime value that its ends take, and in nothing else.
 
 ghost use Rattle.std.specs.Prelude.{◌≡◌, IfErr, IfOk, OnOk};
+ghost use Rattle.stab_core.specs.LinkSetup.{LinkSetup, setup};
 ghost use Rattle.stab_core.specs.Replay.{IsLawful};
 ghost use Rattle.stab_frames.specs.Parameters.{Parameters};
 ghost use Rattle.stab_lock.specs.Accounts.{Receiver, Sender, new_receiver, new_sender};
-ghost use Rattle.stab_lock.specs.Book.{Given};
 ghost use Rattle.stab_run.specs.LinkRuns.{IsSettled};
 ghost use Rattle.stab_script.specs.Scripts.{ActsRemaining, receiver_half, sender_half};
 
@@ -25,7 +25,7 @@ pub(crate) trait RunLink: Drop {
     type RecvDone: Drop;
 
     // what a link was given: its parameters and its start
-    ghost given: { Self → Given };
+    ghost given: { Self → LinkSetup };
 
     // an opening, and a finished end of either side, is that of this link
     ghost opens: { Self → Self.Opening → Type 0 };
@@ -43,7 +43,7 @@ pub(crate) trait RunLink: Drop {
     ghost can_have: { Parameters → Type 0 };
 
     // what is known of what a link was given where settling it is refused
-    ghost may_differ: { Given → Type 0 };
+    ghost may_differ: { LinkSetup → Type 0 };
 
     /// A link at a lawful start, and what splits it.
     fn make(
@@ -53,8 +53,7 @@ pub(crate) trait RunLink: Drop {
     ) -> Result<(Self, Self::Opening), AllocError>
         requires params { can_have params }
         requires lawful { IsLawful params start.now }
-        ensures given { IfOk result (λ made.
-            given made.0 ≡ record { params = params; start = start.now }) }
+        ensures given { IfOk result (λ made. given made.0 ≡ setup params start.now) }
         ensures opens { IfOk result (λ made. opens made.0 made.1) };
 
     /// Settles a link with its two finished ends: one list of events explains both accounts.

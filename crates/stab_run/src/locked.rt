@@ -1,9 +1,9 @@
 //! The run of a job by one worker per node, over links behind locks.
 
-ghost use Rattle.std.specs.List.{AllZip};
-ghost use Rattle.std.specs.Prelude.{◌≡◌, ◌≢◌, ℕ, ◌<◌, true, IfOk, IfErr, OnOk, length};
-ghost use Rattle.stab_core.specs.Replay.{IsLawful};
+ghost use Rattle.std.specs.Prelude.{◌≡◌, ◌≢◌, ℕ, ◌<◌, true, All, IfOk, IfErr, OnOk, length};
+ghost use Rattle.stab_core.specs.LinkSetup.{CanBegin};
 ghost use Rattle.stab_core.specs.declared.start.StartFault.{StartFault};
+ghost use Rattle.stab_job.specs.JobValues.{network};
 ghost use Rattle.stab_lock.specs.declared.settle.SettleFault.{SettleFault};
 ghost use Rattle.stab_node.specs.declared.fault.NodeFault.{NodeFault};
 ghost use Rattle.stab_node.specs.Turns.{IsOver, IsRefused};
@@ -12,6 +12,7 @@ ghost use Rattle.stab_run.specs.Reports.{OnePerNode};
 ghost use Rattle.stab_run.specs.RunFaults.{AllAreOver, comes_after_starts};
 ghost use Rattle.stab_run.specs.Runs.{RootHas, AreExplained, HandsOn, IsFirstUnlawful};
 ghost use Rattle.stab_run.specs.Runs.{CompleteBelowEnded};
+ghost use Rattle.stab_treecore.specs.Network.{IsNetwork};
 ghost use Rattle.stab_treecore.specs.NodeLaws.{HalfTreeLawAtNodes, TreeLawAtNodes};
 ghost use Rattle.stab_workers.specs.ByNode.{ended_at, received_at};
 ghost use Rattle.stab_workers.specs.FirstFault.{IsFirstToGiveUp, IsFirstUnstarted};
@@ -119,24 +120,17 @@ pub fn run_locked<R: Threads + Wait + Send + Sync, G: Gate + Sync>(
     gate: &G,
 ) -> Result<Report, RunFault>
     ensures nodes { IfOk result (λ report. OnePerNode job.now.tree.parents report) }
-    ensures lawful { OnOk result (AllZip IsLawful job.now.params job.now.starts) }
-    ensures root { IfOk result (λ report.
-        RootHas job.now.tree.parents job.now.items report) }
-    ensures edges { IfOk result (λ report.
-        AreExplained job.now.params job.now.openings job.now.tree.parents job.now.starts
-        report) }
+    ensures network { OnOk result (IsNetwork (network job.now)) }
+    ensures root { IfOk result (RootHas (network job.now)) }
+    ensures edges { IfOk result (AreExplained (network job.now)) }
     ensures handed_on { IfOk result (λ report. HandsOn job.now.tree.parents report) }
 
     // The laws of every node.
     ensures half_tree_law { IfOk result (λ report.
-        HalfTreeLawAtNodes job.now.params job.now.openings job.now.tree.parents job.now.starts
-        job.now.items (received_at report.received)) }
+        HalfTreeLawAtNodes (network job.now) (received_at report.received)) }
     ensures tree_law { IfOk result (λ report.
-        TreeLawAtNodes job.now.params job.now.openings job.now.tree.parents job.now.starts
-        job.now.items (received_at report.received)) }
-    ensures complete { IfOk result (λ report.
-        CompleteBelowEnded job.now.params job.now.openings job.now.tree.parents job.now.starts
-        job.now.items report) }
+        TreeLawAtNodes (network job.now) (received_at report.received)) }
+    ensures complete { IfOk result (CompleteBelowEnded (network job.now)) }
 
     // What each worker asked of the gate.
     ensures turns { IfOk result (λ report. (node : ℕ) → node < length job.now.tree.parents
@@ -148,9 +142,9 @@ pub fn run_locked<R: Threads + Wait + Send + Sync, G: Gate + Sync>(
     ensures any_capacity { IfErr result (λ fault. fault ≢ RunFault.CapacityNotOne) }
     ensures unlawful { IfErr result (λ fault. (child : ℕ) (reason : StartFault)
         → fault ≡ RunFault.Start child reason
-        → IsFirstUnlawful job.now.params job.now.tree.parents job.now.starts child reason) }
+        → IsFirstUnlawful job.now.tree.parents (network job.now).links child reason) }
     ensures starts_first { IfErr result (λ fault. comes_after_starts fault ≡ true
-        → AllZip IsLawful job.now.params job.now.starts) }
+        → All CanBegin (network job.now).links) }
     ensures unstarted { IfErr result (λ fault. (node : ℕ) → fault ≡ RunFault.Thread node
         → IsFirstUnstarted (length job.now.tree.parents) (G.is_done gate.now) node) }
     ensures gave_up { IfErr result (λ fault. (node : ℕ) (why : NodeFault)

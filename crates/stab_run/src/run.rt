@@ -2,13 +2,15 @@
 //! is made of what the workers left.
 
 ghost use Rattle.std.specs.List.{AllZip};
-ghost use Rattle.std.specs.Prelude.{◌≡◌, ℕ, true, IfErr, IfOk, map};
-ghost use Rattle.stab_core.specs.Replay.{IsLawful};
+ghost use Rattle.std.specs.Prelude.{◌≡◌, ℕ, true, All, IfErr, IfOk, OnOk, map};
+ghost use Rattle.stab_core.specs.LinkSetup.{CanBegin};
+ghost use Rattle.stab_job.specs.JobValues.{network};
 ghost use Rattle.stab_lock.specs.declared.settle.SettleFault.{SettleFault};
-ghost use Rattle.stab_run.specs.LinkRuns.{HoldsInto, IsRun, LeadsInto, all_given};
+ghost use Rattle.stab_run.specs.LinkRuns.{HoldsInto, IsRun, LeadsInto};
 ghost use Rattle.stab_run.specs.Reports.{OnePerNode};
 ghost use Rattle.stab_run.specs.RunFaults.{comes_of_settling};
 ghost use Rattle.stab_run.specs.Runs.{AreExplained, CompleteBelowEnded, HandsOn, RootHas};
+ghost use Rattle.stab_treecore.specs.Network.{IsNetwork};
 ghost use Rattle.stab_treecore.specs.NodeLaws.{HalfTreeLawAtNodes, TreeLawAtNodes};
 ghost use Rattle.stab_workers.specs.ByNode.{received_at};
 
@@ -28,41 +30,33 @@ pub(crate) fn report_of<L: RunLink>(
     links: Vec<L>,
     gathered: Gathered<L::RecvDone, L::SendDone>,
 ) -> Result<Report, RunFault>
-    requires given { map L.given links.items ≡ all_given job.now.params job.now.starts }
-    requires lawful { AllZip IsLawful job.now.params job.now.starts }
-    requires run { IsRun job.now.openings job.now.tree.parents job.now.items
+    requires given { map L.given links.items ≡ (network job.now).links }
+    requires lawful { All CanBegin (network job.now).links }
+    requires run { IsRun (network job.now)
         gathered.received.items gathered.ended.items (map L.sent gathered.sends.items)
         (map L.received gathered.recvs.items) }
     requires sends { AllZip L.has_sent links.items gathered.sends.items }
     requires recvs { AllZip L.has_received links.items gathered.recvs.items }
+    ensures network { OnOk result (IsNetwork (network job.now)) }
     ensures nodes { IfOk result (λ report. OnePerNode job.now.tree.parents report) }
     ensures ended { IfOk result (λ report. report.ended ≡ gathered.ended.items) }
-    ensures root { IfOk result (λ report.
-        RootHas job.now.tree.parents job.now.items report) }
-    ensures edges { IfOk result (λ report.
-        AreExplained job.now.params job.now.openings job.now.tree.parents job.now.starts
-        report) }
+    ensures root { IfOk result (RootHas (network job.now)) }
+    ensures edges { IfOk result (AreExplained (network job.now)) }
     ensures handed_on { IfOk result (λ report. HandsOn job.now.tree.parents report) }
     ensures half_tree_law { IfOk result (λ report.
-        HalfTreeLawAtNodes job.now.params job.now.openings job.now.tree.parents job.now.starts
-        job.now.items (received_at report.received)) }
+        HalfTreeLawAtNodes (network job.now) (received_at report.received)) }
     ensures tree_law { IfOk result (λ report.
-        TreeLawAtNodes job.now.params job.now.openings job.now.tree.parents job.now.starts
-        job.now.items (received_at report.received)) }
-    ensures complete { IfOk result (λ report.
-        CompleteBelowEnded job.now.params job.now.openings job.now.tree.parents job.now.starts
-        job.now.items report) }
+        TreeLawAtNodes (network job.now) (received_at report.received)) }
+    ensures complete { IfOk result (CompleteBelowEnded (network job.now)) }
     ensures unsettled { IfErr result (λ fault. (child : ℕ) (why : SettleFault)
         → fault ≡ RunFault.Settle child why
         → LeadsInto job.now.tree.parents child) }
     ensures refused { IfErr result (λ fault. (child : ℕ) (why : SettleFault)
         → fault ≡ RunFault.Settle child why
-        → HoldsInto L.may_differ job.now.tree.parents
-        (all_given job.now.params job.now.starts) child) }
+        → HoldsInto L.may_differ job.now.tree.parents (network job.now).links child) }
     ensures of_settling { IfErr result (λ fault. comes_of_settling fault ≡ true) }
 {
     let report = settled_report::<L>(alloc, job, links, gathered)?;
-    let _lawful = job.params();
     let _tree = job.tree().root();
     laws::explained_reports_obey_the_tree_law();
     laws::nothing_is_missing_below_ended_nodes();
@@ -76,28 +70,24 @@ fn settled_report<L: RunLink>(
     links: Vec<L>,
     gathered: Gathered<L::RecvDone, L::SendDone>,
 ) -> Result<Report, RunFault>
-    requires given { map L.given links.items ≡ all_given job.now.params job.now.starts }
-    requires lawful { AllZip IsLawful job.now.params job.now.starts }
-    requires run { IsRun job.now.openings job.now.tree.parents job.now.items
+    requires given { map L.given links.items ≡ (network job.now).links }
+    requires lawful { All CanBegin (network job.now).links }
+    requires run { IsRun (network job.now)
         gathered.received.items gathered.ended.items (map L.sent gathered.sends.items)
         (map L.received gathered.recvs.items) }
     requires sends { AllZip L.has_sent links.items gathered.sends.items }
     requires recvs { AllZip L.has_received links.items gathered.recvs.items }
     ensures nodes { IfOk result (λ report. OnePerNode job.now.tree.parents report) }
     ensures ended { IfOk result (λ report. report.ended ≡ gathered.ended.items) }
-    ensures root { IfOk result (λ report.
-        RootHas job.now.tree.parents job.now.items report) }
-    ensures edges { IfOk result (λ report.
-        AreExplained job.now.params job.now.openings job.now.tree.parents job.now.starts
-        report) }
+    ensures root { IfOk result (RootHas (network job.now)) }
+    ensures edges { IfOk result (AreExplained (network job.now)) }
     ensures handed_on { IfOk result (λ report. HandsOn job.now.tree.parents report) }
     ensures unsettled { IfErr result (λ fault. (child : ℕ) (why : SettleFault)
         → fault ≡ RunFault.Settle child why
         → LeadsInto job.now.tree.parents child) }
     ensures refused { IfErr result (λ fault. (child : ℕ) (why : SettleFault)
         → fault ≡ RunFault.Settle child why
-        → HoldsInto L.may_differ job.now.tree.parents
-        (all_given job.now.params job.now.starts) child) }
+        → HoldsInto L.may_differ job.now.tree.parents (network job.now).links child) }
     ensures of_settling { IfErr result (λ fault. comes_of_settling fault ≡ true) }
 {
     let tree = job.tree();

@@ -5,8 +5,9 @@ ghost use Rattle.std.specs.Prelude.{length, map};
 ghost use Rattle.std.specs.List.{AllZip};
 ghost use Rattle.stab_core.specs.declared.start.StartFault.{StartFault};
 ghost use Rattle.stab_core.specs.Link.{IsReason};
+ghost use Rattle.stab_core.specs.LinkSetup.{CanBegin, setups};
 ghost use Rattle.stab_core.specs.Replay.{IsLawful};
-ghost use Rattle.stab_run.specs.LinkRuns.{all_given};
+ghost use Rattle.stab_frames.specs.Parameters.{AreLawful};
 ghost use Rattle.stab_run.specs.RunFaults.{is_of_start};
 ghost use Rattle.stab_run.specs.Runs.{IsFirstUnlawful};
 ghost use Rattle.stab_tree.specs.Links.{links_of};
@@ -20,6 +21,7 @@ use std::alloc::{AllocError, Global};
 
 /// Why a link cannot begin from a start, where it cannot.
 fn unlawful(params: Params, start: &Start) -> Option<StartFault>
+    ensures lawful_params { AreLawful params }
     ensures lawful { IfNone result (IsLawful params start.now) }
     ensures unlawful { IfSome result (λ fault. ¬ IsLawful params start.now) }
     ensures reason { IfSome result (IsReason params start.now) }
@@ -39,10 +41,10 @@ fn unlawful(params: Params, start: &Start) -> Option<StartFault>
 pub(crate) fn check_starts(params: &[Params], tree: &Tree, starts: &[Start]) -> Result<(), RunFault>
     requires one_params_each { length params.now ≡ length (links_of tree.now.parents) }
     requires one_start_each { length starts.now ≡ length (links_of tree.now.parents) }
-    ensures lawful { OnOk result (AllZip IsLawful params.now starts.now) }
+    ensures can_begin { OnOk result (All CanBegin (setups params.now starts.now)) }
     ensures unlawful { IfErr result (λ fault. (child : ℕ) (reason : StartFault)
         → fault ≡ RunFault.Start child reason
-        → IsFirstUnlawful params.now tree.now.parents starts.now child reason) }
+        → IsFirstUnlawful tree.now.parents (setups params.now starts.now) child reason) }
     ensures of_start { IfErr result (λ fault. is_of_start fault ≡ true) }
 {
     for place in 0..tree.link_count() {
@@ -62,9 +64,10 @@ pub(crate) fn make_links<L: RunLink>(
     starts: &[Start],
 ) -> Result<(Vec<L>, Vec<L::Opening>), AllocError>
     requires params { All L.can_have params.now }
-    requires lawful { AllZip IsLawful params.now starts.now }
+    requires one_each { length params.now ≡ length starts.now }
+    requires can_begin { All CanBegin (setups params.now starts.now) }
     ensures links { IfOk result (λ made.
-        map L.given made.0.items ≡ all_given params.now starts.now) }
+        map L.given made.0.items ≡ setups params.now starts.now) }
     ensures one_link_each { IfOk result (λ made. length made.0.items ≡ length starts.now) }
     ensures openings { IfOk result (λ made. AllZip L.opens made.0.items made.1.items) }
 {

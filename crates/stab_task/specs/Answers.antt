@@ -9,7 +9,7 @@
 -- Source: this project's own.
 use Rattle.std.specs.Prelude.{◌≡◌, ◌≢◌, ℕ, ◌<◌, Bool, List, [], ◌++◌, length, All}
 use Rattle.std.specs.Prelude.{if◌then◌else◌, Ok, Err}
-use Rattle.std.specs.List.{AllZip}
+use Rattle.stab_core.specs.LinkSetup.{CanBegin}
 use Rattle.stab_core.specs.Replay.{opening, replay, IsLawful}
 use Rattle.stab_core.specs.Trace.{traced_opening, traced_replay}
 use Rattle.stab_core.specs.Link.{IsReason}
@@ -21,16 +21,17 @@ use Rattle.stab_core.specs.declared.start.StartFault.{StartFault}
 use Rattle.stab_treecore.specs.declared.fault.TreeStartFault.{TreeStartFault}
 use Rattle.stab_job.specs.declared.fault.JobFault.{JobFault}
 use Rattle.stab_job.specs.declared.fault.JobFault.TheVariants.{Memory as no_memory}
-use Rattle.stab_job.specs.JobValues.{JobValue}
+use Rattle.stab_job.specs.JobValues.{JobValue, network}
 use Rattle.stab_job.specs.Jobs.{job as whole_job}
 use Rattle.stab_run.specs.LinkKinds.{IsLarge}
-use Rattle.stab_run.specs.LinkRuns.{HoldsInto, LeadsInto, all_given}
+use Rattle.stab_run.specs.LinkRuns.{HoldsInto, LeadsInto}
 use Rattle.stab_run.specs.Reports.{OnePerNode, Reported, report_text}
 use Rattle.stab_run.specs.Runs.{AreExplained, CompleteBelowEnded, HandsOn, IsFirstUnlawful}
 use Rattle.stab_run.specs.Runs.{RootHas}
 use Rattle.stab_run.specs.declared.run_fault.RunFault.{RunFault}
 use Rattle.stab_run.specs.declared.run_fault.RunFault.TheVariants as run
 use Rattle.stab_node.specs.declared.fault.NodeFault.TheVariants.{Gate}
+use Rattle.stab_treecore.specs.Network.{IsNetwork, Network}
 use Rattle.stab_treecore.specs.NodeLaws.{HalfTreeLawAtNodes, TreeLawAtNodes}
 use Rattle.stab_workers.specs.ByNode.{received_at}
 use Rattle.stab_treecore.specs.Refusals.{NamesLink, IsScheduleReason}
@@ -65,32 +66,29 @@ pub record IsLinkAnswer (trace : Bool) (input text : List ℕ) : Type 0 where
 -- the text of a whole tree: its nodes after the replay of its schedule
 abbrev pub tree_answer : JobValue → List ℕ
 tree_answer job = schedule_text job.tree
-    (tree_replay (tree_opening job.params job.openings job.tree.parents job.items job.starts)
-    job.schedule)
+    (tree_replay (tree_opening (network job)) job.schedule)
 
--- these bytes are a job with lawful starts whose schedule names links alone, and this is its text
+-- these bytes are a job, whose starts are lawful and whose schedule names links alone, and this is
+-- its text
 pub record IsTreeAnswer (input text : List ℕ) : Type 0 where
   pub job : JobValue
   pub read : whole_job input ≡ Ok job
-  pub lawful : AllZip IsLawful job.params job.starts
+  pub network : IsNetwork (network job)
   pub named : All (NamesLink job.tree.parents) job.schedule
   pub the_text : text ≡ tree_answer job
 
--- A report of a run of this job, whose starts are lawful: the root has the published items, some
--- events explain each link, nodes that ended with their upstream hand on what they received, and
--- the half tree law, the tree law and, below such nodes, the complete law hold.
-pub record IsReport (job : JobValue) (report : Reported) : Type 0 where
-  pub nodes : OnePerNode job.tree.parents report
-  pub lawful : AllZip IsLawful job.params job.starts
-  pub root : RootHas job.tree.parents job.items report
-  pub edges : AreExplained job.params job.openings job.tree.parents job.starts report
-  pub handed_on : HandsOn job.tree.parents report
-  pub half_tree_law : HalfTreeLawAtNodes job.params job.openings job.tree.parents job.starts
-      job.items (received_at report.received)
-  pub tree_law : TreeLawAtNodes job.params job.openings job.tree.parents job.starts
-      job.items (received_at report.received)
-  pub complete : CompleteBelowEnded job.params job.openings job.tree.parents job.starts
-      job.items report
+-- A report of a run of this network: the root has the published items, some events explain each
+-- link, nodes that ended with their upstream hand on what they received, and the half tree law, the
+-- tree law and, below such nodes, the complete law hold.
+pub record IsReport (net : Network) (report : Reported) : Type 0 where
+  pub network : IsNetwork net
+  pub nodes : OnePerNode net.tree.parents report
+  pub root : RootHas net report
+  pub edges : AreExplained net report
+  pub handed_on : HandsOn net.tree.parents report
+  pub half_tree_law : HalfTreeLawAtNodes net (received_at report.received)
+  pub tree_law : TreeLawAtNodes net (received_at report.received)
+  pub complete : CompleteBelowEnded net report
 
 -- a run over words is of a job whose links all have the capacity one
 abbrev pub HasOnePlace : Links → JobValue → Type 0
@@ -101,14 +99,13 @@ HasOnePlace links job = links ≡ Words → All (λ p. p.capacity ≡ 1) job.par
 abbrev pub MayDiffer : Links → JobValue → ℕ → Type 0
 MayDiffer Locked job child = Unit {0}
 MayDiffer Words job child = ⊥
-MayDiffer Mixed job child =
-    HoldsInto IsLarge job.tree.parents (all_given job.params job.starts) child
+MayDiffer Mixed job child = HoldsInto IsLarge job.tree.parents (network job).links child
 
 -- this is the text of some report of a run of this job
 pub record IsRunText (links : Links) (job : JobValue) (text : List ℕ) : Type 0 where
   pub one_place : HasOnePlace links job
   pub report : Reported
-  pub holds : IsReport job report
+  pub holds : IsReport (network job) report
   pub the_text : text ≡ report_text job.tree report
 
 -- these bytes are a job, and this is the text of some report of a run of it
@@ -146,8 +143,7 @@ IsJobFault (RunTask links) input refusal = refusal ≢ no_memory → whole_job i
 abbrev pub IsTreeFault : Task → List ℕ → TreeStartFault → Type 0
 IsTreeFault (Link trace) input refusal = ⊥
 IsTreeFault WholeTreeTask input refusal = (job : JobValue) × (whole_job input ≡ Ok job)
-    × IsScheduleReason job.params job.openings job.tree.parents job.items job.starts job.schedule
-    refusal
+    × IsScheduleReason job.params job.starts (network job) job.schedule refusal
 IsTreeFault (RunTask links) input refusal = ⊥
 
 -- Why a run of a job gives no report. The capacities are looked at first, and by a run over words
@@ -157,15 +153,15 @@ IsTreeFault (RunTask links) input refusal = ⊥
 abbrev pub IsRunReason : Links → JobValue → RunFault → Type 0
 IsRunReason links job run.CapacityNotOne = (links ≡ Words) × ¬ All (λ p. p.capacity ≡ 1) job.params
 IsRunReason links job (run.Start child reason) = HasOnePlace links job
-    × IsFirstUnlawful job.params job.tree.parents job.starts child reason
+    × IsFirstUnlawful job.tree.parents (network job).links child reason
 IsRunReason links job (run.Thread node) = HasOnePlace links job
-    × AllZip IsLawful job.params job.starts × (node < length job.tree.parents)
+    × All CanBegin (network job).links × (node < length job.tree.parents)
 IsRunReason links job (run.Node node refusal) = HasOnePlace links job
-    × AllZip IsLawful job.params job.starts × (node < length job.tree.parents) × (refusal ≢ Gate)
+    × All CanBegin (network job).links × (node < length job.tree.parents) × (refusal ≢ Gate)
 IsRunReason links job (run.Settle child refusal) = MayDiffer links job child
-    × AllZip IsLawful job.params job.starts
+    × All CanBegin (network job).links
     × LeadsInto job.tree.parents child
-IsRunReason links job run.Memory = HasOnePlace links job × AllZip IsLawful job.params job.starts
+IsRunReason links job run.Memory = HasOnePlace links job × All CanBegin (network job).links
 
 -- a run has no answer where the bytes are a job of which the run is refused
 abbrev pub IsRunFault : Task → List ℕ → RunFault → Type 0

@@ -1,9 +1,10 @@
 ghost use Rattle.std.specs.Prelude.{◌≡◌, ◌≢◌, ◌++◌, List, ℕ, true, string_bytes};
 ghost use Rattle.std.specs.Prelude.{All, IfSome, IfOk, IfErr, OnOk};
-ghost use Rattle.std.specs.List.{AllZip};
 ghost use Rattle.std.specs.Io.KnownBytes.{Appends, Keeps};
 ghost use Rattle.stab_core.specs.Link.{IsReason, link_at};
 ghost use Rattle.stab_core.specs.Replay.{IsLawful, opening, replay};
+ghost use Rattle.stab_job.specs.JobValues.{network};
+ghost use Rattle.stab_treecore.specs.Network.{IsNetwork};
 ghost use Rattle.stab_treecore.specs.Refusals.{IsScheduleReason, NamesLink};
 ghost use Rattle.stab_treecore.specs.TreeReplay.{tree_opening, tree_replay};
 ghost use Rattle.stab_task.specs.Answers.{IsLinkAnswer, IsTreeAnswer, IsRunAnswer};
@@ -147,10 +148,10 @@ fn answer_tree(alloc: Global, bytes: &[u8]) -> Result<String, CliFault>
 /// The text of the whole tree of a job after its schedule.
 fn tree_text(alloc: Global, job: &Job) -> Result<String, TreeStartFault>
     ensures text { IfOk result (λ text. string_bytes text ≡ tree_answer job.now) }
-    ensures lawful { OnOk result (AllZip IsLawful job.now.params job.now.starts) }
+    ensures network { OnOk result (IsNetwork (network job.now)) }
     ensures named { OnOk result (All (NamesLink job.now.tree.parents) job.now.schedule) }
-    ensures refused { IfErr result (IsScheduleReason job.now.params job.now.openings
-        job.now.tree.parents job.now.items job.now.starts job.now.schedule) }
+    ensures refused { IfErr result (IsScheduleReason job.now.params job.now.starts
+        (network job.now) job.now.schedule) }
 {
     let state = replay_tree(alloc, job)?;
     Ok(schedule_text(alloc, job.tree(), &state)?)
@@ -158,14 +159,13 @@ fn tree_text(alloc: Global, job: &Job) -> Result<String, TreeStartFault>
 
 /// The whole tree of a job after its schedule.
 fn replay_tree(alloc: Global, job: &Job) -> Result<TreeState, TreeStartFault>
-    ensures replay { IfOk result (λ state. state ≡ tree_replay
-        (tree_opening job.now.params job.now.openings job.now.tree.parents job.now.items
-        job.now.starts) job.now.schedule) }
+    ensures replay { IfOk result (λ state.
+        state ≡ tree_replay (tree_opening (network job.now)) job.now.schedule) }
     ensures same_tree { IfOk result (λ state. state.parents ≡ job.now.tree.parents) }
-    ensures lawful { OnOk result (AllZip IsLawful job.now.params job.now.starts) }
+    ensures network { OnOk result (IsNetwork (network job.now)) }
     ensures named { OnOk result (All (NamesLink job.now.tree.parents) job.now.schedule) }
-    ensures refused { IfErr result (IsScheduleReason job.now.params job.now.openings
-        job.now.tree.parents job.now.items job.now.starts job.now.schedule) }
+    ensures refused { IfErr result (IsScheduleReason job.now.params job.now.starts
+        (network job.now) job.now.schedule) }
 {
     run_schedule(
         alloc,
@@ -215,7 +215,7 @@ fn run_job<T: Threads + Wait + Send + Sync>(
     links: Links,
     job: &Job,
 ) -> Result<Report, RunFault>
-    ensures report { IfOk result (IsReport job.now) }
+    ensures report { IfOk result (IsReport (network job.now)) }
     ensures one_place { OnOk result (HasOnePlace links job.now) }
     ensures reason { IfErr result (IsRunReason links job.now) }
 {

@@ -1,19 +1,19 @@
 -- The tree law at each node, from the root down.
 -- The bounds are sums along the path, and products where all links have one capacity.
-use Rattle.std.proofs.Common.{◌≡◌, ℕ, zero, suc, ◌+◌, ◌*◌, ◌<◌, ◌≤◌, List, [], ◌++◌, length, Option, Some, None, All, Bool, true, false, if◌then◌else◌, refl, sym, ◌∙◌, ap, arith, append_assoc}
+use Rattle.std.proofs.Common.{◌≡◌, ℕ, zero, suc, ◌+◌, ◌*◌, ◌<◌, List, [], ◌++◌, length, Option, Some, None, All, Bool, true, false, if◌then◌else◌, refl, sym, ◌∙◌, ap, arith, append_assoc}
 use Rattle.std.proofs.Math.Nat.{zero-mul, suc-mul}
 use Rattle.std.specs.Option.{option_map_or}
-use Rattle.stab_core.specs.declared.start.Start.{Start}
-use Rattle.stab_frames.specs.Parameters.{Parameters}
 use Rattle.stab_tree.specs.IsTree.{IsTree}
 use Rattle.stab_tree.specs.Links.{links_of}
 use Rattle.stab_tree.specs.Nodes.{Nodes, parent_at, root_of}
 use Rattle.stab_tree.specs.Steps.{depth_of}
 use Rattle.stab_tree.proofs.ForCallers.{holds_at_every_depth}
-use Rattle.stab_treecore.specs.NodeLaws.{capacity_into, garbage_into, garbage_past, most_strays, path_garbage, opened_path_garbage, strays_bound, opened_strays_bound, missing_bound, LinkLawBetween, LinkLawPastOpening, HalfTreeLawOfNodes, TreeLawOfNodes}
-use Rattle.stab_treecore.specs.NodeOpenings.{FitTree, OpeningsValue, hold_at, is_inner, opening_at}
+use Rattle.stab_treecore.specs.Network.{Network}
+use Rattle.stab_treecore.specs.NodeLaws.{capacity_into, garbage_into, most_missing, most_strays, path_garbage, strays_bound, LinkLawBetween, LinkLawInto, HalfTreeLawAtNodes, TreeLawAtNodes}
+use Rattle.stab_treecore.specs.NodeOpenings.{FitTree, hold_at, is_inner, opening_at}
 use Rattle.stab_treecore.proofs.Fitting.{openings_fit}
 use Rattle.std.proofs.lemmas.List.{nil_from_length}
+use Rattle.stab_core.specs.LinkSetup.{LinkSetup}
 use Rattle.stab_treecore.specs.Paths.{sum_above, path_sum, lists_above, path_lists}
 use Rattle.stab_treecore.specs.TreeLaw.{TreeLaw}
 use Rattle.stab_treecore.proofs.ForCallers.{holds_by_child, one_by_child}
@@ -52,55 +52,46 @@ module _ (t : Nodes) (tree : IsTree t) (published : List ℕ) (received : ℕ �
         (adds child parent (sum_above t.parents more_strays depth parent) (sum_above t.parents more_missing depth parent)
         (lists_above t.parents more_garbage depth parent) is_child above)
 
-    pub each_adds : TreeLawOfNodes (path_sum t.parents more_strays) (path_sum t.parents more_missing) (path_lists t.parents more_garbage) t.parents published received
+    pub each_adds : (node : ℕ) → node < length t.parents
+        → TreeLaw (path_sum t.parents more_strays node) (path_sum t.parents more_missing node) (path_lists t.parents more_garbage node) published (received node)
     each_adds = holds_at_every_depth t tree ObeysAt (rw at_root (root_law published)) child_obeys
 
-  module _ (capacity_into : ℕ → ℕ) (starts : List Start) where
-    -- the step on one link, with what it adds before what there is at the parent
-    step_below : (child most_strays most_missing : ℕ) (garbage above below : List ℕ)
-        → LinkLawBetween (capacity_into child) (garbage_into t.parents starts child) above below
-        → TreeLaw most_strays most_missing garbage published above
-        → TreeLaw (most_strays + capacity_into child) (2 * capacity_into child + 1 + most_missing)
-        (garbage_into t.parents starts child ++ garbage) published below
-    step_below child most_strays most_missing garbage above below (offered, acked, begins, law) at_parent =
-        let missing : most_missing + (2 * capacity_into child + 1) ≡ 2 * capacity_into child + 1 + most_missing = omega arith in
-        rw (← missing)
-        (law_below (capacity_into child) most_strays acked (garbage_into t.parents starts child) garbage published above offered below
-        begins most_missing at_parent law)
+module _ (net : Network) (tree : IsTree net.tree) (received : ℕ → List ℕ)
+    (at_root : received (root_of net.tree.parents) ≡ net.published) where
+  -- the step on one link, with what it adds before what there is at the parent
+  step_below : (child most_strays most_missing : ℕ) (garbage above below : List ℕ)
+      → LinkLawBetween (capacity_into net child) (garbage_into net child) above below
+      → TreeLaw most_strays most_missing garbage net.published above
+      → TreeLaw (most_strays + capacity_into net child) (2 * capacity_into net child + 1 + most_missing)
+      (garbage_into net child ++ garbage) net.published below
+  step_below child most_strays most_missing garbage above below (offered, acked, begins, law) at_parent =
+      let missing : most_missing + (2 * capacity_into net child + 1) ≡ 2 * capacity_into net child + 1 + most_missing = omega arith in
+      rw (← missing)
+      (law_below (capacity_into net child) most_strays acked (garbage_into net child) garbage net.published above offered below
+      begins most_missing at_parent law)
 
-    -- each node obeys the tree law, where each link obeys the link law
-    pub nodes_obey : ((child parent : ℕ) → parent_at t.parents child ≡ Some parent
-        → LinkLawBetween (capacity_into child) (garbage_into t.parents starts child) (received parent) (received child))
-        → TreeLawOfNodes (strays_bound t.parents capacity_into) (missing_bound t.parents capacity_into)
-        (path_garbage t.parents starts) t.parents published received
-    nodes_obey links =
-        each_adds capacity_into (λ child. 2 * capacity_into child + 1) (garbage_into t.parents starts)
-        (λ child parent most_strays most_missing garbage is_child at_parent.
-        let strays : most_strays + capacity_into child ≡ capacity_into child + most_strays = omega arith in
-        rw (← strays)
-        (step_below child most_strays most_missing garbage (received parent) (received child) (links child parent is_child) at_parent))
-
-    -- the same, where each node's list begins with an opening, of no more items than it may hold
-    pub opened_nodes_obey : (hold_of : ℕ → ℕ) (opening_of : ℕ → List ℕ) → ((node : ℕ) → length (opening_of node) ≤ hold_of node)
-        → ((child parent : ℕ) → parent_at t.parents child ≡ Some parent
-        → LinkLawPastOpening (opening_of child) (capacity_into child) (garbage_into t.parents starts child) (received parent) (received child))
-        → TreeLawOfNodes (opened_strays_bound t.parents capacity_into hold_of) (missing_bound t.parents capacity_into)
-        (opened_path_garbage t.parents starts opening_of) t.parents published received
-    opened_nodes_obey hold_of opening_of short links node is_node =
-        rw (← sum_above-add t.parents capacity_into hold_of (depth_of t.parents node) node)
-        (each_adds (λ child. capacity_into child + hold_of child) (λ child. 2 * capacity_into child + 1)
-        (λ child. opening_of child ++ garbage_into t.parents starts child)
-        (λ child parent most_strays most_missing garbage is_child at_parent.
-        let (delivered, parts, link) = links child parent is_child in
-        let opening = opening_of child in
-        let capacity = capacity_into child in
-        let start_items = garbage_into t.parents starts child in
-        rw (parts, append_assoc)
-        (larger_bounds (most_strays + capacity + length opening) (capacity + hold_of child + most_strays) (2 * capacity + 1 + most_missing)
-        (2 * capacity + 1 + most_missing) (opening ++ (start_items ++ garbage)) published (opening ++ delivered)
-        (omega (arith, short child)) (omega arith)
-        (law_past_opening (most_strays + capacity) opening (start_items ++ garbage) published delivered (2 * capacity + 1 + most_missing)
-        (step_below child most_strays most_missing garbage (received parent) delivered link at_parent)))) node is_node)
+  -- each node obeys the tree law, where each link obeys the link law
+  pub nodes_obey : FitTree net.tree.parents net.openings
+      → ((child parent : ℕ) → parent_at net.tree.parents child ≡ Some parent → LinkLawInto net child (received parent) (received child))
+      → TreeLawAtNodes net received
+  nodes_obey fit links node is_node =
+      let hold_of = hold_at net.tree.parents net.openings.hold in
+      let short = (openings_fit net.tree.parents net.openings fit).short in
+      rw (← sum_above-add net.tree.parents (capacity_into net) hold_of (depth_of net.tree.parents node) node)
+      (each_adds net.tree tree net.published received at_root
+      (λ child. capacity_into net child + hold_of child) (λ child. 2 * capacity_into net child + 1)
+      (λ child. opening_at net.openings.lists child ++ garbage_into net child)
+      (λ child parent most_strays most_missing garbage is_child at_parent.
+      let (delivered, parts, link) = links child parent is_child in
+      let opening = opening_at net.openings.lists child in
+      let capacity = capacity_into net child in
+      let start_items = garbage_into net child in
+      rw (parts, append_assoc)
+      (larger_bounds (most_strays + capacity + length opening) (capacity + hold_of child + most_strays) (2 * capacity + 1 + most_missing)
+      (2 * capacity + 1 + most_missing) (opening ++ (start_items ++ garbage)) net.published (opening ++ delivered)
+      (omega (arith, short child)) (omega arith)
+      (law_past_opening (most_strays + capacity) opening (start_items ++ garbage) net.published delivered (2 * capacity + 1 + most_missing)
+      (step_below child most_strays most_missing garbage (received parent) delivered link at_parent)))) node is_node)
 
 -- the same number beside each node with a parent is added once for each link of a path
 pub path_sum-same : (t : Nodes) → IsTree t → (number_into : ℕ → ℕ) (number node : ℕ)
@@ -115,21 +106,21 @@ path_sum-same t tree number_into number node same is_node =
     node is_node
 
 -- where each link has this capacity, so has the link into a child
-module _ (t : Nodes) (tree : IsTree t) (params : List Parameters) (capacity : ℕ) (one_each : length params ≡ length (links_of t.parents))
-    (alike : All (λ p. p.capacity ≡ capacity) params) where
-  its_capacity : (child parent : ℕ) → parent_at t.parents child ≡ Some parent → capacity_into t.parents params child ≡ capacity
+module _ (net : Network) (capacity : ℕ) (tree : IsTree net.tree) (one_each : length net.links ≡ length (links_of net.tree.parents))
+    (alike : All (λ link. link.params.capacity ≡ capacity) net.links) where
+  its_capacity : (child parent : ℕ) → parent_at net.tree.parents child ≡ Some parent → capacity_into net child ≡ capacity
   its_capacity child parent is_child =
-      let (p, is) = one_by_child t.parents params 0 child parent one_each is_child in
-      ap (λ o. option_map_or (λ q. q.capacity) o 0) is ∙ holds_by_child (λ q. q.capacity ≡ capacity) t.parents params child p alike is
+      let (link, is) = one_by_child net.tree.parents net.links 0 child parent one_each is_child in
+      ap (λ o. option_map_or (λ (l : LinkSetup). l.params.capacity) o 0) is
+      ∙ holds_by_child (λ l. l.params.capacity ≡ capacity) net.tree.parents net.links child link alike is
 
   -- so the bounds are so many times those of one link
-  pub strays-same : (node : ℕ) → node < length t.parents → strays_bound t.parents (capacity_into t.parents params) node ≡ depth_of t.parents node * capacity
-  strays-same node is_node = path_sum-same t tree (capacity_into t.parents params) capacity node its_capacity is_node
+  pub strays-same : (node : ℕ) → node < length net.tree.parents → strays_bound net node ≡ depth_of net.tree.parents node * capacity
+  strays-same node is_node = path_sum-same net.tree tree (capacity_into net) capacity node its_capacity is_node
 
-  pub missing-same : (node : ℕ) → node < length t.parents
-      → missing_bound t.parents (capacity_into t.parents params) node ≡ depth_of t.parents node * (2 * capacity + 1)
+  pub missing-same : (node : ℕ) → node < length net.tree.parents → most_missing net node ≡ depth_of net.tree.parents node * (2 * capacity + 1)
   missing-same node is_node =
-      path_sum-same t tree (λ child. 2 * capacity_into t.parents params child + 1) (2 * capacity + 1) node
+      path_sum-same net.tree tree (λ child. 2 * capacity_into net child + 1) (2 * capacity + 1) node
       (λ child parent is_child. ap (λ c. 2 * c + 1) (its_capacity child parent is_child)) is_node
 
 -- where no node may hold anything, nothing is added for the openings
@@ -146,13 +137,12 @@ holds_none : (b : Bool) (hold : ℕ) → hold ≡ 0 → (if b then hold else 0) 
 holds_none true hold none = none
 holds_none false hold none = refl
 
-pub strays-unopened : (t : Nodes) (params : List Parameters) (openings : OpeningsValue) (node : ℕ) → openings.hold ≡ 0
-    → most_strays params openings t.parents node ≡ strays_bound t.parents (capacity_into t.parents params) node
-strays-unopened t params openings node none =
+pub strays-unopened : (net : Network) (node : ℕ) → net.openings.hold ≡ 0 → most_strays net node ≡ strays_bound net node
+strays-unopened net node none =
     omega (
       arith,
-      none_above t.parents (hold_at t.parents openings.hold) (depth_of t.parents node) node
-          (λ w. holds_none (is_inner t.parents w) openings.hold none),
+      none_above net.tree.parents (hold_at net.tree.parents net.openings.hold) (depth_of net.tree.parents node) node
+          (λ w. holds_none (is_inner net.tree.parents w) net.openings.hold none),
     )
 
 -- and all garbage on a path is that of its links
@@ -168,18 +158,17 @@ same_lists_above parents f g (suc count) node same =
     ∙ ap (λ rest. g node ++ rest)
     (same_of (lists_above parents f count) (lists_above parents g count) (parent_at parents node) (λ w. same_lists_above parents f g count w same))
 
-pub garbage-unopened : (t : Nodes) (openings : OpeningsValue) (starts : List Start) (node : ℕ) → FitTree t.parents openings → openings.hold ≡ 0
-    → garbage_past openings t.parents starts node ≡ path_garbage t.parents starts node
-garbage-unopened t openings starts node fit none =
-    same_lists_above t.parents (λ w. opening_at openings.lists w ++ garbage_into t.parents starts w) (garbage_into t.parents starts)
-    (depth_of t.parents node) node
-    (λ w. ap (λ opening. opening ++ garbage_into t.parents starts w)
-    (nil_from_length (opening_at openings.lists w)
-    (omega (arith, (openings_fit t.parents openings fit).short w, holds_none (is_inner t.parents w) openings.hold none))))
+pub garbage-unopened : (net : Network) (node : ℕ) → FitTree net.tree.parents net.openings → net.openings.hold ≡ 0
+    → path_garbage net node ≡ path_lists net.tree.parents (garbage_into net) node
+garbage-unopened net node fit none =
+    same_lists_above net.tree.parents (λ w. opening_at net.openings.lists w ++ garbage_into net w) (garbage_into net)
+    (depth_of net.tree.parents node) node
+    (λ w. ap (λ opening. opening ++ garbage_into net w)
+    (nil_from_length (opening_at net.openings.lists w)
+    (omega (arith, (openings_fit net.tree.parents net.openings fit).short w, holds_none (is_inner net.tree.parents w) net.openings.hold none))))
 
 -- the tree law holds the half tree law
-pub half_of_nodes : (most_strays most_missing : ℕ → ℕ) (garbage : ℕ → List ℕ) (parents : List (Option ℕ)) (published : List ℕ) (received : ℕ → List ℕ)
-    → TreeLawOfNodes most_strays most_missing garbage parents published received → HalfTreeLawOfNodes most_strays garbage parents published received
-half_of_nodes most_strays most_missing garbage parents published received law node is_node =
+pub half_of_nodes : (net : Network) (received : ℕ → List ℕ) → TreeLawAtNodes net received → HalfTreeLawAtNodes net received
+half_of_nodes net received law node is_node =
     let (places, half, none_missing) = law node is_node in
     (places, half)

@@ -1,17 +1,18 @@
 -- From the edge law of each link, which a run tells, to the tree law at each node.
-use Rattle.std.proofs.Common.{◌≡◌, ℕ, List, [], Option, Some, ap, sym, subst}
+use Rattle.std.proofs.Common.{◌≡◌, ℕ, List, [], Some, ap, sym, subst}
 use Rattle.std.specs.Option.{option_map_or}
 use Rattle.stab_frames.specs.Parameters.{Parameters, AreLawful}
 use Rattle.stab_core.specs.declared.start.Start.{Start}
 use Rattle.stab_core.specs.LinkLaw.{LinkLaw}
+use Rattle.stab_core.specs.LinkSetup.{LinkSetup}
 use Rattle.stab_core.specs.Replay.{IsLawful, opening, replay, start_items}
 use Rattle.stab_tree.specs.IsTree.{IsTree}
-use Rattle.stab_tree.specs.Nodes.{Nodes, parent_at, root_of}
+use Rattle.stab_tree.specs.Nodes.{parent_at, root_of}
 use Rattle.stab_treecore.specs.EdgeLaw.{EdgeLaw, EdgeInto}
-use Rattle.stab_treecore.specs.NodeLaws.{capacity_into, garbage_into, LinkLawBetween, LinkLawPastOpening, TreeLawAtNodes}
-use Rattle.stab_treecore.specs.NodeOpenings.{FitTree, OpeningsValue, hold_at, opening_at}
-use Rattle.stab_treecore.proofs.AtNodes.{opened_nodes_obey}
-use Rattle.stab_treecore.proofs.Fitting.{openings_fit}
+use Rattle.stab_treecore.specs.Network.{Network}
+use Rattle.stab_treecore.specs.NodeLaws.{capacity_into, garbage_into, LinkLawBetween, LinkLawInto, TreeLawAtNodes}
+use Rattle.stab_treecore.specs.NodeOpenings.{FitTree}
+use Rattle.stab_treecore.proofs.AtNodes.{nodes_obey}
 use Rattle.stab_treecore.proofs.Replayed.{ReplaysObey}
 
 -- the link law between the lists at the two ends of a link
@@ -26,27 +27,23 @@ edge_obeys obey p start above acked delivered lawful_params lawful edge =
     )
 
 -- the same of the lists of two nodes, of which the lower one's begins with its opening
-pub edge_into_obeys : ReplaysObey → (params : List Parameters) (openings : OpeningsValue) (parents : List (Option ℕ)) (starts : List Start) (child : ℕ)
-    (above below : List ℕ) → EdgeInto params openings parents starts child above below
-    → LinkLawPastOpening (opening_at openings.lists child) (capacity_into parents params child) (garbage_into parents starts child) above below
-edge_into_obeys obey params openings parents starts child above below link =
-    let capacity : capacity_into parents params child ≡ link.its_params.capacity = ap (λ o. option_map_or (λ p. p.capacity) o 0) link.has_params in
-    let garbage : garbage_into parents starts child ≡ start_items link.start = ap (λ o. option_map_or start_items o []) link.begins in (
-      link.delivered,
-      link.has,
-      subst (λ c. LinkLawBetween c (garbage_into parents starts child) above link.delivered) (sym capacity)
-          (subst (λ items. LinkLawBetween link.its_params.capacity items above link.delivered) (sym garbage)
-          (edge_obeys obey link.its_params link.start above link.acked link.delivered link.lawful_params link.lawful_start link.edge)),
+pub edge_into_obeys : ReplaysObey → (net : Network) (child : ℕ) (above below : List ℕ) → EdgeInto net child above below → LinkLawInto net child above below
+edge_into_obeys obey net child above below edge =
+    let link = edge.link in
+    let capacity : capacity_into net child ≡ link.params.capacity = ap (λ o. option_map_or (λ (l : LinkSetup). l.params.capacity) o 0) edge.leads in
+    let garbage : garbage_into net child ≡ start_items link.start = ap (λ o. option_map_or (λ (l : LinkSetup). start_items l.start) o []) edge.leads in (
+      edge.delivered,
+      edge.has,
+      subst (λ c. LinkLawBetween c (garbage_into net child) above edge.delivered) (sym capacity)
+          (subst (λ items. LinkLawBetween link.params.capacity items above edge.delivered) (sym garbage)
+          (edge_obeys obey link.params link.start above edge.acked edge.delivered edge.begins.0 edge.begins.1 edge.edge)),
     )
 
 -- the tree law at each node
-pub edges_obey : ReplaysObey → (nodes : Nodes) (params : List Parameters) (openings : OpeningsValue) (starts : List Start) (published : List ℕ)
-    (received : ℕ → List ℕ) → IsTree nodes → FitTree nodes.parents openings → received (root_of nodes.parents) ≡ published
-    → ((child parent : ℕ) → parent_at nodes.parents child ≡ Some parent
-    → EdgeInto params openings nodes.parents starts child (received parent) (received child))
-    → TreeLawAtNodes params openings nodes.parents starts published received
-edges_obey obey nodes params openings starts published received tree fit at_root edges =
-    opened_nodes_obey nodes tree published received at_root (capacity_into nodes.parents params) starts
-    (hold_at nodes.parents openings.hold) (opening_at openings.lists) (openings_fit nodes.parents openings fit).short
-    (λ child parent is_child.
-    edge_into_obeys obey params openings nodes.parents starts child (received parent) (received child) (edges child parent is_child))
+pub edges_obey : ReplaysObey → (net : Network) (received : ℕ → List ℕ) → IsTree net.tree → FitTree net.tree.parents net.openings
+    → received (root_of net.tree.parents) ≡ net.published
+    → ((child parent : ℕ) → parent_at net.tree.parents child ≡ Some parent → EdgeInto net child (received parent) (received child))
+    → TreeLawAtNodes net received
+edges_obey obey net received tree fit at_root edges =
+    nodes_obey net tree received at_root fit
+    (λ child parent is_child. edge_into_obeys obey net child (received parent) (received child) (edges child parent is_child))

@@ -1,32 +1,26 @@
 -- The links that have begun so far, and those that are still to begin; which start is refused.
-use Rattle.std.proofs.Common.{◌≡◌, ◌≢◌, ℕ, zero, suc, ◌+◌, ◌<◌, ◌≤◌, List, [], ◌∷◌, ◌++◌, length, get_or, take, drop, map, Option, Some, None, is_some, true, false, refl, ap, sym, ◌∙◌, subst, arith, append_assoc, inl, inr}
+use Rattle.std.proofs.Common.{◌≡◌, ◌≢◌, ℕ, zero, suc, ◌+◌, ◌<◌, ◌≤◌, List, [], ◌∷◌, ◌++◌, length, get_or, take, drop, map, Option, Some, None, is_some, All, true, false, refl, ap, sym, ◌∙◌, subst, arith, append_assoc, inl, inr}
 use Rattle.std.proofs.lemmas.List.{drop_more, drop_all, append-nil}
-use Rattle.std.specs.List.{AllZip}
+use Rattle.std.proofs.lemmas.List.Elements.{All-head, All-tail}
 use Rattle.stab_frames.specs.Parameters.{Parameters}
 use Rattle.stab_core.specs.declared.start.Start.{Start}
 use Rattle.stab_core.specs.declared.start.StartFault.{StartFault}
 use Rattle.stab_core.specs.declared.start.StartFault.TheVariants.{TooManyFrames, TooManyAcks, Memory}
 use Rattle.stab_core.specs.Link.{LinkValue, IsReason}
-use Rattle.stab_core.specs.Replay.{IsLawful}
+use Rattle.stab_core.specs.LinkSetup.{CanBegin, LinkSetup, setup, setups}
 use Rattle.stab_tree.proofs.ForCallers.{links_counted_anywhere}
 use Rattle.stab_tree.specs.Links.{links_of, links_from}
 use Rattle.stab_treecore.specs.ByChild.{by_child}
 use Rattle.stab_treecore.specs.Refusals.{IsFirstFault, IsOpeningReason}
-use Rattle.stab_treecore.specs.TreeReplay.{opened, opened_links}
-
--- there are as many links as starts
-pub as_many_opened : (params : List Parameters) (starts : List Start) → length params ≡ length starts → length (opened_links params starts) ≡ length starts
-as_many_opened [] [] same = refl
-as_many_opened [] (start ∷ starts) same = absurd (omega arith)
-as_many_opened (p ∷ params) [] same = absurd (omega arith)
-as_many_opened (p ∷ params) (start ∷ starts) same = ap suc (as_many_opened params starts (omega arith))
+use Rattle.stab_treecore.specs.TreeReplay.{opened}
 
 -- a link begins with the parameters and the start at its own place
 pub opened_at : (params : List Parameters) (starts : List Start) (i : ℕ) (p : Parameters) (start : Start) → i < length params → i < length starts
-    → p ≡ get_or params i p → start ≡ get_or starts i start → opened p start ≡ get_or (opened_links params starts) i (opened p start)
+    → p ≡ get_or params i p → start ≡ get_or starts i start → opened (setup p start) ≡ get_or (map opened (setups params starts)) i (opened (setup p start))
 opened_at [] starts i p start in_params in_starts has_params begins = absurd (omega arith)
 opened_at (q ∷ params) [] i p start in_params in_starts has_params begins = absurd (omega arith)
-opened_at (q ∷ params) (s ∷ starts) zero p start in_params in_starts has_params begins = ap (λ x. opened x start) has_params ∙ ap (λ x. opened q x) begins
+opened_at (q ∷ params) (s ∷ starts) zero p start in_params in_starts has_params begins =
+    ap (λ x. opened (setup x start)) has_params ∙ ap (λ x. opened (setup q x)) begins
 opened_at (q ∷ params) (s ∷ starts) (suc i) p start in_params in_starts has_params begins =
     opened_at params starts i p start (omega arith) (omega arith) has_params begins
 
@@ -88,56 +82,26 @@ opened_all parents all links begun i so_far past =
     ap (λ rest. links ++ by_child rest (drop begun all)) none ∙ append-nil links in
     sym no_more ∙ so_far.to_begin
 
--- what holds of two lists, place by place, up to a place, and there, holds up to the next one
-all_zip_next : {A B : Type 0} (R : A → B → Type 0) (xs : List A) (ys : List B) (i : ℕ) (x : A) (y : B) → i < length xs → i < length ys
-    → x ≡ get_or xs i x → y ≡ get_or ys i y → AllZip R (take i xs) (take i ys) → R x y → AllZip R (take (suc i) xs) (take (suc i) ys)
-all_zip_next R [] ys i x y in_first in_second here here_too so_far holds = absurd (omega arith)
-all_zip_next R (z ∷ xs) [] i x y in_first in_second here here_too so_far holds = absurd (omega arith)
-all_zip_next R (z ∷ xs) (w ∷ ys) zero x y in_first in_second here here_too so_far holds =
-    (subst (λ b. R z b) here_too (subst (λ a. R a y) here holds), tt)
-all_zip_next R (z ∷ xs) (w ∷ ys) (suc i) x y in_first in_second here here_too so_far holds =
-    (so_far.0, all_zip_next R xs ys i x y (omega arith) (omega arith) here here_too so_far.1 holds)
-
-pub all_zip_more : {A B : Type 0} (R : A → B → Type 0) (xs : List A) (ys : List B) (i : ℕ) (x : A) (y : B) → i < length xs → i < length ys
-    → x ≡ get_or xs i x → y ≡ get_or ys i y → AllZip R (take i xs) (take i ys) → R x y → AllZip R (take (i + 1) xs) (take (i + 1) ys)
-all_zip_more R xs ys i x y in_first in_second here here_too so_far holds =
-    let next : suc i ≡ i + 1 = omega arith in
-    subst (λ n. AllZip R (take n xs) (take n ys)) next (all_zip_next R xs ys i x y in_first in_second here here_too so_far holds)
-
--- what holds of two lists, place by place, holds at a place
-pub all_zip_at : {A B : Type 0} (R : A → B → Type 0) (xs : List A) (ys : List B) (i : ℕ) (x : A) (y : B) → i < length xs → i < length ys
-    → x ≡ get_or xs i x → y ≡ get_or ys i y → AllZip R xs ys → R x y
-all_zip_at R [] ys i x y in_first in_second here here_too all = absurd (omega arith)
-all_zip_at R (z ∷ xs) [] i x y in_first in_second here here_too all = absurd (omega arith)
-all_zip_at R (z ∷ xs) (w ∷ ys) zero x y in_first in_second here here_too all =
-    subst (λ b. R x b) (sym here_too) (subst (λ a. R a w) (sym here) all.0)
-all_zip_at R (z ∷ xs) (w ∷ ys) (suc i) x y in_first in_second here here_too all =
-    all_zip_at R xs ys i x y (omega arith) (omega arith) here here_too all.1
-
--- after lawful starts, the first that is refused is refused for its own fault
-pub first_fault : (params : List Parameters) (starts : List Start) (i : ℕ) (p : Parameters) (start : Start) (fault : StartFault)
-    → i < length params → i < length starts → p ≡ get_or params i p → start ≡ get_or starts i start
-    → AllZip IsLawful (take i params) (take i starts) → IsReason p start fault → IsFirstFault params starts fault
-first_fault [] starts i p start fault in_params in_starts has_params begins lawful reason = absurd (omega arith)
-first_fault (q ∷ params) [] i p start fault in_params in_starts has_params begins lawful reason = absurd (omega arith)
-first_fault (q ∷ params) (s ∷ starts) zero p start fault in_params in_starts has_params begins lawful reason =
-    inl (subst (λ x. IsReason q x fault) begins (subst (λ x. IsReason x start fault) has_params reason))
-first_fault (q ∷ params) (s ∷ starts) (suc i) p start fault in_params in_starts has_params begins lawful reason =
-    inr (lawful.0, first_fault params starts i p start fault (omega arith) (omega arith) has_params begins lawful.1 reason)
+-- after links that can begin, the first that is refused is refused for its own fault
+pub first_fault : (links : List LinkSetup) (i : ℕ) (link : LinkSetup) (fault : StartFault) → i < length links → link ≡ get_or links i link
+    → All CanBegin (take i links) → IsReason link.params link.start fault → IsFirstFault links fault
+first_fault [] i link fault in_list here begin reason = absurd (omega arith)
+first_fault (l ∷ links) zero link fault in_list here begin reason = inl (subst (λ x. IsReason x.params x.start fault) here reason)
+first_fault (l ∷ links) (suc i) link fault in_list here begin reason =
+    inr (All-head CanBegin l (take i links) begin, first_fault links i link fault (omega arith) here (All-tail CanBegin l (take i links) begin) reason)
 
 -- the first fault among the starts is why the links cannot begin
-pub opening_reason : (params : List Parameters) (starts : List Start) (fault : StartFault) → fault ≢ Memory → IsFirstFault params starts fault
-    → IsOpeningReason params starts fault
-opening_reason params starts TooManyFrames named first = first
-opening_reason params starts TooManyAcks named first = first
-opening_reason params starts Memory named first = absurd (named refl)
+pub opening_reason : (links : List LinkSetup) (fault : StartFault) → fault ≢ Memory → IsFirstFault links fault → IsOpeningReason links fault
+opening_reason links TooManyFrames named first = first
+opening_reason links TooManyAcks named first = first
+opening_reason links Memory named first = absurd (named refl)
 
 -- a link refuses a lawful start for memory alone
-pub lawful_refused : (params : List Parameters) (starts : List Start) (p : Parameters) (start : Start) (fault : StartFault) → AllZip IsLawful params starts
-    → IsLawful p start → IsReason p start fault → IsOpeningReason params starts fault
-lawful_refused params starts p start TooManyFrames all lawful reason = absurd (omega (arith, lawful.frames))
-lawful_refused params starts p start TooManyAcks all lawful reason = absurd (omega (arith, lawful.acks, reason.1))
-lawful_refused params starts p start Memory all lawful reason = all
+pub lawful_refused : (links : List LinkSetup) (link : LinkSetup) (fault : StartFault) → All CanBegin links
+    → CanBegin link → IsReason link.params link.start fault → IsOpeningReason links fault
+lawful_refused links link TooManyFrames all begins reason = absurd (omega (arith, begins.1.frames))
+lawful_refused links link TooManyAcks all begins reason = absurd (omega (arith, begins.1.acks, reason.1))
+lawful_refused links link Memory all begins reason = all
 
 -- the nodes with a link are those with a parent
 pub linked_nodes : {A : Type 0} (parents : List (Option ℕ)) (xs : List A) (w : ℕ) → length xs ≡ length (links_from w parents)

@@ -7,14 +7,15 @@
 -- and offer 10, 11, 12, 13, which is a prefix of 10, 11, 12, 13, 14. So the edge law holds of 99,
 -- 13 and 3 under that list.
 -- Source: this project's own.
-use Rattle.std.specs.Prelude.{◌≡◌, ℕ, List, ◌++◌, Option, Some, IsTrue}
+use Rattle.std.specs.Prelude.{◌≡◌, ℕ, List, ◌++◌, Some, IsTrue}
 use mathlib.Core.List.{IsPrefix}
-use Rattle.stab_frames.specs.Parameters.{Parameters, AreLawful}
+use Rattle.stab_frames.specs.Parameters.{Parameters}
 use Rattle.stab_core.specs.declared.event.Event.{Event}
 use Rattle.stab_core.specs.declared.start.Start.{Start}
-use Rattle.stab_core.specs.Replay.{IsLawful, opening, replay}
-use Rattle.stab_treecore.specs.NodeLaws.{params_into, start_into}
-use Rattle.stab_treecore.specs.NodeOpenings.{OpeningsValue, opening_at}
+use Rattle.stab_core.specs.LinkSetup.{CanBegin, LinkSetup}
+use Rattle.stab_core.specs.Replay.{opening, replay}
+use Rattle.stab_treecore.specs.Network.{Network, setup_into}
+use Rattle.stab_treecore.specs.NodeOpenings.{opening_at}
 
 -- The replay of some events from the start is closed, has delivered this list, has so many items
 -- acknowledged, and was offered a prefix of the parent's list.
@@ -26,18 +27,13 @@ pub record EdgeLaw (p : Parameters) (start : Start) (above : List ℕ) (acked : 
   pub counts : (replay p (opening start) events).acked ≡ acked
   pub offers : IsPrefix (replay p (opening start) events).offered above
 
--- the link into a node has lawful parameters of its own and a lawful start, and the edge law holds
--- of it; the node has its opening, and then what the link delivered
-pub record EdgeInto (params : List Parameters) (openings : OpeningsValue)
-    (parents : List (Option ℕ)) (starts : List Start) (child : ℕ) (above below : List ℕ)
-    : Type 0 where
-  pub its_params : Parameters
-  pub has_params : params_into parents params child ≡ Some its_params
-  pub start : Start
-  pub begins : start_into parents starts child ≡ Some start
-  pub lawful_params : AreLawful its_params
-  pub lawful_start : IsLawful its_params start
+-- the link into a node can begin, and the edge law holds of it; the node has its opening, and then
+-- what the link delivered
+pub record EdgeInto (net : Network) (child : ℕ) (above below : List ℕ) : Type 0 where
+  pub link : LinkSetup
+  pub leads : setup_into net child ≡ Some link
+  pub begins : CanBegin link
   pub acked : ℕ
   pub delivered : List ℕ
-  pub has : below ≡ opening_at openings.lists child ++ delivered
-  pub edge : EdgeLaw its_params start above acked delivered
+  pub has : below ≡ opening_at net.openings.lists child ++ delivered
+  pub edge : EdgeLaw link.params link.start above acked delivered

@@ -5,15 +5,14 @@
 -- are lawful. A schedule of acknowledgements alone makes no list grow, so no reason of memory at a
 -- step exists for it.
 -- Source: this project's own.
-use Rattle.std.specs.List.{AllZip}
-use Rattle.std.specs.Prelude.{◌≡◌, ◌⊎◌, ℕ, List, [], ◌∷◌, length, Option, IsSome, IsNone}
+use Rattle.std.specs.Prelude.{◌≡◌, ◌⊎◌, ℕ, List, [], ◌∷◌, length, Option, All, IsSome, IsNone}
 use Rattle.stab_frames.specs.Parameters.{Parameters}
 use Rattle.stab_core.specs.declared.start.Start.{Start}
 use Rattle.stab_core.specs.declared.start.StartFault.{StartFault}
 use Rattle.stab_core.specs.declared.start.StartFault.TheVariants.{TooManyFrames, TooManyAcks}
 use Rattle.stab_core.specs.declared.start.StartFault.TheVariants.{Memory}
 use Rattle.stab_core.specs.Link.{Grows, IsReason}
-use Rattle.stab_core.specs.Replay.{IsLawful}
+use Rattle.stab_core.specs.LinkSetup.{CanBegin, LinkSetup, setups}
 use Rattle.stab_tree.specs.Links.{links_of}
 use Rattle.stab_tree.specs.Nodes.{parent_at}
 use Rattle.stab_treecore.specs.declared.event.TreeEvent.{TreeEvent}
@@ -24,7 +23,7 @@ use Rattle.stab_treecore.specs.declared.fault.TreeStartFault.TheVariants.{Step}
 use Rattle.stab_treecore.specs.declared.fault.TreeStepFault.{TreeStepFault}
 use Rattle.stab_treecore.specs.declared.fault.TreeStepFault.TheVariants.{NoSuchLink}
 use Rattle.stab_treecore.specs.declared.fault.TreeStepFault.TheVariants.{Memory as StepMemory}
-use Rattle.stab_treecore.specs.NodeOpenings.{OpeningsValue}
+use Rattle.stab_treecore.specs.Network.{Network}
 use Rattle.stab_treecore.specs.TreeReplay.{tree_opening}
 use Rattle.stab_treecore.specs.TreeStep.{tree_step, tree_effect}
 use Rattle.stab_treecore.specs.WholeTree.{WholeTree}
@@ -34,25 +33,25 @@ abbrev pub OnePerLink : {A : Type 0} → List (Option ℕ) → List A → Type 0
 OnePerLink parents xs = length xs ≡ length (links_of parents)
 
 -- the first start that is refused is refused for this fault, under the parameters of its link
-abbrev pub IsFirstFault : List Parameters → List Start → StartFault → Type 0
-IsFirstFault [] starts fault = ⊥
-IsFirstFault (p ∷ params) [] fault = ⊥
-IsFirstFault (p ∷ params) (start ∷ starts) fault =
-    IsReason p start fault ⊎ (IsLawful p start × IsFirstFault params starts fault)
+abbrev pub IsFirstFault : List LinkSetup → StartFault → Type 0
+IsFirstFault [] fault = ⊥
+IsFirstFault (link ∷ links) fault =
+    IsReason link.params link.start fault ⊎ (CanBegin link × IsFirstFault links fault)
 
 -- why the links cannot begin: the first fault among their starts, or memory where all starts are
 -- lawful
-abbrev pub IsOpeningReason : List Parameters → List Start → StartFault → Type 0
-IsOpeningReason params starts TooManyFrames = IsFirstFault params starts TooManyFrames
-IsOpeningReason params starts TooManyAcks = IsFirstFault params starts TooManyAcks
-IsOpeningReason params starts Memory = AllZip IsLawful params starts
+abbrev pub IsOpeningReason : List LinkSetup → StartFault → Type 0
+IsOpeningReason links TooManyFrames = IsFirstFault links TooManyFrames
+IsOpeningReason links TooManyAcks = IsFirstFault links TooManyAcks
+IsOpeningReason links Memory = All CanBegin links
 
 -- why a whole tree cannot begin
 abbrev pub IsStartReason : List Parameters → List (Option ℕ) → List Start → TreeStartFault → Type 0
 IsStartReason params parents starts StartCount =
     ¬ (OnePerLink parents params × OnePerLink parents starts)
 IsStartReason params parents starts (StartRefused fault) =
-    OnePerLink parents params × OnePerLink parents starts × IsOpeningReason params starts fault
+    OnePerLink parents params × OnePerLink parents starts
+    × IsOpeningReason (setups params starts) fault
 IsStartReason params parents starts (Step fault) = ⊥
 
 -- an event names a link by its child; the root and what is no node name none
@@ -75,13 +74,13 @@ IsStepReason t events NoSuchLink = ReachesEvent (λ now e. NamesNoLink now.paren
 IsStepReason t events StepMemory = ReachesEvent (λ now e. Grows (tree_effect now e)) t events
 
 -- why a schedule is refused: as a whole tree that cannot begin, or at a step
-abbrev pub IsScheduleReason : List Parameters → OpeningsValue → List (Option ℕ) → List ℕ
-    → List Start → List TreeEvent → TreeStartFault → Type 0
-IsScheduleReason params openings parents published starts events StartCount =
-    IsStartReason params parents starts StartCount
-IsScheduleReason params openings parents published starts events (StartRefused fault) =
-    IsStartReason params parents starts (StartRefused fault)
-IsScheduleReason params openings parents published starts events (Step fault) =
-    OnePerLink parents params × OnePerLink parents starts
-    × AllZip IsLawful params starts
-    × IsStepReason (tree_opening params openings parents published starts) events fault
+abbrev pub IsScheduleReason : List Parameters → List Start → Network → List TreeEvent
+    → TreeStartFault → Type 0
+IsScheduleReason params starts net events StartCount =
+    IsStartReason params net.tree.parents starts StartCount
+IsScheduleReason params starts net events (StartRefused fault) =
+    IsStartReason params net.tree.parents starts (StartRefused fault)
+IsScheduleReason params starts net events (Step fault) =
+    OnePerLink net.tree.parents params × OnePerLink net.tree.parents starts
+    × All CanBegin net.links
+    × IsStepReason (tree_opening net) events fault

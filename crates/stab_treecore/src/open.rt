@@ -1,14 +1,15 @@
 //! What a whole tree begins with.
 
-ghost use Rattle.std.specs.List.{AllZip};
-ghost use Rattle.std.specs.Prelude.{◌≡◌, ◌≢◌, ◌<◌, All, OnOk, IfOk, IfErr, length, map, slice_index_or};
+ghost use Rattle.std.specs.Prelude.{◌≡◌, ◌≢◌, ◌<◌, All, OnOk, IfOk, IfErr, length, map};
+ghost use Rattle.std.specs.Prelude.{slice_index_or};
 ghost use Rattle.stab_core.specs.Link.{IsReason};
+ghost use Rattle.stab_core.specs.LinkSetup.{CanBegin, setups};
 ghost use Rattle.stab_core.specs.Replay.{IsLawful};
 ghost use Rattle.stab_frames.specs.Parameters.{AreLawful};
 ghost use Rattle.stab_treecore.specs.ByChild.{by_child};
 ghost use Rattle.stab_treecore.specs.NodeOpenings.{FitTree};
 ghost use Rattle.stab_treecore.specs.Refusals.{OnePerLink, IsOpeningReason};
-ghost use Rattle.stab_treecore.specs.TreeReplay.{opened_links};
+ghost use Rattle.stab_treecore.specs.TreeReplay.{opened};
 
 use crate::openings::Openings;
 use stab_core::{Link, Start, StartFault};
@@ -37,9 +38,8 @@ fn check_start(params: Params, start: &Start) -> Result<(), StartFault>
 /// refused after a list has grown.
 pub(crate) fn check(params: &[Params], starts: &[Start]) -> Result<(), StartFault>
     requires one_each { length params.now ≡ length starts.now }
-    ensures lawful_params { OnOk result (All AreLawful params.now) }
-    ensures lawful { OnOk result (AllZip IsLawful params.now starts.now) }
-    ensures refused { IfErr result (IsOpeningReason params.now starts.now) }
+    ensures lawful { OnOk result (All CanBegin (setups params.now starts.now)) }
+    ensures refused { IfErr result (IsOpeningReason (setups params.now starts.now)) }
 {
     'links: for place in 0..starts.len() {
         check_start(params[place], &starts[place])?;
@@ -56,10 +56,10 @@ fn link_at(
 ) -> Result<Link, StartFault>
     requires in_params { place < length params.now }
     requires in_starts { place < length starts.now }
-    requires lawful { AllZip IsLawful params.now starts.now }
+    requires lawful { All CanBegin (setups params.now starts.now) }
     ensures link { IfOk result (λ link.
-        link ≡ slice_index_or (opened_links params.now starts.now) place link) }
-    ensures refused { IfErr result (IsOpeningReason params.now starts.now) }
+        link ≡ slice_index_or (map opened (setups params.now starts.now)) place link) }
+    ensures refused { IfErr result (IsOpeningReason (setups params.now starts.now)) }
 {
     Link::new(alloc, params[place], &starts[place])
 }
@@ -73,10 +73,10 @@ pub(crate) fn links(
 ) -> Result<Vec<Option<Link>>, StartFault>
     requires params_per_link { OnePerLink parents.now params.now }
     requires one_per_link { OnePerLink parents.now starts.now }
-    requires lawful { AllZip IsLawful params.now starts.now }
+    requires lawful { All CanBegin (setups params.now starts.now) }
     ensures links { IfOk result (λ links.
-        links.items ≡ by_child parents.now (opened_links params.now starts.now)) }
-    ensures refused { IfErr result (IsOpeningReason params.now starts.now) }
+        links.items ≡ by_child parents.now (map opened (setups params.now starts.now))) }
+    ensures refused { IfErr result (IsOpeningReason (setups params.now starts.now)) }
 {
     let mut links = Vec::with_capacity(alloc, parents.len())?;
     let mut begun = 0;

@@ -1,7 +1,6 @@
-ghost use Rattle.std.specs.List.{AllZip};
 ghost use Rattle.std.specs.Prelude.{◌≡◌, All, IfOk, IfErr, OnOk};
-ghost use Rattle.stab_core.specs.Replay.{IsLawful};
-ghost use Rattle.stab_frames.specs.Parameters.{AreLawful};
+ghost use Rattle.stab_core.specs.LinkSetup.{CanBegin, setups};
+ghost use Rattle.stab_treecore.specs.Network.{IsNetwork, network_of};
 ghost use Rattle.stab_treecore.specs.NodeLaws.{HalfTreeLawAtNodes, TreeLawAtNodes};
 ghost use Rattle.stab_treecore.specs.NodeOpenings.{FitTree};
 ghost use Rattle.stab_treecore.specs.Refusals.{OnePerLink, NamesLink, IsScheduleReason};
@@ -37,25 +36,25 @@ pub fn run_schedule(
 ) -> Result<TreeState, TreeStartFault>
     requires fit { FitTree tree.now.parents openings.now }
     ensures replay { IfOk result (λ state.
-        state ≡ tree_replay
-        (tree_opening params.now openings.now tree.now.parents published.now starts.now)
-        events.now) }
+        state ≡ tree_replay (tree_opening
+        (network_of params.now tree.now published.now starts.now openings.now)) events.now) }
     ensures same_tree { IfOk result (λ state. state.parents ≡ tree.now.parents) }
     ensures params_per_link { OnOk result (OnePerLink tree.now.parents params.now) }
     ensures one_per_link { OnOk result (OnePerLink tree.now.parents starts.now) }
-    ensures lawful_params { OnOk result (All AreLawful params.now) }
-    ensures lawful { OnOk result (AllZip IsLawful params.now starts.now) }
+    ensures network { OnOk result (IsNetwork
+        (network_of params.now tree.now published.now starts.now openings.now)) }
     ensures named { OnOk result (All (NamesLink tree.now.parents) events.now) }
     ensures refused { IfErr result
-        (IsScheduleReason params.now openings.now tree.now.parents published.now starts.now
-        events.now) }
+        (IsScheduleReason params.now starts.now
+        (network_of params.now tree.now published.now starts.now openings.now) events.now) }
 
     // The laws of every node.
     ensures half_tree_law { IfOk result (λ state.
-        HalfTreeLawAtNodes params.now openings.now tree.now.parents starts.now published.now
+        HalfTreeLawAtNodes
+        (network_of params.now tree.now published.now starts.now openings.now)
         (received state)) }
     ensures tree_law { IfOk result (λ state.
-        TreeLawAtNodes params.now openings.now tree.now.parents starts.now published.now
+        TreeLawAtNodes (network_of params.now tree.now published.now starts.now openings.now)
         (received state)) }
 {
     let state = replayed(alloc, params, tree, published, starts, openings, events)?;
@@ -77,18 +76,16 @@ fn replayed(
 ) -> Result<TreeState, TreeStartFault>
     requires fit { FitTree tree.now.parents openings.now }
     ensures replay { IfOk result (λ state.
-        state ≡ tree_replay
-        (tree_opening params.now openings.now tree.now.parents published.now starts.now)
-        events.now) }
+        state ≡ tree_replay (tree_opening
+        (network_of params.now tree.now published.now starts.now openings.now)) events.now) }
     ensures same_tree { IfOk result (λ state. state.parents ≡ tree.now.parents) }
     ensures params_per_link { OnOk result (OnePerLink tree.now.parents params.now) }
     ensures one_per_link { OnOk result (OnePerLink tree.now.parents starts.now) }
-    ensures lawful_params { OnOk result (All AreLawful params.now) }
-    ensures lawful { OnOk result (AllZip IsLawful params.now starts.now) }
+    ensures lawful { OnOk result (All CanBegin (setups params.now starts.now)) }
     ensures named { OnOk result (All (NamesLink tree.now.parents) events.now) }
     ensures refused { IfErr result
-        (IsScheduleReason params.now openings.now tree.now.parents published.now starts.now
-        events.now) }
+        (IsScheduleReason params.now starts.now
+        (network_of params.now tree.now published.now starts.now openings.now) events.now) }
 {
     let mut state = TreeState::new(alloc, params, tree, published, starts, openings)?;
     for event in events {

@@ -1,14 +1,13 @@
-ghost use Rattle.std.specs.List.{AllZip};
 ghost use Rattle.std.specs.Prelude.{◌≡◌, ◌↔◌, ◌<◌, length, is_some, option_copied, option_map, All};
 ghost use Rattle.std.specs.Prelude.{ℕ, List, ◌++◌, Some, IsSome, IsNone, IfOk, IfErr, OnOk, OnErr, IsErrOf};
 ghost use Rattle.std.specs.Option.{option_map_or};
 ghost use Rattle.stab_core.specs.Link.{Grows, LinkValue, Steps};
-ghost use Rattle.stab_core.specs.Replay.{IsLawful};
-ghost use Rattle.stab_frames.specs.Parameters.{AreLawful};
+ghost use Rattle.stab_core.specs.LinkSetup.{CanBegin, setups};
 ghost use Rattle.stab_tree.specs.Nodes.{parent_at};
 ghost use Rattle.stab_treecore.specs.WholeTree.{WholeTree, link_into, received, source};
 ghost use Rattle.stab_core.specs.Step.{effect};
 ghost use Rattle.stab_treecore.specs.Fresh.{fresh_item};
+ghost use Rattle.stab_treecore.specs.Network.{network_of};
 ghost use Rattle.stab_treecore.specs.NodeOpenings.{FitTree};
 ghost use Rattle.stab_treecore.specs.Refusals.{OnePerLink, IsStartReason, NamesLink, NamesNoLink};
 ghost use Rattle.stab_treecore.specs.TreeReplay.{tree_opening};
@@ -78,12 +77,11 @@ impl TreeState {
     ) -> Result<TreeState, TreeStartFault>
         requires fit { FitTree tree.now.parents openings.now }
         ensures opening { IfOk result (λ state.
-            state ≡ tree_opening params.now openings.now tree.now.parents published.now
-            starts.now) }
+            state ≡ tree_opening
+            (network_of params.now tree.now published.now starts.now openings.now)) }
         ensures params_per_link { OnOk result (OnePerLink tree.now.parents params.now) }
         ensures one_per_link { OnOk result (OnePerLink tree.now.parents starts.now) }
-        ensures lawful_params { OnOk result (All AreLawful params.now) }
-        ensures lawful { OnOk result (AllZip IsLawful params.now starts.now) }
+        ensures lawful { OnOk result (All CanBegin (setups params.now starts.now)) }
         ensures refused { IfErr result (IsStartReason params.now tree.now.parents starts.now) }
     {
         let links = usize::from(tree.link_count());

@@ -1,10 +1,12 @@
-use Rattle.std.proofs.Common.{rules, ◌≡◌, ◌++◌, length, ap, sym, ◌∙◌, subst}
+use Rattle.std.proofs.Common.{rules, ◌≡◌, ◌++◌, length, map, ap, sym, ◌∙◌, subst}
 use Rattle.std.proofs.lemmas.List.{length-map}
+use Rattle.stab_job.specs.JobValues.{network}
 use Rattle.stab_node.specs.Work.{HasAll, IsServed}
 use Rattle.stab_tree.specs.Links.{links_of}
 use Rattle.stab_tree.specs.Nodes.{root_of}
 use Rattle.stab_treecore.specs.NodeOpenings.{opening_at}
 use Rattle.stab_workers.specs.ByNode.{received_at}
+use Rattle.stab_run.specs.LinkRuns.{IsRun}
 use Rattle.stab_run.proofs.Paired.{entry_read}
 use Rattle.stab_run.proofs.ends.run_ends.Goals as goal
 
@@ -18,7 +20,17 @@ returns-clause-run g c =
     let trees : length (links_of c.args.job.now.tree.parents) ≡ length (links_of parents) =
     ap (λ t. length (links_of t.parents)) (sym c.tree.ensures.tree) in
     let root : received_at left.received.items (root_of parents) ≡ c.args.job.now.items = search rules in
-    rw (← c.tree.ensures.tree, ← c.openings.ensures.openings)
+    let job = c.args.job.now in
+    let links = (network job).links in
+    let sends = map sent left.sends.items in
+    let recvs = map delivered left.recvs.items in
+    subst
+    (λ tree. IsRun (record { tree = tree; links = links; openings = job.openings; published = job.items }) left.received.items left.ended.items sends recvs)
+    c.tree.ensures.tree
+    (subst
+    (λ openings. IsRun (record { tree = c.tree.result.now; links = links; openings = openings; published = job.items }) left.received.items
+    left.ended.items sends recvs)
+    c.openings.ensures.openings
     (record {
       all_received = ran.received;
       all_ended = ran.ended;
@@ -43,7 +55,7 @@ returns-clause-run g c =
           λ child parent send is_child is over.
           let (done, there, read) = entry_read sent parents left.sends.items child send is in
           subst (HasAll (received_at left.received.items parent)) read (ran.handed_on child parent done is_child there over);
-    })
+    }))
 
 pub returns-clause-turns : goal.returns-clause-turns
 returns-clause-turns g c = rw (← c.turns.ensures.turns, ← c.tree.ensures.tree) c.in_ok-gathered.ensures.turns

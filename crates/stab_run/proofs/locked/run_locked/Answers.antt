@@ -1,9 +1,11 @@
-use Rattle.std.proofs.Common.{◌≡◌, ℕ, length}
+use Rattle.std.proofs.Common.{◌≡◌, ℕ, All, true, length}
+use Rattle.stab_core.specs.LinkSetup.{CanBegin}
+use Rattle.stab_job.specs.JobValues.{network}
 use Rattle.stab_lock.specs.declared.settle.SettleFault.{SettleFault}
 use Rattle.stab_workers.proofs.ForCallers.{at_error}
 use Rattle.stab_workers.specs.ByNode.{ended_at}
 use Rattle.stab_run.specs.declared.run_fault.RunFault.TheVariants.{Settle}
-use Rattle.stab_run.specs.RunFaults.{AllAreOver}
+use Rattle.stab_run.specs.RunFaults.{AllAreOver, comes_after_starts}
 use Rattle.stab_run.proofs.Paired.{as_many_alike}
 use Rattle.stab_run.proofs.locked.run_locked.Goals as goal
 
@@ -29,3 +31,11 @@ returns-in_err-report-clause-settled_last g c =
       over = λ node within. (ended_at left.gathered.ended.items node, left.ensures.turns node within);
       done = left.ensures.done;
     })
+
+-- the links are settled only where all starts are lawful
+pub returns-in_err-report-clause-starts_first : goal.returns-in_err-report-clause-starts_first
+returns-in_err-report-clause-starts_first g c =
+    at_error _ _
+    (λ fault. comes_after_starts fault ≡ true → All CanBegin (network c.args.job.now).links)
+    c.from_residual-in_err-report.ensures.1
+    (λ after. rw (c.params.ensures.params, c.starts.ensures.starts) at c.in_ok-check_starts.ensures.can_begin)

@@ -1,10 +1,12 @@
 use Rattle.std.proofs.Common.{◌≡◌, List, Option, ℕ, None, ap, length, map, sym, ◌∙◌, subst}
+use Rattle.stab_core.proofs.Setups.{as_many_setups}
+use Rattle.stab_job.specs.JobValues.{network}
 use Rattle.stab_tree.specs.Links.{links_of}
 use Rattle.stab_tree.specs.Nodes.{parent_at, root_of}
 use Rattle.stab_treecore.specs.ByChild.{by_child}
 use Rattle.stab_lock.specs.declared.settle.SettleFault.{SettleFault}
 use Rattle.stab_workers.proofs.ForCallers.{at_error}
-use Rattle.stab_run.specs.LinkRuns.{AreSettled, HoldsInto, LeadsInto, acked_of, all_given}
+use Rattle.stab_run.specs.LinkRuns.{AreSettled, HoldsInto, LeadsInto, acked_of}
 use Rattle.stab_run.specs.declared.run_fault.RunFault.TheVariants.{Settle}
 use Rattle.stab_run.specs.Reports.{OnePerNode}
 use Rattle.stab_run.specs.Runs.{AreExplained, HandsOn, RootHas}
@@ -16,65 +18,69 @@ pub settle_all-requires-clause-links : goal.settle_all-requires-clause-links
 settle_all-requires-clause-links g c =
     let job = c.args.job.now in
     let its_job = c.tree-tree.ensures.job in
-    as_many_links g.L.RunLink.given c.args.links.items job.params job.starts (its_job.one_params_each ∙ sym its_job.one_start_each) c.requires.given
-    ∙ (its_job.one_start_each ∙ ap (λ t. length (links_of t.parents)) (sym c.tree-tree.ensures.tree))
+    as_many_links g.L.RunLink.given c.args.links.items (network job).links c.requires.given
+    ∙ (as_many_setups job.params job.starts (its_job.one_params_each ∙ sym its_job.one_start_each)
+    ∙ (its_job.one_start_each ∙ ap (λ t. length (links_of t.parents)) (sym c.tree-tree.ensures.tree)))
 
 pub returns-clause-nodes : goal.returns-clause-nodes
 returns-clause-nodes g c =
-    let job = c.args.job.now in
+    let net = network c.args.job.now in
     let ran = c.args.gathered in
     let sent = map g.L.RunLink.sent ran.sends.items in
     let delivered = map g.L.RunLink.received ran.recvs.items in
-    let counted : c.in_ok-acked.acked.items ≡ by_child job.tree.parents (map acked_of sent) =
+    let counted : c.in_ok-acked.acked.items ≡ by_child net.tree.parents (map acked_of sent) =
     rw c.tree-tree.ensures.tree at c.in_ok-acked.ensures.acked in
-    subst (λ (acked : List (Option ℕ)). OnePerNode job.tree.parents (record { received = ran.received.items; acked = acked; ended = ran.ended.items }))
+    subst (λ (acked : List (Option ℕ)). OnePerNode net.tree.parents (record { received = ran.received.items; acked = acked; ended = ran.ended.items }))
     (sym counted)
-    (one_per_node job.openings job.tree.parents job.items ran.received.items ran.ended.items sent delivered c.requires.run)
+    (one_per_node net ran.received.items ran.ended.items sent delivered c.requires.run)
 
 pub returns-clause-root : goal.returns-clause-root
 returns-clause-root g c =
-    let job = c.args.job.now in
+    let net = network c.args.job.now in
     let ran = c.args.gathered in
     let sent = map g.L.RunLink.sent ran.sends.items in
     let delivered = map g.L.RunLink.received ran.recvs.items in
-    let counted : c.in_ok-acked.acked.items ≡ by_child job.tree.parents (map acked_of sent) =
+    let counted : c.in_ok-acked.acked.items ≡ by_child net.tree.parents (map acked_of sent) =
     rw c.tree-tree.ensures.tree at c.in_ok-acked.ensures.acked in
-    let none : parent_at job.tree.parents (root_of job.tree.parents) ≡ None =
+    let none : parent_at net.tree.parents (root_of net.tree.parents) ≡ None =
     rw c.tree-tree.ensures.tree at c.root-root.ensures.tree.root_has_none in
-    subst (λ (acked : List (Option ℕ)). RootHas job.tree.parents job.items (record { received = ran.received.items; acked = acked; ended = ran.ended.items }))
+    subst (λ (acked : List (Option ℕ)). RootHas net (record { received = ran.received.items; acked = acked; ended = ran.ended.items }))
     (sym counted)
-    (root_has job.openings job.tree.parents job.items ran.received.items ran.ended.items sent delivered c.requires.run none)
+    (root_has net ran.received.items ran.ended.items sent delivered c.requires.run none)
 
 pub returns-clause-edges : goal.returns-clause-edges
 returns-clause-edges g c =
     let job = c.args.job.now in
+    let its_job = c.tree-tree.ensures.job in
+    let net = network job in
     let ran = c.args.gathered in
     let sent = map g.L.RunLink.sent ran.sends.items in
     let delivered = map g.L.RunLink.received ran.recvs.items in
-    let counted : c.in_ok-acked.acked.items ≡ by_child job.tree.parents (map acked_of sent) =
+    let counted : c.in_ok-acked.acked.items ≡ by_child net.tree.parents (map acked_of sent) =
     rw c.tree-tree.ensures.tree at c.in_ok-acked.ensures.acked in
-    let settled : AreSettled (all_given job.params job.starts) sent delivered =
-    rw c.requires.given at c.in_ok-acked.ensures.settled in
-    subst (λ (acked : List (Option ℕ)). AreExplained job.params job.openings job.tree.parents job.starts
-    (record { received = ran.received.items; acked = acked; ended = ran.ended.items }))
+    let settled : AreSettled net.links sent delivered = rw c.requires.given at c.in_ok-acked.ensures.settled in
+    let one_each : length net.links ≡ length (links_of net.tree.parents) =
+    as_many_setups job.params job.starts (its_job.one_params_each ∙ sym its_job.one_start_each) ∙ its_job.one_start_each in
+    subst (λ (acked : List (Option ℕ)). AreExplained net (record { received = ran.received.items; acked = acked; ended = ran.ended.items }))
     (sym counted)
-    (are_explained job.openings job.tree.parents job.items ran.received.items ran.ended.items sent delivered c.requires.run job.params job.starts
-    c.tree-tree.ensures.job.one_params_each c.tree-tree.ensures.job.one_start_each settled c.requires.lawful)
+    (are_explained net ran.received.items ran.ended.items sent delivered c.requires.run one_each settled c.requires.lawful)
 
 pub returns-clause-handed_on : goal.returns-clause-handed_on
 returns-clause-handed_on g c =
     let job = c.args.job.now in
+    let its_job = c.tree-tree.ensures.job in
+    let net = network job in
     let ran = c.args.gathered in
     let sent = map g.L.RunLink.sent ran.sends.items in
     let delivered = map g.L.RunLink.received ran.recvs.items in
-    let counted : c.in_ok-acked.acked.items ≡ by_child job.tree.parents (map acked_of sent) =
+    let counted : c.in_ok-acked.acked.items ≡ by_child net.tree.parents (map acked_of sent) =
     rw c.tree-tree.ensures.tree at c.in_ok-acked.ensures.acked in
-    let settled : AreSettled (all_given job.params job.starts) sent delivered =
-    rw c.requires.given at c.in_ok-acked.ensures.settled in
-    subst (λ (acked : List (Option ℕ)). HandsOn job.tree.parents (record { received = ran.received.items; acked = acked; ended = ran.ended.items }))
+    let settled : AreSettled net.links sent delivered = rw c.requires.given at c.in_ok-acked.ensures.settled in
+    let one_each : length net.links ≡ length (links_of net.tree.parents) =
+    as_many_setups job.params job.starts (its_job.one_params_each ∙ sym its_job.one_start_each) ∙ its_job.one_start_each in
+    subst (λ (acked : List (Option ℕ)). HandsOn net.tree.parents (record { received = ran.received.items; acked = acked; ended = ran.ended.items }))
     (sym counted)
-    (hands_on job.openings job.tree.parents job.items ran.received.items ran.ended.items sent delivered c.requires.run job.params job.starts
-    c.tree-tree.ensures.job.one_params_each c.tree-tree.ensures.job.one_start_each settled)
+    (hands_on net ran.received.items ran.ended.items sent delivered c.requires.run one_each settled)
 
 -- the node that is named is a child of the job's tree
 pub returns-in_err-acked-clause-unsettled : goal.returns-in_err-acked-clause-unsettled
@@ -87,9 +93,8 @@ returns-in_err-acked-clause-unsettled g c =
 -- what is known of the refused link is known of the job's link into this child
 pub returns-in_err-acked-clause-refused : goal.returns-in_err-acked-clause-refused
 returns-in_err-acked-clause-refused g c =
-    let job = c.args.job.now in
+    let net = network c.args.job.now in
     at_error _ _
-    (λ fault. (child : ℕ) (why : SettleFault) → fault ≡ Settle child why
-    → HoldsInto g.L.RunLink.may_differ job.tree.parents (all_given job.params job.starts) child)
+    (λ fault. (child : ℕ) (why : SettleFault) → fault ≡ Settle child why → HoldsInto g.L.RunLink.may_differ net.tree.parents net.links child)
     c.from_residual.ensures.1
     (λ child why is. rw (c.tree-tree.ensures.tree, c.requires.given) at c.in_err-acked.ensures.refused child why is)

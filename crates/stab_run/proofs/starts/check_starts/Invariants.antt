@@ -1,8 +1,7 @@
-use Rattle.std.proofs.Common.{take}
-use Rattle.std.specs.List.{AllZip}
-use Rattle.stab_core.specs.Replay.{IsLawful}
+use Rattle.std.proofs.Common.{All, take}
+use Rattle.stab_core.specs.LinkSetup.{CanBegin, setups}
 use Rattle.stab_run.proofs.starts.check_starts.Given as goal
 
--- the starts so far are lawful
+-- the links so far can begin
 abbrev pub invariant-loop-place : goal.invariant-loop-place
-invariant-loop-place l = AllZip IsLawful (take l.place l.params) (take l.place l.starts)
+invariant-loop-place l = All CanBegin (take l.place (setups l.params l.starts))

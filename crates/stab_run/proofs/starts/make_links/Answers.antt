@@ -1,31 +1,28 @@
-use Rattle.std.proofs.Common.{◌≡◌, ◌<◌, ◌+◌, ◌∙◌, ap, sym, length, subst, take, take_all, arith}
-use Rattle.stab_core.specs.Replay.{IsLawful}
-use Rattle.stab_run.specs.LinkRuns.{all_given}
+use Rattle.std.proofs.Common.{◌<◌, ◌+◌, ◌∙◌, ap, sym, length, subst, take_all, arith}
+use Rattle.stab_core.specs.LinkSetup.{setup, setups}
+use Rattle.stab_core.proofs.Setups.{as_many_setups, can_begin_at, setup_at}
 use Rattle.stab_run.proofs.Begun.{one_more_given}
-use Rattle.stab_run.proofs.Paired.{as_many_paired, paired_at, paired_push}
+use Rattle.stab_run.proofs.Paired.{paired_push}
 use Rattle.stab_run.proofs.starts.make_links.Goals as goal
 
 pub bounds-params-place : goal.bounds-params-place
-bounds-params-place g c =
-    omega (arith, c.links-test.true, as_many_paired IsLawful c.args.params.now c.args.starts.now c.requires.lawful)
+bounds-params-place g c = omega (arith, c.links-test.true, c.requires.one_each)
 
 pub make-requires-clause-params : goal.make-requires-clause-params
 make-requires-clause-params g c =
     let params = c.args.params.now in
     let place = c.links.place in
     let its_params = c.index-params-place.result in
-    let in_params : place < length params =
-    omega (arith, c.links-test.true, as_many_paired IsLawful params c.args.starts.now c.requires.lawful) in
+    let in_params : place < length params = omega (arith, c.links-test.true, c.requires.one_each) in
     subst g.L.RunLink.can_have (sym c.index-params-place.is) (c.requires.params place its_params in_params)
 
 pub make-requires-clause-lawful : goal.make-requires-clause-lawful
 make-requires-clause-lawful g c =
     let params = c.args.params.now in
     let place = c.links.place in
-    let in_params : place < length params =
-    omega (arith, c.links-test.true, as_many_paired IsLawful params c.args.starts.now c.requires.lawful) in
-    paired_at IsLawful params c.args.starts.now place c.index-params-place.result c.index-starts-place.result in_params
-    c.index-params-place.is c.index-starts-place.is c.requires.lawful
+    let in_params : place < length params = omega (arith, c.links-test.true, c.requires.one_each) in
+    (can_begin_at params c.args.starts.now place c.index-params-place.result c.index-starts-place.result in_params c.links-test.true
+    c.index-params-place.is c.index-starts-place.is c.requires.can_begin).1
 
 pub links-preserved : goal.links-preserved
 links-preserved g c =
@@ -33,7 +30,9 @@ links-preserved g c =
     let starts = c.args.starts.now in
     let place = c.links.place in
     let in_starts : place < length starts = c.links-test.true in
-    let in_params : place < length params = omega (arith, in_starts, as_many_paired IsLawful params starts c.requires.lawful) in
+    let in_params : place < length params = omega (arith, in_starts, c.requires.one_each) in
+    let next = setup c.index-params-place.result c.index-starts-place.result in
+    let within : place < length (setups params starts) = omega (arith, in_starts, as_many_setups params starts c.requires.one_each) in
     record {
       link_room = c.push_reserved.ensures.capacity ∙ c.links.invariant.link_room;
       opening_room = c.push_reserved-in-links.ensures.capacity ∙ c.links.invariant.opening_room;
@@ -41,9 +40,10 @@ links-preserved g c =
       opening_count = c.push_reserved-in-links.ensures.len ∙ ap (λ n. n + 1) c.links.invariant.opening_count;
       given =
           rw c.push_reserved.ensures.items
-          (one_more_given g.L.RunLink.given c.links.links.items c.in_ok-link.link params starts place c.index-params-place.result
-          c.index-starts-place.result in_params in_starts c.index-params-place.is c.index-starts-place.is c.in_ok-link.ensures.given
-          c.links.invariant.given);
+          (one_more_given g.L.RunLink.given c.links.links.items c.in_ok-link.link (setups params starts) place next within
+          (setup_at params starts place c.index-params-place.result c.index-starts-place.result in_params in_starts c.index-params-place.is
+          c.index-starts-place.is)
+          c.in_ok-link.ensures.given c.links.invariant.given);
       openings =
           rw (c.push_reserved.ensures.items, c.push_reserved-in-links.ensures.items)
           (paired_push g.L.RunLink.opens c.links.links.items c.links.openings.items c.in_ok-link.link c.in_ok-link.opening
@@ -54,9 +54,5 @@ pub returns-clause-links : goal.returns-clause-links
 returns-clause-links g c =
     let params = c.args.params.now in
     let starts = c.args.starts.now in
-    let place = c.links.place in
-    let all_starts : take place starts ≡ starts = take_all place starts (omega (arith, c.links-test.false)) in
-    let all_params : take place params ≡ params =
-    take_all place params (omega (arith, c.links-test.false, as_many_paired IsLawful params starts c.requires.lawful)) in
     c.links.invariant.given
-    ∙ (ap (λ ps. all_given ps (take place starts)) all_params ∙ ap (λ ss. all_given params ss) all_starts)
+    ∙ take_all c.links.place (setups params starts) (omega (arith, c.links-test.false, as_many_setups params starts c.requires.one_each))

@@ -1,9 +1,12 @@
-use Rattle.std.proofs.Common.{rules, ◌≡◌, ◌≢◌, ℕ, All, subst}
+use Rattle.std.proofs.Common.{rules, ◌≡◌, ◌≢◌, ℕ, All, true}
+use Rattle.stab_core.specs.LinkSetup.{CanBegin}
 use Rattle.stab_lock.specs.declared.settle.SettleFault.{SettleFault}
-use Rattle.stab_tree.specs.IsTree.{IsTree}
+use Rattle.stab_core.proofs.Setups.{all_have}
+use Rattle.stab_job.specs.JobValues.{network}
 use Rattle.stab_workers.proofs.ForCallers.{at_error}
 use Rattle.stab_workers.specs.ByNode.{received_at}
 use Rattle.stab_run.specs.declared.run_fault.RunFault.TheVariants.{Settle}
+use Rattle.stab_run.specs.RunFaults.{comes_after_starts}
 use Rattle.stab_run.proofs.Paired.{paired_alike}
 use Rattle.stab_run.proofs.words.run_words.Goals as goal
 
@@ -30,7 +33,15 @@ returns-in_err-report-clause-never_differ g c =
 pub returns-clause-tree_law_by_depth : goal.returns-clause-tree_law_by_depth
 returns-clause-tree_law_by_depth g c =
     let job = c.args.job.now in
-    let its_job = c.tree-2.ensures.job in
+    let its_network = c.in_ok-report.ensures.network in
     let one_place : All (λ p. p.capacity ≡ 1) job.params = search rules in
-    c.tree_law_of_one_place.ensures job.tree job.params job.openings job.starts job.items (received_at c.in_ok-report.report.received)
-    (subst IsTree c.tree-2.ensures.tree c.root-tree.ensures.tree) its_job.one_params_each one_place c.in_ok-report.ensures.tree_law
+    c.tree_law_of_one_place.ensures (network job) (received_at c.in_ok-report.report.received) its_network.tree its_network.one_per_link
+    (all_have (λ p. p.capacity ≡ 1) job.params job.starts one_place) c.in_ok-report.ensures.tree_law
+
+-- the links are settled only where all starts are lawful
+pub returns-in_err-report-clause-starts_first : goal.returns-in_err-report-clause-starts_first
+returns-in_err-report-clause-starts_first g c =
+    at_error _ _
+    (λ fault. comes_after_starts fault ≡ true → All CanBegin (network c.args.job.now).links)
+    c.from_residual-in_err-report.ensures.1
+    (λ after. rw (c.params-2.ensures.params, c.starts.ensures.starts) at c.in_ok-check_starts.ensures.can_begin)

@@ -1,9 +1,7 @@
 use Rattle.std.proofs.Common.{All, take}
-use Rattle.std.specs.List.{AllZip}
-use Rattle.stab_core.specs.Replay.{IsLawful}
-use Rattle.stab_frames.specs.Parameters.{AreLawful}
+use Rattle.stab_core.specs.LinkSetup.{CanBegin, setups}
 use Rattle.stab_treecore.proofs.open.check.Given as goal
 
--- the parameters and the starts so far are lawful
+-- the links so far can begin
 abbrev pub invariant-links : goal.invariant-links
-invariant-links l = All AreLawful (take l.place l.params) × AllZip IsLawful (take l.place l.params) (take l.place l.starts)
+invariant-links l = All CanBegin (take l.place (setups l.params l.starts))

@@ -1,5 +1,6 @@
-use Rattle.std.proofs.Common.{◌≡◌, ◌≤◌, length, vec_len, vec_capacity}
-use Rattle.stab_treecore.specs.TreeReplay.{opened_links}
+use Rattle.std.proofs.Common.{◌≡◌, ◌≤◌, length, map, vec_len, vec_capacity}
+use Rattle.stab_core.specs.LinkSetup.{setups}
+use Rattle.stab_treecore.specs.TreeReplay.{opened}
 use Rattle.stab_treecore.proofs.Opened.{OpenedSoFar}
 use Rattle.stab_treecore.proofs.open.links.Given as goal
 
@@ -9,4 +10,4 @@ invariant-loop-parent l =
     (vec_capacity l.links ≡ length l.parents)
     × (vec_len l.links ≡ l.parent-index)
     × (l.begun ≤ l.parent-index)
-    × OpenedSoFar l.parents (opened_links l.params l.starts) l.links.items l.begun l.parent-index
+    × OpenedSoFar l.parents (map opened (setups l.params l.starts)) l.links.items l.begun l.parent-index

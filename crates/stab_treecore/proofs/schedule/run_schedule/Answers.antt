@@ -1,25 +1,27 @@
-use Rattle.std.proofs.Common.{sym, subst}
-use Rattle.stab_treecore.specs.NodeLaws.{garbage_past, most_missing, most_strays, HalfTreeLawAtNodes, TreeLawAtNodes}
-use Rattle.stab_treecore.specs.TreeReplay.{tree_opening, tree_replay}
-use Rattle.stab_treecore.specs.WholeTree.{WholeTree, received}
+use Rattle.std.proofs.Common.{sym, subst, ◌∙◌}
+use Rattle.stab_treecore.specs.Network.{network_of}
+use Rattle.stab_treecore.specs.NodeLaws.{TreeLawAtNodes}
+use Rattle.stab_treecore.specs.WholeTree.{received}
+use Rattle.stab_core.proofs.Setups.{as_many_setups}
 use Rattle.stab_treecore.proofs.schedule.run_schedule.Goals as goal
+
+pub returns-clause-network : goal.returns-clause-network
+returns-clause-network c =
+    let begun = c.in_ok-state.ensures in
+    record {
+      tree = c.root-tree.ensures.tree;
+      openings_fit = c.requires.fit;
+      one_per_link = as_many_setups c.args.params.now c.args.starts.now (begun.params_per_link ∙ sym begun.one_per_link) ∙ begun.one_per_link;
+      can_begin = begun.lawful;
+    }
 
 pub returns-clause-tree_law : goal.returns-clause-tree_law
 returns-clause-tree_law c =
-    subst (λ (t : WholeTree). TreeLawAtNodes c.args.params.now c.args.openings.now c.args.tree.now.parents c.args.starts.now c.args.published.now (received t))
-    (sym c.in_ok-state.ensures.replay)
-    (c.every_schedule_obeys_the_tree_law.ensures c.args.tree.now c.args.params.now c.args.openings.now c.args.starts.now c.args.published.now c.args.events.now
-    c.root-tree.ensures.tree c.requires.fit c.in_ok-state.ensures.params_per_link c.in_ok-state.ensures.one_per_link c.in_ok-state.ensures.lawful_params
-    c.in_ok-state.ensures.lawful)
+    let net = network_of c.args.params.now c.args.tree.now c.args.published.now c.args.starts.now c.args.openings.now in
+    subst (λ t. TreeLawAtNodes net (received t)) (sym c.in_ok-state.ensures.replay)
+    (c.every_schedule_obeys_the_tree_law.ensures net c.args.events.now (returns-clause-network c))
 
 pub returns-clause-half_tree_law : goal.returns-clause-half_tree_law
 returns-clause-half_tree_law c =
-    let parents = c.args.tree.now.parents in
-    subst (λ (t : WholeTree). HalfTreeLawAtNodes c.args.params.now c.args.openings.now parents c.args.starts.now c.args.published.now (received t))
-    (sym c.in_ok-state.ensures.replay)
-    (c.half_tree_law_at_every_node.ensures (most_strays c.args.params.now c.args.openings.now parents) (most_missing c.args.params.now parents)
-    (garbage_past c.args.openings.now parents c.args.starts.now) parents c.args.published.now
-    (received (tree_replay (tree_opening c.args.params.now c.args.openings.now parents c.args.published.now c.args.starts.now) c.args.events.now))
-    (c.every_schedule_obeys_the_tree_law.ensures c.args.tree.now c.args.params.now c.args.openings.now c.args.starts.now c.args.published.now c.args.events.now
-    c.root-tree.ensures.tree c.requires.fit c.in_ok-state.ensures.params_per_link c.in_ok-state.ensures.one_per_link c.in_ok-state.ensures.lawful_params
-    c.in_ok-state.ensures.lawful))
+    let net = network_of c.args.params.now c.args.tree.now c.args.published.now c.args.starts.now c.args.openings.now in
+    c.half_tree_law_at_every_node.ensures net (received c.in_ok-state.state) (returns-clause-tree_law c)

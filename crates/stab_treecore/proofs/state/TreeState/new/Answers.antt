@@ -1,22 +1,26 @@
-use Rattle.std.proofs.Common.{◌∙◌, sym, arith}
+use Rattle.std.proofs.Common.{◌∙◌, map, sym, arith}
+use Rattle.std.proofs.lemmas.List.{length-map}
+use Rattle.stab_treecore.specs.Network.{network_of}
 use Rattle.stab_treecore.specs.NodeOpenings.{opening_at}
-use Rattle.stab_treecore.specs.TreeReplay.{opened_links}
+use Rattle.stab_treecore.specs.TreeReplay.{opened}
 use Rattle.stab_treecore.proofs.Fitting.{openings_fit}
 use Rattle.stab_treecore.proofs.ForCallers.{length-by_child}
-use Rattle.stab_treecore.proofs.Opened.{as_many_opened, linked_nodes}
+use Rattle.stab_core.proofs.Setups.{as_many_setups}
+use Rattle.stab_treecore.proofs.Opened.{linked_nodes}
 use Rattle.stab_treecore.proofs.Replayed.{opened_listed}
 use Rattle.stab_treecore.proofs.state.TreeState.new.Goals as goal
 
 pub invariant_of-result : goal.invariant_of-result
 invariant_of-result c =
     let parents = c.args.tree.now.parents in
-    let starts = c.args.starts.now in
+    let net = network_of c.args.params.now c.args.tree.now c.args.published.now c.args.starts.now c.args.openings.now in
     let lists = c.args.openings.now.lists in
     rw (c.in_ok-lists.ensures, c.in_ok-lists-2.ensures, c.in_ok-links.ensures.links, c.in_ok-from_slice-2.ensures.items, c.parents-2.ensures.value, c.parents.ensures.value) (record {
       linked =
-          linked_nodes parents (opened_links c.args.params.now starts) 0 (as_many_opened c.args.params.now starts (omega arith) ∙ omega arith);
+          linked_nodes parents (map opened net.links) 0
+          (length-map net.links opened ∙ as_many_setups c.args.params.now c.args.starts.now (omega arith) ∙ omega arith);
       known_parents = c.root-root.ensures.tree.known_parents;
       one_list_each =
-          (openings_fit parents c.args.openings.now c.requires.fit).one_per_node ∙ sym (length-by_child parents (opened_links c.args.params.now starts));
-      listed = λ node link. opened_listed c.args.params.now parents starts (opening_at lists node) node link;
+          (openings_fit parents c.args.openings.now c.requires.fit).one_per_node ∙ sym (length-by_child parents (map opened net.links));
+      listed = λ node link. opened_listed net (opening_at lists node) node link;
     })
