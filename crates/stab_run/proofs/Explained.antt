@@ -15,6 +15,7 @@ use Rattle.stab_treecore.specs.EdgeLaw.{EdgeLaw, EdgeInto}
 use Rattle.stab_treecore.specs.NodeOpenings.{OpeningsValue}
 use Rattle.stab_workers.proofs.ForCallers.{holds_by_child, length-by_child}
 use Rattle.stab_workers.specs.ByNode.{received_at}
+use Rattle.stab_run.specs.LinkKinds.{LinkKind}
 use Rattle.stab_run.specs.LinkRuns.{AreSettled, IsRun, IsSettled, acked_of, all_given, given}
 use Rattle.stab_run.specs.Reports.{OnePerNode, Reported}
 use Rattle.stab_run.specs.Runs.{AreExplained, HandsOn, RootHas}
@@ -109,14 +110,14 @@ settled_into w (Some q ∷ parents) (p ∷ params) (start ∷ starts) (send ∷ 
     }
 
 -- the report of what the workers left
-abbrev pub report_of : List (Option ℕ) → List (List ℕ) → List Ended → List Sender → Reported
-report_of parents received ended sends =
-    record { received = received; acked = by_child parents (map acked_of sends); ended = ended }
+abbrev pub report_of : List (Option ℕ) → List (List ℕ) → List Ended → List Sender → List LinkKind → Reported
+report_of parents received ended sends kinds =
+    record { received = received; acked = by_child parents (map acked_of sends); ended = ended; kinds = kinds }
 
 module _ (openings : OpeningsValue) (parents : List (Option ℕ)) (published : List ℕ) (received : List (List ℕ)) (ended : List Ended)
-    (sends : List Sender) (recvs : List Receiver) (run : IsRun openings parents published received ended sends recvs) where
+    (sends : List Sender) (recvs : List Receiver) (kinds : List LinkKind) (run : IsRun openings parents published received ended sends recvs) where
   -- there is one entry per node
-  pub one_per_node : OnePerNode parents (report_of parents received ended sends)
+  pub one_per_node : OnePerNode parents (report_of parents received ended sends kinds)
   one_per_node = record {
     received = run.all_received;
     acked = length-by_child parents (map acked_of sends);
@@ -124,7 +125,7 @@ module _ (openings : OpeningsValue) (parents : List (Option ℕ)) (published : L
   }
 
   -- the root has the published items
-  pub root_has : parent_at parents (root_of parents) ≡ None → RootHas parents published (report_of parents received ended sends)
+  pub root_has : parent_at parents (root_of parents) ≡ None → RootHas parents published (report_of parents received ended sends kinds)
   root_has none = record {
     received = run.at_root;
     acked = no_link_into parents (map acked_of sends) (root_of parents) none;
@@ -133,7 +134,7 @@ module _ (openings : OpeningsValue) (parents : List (Option ℕ)) (published : L
   module _ (params : List Parameters) (starts : List Start) (counted : length params ≡ length (links_of parents))
       (begun : length starts ≡ length (links_of parents)) (all : AreSettled (all_given params starts) sends recvs) where
     -- each link is explained
-    pub are_explained : AllZip IsLawful params starts → AreExplained params openings parents starts (report_of parents received ended sends)
+    pub are_explained : AllZip IsLawful params starts → AreExplained params openings parents starts (report_of parents received ended sends kinds)
     are_explained lawful child parent is_child =
         let link = settled_into 0 parents params starts sends recvs counted begun all child parent is_child in
         let s = replay link.its_params (opening link.start) link.settled.events in
@@ -161,7 +162,7 @@ module _ (openings : OpeningsValue) (parents : List (Option ℕ)) (published : L
         }
 
     -- what a node received whose worker ended with its upstream is acknowledged
-    pub hands_on : HandsOn parents (report_of parents received ended sends)
+    pub hands_on : HandsOn parents (report_of parents received ended sends kinds)
     hands_on child parent is_child over =
         let link = settled_into 0 parents params starts sends recvs counted begun all child parent is_child in
         link.counted ∙ ap Some (run.handed_on child parent link.send is_child link.sent over).acked

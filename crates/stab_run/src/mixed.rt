@@ -2,13 +2,13 @@
 //! over links with locks elsewhere.
 
 ghost use Rattle.std.specs.List.{AllZip};
-ghost use Rattle.std.specs.Prelude.{◌≡◌, ◌≢◌, ℕ, ◌<◌, true, IfOk, IfErr, OnOk, length};
+ghost use Rattle.std.specs.Prelude.{◌≡◌, ◌≢◌, ℕ, ◌<◌, true, IfOk, IfErr, OnOk, length, map};
 ghost use Rattle.stab_core.specs.Replay.{IsLawful};
 ghost use Rattle.stab_core.specs.declared.start.StartFault.{StartFault};
 ghost use Rattle.stab_lock.specs.declared.settle.SettleFault.{SettleFault};
 ghost use Rattle.stab_node.specs.declared.fault.NodeFault.{NodeFault};
 ghost use Rattle.stab_node.specs.Turns.{IsOver, IsRefused};
-ghost use Rattle.stab_run.specs.LinkKinds.{IsLarge};
+ghost use Rattle.stab_run.specs.LinkKinds.{IsLarge, mixed_kind};
 ghost use Rattle.stab_run.specs.LinkRuns.{HoldsInto, LeadsInto, all_given};
 ghost use Rattle.stab_run.specs.Reports.{OnePerNode};
 ghost use Rattle.stab_run.specs.RunFaults.{AllAreOver, comes_after_starts};
@@ -59,6 +59,7 @@ pub fn run_mixed<R: Threads + Wait + Send + Sync, G: Gate + Sync>(
     ensures edges { IfOk result (λ report.
         AreExplained job.now.params job.now.openings job.now.tree.parents job.now.starts
         report) }
+    ensures kinds { IfOk result (λ report. report.kinds ≡ map mixed_kind job.now.params) }
     ensures handed_on { IfOk result (λ report. HandsOn job.now.tree.parents report) }
 
     // The laws of every node.

@@ -43,6 +43,7 @@ pub(crate) fn report_of<L: RunLink>(
         AreExplained job.now.params job.now.openings job.now.tree.parents job.now.starts
         report) }
     ensures handed_on { IfOk result (λ report. HandsOn job.now.tree.parents report) }
+    ensures kinds { IfOk result (λ report. report.kinds ≡ map L.kind links.items) }
     ensures half_tree_law { IfOk result (λ report.
         HalfTreeLawAtNodes job.now.params job.now.openings job.now.tree.parents job.now.starts
         job.now.items (received_at report.received)) }
@@ -91,6 +92,7 @@ fn settled_report<L: RunLink>(
         AreExplained job.now.params job.now.openings job.now.tree.parents job.now.starts
         report) }
     ensures handed_on { IfOk result (λ report. HandsOn job.now.tree.parents report) }
+    ensures kinds { IfOk result (λ report. report.kinds ≡ map L.kind links.items) }
     ensures unsettled { IfErr result (λ fault. (child : ℕ) (why : SettleFault)
         → fault ≡ RunFault.Settle child why
         → LeadsInto job.now.tree.parents child) }
@@ -107,11 +109,13 @@ fn settled_report<L: RunLink>(
         sends,
         recvs,
     } = gathered;
+    let kept = L::kept(&links);
     let acked = settle_all::<L>(alloc, tree, links, sends, recvs)?;
     let _root = tree.root();
     Ok(Report {
         received,
         acked,
         ended,
+        links: kept,
     })
 }

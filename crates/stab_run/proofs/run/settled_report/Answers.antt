@@ -7,6 +7,7 @@ use Rattle.stab_workers.proofs.ForCallers.{at_error}
 use Rattle.stab_run.specs.LinkRuns.{AreSettled, HoldsInto, LeadsInto, acked_of, all_given}
 use Rattle.stab_run.specs.declared.run_fault.RunFault.TheVariants.{Settle}
 use Rattle.stab_run.specs.Reports.{OnePerNode}
+use Rattle.stab_run.specs.RunLinks.{kinds_of}
 use Rattle.stab_run.specs.Runs.{AreExplained, HandsOn, RootHas}
 use Rattle.stab_run.proofs.Begun.{as_many_links}
 use Rattle.stab_run.proofs.Explained.{one_per_node, root_has, are_explained, hands_on}
@@ -25,11 +26,12 @@ returns-clause-nodes g c =
     let ran = c.args.gathered in
     let sent = map g.L.RunLink.sent ran.sends.items in
     let delivered = map g.L.RunLink.received ran.recvs.items in
+    let kinds = kinds_of c.kept-kept.result in
     let counted : c.in_ok-acked.acked.items ≡ by_child job.tree.parents (map acked_of sent) =
     rw c.tree-tree.ensures.tree at c.in_ok-acked.ensures.acked in
-    subst (λ (acked : List (Option ℕ)). OnePerNode job.tree.parents (record { received = ran.received.items; acked = acked; ended = ran.ended.items }))
+    subst (λ (acked : List (Option ℕ)). OnePerNode job.tree.parents (record { received = ran.received.items; acked = acked; ended = ran.ended.items; kinds = kinds }))
     (sym counted)
-    (one_per_node job.openings job.tree.parents job.items ran.received.items ran.ended.items sent delivered c.requires.run)
+    (one_per_node job.openings job.tree.parents job.items ran.received.items ran.ended.items sent delivered kinds c.requires.run)
 
 pub returns-clause-root : goal.returns-clause-root
 returns-clause-root g c =
@@ -37,13 +39,14 @@ returns-clause-root g c =
     let ran = c.args.gathered in
     let sent = map g.L.RunLink.sent ran.sends.items in
     let delivered = map g.L.RunLink.received ran.recvs.items in
+    let kinds = kinds_of c.kept-kept.result in
     let counted : c.in_ok-acked.acked.items ≡ by_child job.tree.parents (map acked_of sent) =
     rw c.tree-tree.ensures.tree at c.in_ok-acked.ensures.acked in
     let none : parent_at job.tree.parents (root_of job.tree.parents) ≡ None =
     rw c.tree-tree.ensures.tree at c.root-root.ensures.tree.root_has_none in
-    subst (λ (acked : List (Option ℕ)). RootHas job.tree.parents job.items (record { received = ran.received.items; acked = acked; ended = ran.ended.items }))
+    subst (λ (acked : List (Option ℕ)). RootHas job.tree.parents job.items (record { received = ran.received.items; acked = acked; ended = ran.ended.items; kinds = kinds }))
     (sym counted)
-    (root_has job.openings job.tree.parents job.items ran.received.items ran.ended.items sent delivered c.requires.run none)
+    (root_has job.openings job.tree.parents job.items ran.received.items ran.ended.items sent delivered kinds c.requires.run none)
 
 pub returns-clause-edges : goal.returns-clause-edges
 returns-clause-edges g c =
@@ -51,14 +54,15 @@ returns-clause-edges g c =
     let ran = c.args.gathered in
     let sent = map g.L.RunLink.sent ran.sends.items in
     let delivered = map g.L.RunLink.received ran.recvs.items in
+    let kinds = kinds_of c.kept-kept.result in
     let counted : c.in_ok-acked.acked.items ≡ by_child job.tree.parents (map acked_of sent) =
     rw c.tree-tree.ensures.tree at c.in_ok-acked.ensures.acked in
     let settled : AreSettled (all_given job.params job.starts) sent delivered =
     rw c.requires.given at c.in_ok-acked.ensures.settled in
     subst (λ (acked : List (Option ℕ)). AreExplained job.params job.openings job.tree.parents job.starts
-    (record { received = ran.received.items; acked = acked; ended = ran.ended.items }))
+    (record { received = ran.received.items; acked = acked; ended = ran.ended.items; kinds = kinds }))
     (sym counted)
-    (are_explained job.openings job.tree.parents job.items ran.received.items ran.ended.items sent delivered c.requires.run job.params job.starts
+    (are_explained job.openings job.tree.parents job.items ran.received.items ran.ended.items sent delivered kinds c.requires.run job.params job.starts
     c.tree-tree.ensures.job.one_params_each c.tree-tree.ensures.job.one_start_each settled c.requires.lawful)
 
 pub returns-clause-handed_on : goal.returns-clause-handed_on
@@ -67,13 +71,14 @@ returns-clause-handed_on g c =
     let ran = c.args.gathered in
     let sent = map g.L.RunLink.sent ran.sends.items in
     let delivered = map g.L.RunLink.received ran.recvs.items in
+    let kinds = kinds_of c.kept-kept.result in
     let counted : c.in_ok-acked.acked.items ≡ by_child job.tree.parents (map acked_of sent) =
     rw c.tree-tree.ensures.tree at c.in_ok-acked.ensures.acked in
     let settled : AreSettled (all_given job.params job.starts) sent delivered =
     rw c.requires.given at c.in_ok-acked.ensures.settled in
-    subst (λ (acked : List (Option ℕ)). HandsOn job.tree.parents (record { received = ran.received.items; acked = acked; ended = ran.ended.items }))
+    subst (λ (acked : List (Option ℕ)). HandsOn job.tree.parents (record { received = ran.received.items; acked = acked; ended = ran.ended.items; kinds = kinds }))
     (sym counted)
-    (hands_on job.openings job.tree.parents job.items ran.received.items ran.ended.items sent delivered c.requires.run job.params job.starts
+    (hands_on job.openings job.tree.parents job.items ran.received.items ran.ended.items sent delivered kinds c.requires.run job.params job.starts
     c.tree-tree.ensures.job.one_params_each c.tree-tree.ensures.job.one_start_each settled)
 
 -- the node that is named is a child of the job's tree

@@ -1,8 +1,8 @@
-use Rattle.std.proofs.Common.{◌≡◌, ◌<◌, ◌+◌, ◌∙◌, ap, sym, length, subst, take, take_all, arith}
+use Rattle.std.proofs.Common.{◌≡◌, ◌<◌, ◌+◌, ◌∙◌, ap, refl, sym, length, map, subst, take, take_all, arith}
 use Rattle.stab_core.specs.Replay.{IsLawful}
 use Rattle.stab_run.specs.LinkRuns.{all_given}
 use Rattle.stab_run.proofs.Begun.{one_more_given}
-use Rattle.stab_run.proofs.Paired.{as_many_paired, paired_at, paired_push}
+use Rattle.stab_run.proofs.Paired.{as_many_paired, one_more_end, paired_at, paired_push}
 use Rattle.stab_run.proofs.starts.make_links.Goals as goal
 
 pub bounds-params-place : goal.bounds-params-place
@@ -44,6 +44,10 @@ links-preserved g c =
           (one_more_given g.L.RunLink.given c.links.links.items c.in_ok-link.link params starts place c.index-params-place.result
           c.index-starts-place.result in_params in_starts c.index-params-place.is c.index-starts-place.is c.in_ok-link.ensures.given
           c.links.invariant.given);
+      kinds =
+          rw c.push_reserved.ensures.items
+          (one_more_end g.L.RunLink.kind g.L.RunLink.kind_for c.links.links.items c.in_ok-link.link params place c.index-params-place.result
+          c.index-params-place.result in_params c.index-params-place.is refl c.in_ok-link.ensures.kind c.links.invariant.kinds);
       openings =
           rw (c.push_reserved.ensures.items, c.push_reserved-in-links.ensures.items)
           (paired_push g.L.RunLink.opens c.links.links.items c.links.openings.items c.in_ok-link.link c.in_ok-link.opening
@@ -60,3 +64,11 @@ returns-clause-links g c =
     take_all place params (omega (arith, c.links-test.false, as_many_paired IsLawful params starts c.requires.lawful)) in
     c.links.invariant.given
     ∙ (ap (λ ps. all_given ps (take place starts)) all_params ∙ ap (λ ss. all_given params ss) all_starts)
+
+pub returns-clause-kinds : goal.returns-clause-kinds
+returns-clause-kinds g c =
+    let params = c.args.params.now in
+    let place = c.links.place in
+    let all_params : take place params ≡ params =
+    take_all place params (omega (arith, c.links-test.false, as_many_paired IsLawful params c.args.starts.now c.requires.lawful)) in
+    c.links.invariant.kinds ∙ ap (λ ps. map g.L.RunLink.kind_for ps) all_params
