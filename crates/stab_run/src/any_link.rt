@@ -71,6 +71,7 @@ pub(crate) enum AnyOpening {
 
 impl RunLink for AnyLink {
     ghost use Rattle.std.specs.Prelude.{◌≡◌, ⊤};
+    ghost use Rattle.stab_lock.specs.Settling.{DifferFromReplay};
     ghost use Rattle.stab_run.specs.AnyLinks.{IsOpenedBy, given_to, kind_of, name_of};
     ghost use Rattle.stab_run.specs.LinkKinds.{IsLarge, mixed_kind};
     ghost use Rattle.stab_word.specs.AnyEnds.{any_recv_finished, any_send_finished};
@@ -99,7 +100,8 @@ impl RunLink for AnyLink {
 
     ghost kind_for = { mixed_kind };
 
-    ghost may_differ = { IsLarge };
+    ghost may_differ = { λ link send recv why.
+        IsLarge link × DifferFromReplay link.params link.start send recv why };
 
     /// A link of two words where the capacity is one, and a link with a lock elsewhere.
     fn make(

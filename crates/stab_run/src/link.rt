@@ -6,6 +6,7 @@ ghost use Rattle.stab_core.specs.Replay.{IsLawful};
 ghost use Rattle.stab_frames.specs.Parameters.{Parameters};
 ghost use Rattle.stab_lock.specs.Accounts.{Receiver, Sender, new_receiver, new_sender};
 ghost use Rattle.stab_lock.specs.Book.{Given};
+ghost use Rattle.stab_lock.specs.declared.settle.SettleFault.{SettleFault};
 ghost use Rattle.stab_run.specs.LinkKinds.{LinkKind};
 ghost use Rattle.stab_run.specs.LinkRuns.{IsSettled};
 ghost use Rattle.stab_run.specs.RunLinks.{kinds_of};
@@ -50,8 +51,9 @@ pub(crate) trait RunLink: Drop {
 
     ghost kind_for: { Parameters → LinkKind };
 
-    // what is known of what a link was given where settling it is refused
-    ghost may_differ: { Given → Type 0 };
+    // what is known where settling is refused: of what the link was given, of the accounts of its two
+    // finished ends, and of the reason
+    ghost may_differ: { Given → Sender → Receiver → SettleFault → Type 0 };
 
     /// A link at a lawful start, and what splits it.
     fn make(
@@ -77,7 +79,7 @@ pub(crate) trait RunLink: Drop {
         ensures send { IfOk result (λ settled. settled.send ≡ sent send) }
         ensures recv { IfOk result (λ settled. settled.recv ≡ received recv) }
         ensures settled { OnOk result (IsSettled (given self) (sent send) (received recv)) }
-        ensures refused { IfErr result (λ fault. may_differ (given self)) };
+        ensures refused { IfErr result (may_differ (given self) (sent send) (received recv)) };
 }
 
 /// A kind of link that is split into two ends, which borrow it; their calls take a runtime value of

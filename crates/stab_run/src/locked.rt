@@ -37,6 +37,7 @@ use std::thread::Threads;
 
 impl RunLink for LockLink {
     ghost use Rattle.std.specs.Prelude.{⊤};
+    ghost use Rattle.stab_lock.specs.Settling.{DifferFromReplay};
     ghost use Rattle.stab_run.specs.LinkKinds.{behind_lock};
 
     type Opening = ();
@@ -63,7 +64,8 @@ impl RunLink for LockLink {
 
     ghost kind_for = { λ p. behind_lock };
 
-    ghost may_differ = { λ link. ⊤ };
+    ghost may_differ = { λ link send recv why.
+        DifferFromReplay link.params link.start send recv why };
 
     fn make(alloc: Global, params: Params, start: &Start) -> Result<(LockLink, ()), AllocError> {
         match LockLink::new(alloc, params, start.copy(alloc)?) {

@@ -5,7 +5,7 @@ ghost use Rattle.std.specs.List.{AllZip};
 ghost use Rattle.std.specs.Prelude.{◌≡◌, ℕ, true, IfErr, IfOk, map};
 ghost use Rattle.stab_core.specs.Replay.{IsLawful};
 ghost use Rattle.stab_lock.specs.declared.settle.SettleFault.{SettleFault};
-ghost use Rattle.stab_run.specs.LinkRuns.{HoldsInto, IsRun, LeadsInto, all_given};
+ghost use Rattle.stab_run.specs.LinkRuns.{IsFirstRefused, IsRun, LeadsInto, all_given};
 ghost use Rattle.stab_run.specs.Reports.{OnePerNode};
 ghost use Rattle.stab_run.specs.RunFaults.{comes_of_settling};
 ghost use Rattle.stab_run.specs.Runs.{AreExplained, CompleteBelowEnded, HandsOn, RootHas};
@@ -58,8 +58,9 @@ pub(crate) fn report_of<L: RunLink>(
         → LeadsInto job.now.tree.parents child) }
     ensures refused { IfErr result (λ fault. (child : ℕ) (why : SettleFault)
         → fault ≡ RunFault.Settle child why
-        → HoldsInto L.may_differ job.now.tree.parents
-        (all_given job.now.params job.now.starts) child) }
+        → IsFirstRefused L.may_differ job.now.tree.parents
+        (all_given job.now.params job.now.starts) (map L.sent gathered.sends.items)
+        (map L.received gathered.recvs.items) child why) }
     ensures of_settling { IfErr result (λ fault. comes_of_settling fault ≡ true) }
 {
     let report = settled_report::<L>(alloc, job, links, gathered)?;
@@ -98,8 +99,9 @@ fn settled_report<L: RunLink>(
         → LeadsInto job.now.tree.parents child) }
     ensures refused { IfErr result (λ fault. (child : ℕ) (why : SettleFault)
         → fault ≡ RunFault.Settle child why
-        → HoldsInto L.may_differ job.now.tree.parents
-        (all_given job.now.params job.now.starts) child) }
+        → IsFirstRefused L.may_differ job.now.tree.parents
+        (all_given job.now.params job.now.starts) (map L.sent gathered.sends.items)
+        (map L.received gathered.recvs.items) child why) }
     ensures of_settling { IfErr result (λ fault. comes_of_settling fault ≡ true) }
 {
     let tree = job.tree();

@@ -65,7 +65,7 @@ impl RunLink for WordLink {
 
     ghost kind_for = { λ p. two_words };
 
-    ghost may_differ = { λ link. ⊥ };
+    ghost may_differ = { λ link send recv why. ⊥ };
 
     fn make(
         alloc: Global,

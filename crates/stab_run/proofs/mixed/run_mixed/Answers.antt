@@ -5,6 +5,8 @@ use Rattle.stab_workers.proofs.ForCallers.{at_error}
 use Rattle.stab_workers.specs.ByNode.{ended_at}
 use Rattle.stab_run.specs.declared.run_fault.RunFault.TheVariants.{Settle}
 use Rattle.stab_run.specs.AnyLinks.{name_of}
+use Rattle.stab_run.specs.LinkKinds.{IsLarge}
+use Rattle.stab_run.specs.LinkRuns.{HoldsInto, all_given}
 use Rattle.stab_run.specs.RunFaults.{AllAreOver}
 use Rattle.stab_run.proofs.Paired.{paired_named}
 use Rattle.stab_run.proofs.mixed.run_mixed.Goals as goal
@@ -33,3 +35,15 @@ returns-in_err-report-clause-settled_last g c =
       over = λ node within. (ended_at left.gathered.ended.items node, left.ensures.turns node within);
       done = left.ensures.done;
     })
+
+-- a link that is refused has a lock
+pub returns-in_err-report-clause-only_large : goal.returns-in_err-report-clause-only_large
+returns-in_err-report-clause-only_large g c =
+    let job = c.args.job.now in
+    at_error _ _
+    (λ fault. (child : ℕ) (why : SettleFault) → fault ≡ Settle child why
+    → HoldsInto IsLarge job.tree.parents (all_given job.params job.starts) child)
+    c.from_residual-in_err-report.ensures.1
+    (λ child why is.
+    let first = c.in_err-report.ensures.refused child why is in
+    record { link = first.link; leads = first.leads; holds = first.refused.0 })

@@ -4,7 +4,7 @@ use Rattle.stab_tree.specs.Nodes.{parent_at, root_of}
 use Rattle.stab_treecore.specs.ByChild.{by_child}
 use Rattle.stab_lock.specs.declared.settle.SettleFault.{SettleFault}
 use Rattle.stab_workers.proofs.ForCallers.{at_error}
-use Rattle.stab_run.specs.LinkRuns.{AreSettled, HoldsInto, LeadsInto, acked_of, all_given}
+use Rattle.stab_run.specs.LinkRuns.{AreSettled, IsFirstRefused, LeadsInto, acked_of, all_given}
 use Rattle.stab_run.specs.declared.run_fault.RunFault.TheVariants.{Settle}
 use Rattle.stab_run.specs.Reports.{OnePerNode}
 use Rattle.stab_run.specs.RunLinks.{kinds_of}
@@ -89,12 +89,13 @@ returns-in_err-acked-clause-unsettled g c =
     c.from_residual.ensures.1
     (λ child why is. rw c.tree-tree.ensures.tree at c.in_err-acked.ensures.unsettled child why is)
 
--- what is known of the refused link is known of the job's link into this child
+-- the first link that is refused is the job's link into this child
 pub returns-in_err-acked-clause-refused : goal.returns-in_err-acked-clause-refused
 returns-in_err-acked-clause-refused g c =
     let job = c.args.job.now in
     at_error _ _
     (λ fault. (child : ℕ) (why : SettleFault) → fault ≡ Settle child why
-    → HoldsInto g.L.RunLink.may_differ job.tree.parents (all_given job.params job.starts) child)
+    → IsFirstRefused g.L.RunLink.may_differ job.tree.parents (all_given job.params job.starts) (map g.L.RunLink.sent c.args.gathered.sends.items)
+    (map g.L.RunLink.received c.args.gathered.recvs.items) child why)
     c.from_residual.ensures.1
     (λ child why is. rw (c.tree-tree.ensures.tree, c.requires.given) at c.in_err-acked.ensures.refused child why is)
