@@ -245,11 +245,9 @@ fn chain_report(alloc: Global) -> Result<Report, AllocError> {
         let items = Vec::from_slice(alloc, &PUBLISHED[..count])?;
         received.push(Sequence::from_vec(items))?;
     }
-    Ok(Report {
-        received,
-        acked: Vec::from_slice(alloc, &[None, Some(5), Some(3)])?,
-        ended: Vec::from_slice(alloc, &[Ended::Upstream, Ended::Upstream, Ended::Turns])?,
-    })
+    let acked = Vec::from_slice(alloc, &[None, Some(5), Some(3)])?;
+    let ended = Vec::from_slice(alloc, &[Ended::Upstream, Ended::Upstream, Ended::Turns])?;
+    Ok(Report::new(received, acked, ended))
 }
 
 /// Whether a report has an entry for each node of a tree.

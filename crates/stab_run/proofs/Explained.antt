@@ -12,6 +12,7 @@ use Rattle.stab_treecore.specs.EdgeLaw.{EdgeLaw}
 use Rattle.stab_treecore.specs.Network.{Network}
 use Rattle.stab_workers.proofs.ForCallers.{holds_by_child, length-by_child}
 use Rattle.stab_workers.specs.ByNode.{received_at}
+use Rattle.stab_run.specs.LinkKinds.{LinkKind}
 use Rattle.stab_run.specs.LinkRuns.{AreSettled, IsRun, IsSettled, acked_of}
 use Rattle.stab_run.specs.Reports.{OnePerNode, Reported}
 use Rattle.stab_run.specs.Runs.{AreExplained, HandsOn, RootHas}
@@ -74,17 +75,17 @@ settled_into w (Some q ∷ parents) (link ∷ links) (send ∷ sends) (recv ∷ 
     }
 
 -- the report of what the workers left
-abbrev pub report_of : List (Option ℕ) → List (List ℕ) → List Ended → List Sender → Reported
-report_of parents received ended sends =
-    record { received = received; acked = by_child parents (map acked_of sends); ended = ended }
+abbrev pub report_of : List (Option ℕ) → List (List ℕ) → List Ended → List Sender → List LinkKind → Reported
+report_of parents received ended sends kinds =
+    record { received = received; acked = by_child parents (map acked_of sends); ended = ended; kinds = kinds }
 
 module _ (net : Network) (received : List (List ℕ)) (ended : List Ended) (sends : List Sender) (recvs : List Receiver)
-    (run : IsRun net received ended sends recvs) where
+    (kinds : List LinkKind) (run : IsRun net received ended sends recvs) where
   abbrev parents : List (Option ℕ)
   parents = net.tree.parents
 
   abbrev report : Reported
-  report = report_of parents received ended sends
+  report = report_of parents received ended sends kinds
 
   -- there is one entry per node
   pub one_per_node : OnePerNode parents report

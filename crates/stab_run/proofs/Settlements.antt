@@ -5,11 +5,12 @@ use Rattle.std.proofs.lemmas.List.{append-nil, drop_more, drop_all}
 use Rattle.std.proofs.lemmas.Option.{none-some, same_Some}
 use Rattle.stab_core.specs.LinkSetup.{LinkSetup}
 use Rattle.stab_lock.specs.Accounts.{Sender, Receiver}
+use Rattle.stab_lock.specs.declared.settle.SettleFault.{SettleFault}
 use Rattle.stab_tree.specs.Links.{links_from, links_of}
 use Rattle.stab_tree.specs.Nodes.{parent_at}
 use Rattle.stab_treecore.specs.ByChild.{by_child}
 use Rattle.stab_workers.specs.ByNode.{entry_into}
-use Rattle.stab_run.specs.LinkRuns.{AreSettled, HoldsInto, HoldsOfFirst, IsSettled, acked_of}
+use Rattle.stab_run.specs.LinkRuns.{AreSettled, HoldsOfFirst, IsFirstRefused, IsSettled, SettledBefore, acked_of}
 
 -- there is no link into a node without a parent
 pub no_link_into : {A : Type 0} (parents : List (Option ℕ)) (xs : List A) (node : ℕ) → parent_at parents node ≡ None
@@ -64,29 +65,15 @@ module _ {A : Type 0} (parents : List (Option ℕ)) (all : List A) (node : ℕ) 
         ∙ (sym (ap (λ ps. entry_into ps old 0) rest_of_child)
         ∙ (sym (before.at 0) ∙ (ap (λ k. entry_into parents all k) place ∙ found))))
 
--- what holds of the first link that is left holds of the link into this child
-pub holds_into : (P : LinkSetup → Type 0) (parents : List (Option ℕ)) (links : List LinkSetup) (node parent : ℕ) (left : List LinkSetup)
-    → node < length parents → parent_at parents node ≡ Some parent → IsLeftOf parents links left node → HoldsOfFirst P left
-    → HoldsInto P parents links node
-holds_into P parents links node parent [] within is before first = absurd first
-holds_into P parents links node parent (link ∷ left) within is before first =
+-- the first that is left is what the link into this child has
+first_left : {A : Type 0} (parents : List (Option ℕ)) (all : List A) (node parent : ℕ) (x : A) (left : List A) → node < length parents
+    → parent_at parents node ≡ Some parent → IsLeftOf parents all (x ∷ left) node → entry_into parents all node ≡ Some x
+first_left parents all node parent x left within is before =
     let place : node ≡ node + 0 = omega arith in
     let rest : drop node parents ≡ Some parent ∷ drop (node + 1) parents =
     drop_more parents node None within ∙ ap (λ o. o ∷ drop (node + 1) parents) is in
-    record {
-      link = link;
-      leads =
-          ap (λ k. entry_into parents links k) place
-          ∙ (before.at 0 ∙ ap (λ ps. entry_into ps (link ∷ left) 0) rest);
-      holds = first;
-    }
-
--- the accounts of the links into the nodes before this one are settled
-abbrev pub SettledBefore : List (Option ℕ) → List LinkSetup → List Sender → List Receiver → ℕ → Type 0
-SettledBefore parents links sends recvs node =
-    (earlier : ℕ) (link : LinkSetup) (send : Sender) (recv : Receiver) → earlier < node
-    → entry_into parents links earlier ≡ Some link → entry_into parents sends earlier ≡ Some send
-    → entry_into parents recvs earlier ≡ Some recv → IsSettled link send recv
+    ap (λ k. entry_into parents all k) place
+    ∙ (before.at 0 ∙ ap (λ ps. entry_into ps (x ∷ left) 0) rest)
 
 -- The counts so far, and then those of the nodes that are left, are all counts; where the links that are left are settled, all are;
 -- and there is what is needed for each link that is left.
@@ -169,6 +156,28 @@ module _ (parents : List (Option ℕ)) (links : List LinkSetup) (sends : List Se
   all_counted over =
       let none : drop node parents ≡ [] = drop_all node parents (omega (arith, over)) in
       sym (append-nil acked) ∙ (ap (λ ps. acked ++ by_child ps (map acked_of sends_left)) (sym none) ∙ so_far.counts)
+
+-- what holds of the first link that is left, of its accounts and of the reason, holds of the link into this child
+pub first_refused : (P : LinkSetup → Sender → Receiver → SettleFault → Type 0) (parents : List (Option ℕ)) (links : List LinkSetup) (sends : List Sender)
+    (recvs : List Receiver) (acked : List (Option ℕ)) (links_left : List LinkSetup) (sends_left : List Sender) (recvs_left : List Receiver)
+    (node parent : ℕ) (why : SettleFault)
+    → SettledSoFar parents links sends recvs acked links_left sends_left recvs_left node → node < length parents
+    → parent_at parents node ≡ Some parent → HoldsOfFirst P links_left sends_left recvs_left why
+    → IsFirstRefused P parents links sends recvs node why
+first_refused P parents links sends recvs acked [] ss rs node parent why so_far within is first = absurd first
+first_refused P parents links sends recvs acked (l ∷ ls) [] rs node parent why so_far within is first = absurd first
+first_refused P parents links sends recvs acked (l ∷ ls) (s ∷ ss) [] node parent why so_far within is first = absurd first
+first_refused P parents links sends recvs acked (l ∷ ls) (s ∷ ss) (r ∷ rs) node parent why so_far within is first =
+    record {
+      link = l;
+      send = s;
+      recv = r;
+      leads = first_left parents links node parent l ls within is so_far.links_from_here;
+      sent = first_left parents sends node parent s ss within is so_far.sends_from_here;
+      received = first_left parents recvs node parent r rs within is so_far.recvs_from_here;
+      refused = first;
+      before = so_far.before;
+    }
 
 -- no link, and no account, is settled
 nothing_left : (links : List LinkSetup) (sends : List Sender) (recvs : List Receiver) → length links ≡ 0 → length sends ≡ 0 → length recvs ≡ 0

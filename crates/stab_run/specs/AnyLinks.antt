@@ -1,10 +1,9 @@
--- What contracts see of a link of either kind: what it was given, what names it, and which kind is
--- made of which parameters.
+-- What contracts see of a link of either kind: what it was given, what names it, and its kind.
 -- Source: this project's own.
-use Rattle.std.specs.Prelude.{◌≡◌, ◌≢◌}
-use Rattle.stab_frames.specs.Parameters.{Parameters}
+use Rattle.std.specs.Prelude.{◌≡◌}
 use Rattle.stab_core.specs.LinkSetup.{LinkSetup}
 use Rattle.stab_word.specs.AnyEnds.{AnyLinkId, locked, of_words}
+use Rattle.stab_run.specs.LinkKinds.{LinkKind, behind_lock, two_words}
 use Rattle.stab_run.specs.declared.any_link.AnyLink.{AnyLink}
 use Rattle.stab_run.specs.declared.any_link.AnyLink.TheVariants.{Lock, Word}
 use Rattle.stab_run.specs.declared.any_link.AnyOpening.{AnyOpening}
@@ -27,7 +26,7 @@ IsOpenedBy (Lock link) (opening.Word splits) = ⊥
 IsOpenedBy (Word link) opening.Lock = ⊥
 IsOpenedBy (Word link) (opening.Word splits) = splits ≡ link
 
--- a link of two words where the capacity is one, and a link with a lock elsewhere
-abbrev pub IsOfKind : Parameters → AnyLink → Type 0
-IsOfKind p (Lock link) = p.capacity ≢ 1
-IsOfKind p (Word link) = p.capacity ≡ 1
+-- its kind
+abbrev pub kind_of : AnyLink → LinkKind
+kind_of (Lock link) = behind_lock
+kind_of (Word link) = two_words

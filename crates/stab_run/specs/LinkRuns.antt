@@ -1,12 +1,13 @@
 -- A run of workers over links: what the workers leave, and what settling the links shows.
 -- Source: this project's own.
-use Rattle.std.specs.Prelude.{◌≡◌, ℕ, List, [], ◌∷◌, ◌++◌, length, Option, Some}
+use Rattle.std.specs.Prelude.{◌≡◌, ◌<◌, ℕ, List, [], ◌∷◌, ◌++◌, length, Option, Some}
 use Rattle.stab_core.specs.declared.event.Event.{Event}
 use Rattle.stab_core.specs.LinkSetup.{LinkSetup}
 use Rattle.stab_core.specs.Replay.{opening, replay}
 use Rattle.stab_lock.specs.Accounts.{Sender, Receiver, new_sender, new_receiver}
 use Rattle.stab_lock.specs.Ends.{SendEnd, RecvEnd}
 use Rattle.stab_lock.specs.Settling.{Agree}
+use Rattle.stab_lock.specs.declared.settle.SettleFault.{SettleFault}
 use Rattle.stab_node.specs.declared.account.Ended.{Ended}
 use Rattle.stab_node.specs.declared.account.Ended.TheVariants.{Upstream}
 use Rattle.stab_node.specs.Work.{HasAll, IsServed}
@@ -50,10 +51,32 @@ pub record HoldsInto (P : LinkSetup → Type 0) (parents : List (Option ℕ)) (l
   pub leads : entry_into parents links child ≡ Some link
   pub holds : P link
 
--- this holds of the setup of the first of these links
-abbrev pub HoldsOfFirst : (LinkSetup → Type 0) → List LinkSetup → Type 0
-HoldsOfFirst P [] = ⊥
-HoldsOfFirst P (link ∷ links) = P link
+-- this holds of the first of these links, with the first account of each side and this reason
+abbrev pub HoldsOfFirst : (LinkSetup → Sender → Receiver → SettleFault → Type 0) → List LinkSetup
+    → List Sender → List Receiver → SettleFault → Type 0
+HoldsOfFirst P (link ∷ links) (send ∷ sends) (recv ∷ recvs) why = P link send recv why
+HoldsOfFirst P links sends recvs why = ⊥
+
+-- the accounts of the links into the nodes before this one are settled
+abbrev pub SettledBefore : List (Option ℕ) → List LinkSetup → List Sender → List Receiver → ℕ → Type 0
+SettledBefore parents links sends recvs node =
+    (earlier : ℕ) (link : LinkSetup) (send : Sender) (recv : Receiver) → earlier < node
+    → entry_into parents links earlier ≡ Some link → entry_into parents sends earlier ≡ Some send
+    → entry_into parents recvs earlier ≡ Some recv → IsSettled link send recv
+
+-- The link into this child is the first in file order that is not settled with its two accounts:
+-- this holds of it, of both accounts and of this reason.
+pub record IsFirstRefused (P : LinkSetup → Sender → Receiver → SettleFault → Type 0)
+    (parents : List (Option ℕ)) (links : List LinkSetup) (sends : List Sender) (recvs : List Receiver)
+    (child : ℕ) (why : SettleFault) : Type 0 where
+  pub link : LinkSetup
+  pub send : Sender
+  pub recv : Receiver
+  pub leads : entry_into parents links child ≡ Some link
+  pub sent : entry_into parents sends child ≡ Some send
+  pub received : entry_into parents recvs child ≡ Some recv
+  pub refused : P link send recv why
+  pub before : SettledBefore parents links sends recvs child
 
 -- How many items are acknowledged on each link.
 abbrev pub acked_of : Sender → ℕ

@@ -11,13 +11,15 @@ use Rattle.stab_tree.specs.Nodes.{Nodes}
 use Rattle.stab_tree.specs.Steps.{depth_of}
 use Rattle.stab_treecore.specs.Texts.{node_counts}
 use Rattle.stab_workers.specs.ByNode.{received_at, ended_at}
+use Rattle.stab_run.specs.LinkKinds.{LinkKind}
 
 -- by node in file order: what it received, how many items are acknowledged on the link into it, and
--- why its worker made no further turn
+-- why its worker made no further turn; and in file order of the children the kind of each link
 pub record Reported : Type 0 where
   pub received : List (List ℕ)
   pub acked : List (Option ℕ)
   pub ended : List Ended
+  pub kinds : List LinkKind
 
 -- there is one entry per node in each list
 pub record OnePerNode (parents : List (Option ℕ)) (r : Reported) : Type 0 where

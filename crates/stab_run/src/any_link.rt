@@ -3,10 +3,11 @@
 ghost use Rattle.std.specs.Prelude.{◌≡◌, IfOk};
 ghost use Rattle.stab_core.specs.LinkSetup.{setup};
 ghost use Rattle.stab_core.specs.Replay.{IsLawful};
-ghost use Rattle.stab_run.specs.AnyLinks.{IsOfKind, IsOpenedBy, given_to};
-ghost use Rattle.stab_run.specs.LinkKinds.{IsLarge};
+ghost use Rattle.stab_run.specs.AnyLinks.{IsOpenedBy, given_to, kind_of};
+ghost use Rattle.stab_run.specs.LinkKinds.{IsLarge, mixed_kind};
 
 use crate::link::{RunLink, SplitLink};
+use crate::run_links::RunLinks;
 use stab_core::Start;
 use stab_frames::Params;
 use stab_lock::{LockLink, SettleFault, Settled};
@@ -14,6 +15,7 @@ use stab_script::Script;
 use stab_word::{AnyRecv, AnyRecvDone, AnySend, AnySendDone, WordLink, WordOpening};
 use std::alloc::{AllocError, Global};
 use std::marker::Model;
+use std::snapshot::Snapshot;
 
 /// A link with a lock, whose capacity is not one. Contracts see its parameters and its start.
 #[derive(Drop)]
@@ -70,8 +72,9 @@ pub(crate) enum AnyOpening {
 
 impl RunLink for AnyLink {
     ghost use Rattle.std.specs.Prelude.{◌≡◌, ⊤};
-    ghost use Rattle.stab_run.specs.AnyLinks.{IsOpenedBy, given_to, name_of};
-    ghost use Rattle.stab_run.specs.LinkKinds.{IsLarge};
+    ghost use Rattle.stab_lock.specs.Settling.{DifferFromReplay};
+    ghost use Rattle.stab_run.specs.AnyLinks.{IsOpenedBy, given_to, kind_of, name_of};
+    ghost use Rattle.stab_run.specs.LinkKinds.{IsLarge, mixed_kind};
     ghost use Rattle.stab_word.specs.AnyEnds.{any_recv_finished, any_send_finished};
 
     type Opening = AnyOpening;
@@ -94,7 +97,12 @@ impl RunLink for AnyLink {
 
     ghost can_have = { λ p. ⊤ };
 
-    ghost may_differ = { IsLarge };
+    ghost kind = { kind_of };
+
+    ghost kind_for = { mixed_kind };
+
+    ghost may_differ = { λ link send recv why.
+        IsLarge link × DifferFromReplay link.params link.start send recv why };
 
     /// A link of two words where the capacity is one, and a link with a lock elsewhere.
     fn make(
@@ -105,7 +113,7 @@ impl RunLink for AnyLink {
         requires lawful { IsLawful params start.now }
         ensures given { IfOk result (λ made. given_to made.0 ≡ setup params start.now) }
         ensures opens { IfOk result (λ made. IsOpenedBy made.0 made.1) }
-        ensures kind { IfOk result (λ made. IsOfKind params made.0) }
+        ensures kind { IfOk result (λ made. kind_of made.0 ≡ mixed_kind params) }
     {
         if params.capacity() == 1 {
             let (link, opening) = WordLink::make(alloc, params, start)?;
@@ -114,6 +122,10 @@ impl RunLink for AnyLink {
             let (link, ()) = LockLink::make(alloc, params, start)?;
             Ok((AnyLink::Lock(LargeLink { link }), AnyOpening::Lock))
         }
+    }
+
+    fn kept(links: &Vec<AnyLink>) -> RunLinks {
+        RunLinks::Mixed(Snapshot::of(links))
     }
 
     fn settle(self, send: AnySendDone, recv: AnyRecvDone) -> Result<Settled, SettleFault> {

@@ -16,6 +16,7 @@ mod mixed;
 mod report;
 mod run;
 mod run_fault;
+mod run_links;
 mod settle;
 mod starts;
 mod words;

@@ -1,14 +1,18 @@
 //! What a run asks of a kind of link. The runs differ in the kind of link that they make, in the
 //! runtime value that its ends take, and in nothing else.
 
-ghost use Rattle.std.specs.Prelude.{◌≡◌, IfErr, IfOk, OnOk};
+ghost use Rattle.std.specs.Prelude.{◌≡◌, IfErr, IfOk, OnOk, map};
 ghost use Rattle.stab_core.specs.LinkSetup.{LinkSetup, setup};
 ghost use Rattle.stab_core.specs.Replay.{IsLawful};
 ghost use Rattle.stab_frames.specs.Parameters.{Parameters};
 ghost use Rattle.stab_lock.specs.Accounts.{Receiver, Sender, new_receiver, new_sender};
+ghost use Rattle.stab_lock.specs.declared.settle.SettleFault.{SettleFault};
+ghost use Rattle.stab_run.specs.LinkKinds.{LinkKind};
 ghost use Rattle.stab_run.specs.LinkRuns.{IsSettled};
+ghost use Rattle.stab_run.specs.RunLinks.{kinds_of};
 ghost use Rattle.stab_script.specs.Scripts.{ActsRemaining, receiver_half, sender_half};
 
+use crate::run_links::RunLinks;
 use stab_core::Start;
 use stab_frames::Params;
 use stab_lock::{SettleFault, Settled};
@@ -42,8 +46,14 @@ pub(crate) trait RunLink: Drop {
     // which parameters such a link can have
     ghost can_have: { Parameters → Type 0 };
 
-    // what is known of what a link was given where settling it is refused
-    ghost may_differ: { LinkSetup → Type 0 };
+    // the kind of a link, and that of a new one with these parameters
+    ghost kind: { Self → LinkKind };
+
+    ghost kind_for: { Parameters → LinkKind };
+
+    // what is known where settling is refused: of what the link was given, of the accounts of its two
+    // finished ends, and of the reason
+    ghost may_differ: { LinkSetup → Sender → Receiver → SettleFault → Type 0 };
 
     /// A link at a lawful start, and what splits it.
     fn make(
@@ -54,7 +64,12 @@ pub(crate) trait RunLink: Drop {
         requires params { can_have params }
         requires lawful { IsLawful params start.now }
         ensures given { IfOk result (λ made. given made.0 ≡ setup params start.now) }
-        ensures opens { IfOk result (λ made. opens made.0 made.1) };
+        ensures opens { IfOk result (λ made. opens made.0 made.1) }
+        ensures kind { IfOk result (λ made. kind made.0 ≡ kind_for params) };
+
+    /// These links, as a report keeps them.
+    fn kept(links: &Vec<Self>) -> RunLinks
+        ensures { kinds_of result ≡ map kind links.now.items };
 
     /// Settles a link with its two finished ends: one list of events explains both accounts.
     fn settle(self, send: Self::SendDone, recv: Self::RecvDone) -> Result<Settled, SettleFault>
@@ -63,7 +78,7 @@ pub(crate) trait RunLink: Drop {
         ensures send { IfOk result (λ settled. settled.send ≡ sent send) }
         ensures recv { IfOk result (λ settled. settled.recv ≡ received recv) }
         ensures settled { OnOk result (IsSettled (given self) (sent send) (received recv)) }
-        ensures refused { IfErr result (λ fault. may_differ (given self)) };
+        ensures refused { IfErr result (may_differ (given self) (sent send) (received recv)) };
 }
 
 /// A kind of link that is split into two ends, which borrow it; their calls take a runtime value of

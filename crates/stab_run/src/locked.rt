@@ -1,12 +1,13 @@
 //! The run of a job by one worker per node, over links behind locks.
 
-ghost use Rattle.std.specs.Prelude.{◌≡◌, ◌≢◌, ℕ, ◌<◌, true, All, IfOk, IfErr, OnOk, length};
+ghost use Rattle.std.specs.Prelude.{◌≡◌, ◌≢◌, ℕ, ◌<◌, true, All, IfOk, IfErr, OnOk, length, map};
 ghost use Rattle.stab_core.specs.LinkSetup.{CanBegin};
 ghost use Rattle.stab_core.specs.declared.start.StartFault.{StartFault};
 ghost use Rattle.stab_job.specs.JobValues.{network};
 ghost use Rattle.stab_lock.specs.declared.settle.SettleFault.{SettleFault};
 ghost use Rattle.stab_node.specs.declared.fault.NodeFault.{NodeFault};
 ghost use Rattle.stab_node.specs.Turns.{IsOver, IsRefused};
+ghost use Rattle.stab_run.specs.LinkKinds.{behind_lock};
 ghost use Rattle.stab_run.specs.LinkRuns.{LeadsInto};
 ghost use Rattle.stab_run.specs.Reports.{OnePerNode};
 ghost use Rattle.stab_run.specs.RunFaults.{AllAreOver, comes_after_starts};
@@ -22,6 +23,7 @@ use crate::link::{RunLink, SplitLink};
 use crate::report::Report;
 use crate::run::report_of;
 use crate::run_fault::RunFault;
+use crate::run_links::RunLinks;
 use crate::starts::{check_starts, make_links};
 use stab_core::Start;
 use stab_frames::Params;
@@ -30,11 +32,14 @@ use stab_lock::{LockLink, LockRecv, LockSend, RecvAccount, SendAccount, SettleFa
 use stab_node::{Gate, NodeFault};
 use stab_script::Script;
 use std::alloc::{AllocError, Global};
+use std::snapshot::Snapshot;
 use std::sync::Wait;
 use std::thread::Threads;
 
 impl RunLink for LockLink {
     ghost use Rattle.std.specs.Prelude.{⊤};
+    ghost use Rattle.stab_lock.specs.Settling.{DifferFromReplay};
+    ghost use Rattle.stab_run.specs.LinkKinds.{behind_lock};
 
     type Opening = ();
 
@@ -56,13 +61,22 @@ impl RunLink for LockLink {
 
     ghost can_have = { λ p. ⊤ };
 
-    ghost may_differ = { λ link. ⊤ };
+    ghost kind = { λ link. behind_lock };
+
+    ghost kind_for = { λ p. behind_lock };
+
+    ghost may_differ = { λ link send recv why.
+        DifferFromReplay link.params link.start send recv why };
 
     fn make(alloc: Global, params: Params, start: &Start) -> Result<(LockLink, ()), AllocError> {
         match LockLink::new(alloc, params, start.copy(alloc)?) {
             Ok(link) => Ok((link, ())),
             Err(_) => Err(AllocError),
         }
+    }
+
+    fn kept(links: &Vec<LockLink>) -> RunLinks {
+        RunLinks::Locked(Snapshot::of(links))
     }
 
     fn settle(self, send: SendAccount, recv: RecvAccount) -> Result<Settled, SettleFault> {
@@ -123,6 +137,8 @@ pub fn run_locked<R: Threads + Wait + Send + Sync, G: Gate + Sync>(
     ensures network { OnOk result (IsNetwork (network job.now)) }
     ensures root { IfOk result (RootHas (network job.now)) }
     ensures edges { IfOk result (AreExplained (network job.now)) }
+    ensures kinds { IfOk result (λ report.
+        report.kinds ≡ map (λ p. behind_lock) job.now.params) }
     ensures handed_on { IfOk result (λ report. HandsOn job.now.tree.parents report) }
 
     // The laws of every node.

@@ -1,14 +1,14 @@
 //! The run of a job by one worker per node, over links of two words where the capacity is one, and
 //! over links with locks elsewhere.
 
-ghost use Rattle.std.specs.Prelude.{◌≡◌, ◌≢◌, ℕ, ◌<◌, true, All, IfOk, IfErr, OnOk, length};
+ghost use Rattle.std.specs.Prelude.{◌≡◌, ◌≢◌, ℕ, ◌<◌, true, All, IfOk, IfErr, OnOk, length, map};
 ghost use Rattle.stab_core.specs.LinkSetup.{CanBegin};
 ghost use Rattle.stab_core.specs.declared.start.StartFault.{StartFault};
 ghost use Rattle.stab_job.specs.JobValues.{network};
 ghost use Rattle.stab_lock.specs.declared.settle.SettleFault.{SettleFault};
 ghost use Rattle.stab_node.specs.declared.fault.NodeFault.{NodeFault};
 ghost use Rattle.stab_node.specs.Turns.{IsOver, IsRefused};
-ghost use Rattle.stab_run.specs.LinkKinds.{IsLarge};
+ghost use Rattle.stab_run.specs.LinkKinds.{IsLarge, mixed_kind};
 ghost use Rattle.stab_run.specs.LinkRuns.{HoldsInto, LeadsInto};
 ghost use Rattle.stab_run.specs.Reports.{OnePerNode};
 ghost use Rattle.stab_run.specs.RunFaults.{AllAreOver, comes_after_starts};
@@ -57,6 +57,7 @@ pub fn run_mixed<R: Threads + Wait + Send + Sync, G: Gate + Sync>(
     ensures network { OnOk result (IsNetwork (network job.now)) }
     ensures root { IfOk result (RootHas (network job.now)) }
     ensures edges { IfOk result (AreExplained (network job.now)) }
+    ensures kinds { IfOk result (λ report. report.kinds ≡ map mixed_kind job.now.params) }
     ensures handed_on { IfOk result (λ report. HandsOn job.now.tree.parents report) }
 
     // The laws of every node.

@@ -1,9 +1,10 @@
 //! What a run of workers answers, and its printed lines.
 
-ghost use Rattle.std.specs.Prelude.{◌≡◌, ◌++◌, ◌<◌, length, string_bytes, OnOk, IfOk};
+ghost use Rattle.std.specs.Prelude.{◌≡◌, [], ◌++◌, ◌<◌, length, string_bytes, OnOk, IfOk};
 ghost use Rattle.stab_run.specs.Reports.{OnePerNode, ended_entry, node_report, lines_of};
 ghost use Rattle.stab_run.specs.Reports.{report_text};
 
+use crate::run_links::RunLinks;
 use stab_core::push_items_line;
 use stab_frames::{Item, Sequence};
 use stab_node::Ended;
@@ -12,8 +13,10 @@ use stab_treecore::push_node_counts;
 use std::alloc::{AllocError, Global};
 use std::marker::Model;
 
-/// What a run of workers answers, by node in file order.
-#[derive(Debug, Drop)]
+/// What a run of workers answers, by node in file order. Contracts also see of which kind each link
+/// was.
+#[derive(Drop)]
+#[derive_where(Debug)]
 pub struct Report {
     /// The items of each node, in the order in which it received them.
     pub received: Vec<Sequence<Item>>,
@@ -21,10 +24,13 @@ pub struct Report {
     pub acked: Vec<Option<u64>>,
     /// Why each node's worker made no further turn.
     pub ended: Vec<Ended>,
+    #[derive_where(skip)]
+    pub(crate) links: RunLinks,
 }
 
 impl Model for Report {
     ghost use Rattle.stab_run.specs.Reports.{Reported};
+    ghost use Rattle.stab_run.specs.RunLinks.{kinds_of};
 
     ghost Value = { Reported };
 
@@ -32,7 +38,27 @@ impl Model for Report {
       received = r.received.items;
       acked = r.acked.items;
       ended = r.ended.items;
+      kinds = kinds_of r.links;
     } };
+}
+
+impl Report {
+    /// A report that no run made, of no link. It takes no memory.
+    pub fn new(received: Vec<Sequence<Item>>, acked: Vec<Option<u64>>, ended: Vec<Ended>) -> Report
+        ensures { result ≡ record {
+          received = received.items;
+          acked = acked.items;
+          ended = ended.items;
+          kinds = [];
+        } }
+    {
+        Report {
+            received,
+            acked,
+            ended,
+            links: RunLinks::None,
+        }
+    }
 }
 
 /// The lines of each node in file order: its name, its depth, how many items it received, how many

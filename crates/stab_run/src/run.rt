@@ -6,7 +6,7 @@ ghost use Rattle.std.specs.Prelude.{◌≡◌, ℕ, true, All, IfErr, IfOk, OnOk
 ghost use Rattle.stab_core.specs.LinkSetup.{CanBegin};
 ghost use Rattle.stab_job.specs.JobValues.{network};
 ghost use Rattle.stab_lock.specs.declared.settle.SettleFault.{SettleFault};
-ghost use Rattle.stab_run.specs.LinkRuns.{HoldsInto, IsRun, LeadsInto};
+ghost use Rattle.stab_run.specs.LinkRuns.{IsFirstRefused, IsRun, LeadsInto};
 ghost use Rattle.stab_run.specs.Reports.{OnePerNode};
 ghost use Rattle.stab_run.specs.RunFaults.{comes_of_settling};
 ghost use Rattle.stab_run.specs.Runs.{AreExplained, CompleteBelowEnded, HandsOn, RootHas};
@@ -43,6 +43,7 @@ pub(crate) fn report_of<L: RunLink>(
     ensures root { IfOk result (RootHas (network job.now)) }
     ensures edges { IfOk result (AreExplained (network job.now)) }
     ensures handed_on { IfOk result (λ report. HandsOn job.now.tree.parents report) }
+    ensures kinds { IfOk result (λ report. report.kinds ≡ map L.kind links.items) }
     ensures half_tree_law { IfOk result (λ report.
         HalfTreeLawAtNodes (network job.now) (received_at report.received)) }
     ensures tree_law { IfOk result (λ report.
@@ -53,7 +54,8 @@ pub(crate) fn report_of<L: RunLink>(
         → LeadsInto job.now.tree.parents child) }
     ensures refused { IfErr result (λ fault. (child : ℕ) (why : SettleFault)
         → fault ≡ RunFault.Settle child why
-        → HoldsInto L.may_differ job.now.tree.parents (network job.now).links child) }
+        → IsFirstRefused L.may_differ job.now.tree.parents (network job.now).links
+        (map L.sent gathered.sends.items) (map L.received gathered.recvs.items) child why) }
     ensures of_settling { IfErr result (λ fault. comes_of_settling fault ≡ true) }
 {
     let report = settled_report::<L>(alloc, job, links, gathered)?;
@@ -82,12 +84,14 @@ fn settled_report<L: RunLink>(
     ensures root { IfOk result (RootHas (network job.now)) }
     ensures edges { IfOk result (AreExplained (network job.now)) }
     ensures handed_on { IfOk result (λ report. HandsOn job.now.tree.parents report) }
+    ensures kinds { IfOk result (λ report. report.kinds ≡ map L.kind links.items) }
     ensures unsettled { IfErr result (λ fault. (child : ℕ) (why : SettleFault)
         → fault ≡ RunFault.Settle child why
         → LeadsInto job.now.tree.parents child) }
     ensures refused { IfErr result (λ fault. (child : ℕ) (why : SettleFault)
         → fault ≡ RunFault.Settle child why
-        → HoldsInto L.may_differ job.now.tree.parents (network job.now).links child) }
+        → IsFirstRefused L.may_differ job.now.tree.parents (network job.now).links
+        (map L.sent gathered.sends.items) (map L.received gathered.recvs.items) child why) }
     ensures of_settling { IfErr result (λ fault. comes_of_settling fault ≡ true) }
 {
     let tree = job.tree();
@@ -97,11 +101,13 @@ fn settled_report<L: RunLink>(
         sends,
         recvs,
     } = gathered;
+    let kept = L::kept(&links);
     let acked = settle_all::<L>(alloc, tree, links, sends, recvs)?;
     let _root = tree.root();
     Ok(Report {
         received,
         acked,
         ended,
+        links: kept,
     })
 }

@@ -3,8 +3,8 @@
 ghost use Rattle.std.specs.List.{AllZip};
 ghost use Rattle.std.specs.Prelude.{◌≡◌, ℕ, ◌<◌, ◌∷◌, true, IfErr, IfOk, OnOk, length, map};
 ghost use Rattle.stab_lock.specs.declared.settle.SettleFault.{SettleFault};
-ghost use Rattle.stab_run.specs.LinkRuns.{AreSettled, IsFirstSettled};
-ghost use Rattle.stab_run.specs.LinkRuns.{HoldsInto, HoldsOfFirst, LeadsInto, acked_of};
+ghost use Rattle.stab_run.specs.LinkRuns.{AreSettled, IsFirstRefused, IsFirstSettled};
+ghost use Rattle.stab_run.specs.LinkRuns.{HoldsOfFirst, LeadsInto, acked_of};
 ghost use Rattle.stab_run.specs.RunFaults.{comes_of_settling};
 ghost use Rattle.stab_tree.specs.Links.{links_of};
 ghost use Rattle.stab_treecore.specs.ByChild.{by_child};
@@ -32,8 +32,8 @@ fn settle_first<L: RunLink>(
         (map L.received recvs.old.items)
         (map L.given links.new.items) (map L.sent sends.new.items)
         (map L.received recvs.new.items)) }
-    ensures refused { IfErr result (λ fault.
-        HoldsOfFirst L.may_differ (map L.given links.old.items)) }
+    ensures refused { IfErr result (HoldsOfFirst L.may_differ (map L.given links.old.items)
+        (map L.sent sends.old.items) (map L.received recvs.old.items)) }
 {
     let link = links.pop_front().unwrap();
     let send = sends.pop_front().unwrap();
@@ -68,7 +68,8 @@ pub(crate) fn settle_all<L: RunLink>(
         → fault ≡ RunFault.Settle child why → LeadsInto tree.now.parents child) }
     ensures refused { IfErr result (λ fault. (child : ℕ) (why : SettleFault)
         → fault ≡ RunFault.Settle child why
-        → HoldsInto L.may_differ tree.now.parents (map L.given links.items) child) }
+        → IsFirstRefused L.may_differ tree.now.parents (map L.given links.items)
+        (map L.sent sends.items) (map L.received recvs.items) child why) }
     ensures of_settling { IfErr result (λ fault. comes_of_settling fault ≡ true) }
 {
     let mut acked = Vec::with_capacity(alloc, usize::from(tree.len()))?;

@@ -69,6 +69,8 @@ pub(crate) fn make_links<L: RunLink>(
     ensures links { IfOk result (λ made.
         map L.given made.0.items ≡ setups params.now starts.now) }
     ensures one_link_each { IfOk result (λ made. length made.0.items ≡ length starts.now) }
+    ensures kinds { IfOk result (λ made.
+        map L.kind made.0.items ≡ map L.kind_for params.now) }
     ensures openings { IfOk result (λ made. AllZip L.opens made.0.items made.1.items) }
 {
     let mut links = Vec::with_capacity(alloc, starts.len())?;

@@ -1,13 +1,14 @@
 //! The run of a job by one worker per node, over links of two words.
 
 ghost use Rattle.std.specs.Prelude.{◌≡◌, ◌≢◌, ◌↔◌, ℕ, ◌<◌, true, IfOk, IfErr, IsErrAnd, OnOk, All};
-ghost use Rattle.std.specs.Prelude.{IsTrue, length};
+ghost use Rattle.std.specs.Prelude.{IsTrue, length, map};
 ghost use Rattle.stab_core.specs.LinkSetup.{CanBegin};
 ghost use Rattle.stab_core.specs.declared.start.StartFault.{StartFault};
 ghost use Rattle.stab_job.specs.JobValues.{network};
 ghost use Rattle.stab_lock.specs.declared.settle.SettleFault.{SettleFault};
 ghost use Rattle.stab_node.specs.declared.fault.NodeFault.{NodeFault};
 ghost use Rattle.stab_node.specs.Turns.{IsOver, IsRefused};
+ghost use Rattle.stab_run.specs.LinkKinds.{two_words};
 ghost use Rattle.stab_run.specs.Reports.{OnePerNode};
 ghost use Rattle.stab_run.specs.RunFaults.{comes_after_starts};
 ghost use Rattle.stab_run.specs.Runs.{RootHas, AreExplained, HandsOn, IsFirstUnlawful};
@@ -23,6 +24,7 @@ use crate::link::{RunLink, SplitLink};
 use crate::report::Report;
 use crate::run::report_of;
 use crate::run_fault::RunFault;
+use crate::run_links::RunLinks;
 use crate::starts::{check_starts, make_links};
 use stab_core::Start;
 use stab_frames::Params;
@@ -32,11 +34,13 @@ use stab_node::{Gate, NodeFault};
 use stab_script::Script;
 use stab_word::{RecvDone, SendDone, WordLink, WordOpening, WordRecv, WordSend};
 use std::alloc::{AllocError, Global};
+use std::snapshot::Snapshot;
 use std::sync::Wait;
 use std::thread::Threads;
 
 impl RunLink for WordLink {
     ghost use Rattle.std.specs.Prelude.{◌≡◌};
+    ghost use Rattle.stab_run.specs.LinkKinds.{two_words};
 
     type Opening = WordOpening;
 
@@ -58,7 +62,11 @@ impl RunLink for WordLink {
 
     ghost can_have = { λ p. p.capacity ≡ 1 };
 
-    ghost may_differ = { λ link. ⊥ };
+    ghost kind = { λ link. two_words };
+
+    ghost kind_for = { λ p. two_words };
+
+    ghost may_differ = { λ link send recv why. ⊥ };
 
     fn make(
         alloc: Global,
@@ -69,6 +77,10 @@ impl RunLink for WordLink {
             Ok(made) => Ok(made),
             Err(_) => Err(AllocError),
         }
+    }
+
+    fn kept(links: &Vec<WordLink>) -> RunLinks {
+        RunLinks::Words(Snapshot::of(links))
     }
 
     fn settle(self, send: SendDone, recv: RecvDone) -> Result<Settled, SettleFault> {
@@ -138,6 +150,8 @@ pub fn run_words<R: Threads + Wait + Send + Sync, G: Gate + Sync>(
     ensures network { OnOk result (IsNetwork (network job.now)) }
     ensures root { IfOk result (RootHas (network job.now)) }
     ensures edges { IfOk result (AreExplained (network job.now)) }
+    ensures kinds { IfOk result (λ report.
+        report.kinds ≡ map (λ p. two_words) job.now.params) }
     ensures handed_on { IfOk result (λ report. HandsOn job.now.tree.parents report) }
 
     // The laws of every node.

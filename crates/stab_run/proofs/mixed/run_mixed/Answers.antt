@@ -7,6 +7,8 @@ use Rattle.stab_workers.proofs.ForCallers.{at_error}
 use Rattle.stab_workers.specs.ByNode.{ended_at}
 use Rattle.stab_run.specs.declared.run_fault.RunFault.TheVariants.{Settle}
 use Rattle.stab_run.specs.AnyLinks.{name_of}
+use Rattle.stab_run.specs.LinkKinds.{IsLarge}
+use Rattle.stab_run.specs.LinkRuns.{HoldsInto}
 use Rattle.stab_run.specs.RunFaults.{AllAreOver, comes_after_starts}
 use Rattle.stab_run.proofs.Paired.{paired_named}
 use Rattle.stab_run.proofs.mixed.run_mixed.Goals as goal
@@ -43,3 +45,15 @@ returns-in_err-report-clause-starts_first g c =
     (λ fault. comes_after_starts fault ≡ true → All CanBegin (network c.args.job.now).links)
     c.from_residual-in_err-report.ensures.1
     (λ after. rw (c.params.ensures.params, c.starts.ensures.starts) at c.in_ok-check_starts.ensures.can_begin)
+
+-- a link that is refused has a lock
+pub returns-in_err-report-clause-only_large : goal.returns-in_err-report-clause-only_large
+returns-in_err-report-clause-only_large g c =
+    let job = c.args.job.now in
+    at_error _ _
+    (λ fault. (child : ℕ) (why : SettleFault) → fault ≡ Settle child why
+    → HoldsInto IsLarge job.tree.parents (network job).links child)
+    c.from_residual-in_err-report.ensures.1
+    (λ child why is.
+    let first = c.in_err-report.ensures.refused child why is in
+    record { link = first.link; leads = first.leads; holds = first.refused.0 })

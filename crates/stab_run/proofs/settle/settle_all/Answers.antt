@@ -1,8 +1,8 @@
 use Rattle.std.proofs.Common.{rules, ◌≡◌, ◌<◌, ◌+◌, length, map, Some, None, ap, sym, ◌∙◌, subst}
 use Rattle.std.proofs.lemmas.List.{length-map}
 use Rattle.stab_tree.specs.Nodes.{parent_at}
-use Rattle.stab_run.specs.LinkRuns.{HoldsInto, LeadsInto}
-use Rattle.stab_run.proofs.Settlements.{none_settled, root_settled, child_settled, holds_into}
+use Rattle.stab_run.specs.LinkRuns.{IsFirstRefused, LeadsInto}
+use Rattle.stab_run.proofs.Settlements.{none_settled, root_settled, child_settled, first_refused}
 use Rattle.stab_run.proofs.Paired.{as_many_paired}
 use Rattle.stab_run.proofs.settle.settle_all.Goals as goal
 use Rattle.stab_run.proofs.settle.settle_all.Goals.{in-None, in-Some+in-Ok}
@@ -79,12 +79,17 @@ returns-in-Err-clause-unsettled g c = λ child why is.
 pub returns-in-Err-clause-refused : goal.returns-in-Err-clause-refused
 returns-in-Err-clause-refused g c = λ child why is.
     let parents = c.args.tree.now.parents in
-    let given = map g.L.RunLink.given in
+    let links = map g.L.RunLink.given c.args.links.items in
+    let sends = map g.L.RunLink.sent c.args.sends.items in
+    let recvs = map g.L.RunLink.received c.args.recvs.items in
     let place = c.nodes.place in
     let within : place < length parents = search rules in
     let same : c.new-node.result ≡ child = cc in
+    let reason : c.in-Err.fault ≡ why = cc in
     let is_child : parent_at parents place ≡ Some c.in-Some.field-0 =
     ap (λ n. parent_at parents n) (sym c.new-node.ensures) ∙ (sym c.parent.ensures.value ∙ c.in-Some.is) in
-    subst (HoldsInto g.L.RunLink.may_differ parents (given c.args.links.items)) (sym c.new-node.ensures ∙ same)
-    (holds_into g.L.RunLink.may_differ parents (given c.args.links.items) place c.in-Some.field-0 (given c.nodes.links.items) within is_child
-    c.nodes.invariant.so_far.links_from_here c.in-Err.ensures.refused)
+    subst (λ w. IsFirstRefused g.L.RunLink.may_differ parents links sends recvs child w) reason
+    (subst (λ n. IsFirstRefused g.L.RunLink.may_differ parents links sends recvs n c.in-Err.fault) (sym c.new-node.ensures ∙ same)
+    (first_refused g.L.RunLink.may_differ parents links sends recvs c.nodes.acked.items (map g.L.RunLink.given c.nodes.links.items)
+    (map g.L.RunLink.sent c.nodes.sends.items) (map g.L.RunLink.received c.nodes.recvs.items) place c.in-Some.field-0 c.in-Err.fault
+    c.nodes.invariant.so_far within is_child c.in-Err.ensures.refused))

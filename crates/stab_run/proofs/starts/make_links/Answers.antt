@@ -1,8 +1,8 @@
-use Rattle.std.proofs.Common.{◌<◌, ◌+◌, ◌∙◌, ap, sym, length, subst, take_all, arith}
+use Rattle.std.proofs.Common.{◌<◌, ◌+◌, ◌∙◌, ap, refl, sym, length, map, subst, take_all, arith}
 use Rattle.stab_core.specs.LinkSetup.{setup, setups}
 use Rattle.stab_core.proofs.Setups.{as_many_setups, can_begin_at, setup_at}
 use Rattle.stab_run.proofs.Begun.{one_more_given}
-use Rattle.stab_run.proofs.Paired.{paired_push}
+use Rattle.stab_run.proofs.Paired.{one_more_end, paired_push}
 use Rattle.stab_run.proofs.starts.make_links.Goals as goal
 
 pub bounds-params-place : goal.bounds-params-place
@@ -44,6 +44,10 @@ links-preserved g c =
           (setup_at params starts place c.index-params-place.result c.index-starts-place.result in_params in_starts c.index-params-place.is
           c.index-starts-place.is)
           c.in_ok-link.ensures.given c.links.invariant.given);
+      kinds =
+          rw c.push_reserved.ensures.items
+          (one_more_end g.L.RunLink.kind g.L.RunLink.kind_for c.links.links.items c.in_ok-link.link params place c.index-params-place.result
+          c.index-params-place.result in_params c.index-params-place.is refl c.in_ok-link.ensures.kind c.links.invariant.kinds);
       openings =
           rw (c.push_reserved.ensures.items, c.push_reserved-in-links.ensures.items)
           (paired_push g.L.RunLink.opens c.links.links.items c.links.openings.items c.in_ok-link.link c.in_ok-link.opening
@@ -56,3 +60,9 @@ returns-clause-links g c =
     let starts = c.args.starts.now in
     c.links.invariant.given
     ∙ take_all c.links.place (setups params starts) (omega (arith, c.links-test.false, as_many_setups params starts c.requires.one_each))
+
+pub returns-clause-kinds : goal.returns-clause-kinds
+returns-clause-kinds g c =
+    let params = c.args.params.now in
+    c.links.invariant.kinds
+    ∙ ap (λ ps. map g.L.RunLink.kind_for ps) (take_all c.links.place params (omega (arith, c.links-test.false, c.requires.one_each)))

@@ -27,7 +27,7 @@ returns-in_err-report-clause-never_differ g c =
     at_error _ _
     (λ fault. (child : ℕ) (why : SettleFault) → fault ≢ Settle child why)
     c.from_residual-in_err-report.ensures.1
-    (λ child why is. (c.in_err-report.ensures.refused child why is).holds)
+    (λ child why is. (c.in_err-report.ensures.refused child why is).refused)
 
 -- the bounds of links with room for one entry
 pub returns-clause-tree_law_by_depth : goal.returns-clause-tree_law_by_depth
