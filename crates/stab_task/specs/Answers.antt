@@ -1,6 +1,6 @@
 -- What the program writes for what it reads, and why it may not.
 -- Source: this project's own.
-use Rattle.std.specs.Prelude.{◌≡◌, ◌≢◌, ℕ, ◌<◌, Bool, List, [], ◌++◌, length, All}
+use Rattle.std.specs.Prelude.{◌≡◌, ◌≢◌, ℕ, ◌<◌, Bool, List, [], ◌++◌, length, map, All}
 use Rattle.std.specs.Prelude.{if◌then◌else◌, Ok, Err}
 use Rattle.std.specs.List.{AllZip}
 use Rattle.stab_core.specs.Replay.{opening, replay, IsLawful}
@@ -16,7 +16,7 @@ use Rattle.stab_job.specs.declared.fault.JobFault.{JobFault}
 use Rattle.stab_job.specs.declared.fault.JobFault.TheVariants.{Memory as no_memory}
 use Rattle.stab_job.specs.JobValues.{JobValue}
 use Rattle.stab_job.specs.Jobs.{job as whole_job}
-use Rattle.stab_run.specs.LinkKinds.{IsLarge}
+use Rattle.stab_run.specs.LinkKinds.{IsLarge, LinkKind, behind_lock, mixed_kind, two_words}
 use Rattle.stab_run.specs.LinkRuns.{HoldsInto, LeadsInto, all_given}
 use Rattle.stab_run.specs.Reports.{OnePerNode, Reported, report_text}
 use Rattle.stab_run.specs.Runs.{AreExplained, CompleteBelowEnded, HandsOn, IsFirstUnlawful}
@@ -97,14 +97,21 @@ MayDiffer Words job child = ⊥
 MayDiffer Mixed job child =
     HoldsInto IsLarge job.tree.parents (all_given job.params job.starts) child
 
--- this is the text of some report of a run of this job
+-- the kind of each link of this job, in a run over these links
+abbrev pub kinds_by : Links → JobValue → List LinkKind
+kinds_by Locked job = map (λ p. behind_lock) job.params
+kinds_by Words job = map (λ p. two_words) job.params
+kinds_by Mixed job = map mixed_kind job.params
+
+-- this is the text of some report of a run of this job over these links
 pub record IsRunText (links : Links) (job : JobValue) (text : List ℕ) : Type 0 where
   pub one_place : HasOnePlace links job
   pub report : Reported
   pub holds : IsReport job report
+  pub kinds : report.kinds ≡ kinds_by links job
   pub the_text : text ≡ report_text job.tree report
 
--- these bytes are a job, and this is the text of some report of a run of it
+-- these bytes are a job, and this is the text of some report of a run of it over these links
 pub record IsRunAnswer (links : Links) (input text : List ℕ) : Type 0 where
   pub job : JobValue
   pub read : whole_job input ≡ Ok job
