@@ -2,12 +2,12 @@
 -- Example: For the bytes of the worst start `IsLinkAnswer` asks that `link_job` of them is a job,
 -- that its start is lawful, and that the text is that of the replay. That is the eight lines of the
 -- README. For a job of a tree `IsRunAnswer` asks that the text is that of some report of which all
--- holds that a run promises of its report; with `--words` it asks besides that the capacity of each
--- link is 1. `MayDiffer` says which link may be refused for settling: any of a run over locks, none
+-- holds that a run promises of its report, and whose links are of the kinds that the flag names;
+-- with `--words` it asks besides that the capacity of each link is 1. `MayDiffer` says which link may be refused for settling: any of a run over locks, none
 -- of one over words, and with `--mixed` one whose capacity is not 1. So for the chain of the
 -- example a_wider_second_link with `--mixed` the link into b may be, and that into a may not.
 -- Source: this project's own.
-use Rattle.std.specs.Prelude.{◌≡◌, ◌≢◌, ℕ, ◌<◌, Bool, List, [], ◌++◌, length, All}
+use Rattle.std.specs.Prelude.{◌≡◌, ◌≢◌, ℕ, ◌<◌, Bool, List, [], ◌++◌, length, map, All}
 use Rattle.std.specs.Prelude.{if◌then◌else◌, Ok, Err}
 use Rattle.stab_core.specs.LinkSetup.{CanBegin}
 use Rattle.stab_core.specs.Replay.{opening, replay, IsLawful}
@@ -23,7 +23,7 @@ use Rattle.stab_job.specs.declared.fault.JobFault.{JobFault}
 use Rattle.stab_job.specs.declared.fault.JobFault.TheVariants.{Memory as no_memory}
 use Rattle.stab_job.specs.JobValues.{JobValue, network}
 use Rattle.stab_job.specs.Jobs.{job as whole_job}
-use Rattle.stab_run.specs.LinkKinds.{IsLarge}
+use Rattle.stab_run.specs.LinkKinds.{IsLarge, LinkKind, behind_lock, mixed_kind, two_words}
 use Rattle.stab_run.specs.LinkRuns.{HoldsInto, LeadsInto}
 use Rattle.stab_run.specs.Reports.{OnePerNode, Reported, report_text}
 use Rattle.stab_run.specs.Runs.{AreExplained, CompleteBelowEnded, HandsOn, IsFirstUnlawful}
@@ -101,14 +101,21 @@ MayDiffer Locked job child = Unit {0}
 MayDiffer Words job child = ⊥
 MayDiffer Mixed job child = HoldsInto IsLarge job.tree.parents (network job).links child
 
--- this is the text of some report of a run of this job
+-- the kind of each link of this job, in a run over these links
+abbrev pub kinds_by : Links → JobValue → List LinkKind
+kinds_by Locked job = map (λ p. behind_lock) job.params
+kinds_by Words job = map (λ p. two_words) job.params
+kinds_by Mixed job = map mixed_kind job.params
+
+-- this is the text of some report of a run of this job over these links
 pub record IsRunText (links : Links) (job : JobValue) (text : List ℕ) : Type 0 where
   pub one_place : HasOnePlace links job
   pub report : Reported
   pub holds : IsReport (network job) report
+  pub kinds : report.kinds ≡ kinds_by links job
   pub the_text : text ≡ report_text job.tree report
 
--- these bytes are a job, and this is the text of some report of a run of it
+-- these bytes are a job, and this is the text of some report of a run of it over these links
 pub record IsRunAnswer (links : Links) (input text : List ℕ) : Type 0 where
   pub job : JobValue
   pub read : whole_job input ≡ Ok job

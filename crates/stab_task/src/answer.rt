@@ -9,7 +9,8 @@ ghost use Rattle.stab_treecore.specs.Refusals.{IsScheduleReason, NamesLink};
 ghost use Rattle.stab_treecore.specs.TreeReplay.{tree_opening, tree_replay};
 ghost use Rattle.stab_task.specs.Answers.{IsLinkAnswer, IsTreeAnswer, IsRunAnswer};
 ghost use Rattle.stab_task.specs.Answers.{HasOnePlace, IsAnswer, IsFault, IsReport};
-ghost use Rattle.stab_task.specs.Answers.{IsRunReason, IsRunText, link_answer, tree_answer};
+ghost use Rattle.stab_task.specs.Answers.{IsRunReason, IsRunText, kinds_by, link_answer};
+ghost use Rattle.stab_task.specs.Answers.{tree_answer};
 
 use crate::command::{Links, Task};
 use crate::fault::CliFault;
@@ -216,6 +217,7 @@ fn run_job<T: Threads + Wait + Send + Sync>(
     job: &Job,
 ) -> Result<Report, RunFault>
     ensures report { IfOk result (IsReport (network job.now)) }
+    ensures kinds { IfOk result (λ report. report.kinds ≡ kinds_by links job.now) }
     ensures one_place { OnOk result (HasOnePlace links job.now) }
     ensures reason { IfErr result (IsRunReason links job.now) }
 {
