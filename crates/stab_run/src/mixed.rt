@@ -34,19 +34,8 @@ use std::thread::Threads;
 /// Runs a job: one worker per node, each on a thread of its own, over links of two words where the
 /// capacity is one, and over links with locks elsewhere.
 ///
-/// Every start is looked at before any worker is started; every worker that was started has ended
-/// when this call returns. It answers what each node received. The two ends of each link with a
-/// lock have agreed with the link's own history. The two words of each other link keep that some
-/// events explain what its ends have done, so there nothing is compared in the end, and no call of
-/// an end waits.
-///
-/// Whatever the links and the inner nodes hold at the start, whatever is lost or repeated and
-/// however the workers' steps interleave: with C the sum of the capacities c of the links on a
-/// node's path to the root, M the sum of their 2c + 1, and E so many items as an opening may have
-/// for each inner node on the path, itself among them, the node received at most C + E strays, then
-/// published items in their order, each at most once, none missing before its last one except among
-/// the first M. Where the worker of each node above it ended with its upstream, none is missing at
-/// all except among these.
+/// All is as `crate::run_locked` says, but that nothing of a link of two words is compared in the
+/// end, as in `crate::run_words`, and no call of its ends waits.
 pub fn run_mixed<R: Threads + Wait + Send + Sync, G: Gate + Sync>(
     rt: &R,
     alloc: Global,

@@ -127,18 +127,11 @@ fn all_have_one_place(params: &[Params]) -> bool
 /// Runs a job whose links all have the capacity one: one worker per node, each on a thread of its
 /// own, over links of two words, which have no lock.
 ///
-/// The capacities are looked at before anything else, and every start before any worker is started;
-/// every worker that was started has ended when this call returns. It answers what each node
-/// received. The two words of each link keep that some events explain what its ends have done, so
-/// nothing is compared in the end, and no call of an end waits: this call waits for the workers
-/// alone.
+/// The capacities are looked at before anything else; then all is as `crate::run_locked` says. The
+/// two words of each link keep that some events explain what its ends have done, so nothing is
+/// compared in the end, and no call of an end waits: this call waits for the workers alone.
 ///
-/// Whatever the links and the inner nodes hold at the start, whatever is lost or repeated and
-/// however the workers' steps interleave: a node at depth d received at most d strays from the
-/// links on its path, and beside them so many as an opening may have for each inner node on the
-/// path, itself among them, then published items in their order, each at most once, none missing
-/// before its last one except among the first 3d. Where the worker of each node above it ended with
-/// its upstream, none is missing at all except among these.
+/// Each node received what `crate::run_locked` promises of it, with C = d and M = 3d at depth d.
 pub fn run_words<R: Threads + Wait + Send + Sync, G: Gate + Sync>(
     rt: &R,
     alloc: Global,

@@ -16,16 +16,14 @@ use std::alloc::AllocError;
 use std::marker::Model;
 use std::snapshot::Snapshot;
 
-/// Whether the end may take an item: each item that it took is acknowledged, and it did not close
-/// the link.
+/// Whether the end may take an item: each item that it took is acknowledged, and it is not closed.
 fn may_offer(account: &SendAccount) -> bool
     ensures { IsTrue result ↔ MayOffer account.now }
 {
     !account.closed && account.is_idle()
 }
 
-/// Whether the last item that the end took waits for its acknowledgement, and it did not close the
-/// link.
+/// Whether the last item that the end took waits for its acknowledgement, and it is not closed.
 fn waits(account: &SendAccount) -> bool
     ensures waits { IsTrue result ↔ Waits account.now }
     ensures test { result ≡ has_frame account.now }
