@@ -1,6 +1,6 @@
 -- The kinds of links: with a lock, and of two words. In a run over both kinds the capacity decides.
 -- Source: this project's own.
-use Rattle.std.specs.Prelude.{ℕ, ◌==◌, ◌≢◌, if◌then◌else◌}
+use Rattle.std.specs.Prelude.{◌==◌, ◌≢◌, if◌then◌else◌}
 use Rattle.stab_frames.specs.Parameters.{Parameters}
 use Rattle.stab_core.specs.LinkSetup.{LinkSetup}
 

@@ -3,9 +3,10 @@
 -- that its start is lawful, and that the text is that of the replay. That is the eight lines of the
 -- README. For a job of a tree `IsRunAnswer` asks that the text is that of some report of which all
 -- holds that a run promises of its report, and whose links are of the kinds that the flag names;
--- with `--words` it asks besides that the capacity of each link is 1. `MayDiffer` says which link may be refused for settling: any of a run over locks, none
--- of one over words, and with `--mixed` one whose capacity is not 1. So for the chain of the
--- example a_wider_second_link with `--mixed` the link into b may be, and that into a may not.
+-- with `--words` it asks besides that the capacity of each link is 1. `MayDiffer` says which link
+-- may be refused for settling: any of a run over locks, none of one over words, and with `--mixed`
+-- one whose capacity is not 1. So for the chain of the example a_wider_second_link with `--mixed`
+-- the link into b may be, and that into a may not.
 -- Source: this project's own.
 use Rattle.std.specs.Prelude.{◌≡◌, ◌≢◌, ℕ, ◌<◌, Bool, List, [], ◌++◌, length, map, All}
 use Rattle.std.specs.Prelude.{if◌then◌else◌, Ok, Err}
