@@ -5,5 +5,4 @@ pub mod Shown
 pub mod Turns
 pub mod Calls
 pub mod StepLists
-pub mod Followings
 pub mod Settled

@@ -80,18 +80,15 @@ OfWordRecv IsCall (recv.Lock old) (recv.Word new) = ⊥
 OfWordRecv IsCall (recv.Word old) (recv.Lock new) = ⊥
 OfWordRecv IsCall (recv.Word old) (recv.Word new) = IsCall old new
 
--- a finished end of a link of two words made the steps that the end made before, and has its half
--- of the script
+-- a finished end of a link of two words made the steps that the end made before
 abbrev pub SameSendSteps : {R : Type 0} → AnySend R → AnySendDone → Type 0
 SameSendSteps (send.Lock end) (send_done.Lock done) = Unit {0}
 SameSendSteps (send.Lock end) (send_done.Word done) = ⊥
 SameSendSteps (send.Word end) (send_done.Lock done) = ⊥
-SameSendSteps (send.Word end) (send_done.Word done) =
-    (done.steps ≡ end.steps) × (done.script ≡ end.script)
+SameSendSteps (send.Word end) (send_done.Word done) = done.steps ≡ end.steps
 
 abbrev pub SameRecvSteps : {R : Type 0} → AnyRecv R → AnyRecvDone → Type 0
 SameRecvSteps (recv.Lock end) (recv_done.Lock done) = Unit {0}
 SameRecvSteps (recv.Lock end) (recv_done.Word done) = ⊥
 SameRecvSteps (recv.Word end) (recv_done.Lock done) = ⊥
-SameRecvSteps (recv.Word end) (recv_done.Word done) =
-    (done.steps ≡ end.steps) × (done.script ≡ end.script)
+SameRecvSteps (recv.Word end) (recv_done.Word done) = done.steps ≡ end.steps

@@ -53,7 +53,7 @@ pub record SendCall (r : Result Effect AllocError) (old new : SendEnd) : Type 0 
   pub acts : new.acts ≡ acts_put_where (has_frame old.sent) old.acts
   pub steps : new.steps ≡ old.steps ++ steps_where (has_frame old.sent) old.acts
       (send_step.FrameStore (waiting_frame old.label old.sent))
-  pub rest : new ≡ record old { acts = new.acts; steps = new.steps }
+  pub label : new.label ≡ old.label
 
 -- the answer where a load shows this acknowledgement word
 abbrev pub ack_answer : SendEnd → AckWord → Effect
@@ -71,7 +71,6 @@ pub record PollAckCall (r : Result Effect AllocError) (old new : SendEnd) : Type
   pub label : IfOk r (λ effect. new.label
       ≡ label_after_effect old.link.given.params old.label effect)
   pub acts : IfOk r (λ effect. new.acts ≡ acts_after_effect old.acts effect)
-  pub script : new.script ≡ old.script
 
 -- the first close is one store
 pub record CloseCall (r : Result Effect AllocError) (old new : SendEnd) : Type 0 where
@@ -118,7 +117,6 @@ pub record PollFrameCall (r : Result FrameSeen AllocError) (old new : RecvEnd) :
   pub still_open : old.received.closed ≡ false → (steps : List RecvStep)
       × (new.steps ≡ old.steps ++ steps) × FrameSteps old.label new.label steps r
   pub acts : IfOk r (λ answer. new.acts ≡ acts_after_seen old.acts answer)
-  pub script : new.script ≡ old.script
 
 -- the label is stored, or dropped, by the next act, until the close is seen
 pub record SendAckCall (r : Result Effect AllocError) (old new : RecvEnd) : Type 0 where
@@ -126,4 +124,4 @@ pub record SendAckCall (r : Result Effect AllocError) (old new : RecvEnd) : Type
   pub acts : new.acts ≡ acts_put_where (not old.received.closed) old.acts
   pub steps : new.steps ≡ old.steps ++ steps_where (not old.received.closed) old.acts
       (recv_step.AckStore old.label)
-  pub rest : new ≡ record old { acts = new.acts; steps = new.steps }
+  pub label : new.label ≡ old.label

@@ -8,60 +8,53 @@ use Rattle.stab_word.specs.Seats.{LinkId, SeatedSender, SeatedReceiver}
 use Rattle.stab_word.specs.declared.view.SendStep.{SendStep}
 use Rattle.stab_word.specs.declared.view.RecvStep.{RecvStep}
 
--- the sender's end: its link, its half of the link's script, its account, its label, the acts of
--- that half that remain, and the steps that it made
+-- the sender's end: its link, its account, its label, the acts that remain, and the steps that it
+-- made
 pub record SendEnd : Type 0 where
   pub link : LinkId
-  pub script : ActsRemaining
   pub sent : Sender
   pub label : ℕ
   pub acts : ActsRemaining
   pub steps : List SendStep
 
--- the receiver's end: its link, its half of the link's script, its account, the label that it took
--- last, the acts of that half that remain, and the steps that it made
+-- the receiver's end: its link, its account, the label that it took last, the acts that remain,
+-- and the steps that it made
 pub record RecvEnd : Type 0 where
   pub link : LinkId
-  pub script : ActsRemaining
   pub received : Receiver
   pub label : ℕ
   pub acts : ActsRemaining
   pub steps : List RecvStep
 
--- a finished end: its link, its half of the link's script, its account, and the steps that it made
+-- a finished end: its link, its account, and the steps that it made
 pub record SendFinished : Type 0 where
   pub link : LinkId
-  pub script : ActsRemaining
   pub sent : Sender
   pub steps : List SendStep
 
 pub record RecvFinished : Type 0 where
   pub link : LinkId
-  pub script : ActsRemaining
   pub received : Receiver
   pub steps : List RecvStep
 
--- the ends that have made no call: empty accounts, the start's labels, all of this half of the
--- script, and no step
+-- the ends that have made no call: empty accounts, the start's labels, these acts, and no step
 abbrev pub new_send_end : LinkId → ActsRemaining → SendEnd
-new_send_end link half =
+new_send_end link acts =
     record {
       link = link;
-      script = half;
       sent = new_sender;
       label = link.given.start.send_label;
-      acts = half;
+      acts = acts;
       steps = [];
     }
 
 abbrev pub new_recv_end : LinkId → ActsRemaining → RecvEnd
-new_recv_end link half =
+new_recv_end link acts =
     record {
       link = link;
-      script = half;
       received = new_receiver;
       label = link.given.start.recv_label;
-      acts = half;
+      acts = acts;
       steps = [];
     }
 

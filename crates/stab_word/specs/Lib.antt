@@ -4,7 +4,6 @@ pub mod Interleaving
 pub mod Rule
 pub mod Plays
 pub mod Seats
-pub mod Following
 pub mod Ends
 pub mod Answers
 pub mod Calls

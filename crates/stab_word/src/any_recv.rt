@@ -30,7 +30,8 @@ impl<'a, R> Drop for AnyRecv<'a, R> {
     }
 }
 
-/// What remains of a finished receiver's end of a link of either kind: it is of the end's kind.
+/// What remains of the receiver's end of a link of either kind, once it is finished: it is of the
+/// end's kind.
 #[derive(Drop)]
 pub enum AnyRecvDone {
     /// The account of the end of a link with a lock.
@@ -59,6 +60,7 @@ impl<'a, R: Wait> RecvSide for AnyRecv<'a, R> {
             ≡ after_poll_frame (any_recv_end self.old).account result }
         ensures open { IfOk result (IsOpenFor (any_recv_end self.old).account) }
         ensures link { (any_recv_end self.new).link ≡ (any_recv_end self.old).link }
+
         ensures unchanged { OnErr result (any_recv_end self.new ≡ any_recv_end self.old) }
         ensures of_words { OfWordRecv (PollFrameCall result) self.old self.new }
     {
@@ -71,6 +73,7 @@ impl<'a, R: Wait> RecvSide for AnyRecv<'a, R> {
     fn send_ack(&mut self, pass: &R) -> Result<Effect, AllocError>
         ensures account { (any_recv_end self.new).account ≡ (any_recv_end self.old).account }
         ensures link { (any_recv_end self.new).link ≡ (any_recv_end self.old).link }
+
         ensures unchanged { OnErr result (any_recv_end self.new ≡ any_recv_end self.old) }
         ensures of_words { OfWordRecv (SendAckCall result) self.old self.new }
     {
@@ -90,6 +93,7 @@ impl<'a, R: Wait> RecvSide for AnyRecv<'a, R> {
     fn finish(self) -> AnyRecvDone
         ensures account { (any_recv_finished result).account ≡ (any_recv_end self.entry).account }
         ensures link { (any_recv_finished result).link ≡ (any_recv_end self.entry).link }
+
         ensures of_words { SameRecvSteps self.entry result }
     {
         match self {

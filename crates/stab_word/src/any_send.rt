@@ -32,7 +32,8 @@ impl<'a, R> Drop for AnySend<'a, R> {
     }
 }
 
-/// What remains of a finished sender's end of a link of either kind: it is of the end's kind.
+/// What remains of the sender's end of a link of either kind, once it is finished: it is of the
+/// end's kind.
 #[derive(Drop)]
 pub enum AnySendDone {
     /// The account of the end of a link with a lock.
@@ -62,6 +63,7 @@ impl<'a, R: Wait> SendSide for AnySend<'a, R> {
         ensures taken { IfOk result (λ taken.
             taken ≡ true → MayOffer (any_send_end self.old).account) }
         ensures link { (any_send_end self.new).link ≡ (any_send_end self.old).link }
+
         ensures unchanged { OnErr result (any_send_end self.new ≡ any_send_end self.old) }
         ensures of_words { OfWordSend (OfferCall item result) self.old self.new }
     {
@@ -74,6 +76,7 @@ impl<'a, R: Wait> SendSide for AnySend<'a, R> {
     fn send(&mut self, pass: &R) -> Result<Effect, AllocError>
         ensures account { (any_send_end self.new).account ≡ (any_send_end self.old).account }
         ensures link { (any_send_end self.new).link ≡ (any_send_end self.old).link }
+
         ensures unchanged { OnErr result (any_send_end self.new ≡ any_send_end self.old) }
         ensures of_words { OfWordSend (SendCall result) self.old self.new }
     {
@@ -89,6 +92,7 @@ impl<'a, R: Wait> SendSide for AnySend<'a, R> {
         ensures acked { IfOk result (λ effect.
             effect ≡ Effect.Acked → Waits (any_send_end self.old).account) }
         ensures link { (any_send_end self.new).link ≡ (any_send_end self.old).link }
+
         ensures unchanged { OnErr result (any_send_end self.new ≡ any_send_end self.old) }
         ensures of_words { OfWordSend (PollAckCall result) self.old self.new }
     {
@@ -102,6 +106,7 @@ impl<'a, R: Wait> SendSide for AnySend<'a, R> {
         ensures account { (any_send_end self.new).account
             ≡ after_close (any_send_end self.old).account result }
         ensures link { (any_send_end self.new).link ≡ (any_send_end self.old).link }
+
         ensures unchanged { OnErr result (any_send_end self.new ≡ any_send_end self.old) }
         ensures of_words { OfWordSend (CloseCall result) self.old self.new }
     {
@@ -121,6 +126,7 @@ impl<'a, R: Wait> SendSide for AnySend<'a, R> {
     fn finish(self) -> AnySendDone
         ensures account { (any_send_finished result).account ≡ (any_send_end self.entry).account }
         ensures link { (any_send_finished result).link ≡ (any_send_end self.entry).link }
+
         ensures of_words { SameSendSteps self.entry result }
     {
         match self {

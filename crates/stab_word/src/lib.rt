@@ -7,8 +7,8 @@
 //! and the start that it was given. The layer above uses one fact: [`WordLink::settle`] always
 //! answers, without a comparison, and one event list explains the accounts of both ends.
 //! [`AnySend`] and [`AnyRecv`] are the ends of a link of either kind, with a lock or of two words,
-//! and a finished one keeps its kind. Contracts also see which loads and stores each end made: they
-//! follow its half of the script, and some order of those of both ends explains the accounts.
+//! and a finished one keeps its kind. Contracts also see which loads and stores each end made, in
+//! their order, and `settle` that these, in some order of both ends together, explain the accounts.
 #![tactic(auto)]
 
 mod any_recv;

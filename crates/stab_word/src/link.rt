@@ -5,7 +5,6 @@ ghost use Rattle.stab_core.specs.declared.event.Event.{Event};
 ghost use Rattle.stab_lock.specs.Settling.{Agree};
 ghost use Rattle.stab_script.specs.Scripts.{sender_half, receiver_half};
 ghost use Rattle.stab_word.specs.Ends.{new_send_end, new_recv_end};
-ghost use Rattle.stab_word.specs.Following.{RecvFollowed, SendFollowed};
 ghost use Rattle.stab_word.specs.Interleaving.{AnInterleavingExplains};
 ghost use Rattle.stab_word.specs.WordFaults.{IsWordReason};
 
@@ -20,7 +19,6 @@ use stab_lock::{RecvAccount, SendAccount, Settled};
 use stab_script::Script;
 use std::alloc::{AllocError, Global};
 use std::marker::Model;
-use std::snapshot::Snapshot;
 
 /// How many frames a link of two words has a place for, and how many acknowledgements.
 const ONE_PLACE: u16 = 1;
@@ -120,30 +118,16 @@ impl WordLink {
         let mut received = RecvAccount::new(alloc);
         received.delivered.reserve(1)?;
         let (sender, receiver) = self.table.split(seat);
-        let (send_half, recv_half) = script.split();
-        let send = WordSend {
-            table: &self.table,
-            seat: sender,
-            params,
-            label: send_label,
-            account: sent,
-            script: Snapshot::of(&send_half),
-            acts: send_half,
-        };
-        let recv = WordRecv {
-            table: &self.table,
-            seat: receiver,
-            label: recv_label,
-            account: received,
-            script: Snapshot::of(&recv_half),
-            acts: recv_half,
-        };
-        Ok((send, recv))
+        let (send_acts, recv_acts) = script.split();
+        Ok((
+            WordSend::new(&self.table, sender, params, send_label, sent, send_acts),
+            WordRecv::new(&self.table, receiver, recv_label, received, recv_acts),
+        ))
     }
 
-    /// Hands back the accounts of both finished ends, which one list of events explains: those of
-    /// all their steps, in some order that keeps each end's own. The steps of each end follow its
-    /// half of the script. It compares nothing, takes no memory and always answers.
+    /// Hands back the accounts of both finished ends, which one list of events explains: the events
+    /// of all steps that the ends made, in some order that keeps the order of each end's own. It
+    /// compares nothing, takes no memory and always answers.
     pub fn settle(self, send: SendDone, recv: RecvDone) -> Settled
         requires send { send.link ≡ self }
         requires recv { recv.link ≡ self }
@@ -154,16 +138,16 @@ impl WordLink {
             send.sent recv.received }
         ensures interleaved { AnInterleavingExplains self.given send.steps send.sent recv.steps
             recv.received }
-        ensures send_follows { SendFollowed send.script send.steps }
-        ensures recv_follows { RecvFollowed self.given.start.recv_label recv.script recv.steps }
         ensures law { LinkLaw 1 (start_items self.given.start)
             send.sent.offered send.sent.acked recv.received.delivered }
     {
         let WordLink { table } = self;
-        table.join(send.seat, recv.seat);
+        let (sender, sent) = send.into_parts();
+        let (receiver, received) = recv.into_parts();
+        table.join(sender, receiver);
         Settled {
-            send: send.account,
-            recv: recv.account,
+            send: sent,
+            recv: received,
         }
     }
 }

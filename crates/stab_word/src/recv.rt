@@ -1,7 +1,8 @@
-ghost use Rattle.std.specs.Prelude.{◌≡◌, IfOk};
+ghost use Rattle.std.specs.Prelude.{◌≡◌, [], IfOk};
 ghost use Rattle.stab_lock.specs.Accounts.{IsOpenFor, after_poll_frame};
 ghost use Rattle.stab_word.specs.Calls.{PollFrameCall, SendAckCall};
-ghost use Rattle.stab_word.specs.Seats.{LinkId};
+ghost use Rattle.stab_word.specs.Ends.{receiver_seat};
+ghost use Rattle.stab_word.specs.Seats.{LinkId, link_of_receiver};
 
 use crate::seats::RecvSeat;
 use crate::steps::WordTable;
@@ -12,31 +13,28 @@ use stab_lock::{FrameSeen, RecvAccount, RecvSide};
 use stab_script::{HalfScript, OutAct};
 use std::alloc::AllocError;
 use std::marker::Model;
-use std::snapshot::Snapshot;
 
 /// The receiver's end of a link of two words. A call makes at most two atomic steps, each a load
 /// or a store, and waits for nothing. Contracts see its link, its account, the label that it took
-/// last, its half of the script, the acts that remain of it, and its steps, which follow that half.
+/// last, the acts of its script that remain, and the steps that it made, which no value at run time
+/// holds.
 #[derive(Drop)]
 pub struct WordRecv<'a> {
-    pub(crate) table: &'a WordTable,
-    pub(crate) seat: RecvSeat,
-    pub(crate) label: Label,
-    pub(crate) account: RecvAccount,
-    pub(crate) script: Snapshot<HalfScript>,
-    pub(crate) acts: HalfScript,
+    table: &'a WordTable,
+    seat: RecvSeat,
+    label: Label,
+    account: RecvAccount,
+    acts: HalfScript,
 }
 
 impl<'a> Model for WordRecv<'a> {
     ghost use Rattle.std.specs.Prelude.{◌≡◌};
     ghost use Rattle.stab_word.specs.Ends.{RecvEnd, receiver_seat};
-    ghost use Rattle.stab_word.specs.Following.{RecvFollows};
 
     ghost Value = { RecvEnd };
 
     ghost view = { λ e. record {
       link = e.table.now;
-      script = e.script.value;
       received = e.account;
       label = e.label;
       acts = e.acts;
@@ -44,37 +42,72 @@ impl<'a> Model for WordRecv<'a> {
     } };
 
     ghost invariant = { λ e.
-        (e.seat ≡ receiver_seat e.table.now e.label e.account e.seat.view.steps)
-        × RecvFollows e.table.now.given.start.recv_label e.script.value e.seat.view.steps
-        e.label e.acts };
+        e.seat ≡ receiver_seat e.table.now e.label e.account e.seat.view.steps };
+}
+
+impl<'a> WordRecv<'a> {
+    /// The end of this link at this seat.
+    pub(crate) fn new(
+        table: &'a WordTable,
+        seat: RecvSeat,
+        label: Label,
+        account: RecvAccount,
+        acts: HalfScript,
+    ) -> WordRecv<'a>
+        requires { seat ≡ receiver_seat table.now label account [] }
+        ensures { result ≡ record {
+          link = table.now;
+          received = account;
+          label = label;
+          acts = acts;
+          steps = [];
+        } }
+    {
+        WordRecv {
+            table,
+            seat,
+            label,
+            account,
+            acts,
+        }
+    }
 }
 
 /// A finished receiver's end, which borrows nothing: what its link needs to settle it. Contracts
-/// see its link, its half of the script, its account, and the steps that it made.
+/// see its link, its account, and the steps that it made.
 #[derive(Drop)]
 pub struct RecvDone {
-    pub(crate) seat: RecvSeat,
-    pub(crate) account: RecvAccount,
-    pub(crate) script: Snapshot<HalfScript>,
+    seat: RecvSeat,
+    account: RecvAccount,
 }
 
 impl Model for RecvDone {
     ghost use Rattle.std.specs.Prelude.{◌≡◌};
     ghost use Rattle.stab_word.specs.Ends.{RecvFinished};
-    ghost use Rattle.stab_word.specs.Following.{RecvFollowed};
     ghost use Rattle.stab_word.specs.Seats.{link_of_receiver};
 
     ghost Value = { RecvFinished };
 
     ghost view = { λ d. record {
       link = link_of_receiver d.seat;
-      script = d.script.value;
       received = d.account;
       steps = d.seat.view.steps;
     } };
 
-    ghost invariant = { λ d. (d.seat.view.account ≡ d.account)
-        × RecvFollowed d.seat.view.given.start.recv_label d.script.value d.seat.view.steps };
+    ghost invariant = { λ d. d.seat.view.account ≡ d.account };
+}
+
+impl RecvDone {
+    /// The seat and the account. The seat's view says the account and the steps.
+    pub(crate) fn into_parts(self) -> (RecvSeat, RecvAccount)
+        ensures link { link_of_receiver result.0 ≡ self.link }
+        ensures view { result.0.view.account ≡ self.received }
+        ensures steps { result.0.view.steps ≡ self.steps }
+        ensures account { result.1 ≡ self.received }
+    {
+        let RecvDone { seat, account } = self;
+        (seat, account)
+    }
 }
 
 impl<'a> RecvSide for WordRecv<'a> {
@@ -94,11 +127,14 @@ impl<'a> RecvSide for WordRecv<'a> {
 
     /// One load of the frame word, where the account has a place for an item. Where it has none,
     /// the load only looks; where that shows a frame with another label, and nowhere else, the call
-    /// takes memory for a place, loads once more, and takes whatever that load shows.
+    /// takes memory for a place, loads once more, and takes whatever that load shows. Once the
+    /// close was seen, no step. An act is taken where the last load shows a frame, unless memory is
+    /// refused.
     fn poll_frame(&mut self, _pass: &()) -> Result<FrameSeen, AllocError>
         ensures account { self.new.received ≡ after_poll_frame self.old.received result }
         ensures open { IfOk result (IsOpenFor self.old.received) }
         ensures link { self.new.link ≡ self.old.link }
+
         ensures call { PollFrameCall result self.old self.new }
     {
         if self.account.closed {
@@ -141,10 +177,12 @@ impl<'a> RecvSide for WordRecv<'a> {
         }
     }
 
-    /// Until the close was seen, the next act says whether the label is stored.
+    /// Until the close was seen, the next act says whether the label is stored: one store under
+    /// pass and evict, and none under drop. After it, no step, and no act is taken.
     fn send_ack(&mut self, _pass: &()) -> Result<Effect, AllocError>
         ensures account { self.new.received ≡ self.old.received }
         ensures link { self.new.link ≡ self.old.link }
+
         ensures call { SendAckCall result self.old self.new }
     {
         if self.account.closed {
@@ -163,23 +201,15 @@ impl<'a> RecvSide for WordRecv<'a> {
         &self.account
     }
 
+    /// No step.
     fn finish(self) -> RecvDone
         ensures account { result.received ≡ self.entry.received }
         ensures link { result.link ≡ self.entry.link }
+
         ensures steps { result.steps ≡ self.entry.steps }
-        ensures script { result.script ≡ self.entry.script }
     {
-        let WordRecv {
-            seat,
-            account,
-            script,
-            ..
-        } = self;
-        RecvDone {
-            seat,
-            account,
-            script,
-        }
+        let WordRecv { seat, account, .. } = self;
+        RecvDone { seat, account }
     }
 
     fn done_account(done: &RecvDone) -> &RecvAccount

@@ -1,9 +1,10 @@
-ghost use Rattle.std.specs.Prelude.{◌≡◌, ◌↔◌, true, IsTrue, IfOk};
+ghost use Rattle.std.specs.Prelude.{◌≡◌, ◌↔◌, true, [], IsTrue, IfOk};
 ghost use Rattle.stab_lock.specs.Accounts.{MayOffer, Waits, after_offer, after_poll_ack};
-ghost use Rattle.stab_lock.specs.Accounts.{after_close};
+ghost use Rattle.stab_lock.specs.Accounts.{after_close, new_sender};
 ghost use Rattle.stab_word.specs.Answers.{has_frame};
 ghost use Rattle.stab_word.specs.Calls.{OfferCall, SendCall, PollAckCall, CloseCall};
-ghost use Rattle.stab_word.specs.Seats.{LinkId};
+ghost use Rattle.stab_word.specs.Ends.{sender_seat};
+ghost use Rattle.stab_word.specs.Seats.{LinkId, link_of_sender};
 
 use crate::seats::SendSeat;
 use crate::steps::WordTable;
@@ -14,7 +15,6 @@ use stab_lock::{SendAccount, SendSide};
 use stab_script::{HalfScript, OutAct};
 use std::alloc::AllocError;
 use std::marker::Model;
-use std::snapshot::Snapshot;
 
 /// Whether the end may take an item: each item that it took is acknowledged, and it is not closed.
 fn may_offer(account: &SendAccount) -> bool
@@ -32,29 +32,26 @@ fn waits(account: &SendAccount) -> bool
 }
 
 /// The sender's end of a link of two words. A call makes at most one atomic step, a load or a
-/// store, and waits for nothing. Contracts see its link, its account, its label, its half of the
-/// script, the acts that remain of it, and its steps, which follow that half.
+/// store, and waits for nothing. Contracts see its link, its account, its label, the acts of its
+/// script that remain, and the steps that it made, which no value at run time holds.
 #[derive(Drop)]
 pub struct WordSend<'a> {
-    pub(crate) table: &'a WordTable,
-    pub(crate) seat: SendSeat,
-    pub(crate) params: Params,
-    pub(crate) label: Label,
-    pub(crate) account: SendAccount,
-    pub(crate) script: Snapshot<HalfScript>,
-    pub(crate) acts: HalfScript,
+    table: &'a WordTable,
+    seat: SendSeat,
+    params: Params,
+    label: Label,
+    account: SendAccount,
+    acts: HalfScript,
 }
 
 impl<'a> Model for WordSend<'a> {
     ghost use Rattle.std.specs.Prelude.{◌≡◌, ◌≤◌, ◌+◌, length};
     ghost use Rattle.stab_word.specs.Ends.{SendEnd, sender_seat};
-    ghost use Rattle.stab_word.specs.Following.{SendFollows};
 
     ghost Value = { SendEnd };
 
     ghost view = { λ e. record {
       link = e.table.now;
-      script = e.script.value;
       sent = e.account;
       label = e.label;
       acts = e.acts;
@@ -64,36 +61,73 @@ impl<'a> Model for WordSend<'a> {
     ghost invariant = { λ e. (e.params ≡ e.table.now.given.params)
         × (e.account.acked ≤ length e.account.offered)
         × (length e.account.offered ≤ e.account.acked + 1)
-        × (e.seat ≡ sender_seat e.table.now e.label e.account e.seat.view.steps)
-        × SendFollows e.script.value e.seat.view.steps e.acts };
+        × (e.seat ≡ sender_seat e.table.now e.label e.account e.seat.view.steps) };
+}
+
+impl<'a> WordSend<'a> {
+    /// The end of this link at this seat, which has made no call.
+    pub(crate) fn new(
+        table: &'a WordTable,
+        seat: SendSeat,
+        params: Params,
+        label: Label,
+        account: SendAccount,
+        acts: HalfScript,
+    ) -> WordSend<'a>
+        requires params { params ≡ table.now.given.params }
+        requires account { account ≡ new_sender }
+        requires seat { seat ≡ sender_seat table.now label account [] }
+        ensures { result ≡ record {
+          link = table.now;
+          sent = account;
+          label = label;
+          acts = acts;
+          steps = [];
+        } }
+    {
+        WordSend {
+            table,
+            seat,
+            params,
+            label,
+            account,
+            acts,
+        }
+    }
 }
 
 /// A finished sender's end, which borrows nothing: what its link needs to settle it. Contracts see
-/// its link, its half of the script, its account, and the steps that it made.
+/// its link, its account, and the steps that it made.
 #[derive(Drop)]
 pub struct SendDone {
-    pub(crate) seat: SendSeat,
-    pub(crate) account: SendAccount,
-    pub(crate) script: Snapshot<HalfScript>,
+    seat: SendSeat,
+    account: SendAccount,
 }
 
 impl Model for SendDone {
     ghost use Rattle.std.specs.Prelude.{◌≡◌};
     ghost use Rattle.stab_word.specs.Ends.{SendFinished};
-    ghost use Rattle.stab_word.specs.Following.{SendFollowed};
     ghost use Rattle.stab_word.specs.Seats.{link_of_sender};
 
     ghost Value = { SendFinished };
 
-    ghost view = { λ d. record {
-      link = link_of_sender d.seat;
-      script = d.script.value;
-      sent = d.account;
-      steps = d.seat.view.steps;
-    } };
+    ghost view = { λ d.
+        record { link = link_of_sender d.seat; sent = d.account; steps = d.seat.view.steps } };
 
-    ghost invariant = { λ d. (d.seat.view.account ≡ d.account)
-        × SendFollowed d.script.value d.seat.view.steps };
+    ghost invariant = { λ d. d.seat.view.account ≡ d.account };
+}
+
+impl SendDone {
+    /// The seat and the account. The seat's view says the account and the steps.
+    pub(crate) fn into_parts(self) -> (SendSeat, SendAccount)
+        ensures link { link_of_sender result.0 ≡ self.link }
+        ensures view { result.0.view.account ≡ self.sent }
+        ensures steps { result.0.view.steps ≡ self.steps }
+        ensures account { result.1 ≡ self.sent }
+    {
+        let SendDone { seat, account } = self;
+        (seat, account)
+    }
 }
 
 impl<'a> SendSide for WordSend<'a> {
@@ -111,11 +145,13 @@ impl<'a> SendSide for WordSend<'a> {
 
     ghost done_sent = { λ done. done.sent };
 
-    /// It takes memory only where it would take the item, which is then one load.
+    /// It takes memory only where it would take the item. An item that is taken is one load of the
+    /// frame word, whatever it shows; an item that is not taken is no step.
     fn offer(&mut self, _pass: &(), item: Item) -> Result<bool, AllocError>
         ensures account { self.new.sent ≡ after_offer self.old.sent item result }
         ensures taken { IfOk result (λ taken. taken ≡ true → MayOffer self.old.sent) }
         ensures link { self.new.link ≡ self.old.link }
+
         ensures call { OfferCall item result self.old self.new }
     {
         if !may_offer(&self.account) {
@@ -127,10 +163,13 @@ impl<'a> SendSide for WordSend<'a> {
         Ok(true)
     }
 
-    /// Where an item waits and the link is open, the next act says whether its frame is stored.
+    /// Where an item waits and the link is open, the next act says whether its frame is stored: one
+    /// store under pass and evict, and none under drop. Otherwise it makes no step and takes no
+    /// act.
     fn send(&mut self, _pass: &()) -> Result<Effect, AllocError>
         ensures account { self.new.sent ≡ self.old.sent }
         ensures link { self.new.link ≡ self.old.link }
+
         ensures call { SendCall result self.old self.new }
     {
         if !waits(&self.account) {
@@ -140,19 +179,24 @@ impl<'a> SendSide for WordSend<'a> {
             OutAct::Drop => Ok(Effect::Lost),
             OutAct::Pass | OutAct::Evict => {
                 let item = self.account.offered[self.account.acked as usize];
-                let label = self.label;
-                self.table
-                    .frame_store(&mut self.seat, Frame { label, item });
+                let frame = Frame {
+                    label: self.label,
+                    item,
+                };
+                self.table.frame_store(&mut self.seat, frame);
                 Ok(Effect::Sent)
             }
         }
     }
 
-    /// One load of the acknowledgement word, also where no item waits, until the end is closed.
+    /// One load of the acknowledgement word, also where no item waits; once the end closed the
+    /// link, no step. The answer goes by the word that the load shows. An act is taken where the
+    /// word shows an acknowledgement.
     fn poll_ack(&mut self, _pass: &()) -> Result<Effect, AllocError>
         ensures account { self.new.sent ≡ after_poll_ack self.old.sent result }
         ensures acked { IfOk result (λ effect. effect ≡ Effect.Acked → Waits self.old.sent) }
         ensures link { self.new.link ≡ self.old.link }
+
         ensures call { PollAckCall result self.old self.new }
     {
         let waits = waits(&self.account);
@@ -171,9 +215,11 @@ impl<'a> SendSide for WordSend<'a> {
         Ok(Effect::Acked)
     }
 
+    /// One store, the first time; no step after it.
     fn close(&mut self, _pass: &()) -> Result<Effect, AllocError>
         ensures account { self.new.sent ≡ after_close self.old.sent result }
         ensures link { self.new.link ≡ self.old.link }
+
         ensures call { CloseCall result self.old self.new }
     {
         if self.account.closed {
@@ -188,23 +234,15 @@ impl<'a> SendSide for WordSend<'a> {
         &self.account
     }
 
+    /// No step.
     fn finish(self) -> SendDone
         ensures account { result.sent ≡ self.entry.sent }
         ensures link { result.link ≡ self.entry.link }
+
         ensures steps { result.steps ≡ self.entry.steps }
-        ensures script { result.script ≡ self.entry.script }
     {
-        let WordSend {
-            seat,
-            account,
-            script,
-            ..
-        } = self;
-        SendDone {
-            seat,
-            account,
-            script,
-        }
+        let WordSend { seat, account, .. } = self;
+        SendDone { seat, account }
     }
 
     fn done_account(done: &SendDone) -> &SendAccount

@@ -1,5 +1,6 @@
 //! The steps of a link of two words: the only functions that touch its table. Each is one load or
-//! one store of one word, and says which kind of step it is and for which events it stands.
+//! one store of one word, and says which kind of step it is and which events of the link it stands
+//! for.
 
 ghost use Rattle.std.specs.Prelude.{◌≡◌, ◌≤◌, List, length, vec_len, vec_capacity, false, IfOk};
 ghost use Rattle.stab_core.specs.LinkLaw.{LinkLaw};
@@ -101,7 +102,8 @@ impl WordTable {
         Ok((WordTable { table }, OpeningSeat { seat }))
     }
 
-    /// The opening seat becomes the sender's, and the receiver's seat is new. This is no event.
+    /// The split of a seat: the opening seat becomes the sender's, and the receiver's seat is new.
+    /// It stands for no event.
     pub(crate) fn split(&self, opening: OpeningSeat) -> (SendSeat, RecvSeat)
         requires { opening ≡ self.now }
         ensures sender { result.0
@@ -114,7 +116,8 @@ impl WordTable {
         (SendSeat { seat }, RecvSeat { seat: other })
     }
 
-    /// The offer load: the sender takes the item. It stands for Offer, whatever the word shows.
+    /// The offer load: the sender takes the item. It stands for Offer, and ignores what the frame
+    /// word shows; it is there because a view changes only at a step.
     pub(crate) fn offer_load(&self, seat: &mut SendSeat, item: Item)
         requires own { link_of_sender seat.old ≡ self.now }
         requires may_offer { MayOffer seat.old.view.account }
@@ -192,7 +195,8 @@ impl WordTable {
     }
 
     /// The acknowledgement store: the receiver sends the label that it remembers. It stands for
-    /// LoseAck 0 where an acknowledgement is on its way, and SendAck; on a closed link for none.
+    /// LoseAck 0 where an acknowledgement is on its way, and SendAck; on a closed link it stands
+    /// for no event.
     pub(crate) fn ack_store(&self, seat: &mut RecvSeat, label: Label)
         requires own { link_of_receiver seat.old ≡ self.now }
         requires unseen { seat.old.view.account.closed ≡ false }

@@ -59,15 +59,30 @@ pub(crate) enum RecvStep {
     AckStore(Label),
 }
 
-/// The steps that an end made, in their order.
-pub(crate) struct Steps<S> {
-    list: Vec<S>,
+/// The steps that the sender's end made, in their order.
+pub(crate) struct SendSteps {
+    list: Vec<SendStep>,
 }
 
-impl<S> Model for Steps<S> {
+impl Model for SendSteps {
     ghost use Rattle.std.specs.Prelude.{List};
+    ghost use Rattle.stab_word.specs.declared.view.SendStep.{SendStep};
 
-    ghost Value = { List S };
+    ghost Value = { List SendStep };
+
+    ghost view = { λ s. s.list.items };
+}
+
+/// The steps that the receiver's end made, in their order.
+pub(crate) struct RecvSteps {
+    list: Vec<RecvStep>,
+}
+
+impl Model for RecvSteps {
+    ghost use Rattle.std.specs.Prelude.{List};
+    ghost use Rattle.stab_word.specs.declared.view.RecvStep.{RecvStep};
+
+    ghost Value = { List RecvStep };
 
     ghost view = { λ s. s.list.items };
 }
@@ -77,15 +92,16 @@ pub(crate) struct SendView {
     pub(crate) given: Setting,
     pub(crate) label: Label,
     pub(crate) account: SendAccount,
-    pub(crate) steps: Steps<SendStep>,
+    pub(crate) steps: SendSteps,
 }
 
-/// The same of the receiver's end, whose label is the one that it took last.
+/// What the receiver's end knows: the label that it remembers, all that its account says, and the
+/// steps that it made.
 pub(crate) struct RecvView {
     pub(crate) given: Setting,
     pub(crate) label: Label,
     pub(crate) account: RecvAccount,
-    pub(crate) steps: Steps<RecvStep>,
+    pub(crate) steps: RecvSteps,
 }
 
 /// What the seats of a link know, one view each.

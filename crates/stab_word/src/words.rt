@@ -1,4 +1,5 @@
-//! What the two words of a link show, and the only numbers that ever stand in them.
+//! What the two words of a link show, and the numbers that code it. No other numbers ever stand
+//! in them.
 
 ghost use Rattle.std.specs.Prelude.{◌≡◌, ◌<◌, ◌^◌};
 ghost use Rattle.stab_word.specs.Words.{frame_code, FrameFits, IsFrameCode};
