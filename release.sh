@@ -1,22 +1,22 @@
 #!/usr/bin/env bash
-# Makes the release: the program, compressed, and a manifest of what it was made from.
+# Makes the release: programs, libraries and modules, and a manifest of what they were made from.
 #
-#   ./release.sh            makes the files of release/ from the present sources. It takes the
-#                           program that ./stab has proved and built, or has it built now.
-#   ./release.sh --prove    the same, with the program proved and built from nothing
-#   ./release.sh --check    compares release/ with the program that rt ci has just built, as the
-#                           gate does. The last line is 'N passed, M failed'.
+#   ./release.sh            makes the files of release/ from the present sources. It takes what was
+#                           proved and built of them here, and has the rest built now.
+#   ./release.sh --prove    the same, with all of it proved and built from nothing
+#   ./release.sh --check    compares release/ with what rt ci has just built, as the gate does. The
+#                           last line is 'N passed, M failed'.
 #   ./release.sh --archive  packs the release with the pages and the examples for users, as a file
 #                           in out/ that is the same, byte for byte, whoever packs it
 #
-# release/ has two files: stab.gz, and MANIFEST with three lines, which are the digest of the
-# unpacked program, the digest of its sources, and the line of the kit.
+# What release/ has is in the table of tools/launch. A program is compressed there. The file MANIFEST
+# has the line of the kit, and a line for each of these files: its name, the digest of what it holds,
+# unpacked if it is a program, and the digest of its sources.
 set -uo pipefail
 unset CDPATH
-top=$(dirname -- "$(readlink -f -- "${BASH_SOURCE[0]}")")
-# shellcheck source=stab
-. "$top/stab"
-name=release
+# shellcheck source=tools/launch
+. "$(dirname -- "$(readlink -f -- "${BASH_SOURCE[0]}")")/tools/launch"
+speaker=release
 work=
 passed=0
 failed=0
@@ -24,23 +24,34 @@ failed=0
 # Makes a folder for what this script makes, which is removed at its end.
 make_room() {
     work=$(mktemp -d) || fail 'no temporary folder can be made'
-    trap 'rm -rf -- "$work"' EXIT
+    trap 'end_build; rm -rf -- "$work"' EXIT
 }
 
-# Makes the files of release/ from the program, which is built first if that was not done yet.
+# Makes the files of release/, which are built first if that was not done yet.
 make_release() {
-    local kit
+    local kit artefact
     why='a release is to be made'
-    if [ "$1" = prove ] || ! find_built; then
+    if [ "$1" = prove ] || ! find_built "${artefacts[@]}"; then
         build "$1"
     fi
     kit=$(identity_of_kit) || fail "the command rt of the Rattle kit is needed for a release"
     make_room
-    mkdir -p -- "$release" && gzip -9n <"$program" >"$work/stab.gz" &&
-        printf 'program %s\nsources %s\nkit %s\n' "${program##*-}" "$sources" "$kit" \
-            >"$work/MANIFEST" && cp -- "$work/stab.gz" "$work/MANIFEST" "$release/" ||
-        fail "the files of $release cannot be written"
-    say "release/ has the program of these sources; commit both of its files"
+    mkdir -- "$work/release" && printf 'kit %s\n' "$kit" >"$work/release/MANIFEST" ||
+        fail "the folder $work cannot be written to"
+    for artefact in "${artefacts[@]}"; do
+        if [ "${kind_of[$artefact]}" = program ]; then
+            gzip -9n <"${built[$artefact]}"
+        else
+            cat -- "${built[$artefact]}"
+        fi >"$work/release/$(file_of "$artefact")" &&
+            printf '%s sha256 %s sources %s\n' "$artefact" "${built[$artefact]##*-}" \
+                "${sources[$artefact]}" >>"$work/release/MANIFEST" ||
+            fail "the folder $work cannot be written to"
+    done
+    # (what is no more of a release goes)
+    mkdir -p -- "$release" && find "$release" -mindepth 1 -delete &&
+        cp -- "$work/release/"* "$release/" || fail "the files of $release cannot be written"
+    say "release/ has what these sources give (${artefacts[*]}); commit all of it"
 }
 
 # Says whether a case holds, and what is wrong if it does not: a name, a text, and a command.
@@ -56,33 +67,58 @@ holds() {
     fi
 }
 
-# Whether release/ has two plain files.
-has_two_files() {
+# Whether release/ has the manifest and the files of the artefacts, as plain files, and nothing else.
+has_its_files() {
+    local artefact
     [ "$(cd -- "$release" 2>/dev/null && find . -mindepth 1 -printf '%y %P\n' | LC_ALL=C sort)" = \
-        $'f MANIFEST\nf stab.gz' ]
+        "$(printf 'f MANIFEST\n'
+            for artefact in "${artefacts[@]}"; do
+                printf 'f %s\n' "$(file_of "$artefact")"
+            done | LC_ALL=C sort)" ]
 }
 
-# Unpacks the program of the release to a file. The status says whether it is the one that the
+# Whether the manifest names these artefacts and no others.
+names_all() {
+    read_manifest && [ "$(printf '%s\n' "${!released[@]}" | LC_ALL=C sort)" = \
+        "$(printf '%s\n' "${artefacts[@]}" | LC_ALL=C sort)" ]
+}
+
+# Unpacks an artefact of the release to a file. The status says whether it is the one that the
 # manifest names, and nothing follows it.
 unpack_to() {
-    gzip -dc -- "$release/stab.gz" >"$1" 2>/dev/null && [ "$(digest_of "$1")" = "$released" ]
+    contents_of "$1" >"$2" && [ "$(digest_of "$2")" = "${released[$1]-}" ]
 }
 
-# Compares the release with a program that was just proved and built of the present sources.
+# Whether an artefact is the one that these sources give, byte for byte, as rt ci has left it or its
+# crates: the artefact, and its file.
+is_made_again() {
+    make_after_ci "$top" "$1" && cmp -s -- "$2" "$made"
+}
+
+# Compares the release with what was just proved and built of the present sources.
 check() {
-    local made=$top/crates/$main_crate/out/$main_crate
+    local artefact
     make_room
-    holds 'release/ has a program and a manifest' 'it has not exactly stab.gz and MANIFEST' \
-        has_two_files
-    holds 'the manifest is one' "$release/MANIFEST is missing or spoiled" read_manifest
-    holds 'it names these sources' 'the release was made from other sources' \
-        [ "$released_from" = "$sources" ]
+    trap 'interrupted INT' INT
+    trap 'interrupted TERM' TERM
+    trap 'interrupted HUP' HUP
+    mkdir -p -- "$kept" && : >"$log" || fail "the file $log cannot be written"
+    holds 'release/ has its files' "it has not exactly MANIFEST and a file for ${artefacts[*]}" \
+        has_its_files
+    holds 'the manifest is one' "$release/MANIFEST is missing or spoiled, or lists other files" \
+        names_all
     holds 'it names this kit' "the release was built by another kit: $released_by" \
         [ "$released_by" = "$(identity_of_kit)" ]
-    holds 'it names the program beside it' 'stab.gz is another program, or spoiled' \
-        unpack_to "$work/stab"
-    holds 'the program is the one that was just built, byte for byte' \
-        "it differs from $made, or that was not built" cmp -s -- "$work/stab" "$made"
+    for artefact in "${artefacts[@]}"; do
+        holds "$artefact: the manifest names these sources" \
+            'the release was made from other sources' \
+            [ "${released_from[$artefact]-}" = "${sources[$artefact]}" ]
+        holds "$artefact: the manifest names the file beside it" 'it is another one, or spoiled' \
+            unpack_to "$artefact" "$work/$artefact"
+        holds "$artefact: the file is what was just built, byte for byte" \
+            "it differs, or that was not built: see $log" \
+            is_made_again "$artefact" "$work/$artefact"
+    done
     if [ "$failed" -ne 0 ]; then
         printf 'release: %s\n' 'run ./release.sh and commit what it makes' \
             'where it makes the same again, run ./release.sh --prove'
@@ -91,14 +127,40 @@ check() {
     [ "$failed" -eq 0 ]
 }
 
+# Puts the artefacts of the release into the folder of an archive.
+pack_artefacts() {
+    local artefact to
+    for artefact in "${artefacts[@]}"; do
+        [ "${released_from[$artefact]-}" = "${sources[$artefact]}" ] ||
+            fail "the release of $artefact was made from other sources: run ./release.sh first"
+        case ${kind_of[$artefact]} in
+            program) to=$1/$artefact ;;
+            library) to=$1/lib/$artefact ;;
+            module) to=$1/page/$artefact ;;
+        esac
+        mkdir -p -- "${to%/*}" && unpack_to "$artefact" "$to" ||
+            fail "the release is spoiled: its $artefact is not the one that its MANIFEST names"
+        [ "${kind_of[$artefact]}" != program ] || chmod 755 -- "$to"
+    done
+}
+
+# Puts the pages, the examples and what else is for users into the folder of an archive.
+pack_pages() {
+    local part
+    cp -- "$top/README.md" "$top/CHANGELOG.md" "$1/" &&
+        mkdir -p -- "$1/docs" "$1/examples" && cp -- "$top"/docs/*.md "$1/docs/" &&
+        cp -RL -- "$top/examples/." "$1/examples/" || return
+    for part in LICENSE man include docs/schema page/index.html; do
+        [ ! -e "$top/$part" ] || (cd -- "$top" && cp -RL --parents -- "$part" "$1/") || return
+    done
+}
+
 # Packs the release. Its version is the date at the top of CHANGELOG.md, with the time of the day
 # that stands there.
 archive() {
     local version day folder to
     make_room
     read_manifest || fail "$why: run ./release.sh first"
-    [ "$released_from" = "$sources" ] ||
-        fail "the release was made from other sources: run ./release.sh first"
     version=$(sed -nE '/^## /{s/^## ([0-9]{4}(-[0-9]{2}){2})(, ([a-z]+))?(:.*)?$/\1 \4/p;q}' \
         "$top/CHANGELOG.md")
     [ -n "$version" ] || fail "the first heading of CHANGELOG.md has no date"
@@ -107,16 +169,10 @@ archive() {
     version=${version/ /-}
     folder=rignolda-$version-x86_64-linux
     to=$kept/$folder.tar.xz
-    mkdir -p -- "$kept" "$work/$folder/docs" "$work/$folder/examples" ||
+    mkdir -p -- "$kept" "$work/$folder" ||
         fail "the folders $kept and $work cannot be written to"
-    unpack_to "$work/$folder/stab" ||
-        fail 'the release is spoiled: its program is not the one that its MANIFEST names'
-    chmod 755 -- "$work/$folder/stab"
-    cp -- "$top/README.md" "$top/CHANGELOG.md" "$work/$folder/" &&
-        cp -- "$top"/docs/*.md "$work/$folder/docs/" &&
-        cp -RL -- "$top/examples/." "$work/$folder/examples/" ||
-        fail "the pages and examples cannot be copied to $work"
-    [ ! -f "$top/LICENSE" ] || cp -- "$top/LICENSE" "$work/$folder/"
+    pack_artefacts "$work/$folder"
+    pack_pages "$work/$folder" || fail "the pages and examples cannot be copied to $work"
     (cd -- "$work/$folder" && find . -type f ! -name SHA256SUMS -printf '%P\0' |
         LC_ALL=C sort -z | xargs -0 sha256sum >"$work/sums" && mv -- "$work/sums" SHA256SUMS) &&
         LC_ALL=C tar -C "$work" --format=ustar --sort=name --mtime="$day 00:00:00Z" --owner=0 \
@@ -129,8 +185,7 @@ archive() {
 
 # (a function, so that this file may change while a build goes on: bash reads a script as it runs)
 run() {
-    read_crates
-    need "$main_crate"
+    read_table
     find_sources
     case $#,${1-} in
         0,) make_release kept ;;

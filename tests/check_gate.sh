@@ -11,8 +11,9 @@ unset CDPATH TMPDIR RT_JOBS
 house="$work/a house"
 passed=0
 failed=0
-mkdir -p "$work/bin" "$house/tests/refused" "$house/bench" "$work/temporary"
-cp -- "$top/gate" "$top/stab" "$house/"
+mkdir -p "$work/bin" "$house/tests/refused" "$house/bench" "$house/tools" "$work/temporary"
+cp -- "$top/gate" "$house/"
+cp -- "$top/tools/launch" "$house/tools/"
 cp -- "$top/bench/gate.py" "$house/bench/"
 
 # Says whether a case holds: its name, and a command.

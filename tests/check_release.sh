@@ -57,7 +57,9 @@ done
 ln -s crates/low/data "$house/examples"
 printf '# Changelog\n\nText.\n\n## 2026-11-23, evening: a release\n\n## 2026-11-22: before\n' \
     >"$house/CHANGELOG.md"
-cp -- "$top/stab" "$top/release.sh" "$house/"
+cp -- "$top/release.sh" "$house/"
+mkdir "$house/tools"
+cp -- "$top/tools/launch" "$house/tools/"
 
 # Runs ./release.sh, and notes its status and what it writes.
 run() {
@@ -91,29 +93,29 @@ digest() {
     sha256sum <"$1" | cut -d' ' -f1
 }
 
-# Whether the release has the program, and a manifest of three right lines.
+# Whether the release has the program alone, and a manifest of two right lines.
 is_release() {
     local lines=()
     mapfile -t lines <"$house/release/MANIFEST"
-    [ "$(ls -A "$house/release")" = $'MANIFEST\nstab.gz' ] && [ "${#lines[@]}" -eq 3 ] &&
+    [ "$(ls -A "$house/release")" = $'MANIFEST\nstab.gz' ] && [ "${#lines[@]}" -eq 2 ] &&
         gzip -dc "$house/release/stab.gz" | cmp -s - "$house/crates/stab_cli/src/main.rt" &&
-        [ "${lines[0]}" = "program $(digest "$house/crates/stab_cli/src/main.rt")" ] &&
-        [[ ${lines[1]} =~ ^sources\ [0-9a-f]{64}$ ]] && [ "${lines[2]}" = 'kit kit-1 logic 1' ]
+        [ "${lines[0]}" = 'kit kit-1 logic 1' ] && [[ ${lines[1]} =~ ^stab\ sha256\ $(
+            digest "$house/crates/stab_cli/src/main.rt")\ sources\ [0-9a-f]{64}$ ]]
 }
 
-whole='release/ has a program and a manifest'
+whole='release/ has its files'
 manifest='the manifest is one'
-sources='it names these sources'
 kit='it names this kit'
-beside='it names the program beside it'
-equal='the program is the one that was just built, byte for byte'
+sources='stab: the manifest names these sources'
+beside='stab: the manifest names the file beside it'
+equal='stab: the file is what was just built, byte for byte'
 
 run --check
 holds 'without a release the check fails' \
     checked '0 passed, 6 failed' "$whole
 $manifest
-$sources
 $kit
+$sources
 $beside
 $equal"
 holds 'and says what to do' grep -qF 'run ./release.sh and commit' "$work/out"
@@ -145,7 +147,7 @@ run --check
 holds 'other sources fail, also where the program is the same' \
     checked '5 passed, 1 failed' "$sources"
 run --archive
-holds 'and are not packed' refused 'the release was made from other sources'
+holds 'and are not packed' refused 'the release of stab was made from other sources'
 echo low >"$house/crates/low/src/lib.rt"
 echo 'kit-2 logic 1' >"$work/kit"
 run --check
@@ -172,9 +174,9 @@ holds 'and so does more than the program' checked '5 passed, 1 failed' "$beside"
 cp "$work/release/stab.gz" "$house/release/stab.gz"
 sed -i 2d "$house/release/MANIFEST"
 run --check
-holds 'a manifest of two lines fails' grep -qx "OTHER  $manifest" "$work/out"
+holds 'a manifest of one line fails' grep -qx "OTHER  $manifest" "$work/out"
 cp "$work/release/MANIFEST" "$house/release/MANIFEST"
-sed -i '1s/$/0/' "$house/release/MANIFEST"
+sed -i '2s/$/0/' "$house/release/MANIFEST"
 run --check
 holds 'and so does one with a long digest' grep -qx "OTHER  $manifest" "$work/out"
 cp "$work/release/MANIFEST" "$house/release/MANIFEST"

@@ -65,6 +65,7 @@ mkdir -p "${made%/*}"
 printf '#!/bin/sh\necho "%s; $*; $(cat)"\nexit 7\n' "$text" >"$made"
 chmod +x "$made"
 sed -n 's/^\([a-z_]*\).*:.*/rt: \1 proved/p' "$at/crates.txt"
+[ "$1" = ci ] || echo 'rt: running out/stab_cli; to give it other input, run that file yourself' >&2
 echo '5 passed, 0 failed'
 END
     chmod +x "$work/bin/rt"
@@ -89,7 +90,9 @@ write_house() {
     printf '%s\n' '# crates' 'low: itoa' 'other:' 'mid: low itoa' 'unused: low' '' \
         'stab_cli may_wait=4: low mid other clap' >"$house/crates.txt"
     echo 'Handles allowed: none.' >"$house/HANDLES"
-    cp -- "$top/stab" "$top/release.sh" "$house/"
+    mkdir -p "$house/tools"
+    cp -- "$top/stab" "$top/rignolda" "$top/release.sh" "$house/"
+    cp -- "$top/tools/launch" "$house/tools/"
     : >"$work/calls"
 }
 
@@ -261,7 +264,7 @@ sleep 0.5
 printf in | WORK=$work PATH=$work/bin:$PATH "$house/stab" >"$work/out_of_second" 2>"$work/err"
 status=$?
 wait
-holds 'of two at once the second waits' said 'another ./stab builds the program: waiting for it'
+holds 'of two at once the second waits' said 'another build runs here: waiting for it'
 holds 'and uses what the first has built' cmp -s "$work/out_of_first" "$work/out_of_second"
 holds 'which is built once' calls 1
 for signal in TERM:143 INT:130 HUP:129; do
@@ -400,15 +403,15 @@ head -c 40 "$work/release/stab.gz" >"$house/release/stab.gz"
 spoiled 'half a program'
 rm "$house/release/stab.gz"
 spoiled 'no program'
-sed -i 's/^program ./program x/' "$house/release/MANIFEST"
+sed -i 's/sha256 ./sha256 x/' "$house/release/MANIFEST"
 spoiled 'a manifest without a digest'
-sed -i 's/^program [0-9a-f]/program 0123/' "$house/release/MANIFEST"
+sed -i 's/sha256 [0-9a-f]/sha256 0123/' "$house/release/MANIFEST"
 spoiled 'a manifest with a long digest'
 echo 'more' >>"$house/release/MANIFEST"
-spoiled 'a manifest with a fourth line'
+spoiled 'a manifest with another line'
 : >"$house/release/MANIFEST"
 spoiled 'an empty manifest'
-sed -i "s/^program .*/program $(printf 'another' | sha256sum | cut -c1-64)/" \
+sed -i "s/sha256 [0-9a-f]*/sha256 $(printf 'another' | sha256sum | cut -c1-64)/" \
     "$house/release/MANIFEST"
 spoiled 'the digest of another program'
 rm "$house/release/MANIFEST"
