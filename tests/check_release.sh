@@ -28,20 +28,36 @@ holds() {
     fi
 }
 
-# A command like rt, whose program is the text of stab_cli's source.
-mkdir -p "$work/bin" "$work/temporary"
+# A command like rt, and the compiler that it finds. What they make is the text of the source.
+mkdir -p "$work/bin" "$work/temporary" "$work/a kit/bin"
 cat >"$work/bin/rt" <<'END'
 #!/usr/bin/env bash
 case $1 in
     version) cat "$WORK/kit"; exit ;;
-    ci) at=. ;;
-    run) at=../.. ;;
+    doc) echo "$WORK/a kit/START-HERE.md"; exit ;;
 esac
 printf '%s\n' "$*" >>"$WORK/calls"
-mkdir -p "$at/crates/stab_cli/out"
-cat "$at/crates/stab_cli/src/main.rt" >"$at/crates/stab_cli/out/stab_cli"
-grep -q proved "$at/crates/stab_cli/src/main.rt"
+mkdir -p out
+case $1 in
+    lib) cat src/lib.rt >"out/lib${PWD##*/}.a"; exit ;;
+    run) cd ../.. && echo 'rt: running it' ;;
+esac
+for file in crates/*/src/main.rt; do
+    crate=${file#crates/}
+    crate=${crate%%/*}
+    mkdir -p "crates/$crate/out"
+    cat "$file" >"crates/$crate/out/$crate"
+done
+grep -q proved crates/stab_cli/src/main.rt
 END
+cat >"$work/a kit/bin/rattle" <<'END'
+#!/usr/bin/env bash
+echo "$*" >"$WORK/compiled"
+[ -z "${NOT_PROVED-}" ] || exit 1
+cat src/lib.rt >"${!#}"
+[ -z "${OTHER-}" ] || echo other >>"${!#}"
+END
+chmod +x "$work/a kit/bin/rattle"
 chmod +x "$work/bin/rt"
 echo 'kit-1 logic 1' >"$work/kit"
 
@@ -87,6 +103,21 @@ checked() {
     [ "$(tail -n 1 "$work/out")" = "$1" ] && [ "$found" = "$2" ] &&
         [ "$status" -eq "$([[ $1 == *' 0 failed' ]]; echo $?)" ] &&
         [ -z "$(ls -A "$work/temporary")" ]
+}
+
+# Whether several commands hold; they stand apart by the word 'and'.
+all() {
+    local words=()
+    while [ "$#" -gt 0 ]; do
+        if [ "$1" = and ]; then
+            "${words[@]}" || return
+            words=()
+        else
+            words+=("$1")
+        fi
+        shift
+    done
+    "${words[@]}"
 }
 
 digest() {
@@ -220,6 +251,113 @@ run --archive
 holds 'without a date there is no version' refused 'the first heading of CHANGELOG.md has no date'
 run --other
 holds 'another word is refused' [ "$status" -eq 2 ]
+
+
+# A release of several things: a library for C and a module as well.
+library='librignolda.a: the file is what was just built, byte for byte'
+library_sources='librignolda.a: the manifest names these sources'
+library_beside='librignolda.a: the manifest names the file beside it'
+module='rignolda.wasm: the file is what was just built, byte for byte'
+module_sources='rignolda.wasm: the manifest names these sources'
+mkdir -p "$house"/crates/{stab_c,stab_page}/src "$house"/{page,include,man,docs/schema}
+echo 'a library' >"$house/crates/stab_c/src/lib.rt"
+echo 'a module' >"$house/crates/stab_page/src/lib.rt"
+printf 'stab_c staticlib: low itoa\nstab_page staticlib: low\n' >>"$house/crates.txt"
+printf '#!/bin/sh\ncat crates/stab_page/src/lib.rt >"$1"\n' >"$house/page/build.sh"
+chmod +x "$house/page/build.sh"
+touch "$house"/{page/index.html,include/rignolda.h,man/stab.1,docs/schema/job.json}
+printf '## 2026-11-24: of three\n' >"$house/CHANGELOG.md"
+run --check
+holds 'a release that lacks what crates.txt lists fails' checked '4 passed, 8 failed' "$whole
+$manifest
+$library_sources
+$library_beside
+$library
+$module_sources
+rignolda.wasm: the manifest names the file beside it
+$module"
+run
+holds 'a release of three is built from nothing, by one call' well 1
+holds 'the compiler gets the libraries of the kit and of the tree' grep -qE -- \
+    '--extern low=/.*/crates/low/out/rlib/low.rlib --extern itoa=/.*/a kit/rlibs/itoa.rlib ' \
+    "$work/compiled"
+holds 'and has three files and their lines' [ "$(cd "$house/release" && ls -A
+    cut -d' ' -f1 MANIFEST)" = 'MANIFEST
+librignolda.a
+rignolda.wasm
+stab.gz
+kit
+stab
+librignolda.a
+rignolda.wasm' ]
+holds 'a library lies there as it is' \
+    cmp -s "$house/release/librignolda.a" "$house/crates/stab_c/src/lib.rt"
+holds 'and so does a module' \
+    cmp -s "$house/release/rignolda.wasm" "$house/crates/stab_page/src/lib.rt"
+rm -r "$work/release"
+cp -r "$house/release" "$work/release"
+run
+holds 'a second one takes what was built' well 0
+holds 'and is the same' diff -r "$work/release" "$house/release"
+cp "$house/crates/stab_cli/src/main.rt" "$made"
+run --check
+holds 'where rt ci has run, the library and the module are made and compared' \
+    checked '12 passed, 0 failed' ''
+holds 'with no call of rt' well 0
+mkdir -p "$house/crates/low/out/rlib"
+: >"$house/crates/low/out/rlib/stamp"
+run --check
+holds 'where checks have left the libraries, rt makes it over them' \
+    all checked '12 passed, 0 failed' '' and [ "$(cat "$work/calls")" = lib ]
+rm -r "$house/crates/low/out"
+OTHER=1 run --check
+holds 'another library than the one of the release fails' checked '11 passed, 1 failed' "$library"
+NOT_PROVED=1 run --check
+holds 'and so does one that is not proved' checked '11 passed, 1 failed' "$library"
+echo spoiled >>"$house/release/librignolda.a"
+run --check
+holds 'a library that is spoiled fails' checked '10 passed, 2 failed' "$library_beside
+$library"
+run --archive
+holds 'and is not packed' refused 'the release is spoiled: its librignolda.a is not the one'
+cp "$work/release/librignolda.a" "$house/release/"
+echo more >>"$house/crates/stab_c/src/lib.rt"
+run --check
+holds 'other sources of one fail for this one alone' checked '10 passed, 2 failed' \
+    "$library_sources
+$library"
+echo 'a library' >"$house/crates/stab_c/src/lib.rt"
+sed -i 's/itoa/itoa ryu/' "$house/crates.txt"
+run --check
+holds 'and so does another line of its crate' checked '11 passed, 1 failed' "$library_sources"
+sed -i 's/ ryu//' "$house/crates.txt"
+echo '# more' >>"$house/page/build.sh"
+run --check
+holds 'the script that makes a module is one of its sources' checked '11 passed, 1 failed' \
+    "$module_sources"
+sed -i '$d' "$house/page/build.sh"
+sed -i '/stab_page/d' "$house/crates.txt"
+run --check
+holds 'a file more than the crates give fails' checked '7 passed, 2 failed' "$whole
+$manifest"
+echo 'stab_page staticlib: low' >>"$house/crates.txt"
+mkdir -p "$house"/crates/{stab_c,stab_cli}/out/incremental
+echo 'another library' >"$house/crates/stab_c/src/lib.rt"
+run
+holds 'over what checks have kept, what has changed is built alone' \
+    all well 1 and [ "$(cat "$work/calls")" = lib ]
+run --check
+holds 'and released' checked '12 passed, 0 failed' ''
+run --archive
+holds 'the archive has all of it' [ "$(tar -tf \
+    "$house/out/rignolda-2026-11-24-x86_64-linux.tar.xz" | sed 's,^[^/]*/,,' |
+    grep -vE '/$|^$|^examples|^[A-Z]|\.md$')" = 'docs/schema/job.json
+include/rignolda.h
+lib/librignolda.a
+man/stab.1
+page/index.html
+page/rignolda.wasm
+stab' ]
 
 printf '%s passed, %s failed\n' "$passed" "$failed"
 [ "$failed" -eq 0 ]

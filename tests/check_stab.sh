@@ -1,5 +1,6 @@
 #!/usr/bin/env bash
-# Tests the script ./stab in a copy of its own, with a small command in the place of rt.
+# Tests the scripts ./stab and ./rignolda in a copy of their own, with a small command in the place
+# of rt.
 #
 # Nothing is proved, and nothing of this repository is touched. The test takes some seconds. Its
 # last line is 'N passed, M failed'.
@@ -28,8 +29,8 @@ holds() {
     fi
 }
 
-# A command like rt. Its program prints the text of stab_cli's source, its words and its input, and
-# ends with status 7. It is the same however it is built, unless the text says that it differs.
+# A command like rt. Its programs print the text of their source, their words and their input, and
+# end with status 7. They are the same however they are built, unless the text says that it differs.
 write_rt() {
     mkdir -p "$work/bin"
     cat >"$work/bin/rt" <<'END'
@@ -37,14 +38,14 @@ write_rt() {
 case $1 in
     version) cat "$WORK/kit"; exit ;;
     ci) at=. ;;
-    run) at=../.. ;;
+    run) at=../.. crates=${PWD##*/} ;;
     *) exit 9 ;;
 esac
 printf '%s\n' "$*" >>"$WORK/calls"
 pwd >"$WORK/place"
+: "${crates=$(cd "$at/crates" && echo */src/main.rt)}"
 (cd "$at" && find . -type f | LC_ALL=C sort) >"$WORK/files"
 cat "$at/crates.txt" >"$WORK/lines"
-text=$(cat "$at/crates/stab_cli/src/main.rt")
 case $(cat "$at"/crates/*/src/*) in
     *broken*) echo "not proved"; exit 1 ;;
     *slow*)
@@ -57,15 +58,19 @@ case $(cat "$at"/crates/*/src/*) in
     *changes*) echo after >"$WORK/a house/crates/stab_cli/src/main.rt" ;;
     *rewrites*) echo "'" >"$WORK/a house/stab" ;;
 esac
-case $text in
-    *differs*) text="$text $1" ;;
-esac
-made=$at/crates/stab_cli/out/stab_cli
-mkdir -p "${made%/*}"
-printf '#!/bin/sh\necho "%s; $*; $(cat)"\nexit 7\n' "$text" >"$made"
-chmod +x "$made"
+for crate in $crates; do
+    crate=${crate%%/*}
+    text=$(cat "$at/crates/$crate/src/main.rt")
+    case $text in
+        *differs*) text="$text $1" ;;
+    esac
+    made=$at/crates/$crate/out/$crate
+    mkdir -p "${made%/*}"
+    printf '#!/bin/sh\necho "%s; $*; $(cat)"\nexit 7\n' "$text" >"$made"
+    chmod +x "$made"
+done
 sed -n 's/^\([a-z_]*\).*:.*/rt: \1 proved/p' "$at/crates.txt"
-[ "$1" = ci ] || echo 'rt: running out/stab_cli; to give it other input, run that file yourself' >&2
+[ "$1" = ci ] || echo 'rt: running out/it; to give it other input, run that file yourself' >&2
 echo '5 passed, 0 failed'
 END
     chmod +x "$work/bin/rt"
@@ -418,6 +423,59 @@ rm "$house/release/MANIFEST"
 run env PATH="$work/without" "$house/stab"
 holds 'no manifest: nothing runs without the kit' refused 'there is no release'
 cp "$work/release/MANIFEST" "$house/release/MANIFEST"
+
+# The second program, of a crate beside that of the first one.
+run "$house/rignolda"
+holds 'a program of a crate that is not listed is refused' refused 'crates.txt lists no crate'
+mkdir -p "$house/crates/rignolda/src"
+echo second >"$house/crates/rignolda/src/main.rt"
+printf '%s\n' --some 'two words' >"$house/crates/rignolda/args"
+echo 'rignolda: mid' >>"$house/crates.txt"
+run env PATH="$work/without" "$house/rignolda"
+holds 'a release without a program runs nothing for it' refused 'the release has no rignolda'
+run "$house/rignolda" one
+holds 'the second program is built, of its own crates alone' \
+    all gave 'second; one; in' 1 and said 'rignolda is proved: 3 of 3 crates'
+run "$house/stab"
+holds 'beside which the first one runs' gave 'released; ; in' 0
+run "$house/rignolda" one
+holds 'and both are kept' gave 'second; one; in' 0
+mkdir -p "$house/crates/rignolda/out/incremental"
+echo over >"$house/crates/rignolda/src/main.rt"
+run "$house/rignolda" one
+holds 'over what checks have kept rt gets the words of its example' \
+    all gave 'over; one; in' 1 and
+    [ "$(cat "$work/calls")" = 'run --backend llvm -- --some two words' ]
+echo second >"$house/crates/rignolda/src/main.rt"
+release
+holds 'both are released together' [ "$(cut -d' ' -f1 "$house/release/MANIFEST")" = \
+    $'kit\nstab\nrignolda' ]
+rm -rf "$house/out"
+run env PATH="$work/without" "$house/rignolda" one
+holds 'and the second one runs at once, without the kit' gave 'second; one; in' 0
+run "$house/rignolda" --prove one
+holds 'with --prove it is built and compared as the first' all gave 'second; one; in' 1 and
+    said 'the release is the same program, byte for byte'
+write_text other changed
+run env PATH="$work/without" "$house/stab"
+holds 'sources of the first one alone, when changed, stop that one' \
+    refused 'the sources are not those of the release'
+run env PATH="$work/without" "$house/rignolda"
+holds 'and not the second one' gave 'second; ; in' 0
+write_text other other
+cp -r "$house/release/." "$work/both"
+mv "$house/release/stab.gz" "$house/release/rignolda.gz"
+rm -rf "$house/out"
+run env PATH="$work/without" "$house/rignolda"
+holds 'one program in the place of the other does not run' refused 'the release is spoiled'
+rm -rf "$house/release"
+cp -r "$work/both" "$house/release"
+sed -i '/^rignolda/p' "$house/release/MANIFEST"
+run env PATH="$work/without" "$house/rignolda"
+holds 'nor does any where the manifest has a line twice' \
+    refused 'the release is spoiled: its MANIFEST is none'
+rm -rf "$house/release"
+cp -r "$work/release" "$house/release"
 rm "$work/without/gzip"
 run env PATH="$work/without" "$house/stab"
 holds 'without gzip that is said' refused 'the command gzip is needed'
