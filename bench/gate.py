@@ -268,6 +268,80 @@ class Part:
         return status if status >= 0 else 128 - status
 
 
+def listed():
+    """The crates of crates.txt, each with the crates of that file that it uses."""
+    rows = re.findall(r"^(\w+)[^#\n:]*:([^#\n]*)", read(f"{TOP}/crates.txt"), re.M)
+    names = {name for name, _ in rows}
+    return {name: [it for it in words.split() if it in names] for name, words in rows}
+
+
+def lines_of(crate):
+    """How many lines of code a crate has, by which rt orders its tasks."""
+    found = 0
+    for part in ("src", "specs", "proofs"):
+        for at, _, names in os.walk(f"{TOP}/crates/{crate}/{part}"):
+            found += sum(read(f"{at}/{it}").count("\n") for it in names if it.endswith(".rt"))
+    return found
+
+
+def tasks_of(crates):
+    """The tasks of rt ci, in the order of the layers: what each waits for, its seconds, its lines."""
+    uses, below, tasks = listed(), {}, {}
+    def all_below(name):
+        if name not in below:
+            below[name] = {name}.union(*map(all_below, uses[name]))
+        return below[name]
+    for name in sorted(uses, key=lambda it: len(all_below(it))):
+        took, lines = crates.get(name, dict.fromkeys(KINDS, 0.0)), lines_of(name)
+        waits = [(it, "proof") for it in all_below(name) - {name}]
+        tasks[name, "proof"] = waits, took["proof"] + took["programs"], lines
+        tasks[name, "tests"] = waits, took["tests"], lines * bool(took["tests"])
+        both = [(name, "proof"), (name, "tests")]
+        tasks[name, "edits"] = both, took["edits"], lines * bool(took["edits"])
+    return tasks
+
+
+def modelled(crates, lanes):
+    """How long tasks with these processor seconds take in so many lanes, and the longest chain of
+    them. As rt ci does it, a task starts once those that it waits for have ended, and first the one
+    with the most lines in the longest chain of others behind it. Each has one processor."""
+    tasks = tasks_of(crates)
+    behind = {it: tasks[it][2] for it in tasks}
+    chain = {}
+    for it in reversed([*tasks]):
+        for below in tasks[it][0]:
+            behind[below] = max(behind[below], tasks[below][2] + behind[it])
+    for it, (waits, seconds, _) in tasks.items():
+        chain[it] = seconds + max((chain[below] for below in waits), default=0)
+    left, running, ended, now = sorted(tasks, key=lambda it: -behind[it]), [], set(), 0.0
+    while left or running:
+        for it in [it for it in left if ended.issuperset(tasks[it][0])]:
+            if len(running) < lanes:
+                left.remove(it)
+                running.append((now + tasks[it][1], it))
+        now, it = min(running)
+        running.remove((now, it))
+        ended.add(it)
+    return now, max(chain.values(), default=0)
+
+
+def computed(crates, parts):
+    """What the gate would take on other machines, by the model, as a line of the page."""
+    whole = next((it for it in parts if it["part"] == "rt ci"), None)
+    if not crates or not whole or not whole["jobs"].isdigit():
+        return []
+    here, _ = modelled(crates, int(whole["jobs"]))
+    factor = whole["wall"] / here if here else 0.0
+    others = sum(it["wall"] for it in parts) - whole["wall"]
+    (two, chain), (four, _) = modelled(crates, 2), modelled(crates, 4)
+    return [f"Computed, and not measured: on two processors `./gate` would take "
+            f"{minutes(two * factor + others)} minutes, on four {minutes(four * factor + others)}. "
+            "A model starts the tasks of the table in the order of `rt ci`, one on each processor. "
+            f"It gives {minutes(here)} minutes for the run above, whose `rt ci` took "
+            f"{minutes(whole['wall'])}, so all that it computes is multiplied by {factor:.2f}. The "
+            f"longest chain of tasks takes {minutes(chain * factor)} minutes.", ""]
+
+
 def rest(parts, wall, times):
     """What the gate took beside the parts that were measured: its cheap parts, together."""
     used = sum(60 * int(it[0]) + float(it[1]) for it in re.findall(r"([0-9]+)m([0-9.]+)s", times))
@@ -299,14 +373,15 @@ def table(notes, to, wall, times):
         crates.update(part["crates"])
         largest = max(largest, tuple(part["largest"]))
     # (in the order of the layers, and then what is in no list)
-    listed = re.findall(r"^(\w+)[^#\n]*:", read(f"{TOP}/crates.txt"), re.M)
-    names = [it for it in listed if it in crates] + sorted({*crates} - {*listed})
+    known = listed()
+    names = [it for it in known if it in crates] + sorted({*crates} - {*known})
     row = lambda name, of: f"| {name} | " + " | ".join(
         minutes(it) for it in [*of, sum(of)]) + " |"
     lines += ["", "Processor minutes of each crate:", "",
               "| Crate | " + " | ".join(KINDS) + " | all |", "|---" * (len(KINDS) + 2) + "|"]
     lines += [row(f"`{name}`", [crates[name][it] for it in KINDS]) for name in names]
     lines += [row("all", [sum(crates[name][it] for name in names) for it in KINDS]), ""]
+    lines += computed(crates, parts)
     own = max(part["own"] for part in parts)
     lines += [f"All processes together held at most {gigabytes(own)}, and those of one task "
               f"{gigabytes(largest[0])}, where pages that two share count twice: "
