@@ -1,8 +1,1 @@
-pub mod Interleavings
-pub mod States
-pub mod Seating
-pub mod Shown
-pub mod Turns
-pub mod Calls
 pub mod StepLists
-pub mod Settled

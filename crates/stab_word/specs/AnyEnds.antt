@@ -9,7 +9,7 @@ use Rattle.std.specs.Prelude.{◌≡◌}
 use Rattle.stab_lock.specs.Accounts.{Sender, Receiver}
 use Rattle.stab_script.specs.Scripts.{ActsRemaining}
 use Rattle.stab_word.specs.Ends.{SendEnd, RecvEnd}
-use Rattle.stab_word.specs.Seats.{LinkId}
+use Rattle.stab_table.specs.Seats.{LinkId}
 use Rattle.stab_word.specs.declared.any_send.AnySend.{AnySend}
 use Rattle.stab_word.specs.declared.any_send.AnySend.TheVariants as send
 use Rattle.stab_word.specs.declared.any_send.AnySendDone.{AnySendDone}

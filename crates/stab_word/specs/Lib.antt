@@ -1,9 +1,3 @@
-pub mod Words
-pub mod Views
-pub mod Interleaving
-pub mod Rule
-pub mod Plays
-pub mod Seats
 pub mod Ends
 pub mod Answers
 pub mod Calls

@@ -16,12 +16,7 @@ mod any_send;
 mod fault;
 mod link;
 mod recv;
-mod rule;
-mod seats;
 mod send;
-mod steps;
-mod view;
-mod words;
 
 pub use any_recv::{AnyRecv, AnyRecvDone};
 pub use any_send::{AnySend, AnySendDone};
