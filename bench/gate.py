@@ -325,21 +325,35 @@ def modelled(crates, lanes):
     return now, max(chain.values(), default=0)
 
 
+def first_use(crates):
+    """The part of these costs that `./stab --prove` has, which proves no tests and tries no edits."""
+    found, waiting = {}, ["stab_cli"]
+    while waiting:
+        name = waiting.pop()
+        if name in crates and name not in found:
+            found[name] = {**crates[name], "tests": 0.0, "edits": 0.0}
+            waiting += listed()[name]
+    return found
+
+
 def computed(crates, parts):
     """What the gate would take on other machines, by the model, as a line of the page."""
     whole = next((it for it in parts if it["part"] == "rt ci"), None)
     if not crates or not whole or not whole["jobs"].isdigit():
         return []
-    here, _ = modelled(crates, int(whole["jobs"]))
+    here, chain = modelled(crates, int(whole["jobs"]))
     factor = whole["wall"] / here if here else 0.0
     others = sum(it["wall"] for it in parts) - whole["wall"]
-    (two, chain), (four, _) = modelled(crates, 2), modelled(crates, 4)
-    return [f"Computed, and not measured: on two processors `./gate` would take "
-            f"{minutes(two * factor + others)} minutes, on four {minutes(four * factor + others)}. "
-            "A model starts the tasks of the table in the order of `rt ci`, one on each processor. "
-            f"It gives {minutes(here)} minutes for the run above, whose `rt ci` took "
-            f"{minutes(whole['wall'])}, so all that it computes is multiplied by {factor:.2f}. The "
-            f"longest chain of tasks takes {minutes(chain * factor)} minutes.", ""]
+    two, four = (modelled(crates, it)[0] * factor + others for it in (2, 4))
+    prove = modelled(first_use(crates), 4)[0] * factor
+    return [f"Computed, and not measured: on two processors `./gate` would take {minutes(two)} "
+            f"minutes, on four {minutes(four)}; `./stab --prove` would take at most "
+            f"{minutes(prove)} on four. A model starts the tasks of the table in the order of "
+            f"`rt ci`, each on one processor. It gives {minutes(here)} minutes for the `rt ci` "
+            f"above, which took {minutes(whole['wall'])}, so what it computes is multiplied by "
+            f"{factor:.2f}. The longest chain of tasks takes {minutes(chain * factor)}. Under "
+            "`./stab --prove` a proof gets the processors that no other one needs, so it ends "
+            "earlier than the model says.", ""]
 
 
 def rest(parts, wall, times):

@@ -201,18 +201,18 @@ holds 'another word is refused' [ "$status" -eq 2 ]
 
 # What a whole run is said to take elsewhere: three crates, of which the first one is proved in a
 # minute, and all else begins then. On four processors that ends two minutes later. On two, the
-# longer crates come first: beside for two minutes, by its side mid for one and then its tests for
-# two, and once beside has ended the edits of low; so all ends three minutes later. The run took
+# longer crates come first: stab_cli for two minutes, by its side mid for one and then its tests for
+# two, and once stab_cli has ended the edits of low; so all ends three minutes later. The run took
 # twice as long as that, and a minute for its other parts.
-mkdir -p "$house"/crates/{low,mid,beside}/src
-printf 'low:\nmid may_wait=1: low thiserror\nbeside: low\n' >"$house/crates.txt"
+mkdir -p "$house"/crates/{low,mid,stab_cli}/src
+printf 'low:\nmid may_wait=1: low thiserror\nstab_cli: low\n' >"$house/crates.txt"
 seq 2 >"$house/crates/mid/src/lib.rt"
-seq 3 >"$house/crates/beside/src/lib.rt"
+seq 3 >"$house/crates/stab_cli/src/lib.rt"
 none='"proof": 0, "tests": 0, "edits": 0, "programs": 0'
 cat >"$work/notes" <<END
 {"part": "rt ci", "wall": 360, "processor": 420, "status": 0, "peak": 1, "own": 1, "jobs": "4",
 "largest": [1, "it"], "crates": {"low": {$none, "proof": 60, "edits": 60},
-"mid": {$none, "proof": 60, "tests": 120}, "beside": {$none, "proof": 100, "programs": 20}}}
+"mid": {$none, "proof": 60, "tests": 120}, "stab_cli": {$none, "proof": 100, "programs": 20}}}
 END
 tr -d '\n' <"$work/notes" >"$work/notes_in_a_line"
 PATH=$work/bin:$PATH "$house/bench/gate.py" table "$work/notes_in_a_line" "$work/page" 420 \
@@ -221,8 +221,10 @@ status=$?
 holds 'what each crate cost is in the table' all_in "$work/page" '| `low` | 1.0 | 0.0 | 1.0 | 0.0 | 2.0 |' \
     '| `mid` | 1.0 | 2.0 | 0.0 | 0.0 | 3.0 |' '| all | 3.7 | 2.0 | 1.0 | 0.3 | 7.0 |'
 holds 'what two processors would take is computed' grep -qF \
-    'on two processors `./gate` would take 9.0 minutes, on four 7.0.' "$work/page"
-holds 'and it is said how' grep -qF 'all that it computes is multiplied by 2.00.' "$work/page"
+    'on two processors `./gate` would take 9.0 minutes, on four 7.0;' "$work/page"
+holds 'and so is the first proof, without tests and edits' grep -qF \
+    '`./stab --prove` would take at most 6.0 on four.' "$work/page"
+holds 'and it is said how' grep -qF 'so what it computes is multiplied by 2.00.' "$work/page"
 
 # The loop of a developer.
 write "$work/program" '[ "$#" -eq 0 ] || { echo "$*; $(cat); $(ls)"; exit 7; }'
