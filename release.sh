@@ -95,6 +95,11 @@ is_made_again() {
     make_after_ci "$top" "$1" && cmp -s -- "$2" "$made"
 }
 
+# Whether the page has the module in this file, as base64.
+is_in_page() {
+    base64 -w 0 -- "$1" >"$work/base64" && grep -qF -f "$work/base64" -- "$top/page/index.html"
+}
+
 # Compares the release with what was just proved and built of the present sources.
 check() {
     local artefact
@@ -118,6 +123,9 @@ check() {
         holds "$artefact: the file is what was just built, byte for byte" \
             "it differs, or that was not built: see $log" \
             is_made_again "$artefact" "$work/$artefact"
+        [ "${kind_of[$artefact]}" != module ] ||
+            holds "$artefact: page/index.html has it" "run ./$module_builder" \
+                is_in_page "$work/$artefact"
     done
     if [ "$failed" -ne 0 ]; then
         printf 'release: %s\n' 'run ./release.sh and commit what it makes' \

@@ -265,17 +265,19 @@ echo 'a module' >"$house/crates/stab_page/src/lib.rt"
 printf 'stab_c staticlib: low itoa\nstab_page staticlib: low\n' >>"$house/crates.txt"
 printf '#!/bin/sh\ncat crates/stab_page/src/lib.rt >"$1"\n' >"$house/page/build.sh"
 chmod +x "$house/page/build.sh"
-touch "$house"/{page/index.html,include/rignolda.h,man/stab.1,docs/schema/job.json}
+touch "$house"/{include/rignolda.h,man/stab.1,docs/schema/job.json}
+printf 'module = "%s"' "$(echo 'a module' | base64)" >"$house/page/index.html"
 printf '## 2026-11-24: of three\n' >"$house/CHANGELOG.md"
 run --check
-holds 'a release that lacks what crates.txt lists fails' checked '4 passed, 8 failed' "$whole
+holds 'a release that lacks what crates.txt lists fails' checked '4 passed, 9 failed' "$whole
 $manifest
 $library_sources
 $library_beside
 $library
 $module_sources
 rignolda.wasm: the manifest names the file beside it
-$module"
+$module
+rignolda.wasm: page/index.html has it"
 run
 holds 'a release of three is built from nothing, by one call' well 1
 holds 'the compiler gets the libraries of the kit and of the tree' grep -qE -- \
@@ -302,40 +304,45 @@ holds 'and is the same' diff -r "$work/release" "$house/release"
 cp "$house/crates/stab_cli/src/main.rt" "$made"
 run --check
 holds 'where rt ci has run, the library and the module are made and compared' \
-    checked '12 passed, 0 failed' ''
+    checked '13 passed, 0 failed' ''
 holds 'with no call of rt' well 0
 mkdir -p "$house/crates/low/out/rlib"
 : >"$house/crates/low/out/rlib/stamp"
 run --check
 holds 'where checks have left the libraries, rt makes it over them' \
-    all checked '12 passed, 0 failed' '' and [ "$(cat "$work/calls")" = lib ]
+    all checked '13 passed, 0 failed' '' and [ "$(cat "$work/calls")" = lib ]
 rm -r "$house/crates/low/out"
 OTHER=1 run --check
-holds 'another library than the one of the release fails' checked '11 passed, 1 failed' "$library"
+holds 'another library than the one of the release fails' checked '12 passed, 1 failed' "$library"
 NOT_PROVED=1 run --check
-holds 'and so does one that is not proved' checked '11 passed, 1 failed' "$library"
+holds 'and so does one that is not proved' checked '12 passed, 1 failed' "$library"
 echo spoiled >>"$house/release/librignolda.a"
 run --check
-holds 'a library that is spoiled fails' checked '10 passed, 2 failed' "$library_beside
+holds 'a library that is spoiled fails' checked '11 passed, 2 failed' "$library_beside
 $library"
 run --archive
 holds 'and is not packed' refused 'the release is spoiled: its librignolda.a is not the one'
 cp "$work/release/librignolda.a" "$house/release/"
 echo more >>"$house/crates/stab_c/src/lib.rt"
 run --check
-holds 'other sources of one fail for this one alone' checked '10 passed, 2 failed' \
+holds 'other sources of one fail for this one alone' checked '11 passed, 2 failed' \
     "$library_sources
 $library"
 echo 'a library' >"$house/crates/stab_c/src/lib.rt"
 sed -i 's/itoa/itoa ryu/' "$house/crates.txt"
 run --check
-holds 'and so does another line of its crate' checked '11 passed, 1 failed' "$library_sources"
+holds 'and so does another line of its crate' checked '12 passed, 1 failed' "$library_sources"
 sed -i 's/ ryu//' "$house/crates.txt"
 echo '# more' >>"$house/page/build.sh"
 run --check
-holds 'the script that makes a module is one of its sources' checked '11 passed, 1 failed' \
+holds 'the script that makes a module is one of its sources' checked '12 passed, 1 failed' \
     "$module_sources"
 sed -i '$d' "$house/page/build.sh"
+sed -i 's/"./"x/' "$house/page/index.html"
+run --check
+holds 'a page with another module fails' checked '12 passed, 1 failed' \
+    'rignolda.wasm: page/index.html has it'
+sed -i 's/"x/"Y/' "$house/page/index.html"
 sed -i '/stab_page/d' "$house/crates.txt"
 run --check
 holds 'a file more than the crates give fails' checked '7 passed, 2 failed' "$whole
@@ -347,7 +354,7 @@ run
 holds 'over what checks have kept, what has changed is built alone' \
     all well 1 and [ "$(cat "$work/calls")" = lib ]
 run --check
-holds 'and released' checked '12 passed, 0 failed' ''
+holds 'and released' checked '13 passed, 0 failed' ''
 run --archive
 holds 'the archive has all of it' [ "$(tar -tf \
     "$house/out/rignolda-2026-11-24-x86_64-linux.tar.xz" | sed 's,^[^/]*/,,' |
