@@ -1,0 +1,115 @@
+#!/usr/bin/env python3
+"""Checks the report of a run against its job: `check_report.py JOB REPORT`.
+
+These are the five points of docs/FORMATS.md, "What holds of every report". The job has to be one
+that `stab tree` accepts. Prints `obeys`, or the first point that is broken, and ends with 0 or 1.
+"""
+import json
+import re
+import sys
+
+
+def is_subsequence(part, whole):
+    """Whether some items of `whole`, in their order, are `part`."""
+    rest = iter(whole)
+    return all(item in rest for item in part)
+
+
+def longest_prefix_within(items, whole):
+    """How many of the first `items` are some items of `whole`, in their order."""
+    rest = iter(whole)
+    count = 0
+    for item in items:
+        if item not in rest:
+            break
+        count += 1
+    return count
+
+
+def obeys_link_law(parent, delivered, acked, capacity, frames):
+    """Whether the link law allows these lists of a link."""
+    if acked > len(parent):
+        return False
+    early = min(2 * capacity + 1, acked)
+    for last in (acked, acked + 1):
+        sure = parent[early:last]
+        if last > len(parent) or len(delivered) < len(sure):
+            continue
+        cut = len(delivered) - len(sure)
+        if delivered[cut:] != sure:
+            continue
+        # (the more of the items are taken for strays, the fewer remain for the early ones)
+        strays = longest_prefix_within(delivered[:cut], frames[:capacity])
+        if is_subsequence(delivered[strays:cut], parent[:early]):
+            return True
+    return False
+
+
+def depth_of(name, parents):
+    """How many links there are from the root to a node."""
+    depth = 0
+    while parents[name] is not None:
+        name = parents[name]
+        depth += 1
+    return depth
+
+
+def fault(job, report):
+    """What is wrong with a report, or nothing."""
+    parents = {node["name"]: node.get("parent") for node in job["tree"]}
+    openings = [[] for _ in parents]
+    if job.get("version", 1) == 2:
+        openings = job.get("openings", openings)
+    links = [name for name in parents if parents[name] is not None]
+    starts = dict(zip(links, job.get("starts", [{}] * len(links))))
+    own = dict(zip(links, job.get("links", [None] * len(links))))
+    if not report.endswith("\n"):
+        return "the last line does not end"
+    lines = report[:-1].split("\n")
+    if len(lines) != 2 * len(parents):
+        return "not two lines for each node"
+    items, acked, ended = {}, {}, {}
+    for at, name in enumerate(parents):
+        form = re.fullmatch(rf"{re.escape(name)} depth (\d+) received (\d+) acked (-|\d+) "
+                            r"ended (upstream|turns)", lines[2 * at], re.ASCII)
+        if not form or not re.fullmatch(r"items:( \d+)*", lines[2 * at + 1], re.ASCII):
+            return f"{name}: the lines have another form"
+        words = lines[2 * at + 1].split()[1:]
+        items[name] = [int(word) for word in words]
+        numbers = [form[1], form[2], *words] + ([form[3]] if form[3] != "-" else [])
+        if any(str(int(word)) != word for word in numbers) or max(items[name], default=0) >> 32:
+            return f"{name}: a number is written in another way"
+        if int(form[1]) != depth_of(name, parents) or int(form[2]) != len(items[name]):
+            return f"{name}: another depth or number of items"
+        if (form[3] == "-") != (parents[name] is None):
+            return f"{name}: the root alone has no acknowledged count"
+        acked[name] = None if form[3] == "-" else int(form[3])
+        ended[name] = form[4]
+    for at, (name, parent) in enumerate(parents.items()):
+        if parent is None:
+            if items[name] != job["items"]:
+                return f"{name}: the root has other items"
+            continue
+        opening = openings[at]
+        if items[name][:len(opening)] != opening:
+            return f"{name}: does not begin with its opening"
+        capacity = (own[name] or job)["capacity"]
+        frames = [item for _, item in starts[name].get("frames", [])]
+        if not obeys_link_law(items[parent], items[name][len(opening):], acked[name], capacity,
+                              frames):
+            return f"{name}: the link law is broken"
+        if ended[parent] == "upstream" and acked[name] != len(items[parent]):
+            return f"{name}: not all of {parent} is acknowledged, which ended upstream"
+    return None
+
+
+def main():
+    with open(sys.argv[1], encoding="utf-8") as job, \
+            open(sys.argv[2], encoding="utf-8", newline="") as report:
+        found = fault(json.load(job), report.read())
+    print(found or "obeys")
+    return 1 if found else 0
+
+
+if __name__ == "__main__":
+    sys.exit(main())
