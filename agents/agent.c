@@ -236,7 +236,7 @@ static void end_count(void) {
         fprintf(log_file, "acked %s %u\nignored %s %u\n", child->name,
                 child->link.acknowledged - child->acked_before, child->name, child->link.ignored);
     }
-    fprintf(log_file, "old %u\n", node.old);
+    fprintf(log_file, "old %u\n", node.old_frames);
 }
 
 /* Stops until this process is continued. A new count begins there, so what stands is written. */

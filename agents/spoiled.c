@@ -2,27 +2,25 @@
  * broken. One of these is defined: TWO_LABELS, STEPS_ON_ANY_ACK, DELIVERS_EVERY_FRAME. */
 #include "rignolda.h"
 
-uint8_t __real_rignolda_child_on_ack(rignolda_child *, const rignolda_params *, uint16_t);
-uint8_t __wrap_rignolda_child_on_ack(rignolda_child *, const rignolda_params *, uint16_t);
-uint8_t __real_rignolda_node_on_frame(rignolda_node *, uint32_t *, size_t,
-                                      const rignolda_frame *);
-uint8_t __wrap_rignolda_node_on_frame(rignolda_node *, uint32_t *, size_t,
-                                      const rignolda_frame *);
+bool __real_rignolda_child_on_ack(rignolda_child *, const rignolda_params *, uint16_t);
+bool __wrap_rignolda_child_on_ack(rignolda_child *, const rignolda_params *, uint16_t);
+bool __real_rignolda_node_on_frame(rignolda_node *, uint32_t *, size_t, const rignolda_frame *);
+bool __wrap_rignolda_node_on_frame(rignolda_node *, uint32_t *, size_t, const rignolda_frame *);
 
-uint8_t __wrap_rignolda_child_on_ack(rignolda_child *child, const rignolda_params *params,
-                                     uint16_t label) {
+bool __wrap_rignolda_child_on_ack(rignolda_child *child, const rignolda_params *params,
+                                  uint16_t label) {
 #ifdef STEPS_ON_ANY_ACK
     label = child->sender.label;
 #endif
-    uint8_t acked = __real_rignolda_child_on_ack(child, params, label);
+    bool acked = __real_rignolda_child_on_ack(child, params, label);
 #ifdef TWO_LABELS
     child->sender.label %= 2;
 #endif
     return acked;
 }
 
-uint8_t __wrap_rignolda_node_on_frame(rignolda_node *node, uint32_t *list, size_t size,
-                                      const rignolda_frame *frame) {
+bool __wrap_rignolda_node_on_frame(rignolda_node *node, uint32_t *list, size_t size,
+                                   const rignolda_frame *frame) {
 #ifdef DELIVERS_EVERY_FRAME
     node->above.label = (uint16_t)(frame->label + 1);
 #endif

@@ -1,0 +1,108 @@
+//! The calls of the C library, as `include/rignolda.h` declares them.
+//!
+//! They ask for nothing but that each reference is one: every bit pattern of a struct is a state.
+
+/// `rignolda_params`.
+#[repr(C)]
+#[derive(Clone, Copy, Debug, PartialEq, Eq)]
+pub(crate) struct Params {
+    pub(crate) capacity: u16,
+    pub(crate) labels: u16,
+}
+
+/// `rignolda_frame`.
+#[repr(C)]
+#[derive(Clone, Copy, Default)]
+pub(crate) struct Frame {
+    pub(crate) item: u32,
+    pub(crate) label: u16,
+    pub(crate) unused: u16,
+}
+
+/// `rignolda_sender`.
+#[repr(C)]
+#[derive(Clone, Debug, Default)]
+pub(crate) struct Sender {
+    pub(crate) item: u32,
+    pub(crate) label: u16,
+    pub(crate) holding: u8,
+    pub(crate) closed: u8,
+}
+
+/// `rignolda_receiver`.
+#[repr(C)]
+#[derive(Clone, Debug, Default)]
+pub(crate) struct Receiver {
+    pub(crate) label: u16,
+    pub(crate) closed: u16,
+}
+
+/// `rignolda_node`.
+#[repr(C)]
+#[derive(Clone, Debug, Default)]
+pub(crate) struct Node {
+    pub(crate) above: Receiver,
+    pub(crate) length: u32,
+    pub(crate) old_frames: u32,
+}
+
+/// `rignolda_child`.
+#[repr(C)]
+#[derive(Clone, Debug, Default)]
+pub(crate) struct Child {
+    pub(crate) sender: Sender,
+    pub(crate) offered: u32,
+    pub(crate) acknowledged: u32,
+    pub(crate) ignored: u32,
+}
+
+const _: () = assert!(core::mem::size_of::<Params>() == 4);
+const _: () = assert!(core::mem::size_of::<Frame>() == 8);
+const _: () = assert!(core::mem::size_of::<Sender>() == 8);
+const _: () = assert!(core::mem::size_of::<Receiver>() == 4);
+const _: () = assert!(core::mem::size_of::<Node>() == 12);
+const _: () = assert!(core::mem::size_of::<Child>() == 20);
+
+extern "C" {
+    pub(crate) fn rignolda_params_check(params: &Params) -> u8;
+
+    pub(crate) fn rignolda_sender_init(sender: &mut Sender, label: u16);
+    pub(crate) fn rignolda_sender_offer(sender: &mut Sender, item: u32) -> bool;
+    pub(crate) fn rignolda_sender_frame(sender: &Sender, frame: &mut Frame) -> bool;
+    pub(crate) fn rignolda_sender_on_ack(sender: &mut Sender, params: &Params, label: u16) -> bool;
+    pub(crate) fn rignolda_sender_close(sender: &mut Sender);
+
+    pub(crate) fn rignolda_receiver_init(receiver: &mut Receiver, label: u16);
+    pub(crate) fn rignolda_receiver_is_fresh(receiver: &Receiver, frame: &Frame) -> bool;
+    pub(crate) fn rignolda_receiver_on_frame(
+        receiver: &mut Receiver,
+        frame: &Frame,
+        item: &mut u32,
+    ) -> bool;
+    pub(crate) fn rignolda_receiver_ack(receiver: &Receiver, label: &mut u16) -> bool;
+    pub(crate) fn rignolda_receiver_close(receiver: &mut Receiver);
+
+    pub(crate) fn rignolda_node_init(node: &mut Node, label: u16, opening: u32);
+    pub(crate) fn rignolda_child_init(child: &mut Child, label: u16);
+    pub(crate) fn rignolda_node_publish(
+        node: &mut Node,
+        list: *mut u32,
+        size: usize,
+        item: u32,
+    ) -> bool;
+    pub(crate) fn rignolda_node_on_frame(
+        node: &mut Node,
+        list: *mut u32,
+        size: usize,
+        frame: &Frame,
+    ) -> bool;
+    pub(crate) fn rignolda_node_poll(
+        node: &Node,
+        child: &mut Child,
+        list: *const u32,
+        size: usize,
+        frame: &mut Frame,
+    ) -> bool;
+    pub(crate) fn rignolda_child_on_ack(child: &mut Child, params: &Params, label: u16) -> bool;
+    pub(crate) fn rignolda_node_backlog(node: &Node, child: &Child, size: usize) -> u64;
+}

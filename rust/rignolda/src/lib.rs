@@ -1,0 +1,244 @@
+//! The two ends of a self-stabilizing link, and a node of a tree of such links.
+//!
+//! A [`Sender`] hands items of 32 bits to a [`Receiver`] over a line that is first in, first out,
+//! and that may lose messages and repeat the one at its front. The line may contain anything when
+//! the ends begin, and they may begin with any labels. As long as at most `capacity` messages are
+//! under way in each direction, this holds of what the receiver delivers: first come at most
+//! `capacity` strays, frames that were in the line at the start; then come offered items in their
+//! order, each at most once; and none that is acknowledged is missing, except among the first
+//! `2 * capacity + 1`.
+//!
+//! A [`Node`] is a receiver, a list in memory that the caller lends, and a [`Child`] for each link
+//! below it.
+//!
+//! Each call is one of the C library that this crate links, whose code is proved. None takes
+//! memory, waits, reads a clock, or panics. What goes over a line, and when, is the caller's.
+//!
+//! ```
+//! use rignolda::{Params, Receiver, Sender};
+//!
+//! let params = Params::new(1, 4)?;
+//! let mut sender = Sender::new(params, 2);
+//! let mut receiver = Receiver::new(65535);
+//!
+//! assert!(sender.offer(7));
+//! let frame = sender.frame().expect("it is holding an item");
+//! // (the frame travels, perhaps more than once)
+//! assert_eq!(receiver.on_frame(frame), Some(7));
+//! assert_eq!(receiver.on_frame(frame), None);
+//! let label = receiver.ack().expect("it is open");
+//! assert!(sender.on_ack(label));
+//! assert_eq!(sender.frame(), None);
+//! # Ok::<(), rignolda::ParamsError>(())
+//! ```
+#![no_std]
+#![warn(missing_docs)]
+
+mod calls;
+mod node;
+
+pub use node::{Child, Node};
+
+use core::fmt;
+
+/// What a link is set up with: its capacity and its number of labels.
+///
+/// Both ends of a link, and whoever chose the line, have to mean the same ones.
+#[derive(Clone, Copy, Debug, PartialEq, Eq)]
+pub struct Params(calls::Params);
+
+impl Params {
+    /// Parameters for a line with at most `capacity` messages under way in each direction, 1 to
+    /// 64, and with `labels` labels, from `2 * capacity + 2` to 1000.
+    ///
+    /// # Errors
+    ///
+    /// The first limit that is broken, in the order of [`ParamsError`].
+    ///
+    /// ```
+    /// use rignolda::{Params, ParamsError};
+    ///
+    /// assert!(Params::new(64, 130).is_ok());
+    /// assert_eq!(Params::new(0, 0), Err(ParamsError::CapacityOutOfRange));
+    /// assert_eq!(Params::new(1, 3), Err(ParamsError::LabelsTooFew));
+    /// assert_eq!(Params::new(1, 1001), Err(ParamsError::LabelsTooMany));
+    /// ```
+    pub fn new(capacity: u16, labels: u16) -> Result<Params, ParamsError> {
+        let params = calls::Params { capacity, labels };
+        // SAFETY: the call only reads the parameters.
+        match unsafe { calls::rignolda_params_check(&params) } {
+            0 => Ok(Params(params)),
+            1 => Err(ParamsError::CapacityOutOfRange),
+            2 => Err(ParamsError::LabelsTooFew),
+            _ => Err(ParamsError::LabelsTooMany),
+        }
+    }
+
+    /// The most messages under way in each direction.
+    pub fn capacity(self) -> u16 {
+        self.0.capacity
+    }
+
+    /// The number of labels.
+    pub fn labels(self) -> u16 {
+        self.0.labels
+    }
+}
+
+/// Why parameters are refused, in the order of the checks.
+#[derive(Clone, Copy, Debug, PartialEq, Eq)]
+pub enum ParamsError {
+    /// The capacity is not 1 to 64.
+    CapacityOutOfRange,
+    /// There are fewer than twice the capacity and two labels.
+    LabelsTooFew,
+    /// There are more than 1000 labels.
+    LabelsTooMany,
+}
+
+impl fmt::Display for ParamsError {
+    fn fmt(&self, to: &mut fmt::Formatter<'_>) -> fmt::Result {
+        to.write_str(match self {
+            ParamsError::CapacityOutOfRange => "capacity out of range",
+            ParamsError::LabelsTooFew => "too few labels",
+            ParamsError::LabelsTooMany => "too many labels",
+        })
+    }
+}
+
+/// A message of a sender: its item under its label.
+#[derive(Clone, Copy, Debug, PartialEq, Eq)]
+pub struct Frame {
+    /// The label, which may be any number in what a line brings.
+    pub label: u16,
+    /// The item.
+    pub item: u32,
+}
+
+impl Frame {
+    fn of(raw: calls::Frame) -> Frame {
+        Frame { label: raw.label, item: raw.item }
+    }
+
+    fn raw(self) -> calls::Frame {
+        calls::Frame { item: self.item, label: self.label, unused: 0 }
+    }
+}
+
+/// The sender's end of a link: a label, and at most one item.
+///
+/// Nothing of it has to be saved: after a restart it may begin with any label.
+#[derive(Clone, Debug)]
+pub struct Sender {
+    raw: calls::Sender,
+    params: Params,
+}
+
+impl Sender {
+    /// An idle sender with this label, which may be any.
+    pub fn new(params: Params, label: u16) -> Sender {
+        let mut raw = calls::Sender::default();
+        // SAFETY: the call writes this sender alone.
+        unsafe { calls::rignolda_sender_init(&mut raw, label) };
+        Sender { raw, params }
+    }
+
+    /// Offers an item: whether the sender took it. It refuses one, and stays as it was, while it
+    /// is holding another, and when it is closed.
+    pub fn offer(&mut self, item: u32) -> bool {
+        // SAFETY: the call has this sender for itself.
+        unsafe { calls::rignolda_sender_offer(&mut self.raw, item) }
+    }
+
+    /// The frame to send now, if the sender is holding an item and is open. It may be sent at any
+    /// time and any number of times, until its acknowledgement has come.
+    pub fn frame(&self) -> Option<Frame> {
+        let mut frame = calls::Frame::default();
+        // SAFETY: the call reads this sender, and writes the frame alone.
+        unsafe { calls::rignolda_sender_frame(&self.raw, &mut frame) }.then(|| Frame::of(frame))
+    }
+
+    /// Handles an acknowledgement: whether it was that of the item that the sender is holding. Then
+    /// the sender is idle, and has the next label; otherwise it stays as it was.
+    pub fn on_ack(&mut self, label: u16) -> bool {
+        // SAFETY: the call has this sender for itself, and only reads the parameters.
+        unsafe { calls::rignolda_sender_on_ack(&mut self.raw, &self.params.0, label) }
+    }
+
+    /// Closes this end for good.
+    pub fn close(&mut self) {
+        // SAFETY: the call has this sender for itself.
+        unsafe { calls::rignolda_sender_close(&mut self.raw) }
+    }
+
+    /// The label.
+    pub fn label(&self) -> u16 {
+        self.raw.label
+    }
+
+    /// The item that waits for its acknowledgement.
+    pub fn held(&self) -> Option<u32> {
+        (self.raw.holding != 0).then(|| self.raw.item)
+    }
+}
+
+/// The receiver's end of a link: the label that it remembers.
+///
+/// ```
+/// use rignolda::{Frame, Receiver};
+///
+/// let mut receiver = Receiver::new(3);
+/// assert_eq!(receiver.on_frame(Frame { label: 3, item: 8 }), None);
+/// assert_eq!(receiver.on_frame(Frame { label: 0, item: 8 }), Some(8));
+/// receiver.close();
+/// assert_eq!(receiver.on_frame(Frame { label: 1, item: 9 }), None);
+/// assert_eq!(receiver.ack(), None);
+/// ```
+#[derive(Clone, Debug)]
+pub struct Receiver {
+    raw: calls::Receiver,
+}
+
+impl Receiver {
+    /// A receiver that remembers this label, which may be any.
+    pub fn new(label: u16) -> Receiver {
+        let mut raw = calls::Receiver::default();
+        // SAFETY: the call writes this receiver alone.
+        unsafe { calls::rignolda_receiver_init(&mut raw, label) };
+        Receiver { raw }
+    }
+
+    /// Whether [`Receiver::on_frame`] would deliver the item of this frame.
+    pub fn is_fresh(&self, frame: Frame) -> bool {
+        // SAFETY: the call only reads.
+        unsafe { calls::rignolda_receiver_is_fresh(&self.raw, &frame.raw()) }
+    }
+
+    /// Handles a frame: its item, if its label is not the remembered one. Then that label is
+    /// remembered. An old frame, and any frame after the close, changes nothing.
+    pub fn on_frame(&mut self, frame: Frame) -> Option<u32> {
+        let mut item = 0;
+        // SAFETY: the call has this receiver and the item for itself, and only reads the frame.
+        unsafe { calls::rignolda_receiver_on_frame(&mut self.raw, &frame.raw(), &mut item) }
+            .then(|| item)
+    }
+
+    /// The label to acknowledge now, unless this end is closed. Every frame should be
+    /// acknowledged, an old one too: its sender may still wait.
+    pub fn ack(&self) -> Option<u16> {
+        let mut label = 0;
+        // SAFETY: the call reads this receiver, and writes the label alone.
+        unsafe { calls::rignolda_receiver_ack(&self.raw, &mut label) }.then(|| label)
+    }
+
+    /// Closes this end for good.
+    pub fn close(&mut self) {
+        // SAFETY: the call has this receiver for itself.
+        unsafe { calls::rignolda_receiver_close(&mut self.raw) }
+    }
+
+    /// The label that this end remembers.
+    pub fn label(&self) -> u16 {
+        self.raw.label
+    }
+}

@@ -1,0 +1,119 @@
+#!/usr/bin/env bash
+# Tests the static library from C and from Rust.
+#
+#   tests/check_library.sh          with each of gcc, clang and cargo that is there, and with
+#                                   sanitizers: some minutes
+#   tests/check_library.sh --gate   with the kit's compiler alone: seconds
+#
+# LIBRARY and INCLUDE in the environment name another archive and the folder of its header. The last
+# line is 'N passed, M failed'.
+set -u
+unset CDPATH
+cd -- "$(dirname -- "$(dirname -- "$(readlink -f -- "${BASH_SOURCE[0]}")")")" || exit 1
+include=$(readlink -f -- "${INCLUDE:-include}")
+library=${LIBRARY-}
+for file in crates/stab_c/out/libstab_c.a release/librignolda.a release/libstab_c.a; do
+    [ -n "$library" ] || [ ! -f "$file" ] || library=$file
+done
+library=$(readlink -f -- "${library:-crates/stab_c/out/libstab_c.a}")
+work=$(mktemp -d) || exit 1
+trap 'rm -rf -- "$work"' EXIT
+passed=0
+failed=0
+
+# Says whether a case holds: its name, and a command, whose words are shown if it fails.
+holds() {
+    local name=$1
+    shift
+    if "$@" >"$work/said" 2>&1; then
+        passed=$((passed + 1))
+        printf 'same   %s\n' "$name"
+    else
+        failed=$((failed + 1))
+        printf 'OTHER  %s\n' "$name"
+        tail -n 20 -- "$work/said" | sed 's/^/       /'
+    fi
+}
+
+# Builds the programs in C with a compiler and its words, and runs them.
+in_c() {
+    local name=$1 rounds=$2 jobs=$3 test
+    shift 3
+    for test in link fuzz; do
+        # (the source before the archive, which a linker reads in this order)
+        holds "$name: $test builds" "$1" "tests/library/$test.c" "${@:2}" -o "$work/$test"
+    done
+    holds "$name: the drawn runs" tests/library/compare.py runs "$work/link"
+    holds "$name: $jobs drawn links" tests/library/compare.py drawn "$work/link" "$jobs"
+    # shellcheck disable=SC2086
+    holds "$name: structs with drawn bits" "$work/fuzz" $rounds
+}
+
+# The words for a compiler of the system: its name, and more words.
+system() {
+    printf '%s\n' "$@" -std=gnu11 -O2 -Wall -Wextra -Wconversion -Werror -I"$include" \
+        -Wl,--as-needed
+}
+
+# Whether the archive has no undefined symbol, nor a name without the prefix.
+closed() {
+    local undefined
+    undefined=$(nm -u -- "$library" | grep -c ' U ')
+    [ "$undefined" -eq 0 ] || return
+    ! nm --extern-only --defined-only -- "$library" | grep ' ' | grep -v ' rignolda_'
+}
+
+gate() {
+    local kit words
+    kit=$(dirname -- "$(readlink -f -- "$(type -P rt)")")/../toolchain
+    words=("$kit/bin/clang" -std=gnu11 -O2 -Wall -Wextra -Werror -nostdinc
+        -isystem tests/library/bare -I"$include" -fsanitize=undefined -fsanitize-trap=undefined
+        -nostdlib -fuse-ld=lld -Wl,--dynamic-linker=/lib64/ld-linux-x86-64.so.2
+        "$kit"/lib/{Scrt1.o,crti.o,crtbeginS.o,crtendS.o,crtn.o,libc.so.6,libc_nonshared.a}
+        "$library")
+    in_c 'the kit' '20000 1' 300 "${words[@]}"
+    holds 'all of the archive needs nothing else' "$kit/bin/clang" -nostdlib -static \
+        -fuse-ld=lld -Wl,--whole-archive "$library" -Wl,-e,rignolda_params_check -o "$work/alone"
+}
+
+whole() {
+    local compiler words
+    for compiler in gcc clang; do
+        type -P "$compiler" >/dev/null || continue
+        mapfile -t words < <(system "$compiler")
+        in_c "$compiler" '1000000 1' 10000 "${words[@]}" "$library"
+        mapfile -t words < <(system "$compiler" -g -fsanitize=address,undefined \
+            -fno-sanitize-recover=all)
+        in_c "$compiler, sanitizers" '200000 2 all' 2000 "${words[@]}" "$library"
+        holds "$compiler: the header in C++" "$compiler" -x c++ -std=c++11 -Wall -Wextra -Werror \
+            -fsyntax-only "$include/rignolda.h"
+        holds "$compiler: the header in C of 2011" "$compiler" -x c -std=c11 -pedantic -Wall \
+            -Wextra -Werror -fsyntax-only "$include/rignolda.h"
+    done
+    holds 'no symbol is undefined, and all have the prefix' closed
+    if type -P cargo >/dev/null; then
+        export RIGNOLDA_LIBRARY=$library CARGO_TARGET_DIR=$work/cargo
+        holds 'cargo: tests and examples' cargo test --offline --quiet \
+            --manifest-path rust/rignolda/Cargo.toml
+        holds 'cargo: the link builds' cargo build --offline --quiet --release --example link \
+            --manifest-path rust/rignolda/Cargo.toml
+        holds 'cargo: the drawn runs' tests/library/compare.py runs \
+            "$work/cargo/release/examples/link"
+        holds 'cargo: 10000 drawn links' tests/library/compare.py drawn \
+            "$work/cargo/release/examples/link" 10000
+    fi
+    holds 'agents: a tree' make -s -C agents INCLUDE="$include" LIBRARY="$library" run
+    holds 'agents: spoiled ones are found out' make -s -C agents INCLUDE="$include" \
+        LIBRARY="$library" spoiled
+}
+
+case ${1-} in
+    '') whole ;;
+    --gate) gate ;;
+    *)
+        printf 'check_library.sh: it takes --gate, or no words at all\n' >&2
+        exit 2
+        ;;
+esac
+printf '%s passed, %s failed\n' "$passed" "$failed"
+[ "$failed" -eq 0 ]

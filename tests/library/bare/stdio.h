@@ -1,0 +1,3 @@
+#pragma once
+int printf(const char *, ...);
+int scanf(const char *, ...);

@@ -1,0 +1,305 @@
+/* Tries every call of the library on structs with drawn bits.
+ *
+ *     fuzz ROUNDS SEED [all]
+ *
+ * Every bit pattern of a struct is a state, so each call has to answer, and to change, just what
+ * its few rules say, which are written here once more. Each object lies at the end of a page that
+ * nothing readable follows, so that a call which goes beyond one ends the program. With the word
+ * `all` every label is tried as well, with many values of the flags, and some with every value.
+ */
+#include "rignolda.h"
+
+#include <stdio.h>
+#include <stdlib.h>
+#include <string.h>
+#include <sys/mman.h>
+
+enum { PAGE = 4096, MOST_ITEMS = 16 };
+
+static uint64_t state;
+static unsigned long round_number;
+static const char *part = "";
+
+static void must(int holds, const char *what) {
+    if (!holds) {
+        printf("broken in round %lu: %s: %s\n", round_number, part, what);
+        exit(1);
+    }
+}
+
+static uint64_t draw(void) {
+    state ^= state << 13, state ^= state >> 7, state ^= state << 17;
+    return state * 0x2545F4914F6CDD1D;
+}
+
+/* A drawn number: often a small one, or the greatest. */
+static uint64_t number(void) {
+    switch (draw() >> 61) {
+    case 0: return 0;
+    case 1: return 1;
+    case 2: return UINT64_MAX;
+    case 3: case 4: return (draw() >> 32) % 20;
+    default: return draw();
+    }
+}
+
+/* Room for an object at the end of a page, before one that may not be touched. */
+static void *place(size_t bytes) {
+    uint8_t *page = mmap(0, 2 * PAGE, PROT_READ | PROT_WRITE, MAP_PRIVATE | MAP_ANONYMOUS, -1, 0);
+    if (page == MAP_FAILED || mprotect(page + PAGE, PAGE, PROT_NONE))
+        exit(2);
+    return page + PAGE - bytes;
+}
+
+static rignolda_params *params;
+static rignolda_frame *frame;
+static rignolda_sender *sender;
+static rignolda_receiver *receiver;
+static rignolda_node *node;
+static rignolda_child *child;
+static uint32_t *item, *list_end;
+static uint16_t *label;
+
+static int lawful(void) {
+    return params->capacity >= 1 && params->capacity <= 64 &&
+           params->labels >= 2 * params->capacity + 2 && params->labels <= 1000;
+}
+
+static uint16_t after(uint16_t its_label) {
+    return (uint16_t)(its_label + 1u < params->labels ? its_label + 1u : 0);
+}
+
+/* Draws all objects; half of the parameters are lawful, and labels are often equal. */
+static void draw_all(void) {
+    uint16_t common = (uint16_t)number();
+    *params = (rignolda_params){(uint16_t)number(), (uint16_t)number()};
+    if (draw() >> 63) {
+        params->capacity = (uint16_t)(1 + (draw() >> 32) % 64);
+        params->labels = (uint16_t)(2 * params->capacity + 2);
+        params->labels = (uint16_t)(params->labels + (draw() >> 32) % (1001u - params->labels));
+    }
+    uint16_t last = (uint16_t)(params->labels - 1);
+    uint16_t labels[4] = {common, common, last, (uint16_t)number()};
+    *frame = (rignolda_frame){(uint32_t)number(), labels[draw() >> 62], (uint16_t)number()};
+    *sender = (rignolda_sender){(uint32_t)number(), labels[draw() >> 62], (uint8_t)number(),
+                                (uint8_t)(draw() >> 63 ? 0 : number())};
+    *receiver = (rignolda_receiver){labels[draw() >> 62],
+                                    (uint16_t)(draw() >> 63 ? 0 : number())};
+    *node = (rignolda_node){*receiver, (uint32_t)number(), (uint32_t)number()};
+    *child = (rignolda_child){*sender, (uint32_t)number(), (uint32_t)number(),
+                              (uint32_t)number()};
+    *item = (uint32_t)number();
+    *label = labels[draw() >> 62];
+}
+
+static int same_sender(rignolda_sender one, rignolda_sender other) {
+    return !memcmp(&one, &other, sizeof one);
+}
+
+static void try_params(void) {
+    part = "params_check";
+    unsigned wanted = params->capacity < 1 || params->capacity > 64 ? RIGNOLDA_CAPACITY_OUT_OF_RANGE
+                      : params->labels < 2 * params->capacity + 2   ? RIGNOLDA_LABELS_TOO_FEW
+                      : params->labels > 1000                       ? RIGNOLDA_LABELS_TOO_MANY
+                                                                    : RIGNOLDA_LAWFUL;
+    must(rignolda_params_check(params) == wanted, "the first check that fails");
+}
+
+/* What a sender has to be after an acknowledgement, and whether it takes it. */
+static int acked(rignolda_sender *its) {
+    if (!lawful() || its->closed || !its->holding || its->label != *label)
+        return 0;
+    its->label = after(its->label);
+    its->holding = 0;
+    return 1;
+}
+
+/* Compares the sender with one that is wanted: the item counts only while it is holding. */
+static int as_wanted(rignolda_sender found, rignolda_sender wanted) {
+    if (!found.holding && !wanted.holding)
+        found.item = wanted.item = 0, found.holding = wanted.holding = 0;
+    return found.item == wanted.item && found.label == wanted.label &&
+           !found.holding == !wanted.holding && !found.closed == !wanted.closed;
+}
+
+static void try_sender(void) {
+    rignolda_sender before = *sender, wanted = before;
+    rignolda_frame frame_before = *frame;
+    part = "sender_frame";
+    bool done = rignolda_sender_frame(sender, frame);
+    must(done == (before.holding && !before.closed), "where it is holding and open");
+    must(same_sender(*sender, before), "the sender stays");
+    if (done)
+        must(frame->item == before.item && frame->label == before.label && frame->unused == 0,
+             "its item under its label");
+    else
+        must(!memcmp(frame, &frame_before, sizeof *frame), "the frame stays");
+    part = "sender_offer";
+    done = rignolda_sender_offer(sender, *item);
+    must(done == (!before.holding && !before.closed), "where it is idle and open");
+    wanted.holding = 1, wanted.item = *item;
+    must(done ? as_wanted(*sender, wanted) : same_sender(*sender, before), "it holds the item");
+    part = "sender_on_ack";
+    *sender = wanted = before;
+    int takes = acked(&wanted);
+    must(rignolda_sender_on_ack(sender, params, *label) == takes, "the label that it waits for");
+    must(takes ? as_wanted(*sender, wanted) : same_sender(*sender, before), "the next label");
+    part = "sender_close";
+    *sender = wanted = before;
+    wanted.closed = 1;
+    rignolda_sender_close(sender);
+    must(sender->closed && as_wanted(*sender, wanted), "closed, and nothing else");
+    part = "sender_init";
+    rignolda_sender_init(sender, *label);
+    must(sender->label == *label && !sender->holding && !sender->closed, "idle, open, its label");
+}
+
+static void try_receiver(void) {
+    rignolda_receiver before = *receiver;
+    rignolda_frame frame_before = *frame;
+    uint32_t item_before = *item;
+    uint16_t label_before = *label;
+    int fresh = !before.closed && frame->label != before.label;
+    part = "receiver_is_fresh";
+    must(rignolda_receiver_is_fresh(receiver, frame) == fresh, "another label, and open");
+    must(!memcmp(receiver, &before, sizeof before), "it changes nothing");
+    part = "receiver_on_frame";
+    must(rignolda_receiver_on_frame(receiver, frame, item) == fresh, "as is_fresh says");
+    must(*item == (fresh ? frame->item : item_before), "its item");
+    if (fresh)
+        must(receiver->label == frame->label && !receiver->closed, "its label is remembered");
+    else
+        must(!memcmp(receiver, &before, sizeof before), "else it stays");
+    must(!memcmp(frame, &frame_before, sizeof *frame), "the frame stays");
+    part = "receiver_ack";
+    *receiver = before;
+    must(rignolda_receiver_ack(receiver, label) == !before.closed, "where it is open");
+    must(*label == (before.closed ? label_before : before.label), "the remembered label");
+    must(!memcmp(receiver, &before, sizeof before), "the receiver stays");
+    part = "receiver_close";
+    rignolda_receiver_close(receiver);
+    must(receiver->closed && receiver->label == before.label, "closed, and nothing else");
+    part = "receiver_init";
+    rignolda_receiver_init(receiver, frame->label);
+    must(receiver->label == frame->label && !receiver->closed, "open, its label");
+}
+
+static uint32_t one_more(uint32_t count) { return count == UINT32_MAX ? count : count + 1; }
+
+static void try_node(void) {
+    uint32_t size = (uint32_t)(draw() >> 32) % (MOST_ITEMS + 1);
+    uint32_t *list = list_end - size, list_before[MOST_ITEMS];
+    for (uint32_t i = 0; i < size; i++)
+        list_before[i] = list[i] = (uint32_t)number();
+    rignolda_node before = *node;
+    rignolda_child child_before = *child;
+    uint32_t used = before.length < size ? before.length : size;
+    part = "node_publish";
+    bool done = rignolda_node_publish(node, list, size, *item);
+    must(done == (used < size), "where there is room");
+    must(done ? node->length == used + 1 && list[used] == *item
+              : !memcmp(node, &before, sizeof before), "the item is the last");
+    if (done)
+        list[used] = list_before[used];
+    must(!memcmp(list, list_before, 4 * size), "the other items stay");
+    part = "node_on_frame";
+    *node = before;
+    int other = frame->label != before.above.label, open = !before.above.closed;
+    done = rignolda_node_on_frame(node, list, size, frame);
+    must(done == (open && other && used < size), "where it is new and there is room");
+    if (done) {
+        must(node->length == used + 1 && list[used] == frame->item &&
+             node->above.label == frame->label && !node->above.closed &&
+             node->old_frames == before.old_frames, "the last item, and the label remembered");
+        list[used] = list_before[used];
+    } else {
+        must(!memcmp(&node->above, &before.above, sizeof before.above) &&
+             node->length == before.length, "nothing is taken");
+        uint32_t old = open && !other ? one_more(before.old_frames) : before.old_frames;
+        must(node->old_frames == old, "old ones count");
+    }
+    must(!memcmp(list, list_before, 4 * size), "the other items stay");
+    part = "node_poll";
+    *node = before;
+    rignolda_child wanted = *child;
+    uint32_t offered = wanted.offered < used ? wanted.offered : used;
+    if (!wanted.sender.holding && !wanted.sender.closed && offered < used) {
+        wanted.sender.holding = 1, wanted.sender.item = list[offered];
+        wanted.offered = offered + 1;
+    }
+    rignolda_frame frame_before = *frame;
+    done = rignolda_node_poll(node, child, list, size, frame);
+    must(done == (wanted.sender.holding && !wanted.sender.closed), "where it has an item");
+    must(as_wanted(child->sender, wanted.sender) && child->offered == wanted.offered &&
+         child->acknowledged == wanted.acknowledged && child->ignored == wanted.ignored,
+         "the next item is offered");
+    must(done ? frame->item == wanted.sender.item && frame->label == wanted.sender.label
+              : !memcmp(frame, &frame_before, sizeof *frame), "its frame");
+    must(!memcmp(node, &before, sizeof before) && !memcmp(list, list_before, 4 * size),
+         "node and list stay");
+    part = "node_backlog";
+    *child = child_before;
+    uint64_t backlog = used - offered + (uint64_t)(child->sender.holding != 0);
+    must(rignolda_node_backlog(node, child, size) == backlog, "held, and still to be offered");
+}
+
+static void try_child(void) {
+    rignolda_child before = *child, wanted = before;
+    int takes = acked(&wanted.sender);
+    part = "child_on_ack";
+    must(rignolda_child_on_ack(child, params, *label) == takes, "the label that it waits for");
+    must(as_wanted(child->sender, wanted.sender) && child->offered == before.offered,
+         "as of a sender");
+    must(child->acknowledged == (takes ? one_more(before.acknowledged) : before.acknowledged) &&
+         child->ignored == (takes ? before.ignored : one_more(before.ignored)), "it is counted");
+    part = "child_init";
+    rignolda_child_init(child, *label);
+    must(child->sender.label == *label && !child->sender.holding && !child->sender.closed &&
+         child->offered == 0 && child->acknowledged == 0 && child->ignored == 0, "nothing offered");
+    part = "node_init";
+    uint32_t opening = *item;
+    rignolda_node_init(node, *label, opening);
+    must(node->above.label == *label && !node->above.closed && node->length == opening &&
+         node->old_frames == 0, "its opening");
+}
+
+/* Every label, and every value of the two flags, at the receiver's and the sender's calls. */
+static void try_all_flags(void) {
+    *params = (rignolda_params){64, 1000};
+    for (unsigned its = 0; its <= UINT16_MAX; its++)
+        for (unsigned flags = 0; flags <= UINT16_MAX; flags += its % 251 ? 4099 : 1) {
+            *sender = (rignolda_sender){7, (uint16_t)its, (uint8_t)flags, (uint8_t)(flags >> 8)};
+            *receiver = (rignolda_receiver){(uint16_t)its, (uint16_t)flags};
+            *frame = (rignolda_frame){9, (uint16_t)(its + flags % 2), 5};
+            *label = (uint16_t)(its + flags / 2 % 2);
+            *item = its;
+            try_receiver();
+            *label = (uint16_t)(its + flags / 2 % 2);
+            try_sender();
+        }
+}
+
+int main(int argc, char **argv) {
+    unsigned long rounds = argc > 1 ? strtoul(argv[1], 0, 10) : 100000;
+    state = (argc > 2 ? strtoul(argv[2], 0, 10) : 1) * 2 + 1;
+    params = place(sizeof *params), frame = place(sizeof *frame);
+    sender = place(sizeof *sender), receiver = place(sizeof *receiver);
+    node = place(sizeof *node), child = place(sizeof *child);
+    item = place(sizeof *item), label = place(sizeof *label);
+    list_end = (uint32_t *)place(0);
+    for (round_number = 1; round_number <= rounds; round_number++) {
+        draw_all();
+        try_params();
+        try_sender();
+        draw_all();
+        try_receiver();
+        draw_all();
+        try_node();
+        draw_all();
+        try_child();
+    }
+    if (argc > 3)
+        try_all_flags();
+    printf("%lu rounds\n", rounds);
+    return 0;
+}

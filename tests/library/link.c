@@ -1,0 +1,231 @@
+/* A link of two halves of the library and two bounded queues.
+ *
+ * Reads jobs from standard input, one after the other, in words: the capacity, the number of
+ * labels, the labels of sender and receiver; how many frames there are, and for each its label and
+ * item; how many acknowledgements, and their labels; how many events, and these: o ITEM, f (send a
+ * frame), r (receive it), R (and keep it), s (send an acknowledgement), a (receive it), A (and
+ * keep it), l PLACE (lose a frame), L PLACE (lose an acknowledgement), c (close).
+ *
+ * With the word `steps` it prints the link after each event, as the columns of a .run file; else
+ * the text of each link at its end, as `stab link` prints it. Parameters that are refused print
+ * one line. Ends with 1 where a half breaks a rule of its own: that of a closed end, or that what
+ * is refused stays as it was.
+ */
+#include "rignolda.h"
+
+#include <stdio.h>
+#include <stdlib.h>
+#include <string.h>
+
+enum { MOST_ENTRIES = 64, MOST_EVENTS = 1000000 };
+
+struct queue {
+    unsigned capacity, count;
+    rignolda_frame entries[MOST_ENTRIES];      /* the front first; of an acknowledgement its label */
+};
+
+static rignolda_params params;
+static rignolda_sender sender;
+static rignolda_receiver receiver;
+static struct queue frames, acks;
+static unsigned acked, count_offered, count_delivered;
+static uint32_t offered[MOST_EVENTS], delivered[MOST_EVENTS];
+
+static void must(int holds, const char *what) {
+    if (!holds) {
+        printf("broken: %s\n", what);
+        exit(1);
+    }
+}
+
+static unsigned word(void) {
+    unsigned number = 0;
+    if (scanf("%u", &number) != 1)
+        exit(2);
+    return number;
+}
+
+static const char *put(struct queue *queue, rignolda_frame entry) {
+    if (queue->count == queue->capacity)
+        return "Lost";
+    queue->entries[queue->count++] = entry;
+    return "Sent";
+}
+
+static const char *lose(struct queue *queue, unsigned place) {
+    if (place >= queue->count)
+        return "Nothing";
+    for (queue->count--; place < queue->count; place++)
+        queue->entries[place] = queue->entries[place + 1];
+    return "Lost";
+}
+
+static const char *offer(uint32_t item) {
+    if (!rignolda_sender_offer(&sender, item))
+        return "Nothing";
+    offered[count_offered++] = item;
+    return "Held";
+}
+
+static const char *send_frame(void) {
+    rignolda_frame frame = {.label = 1, .item = 2};
+    return rignolda_sender_frame(&sender, &frame) ? put(&frames, frame) : "Nothing";
+}
+
+static const char *receive_frame(int keep) {
+    uint32_t item = 0;
+    if (frames.count == 0)
+        return "Nothing";
+    rignolda_frame front = frames.entries[0];
+    int fresh = rignolda_receiver_is_fresh(&receiver, &front);
+    must(rignolda_receiver_on_frame(&receiver, &front, &item) == fresh, "is_fresh foretells");
+    if (fresh)
+        delivered[count_delivered++] = item;
+    if (!keep)
+        lose(&frames, 0);
+    return fresh ? "Fresh" : "Old";
+}
+
+static const char *send_ack(void) {
+    rignolda_frame ack = {0};
+    return rignolda_receiver_ack(&receiver, &ack.label) ? put(&acks, ack) : "Nothing";
+}
+
+static const char *receive_ack(int keep) {
+    if (acks.count == 0)
+        return "Nothing";
+    int taken = rignolda_sender_on_ack(&sender, &params, acks.entries[0].label);
+    acked += (unsigned)taken;
+    if (!keep)
+        lose(&acks, 0);
+    return taken ? "Acked" : "Ignored";
+}
+
+/* On a closed link each call has to be refused, and to leave everything as it was. */
+static void closed_stays(void) {
+    rignolda_sender sender_before = sender;
+    rignolda_receiver receiver_before = receiver;
+    rignolda_frame frame = {.label = (uint16_t)(receiver.label + 1), .item = 5}, before = frame;
+    uint32_t item = 6;
+    uint16_t label = 7;
+    must(!rignolda_sender_offer(&sender, 8) && !rignolda_sender_frame(&sender, &frame) &&
+         !rignolda_sender_on_ack(&sender, &params, sender.label) &&
+         !rignolda_receiver_is_fresh(&receiver, &frame) &&
+         !rignolda_receiver_on_frame(&receiver, &frame, &item) &&
+         !rignolda_receiver_ack(&receiver, &label), "a closed end refuses");
+    must(!memcmp(&sender, &sender_before, sizeof sender) && item == 6 && label == 7 &&
+         !memcmp(&receiver, &receiver_before, sizeof receiver) &&
+         !memcmp(&frame, &before, sizeof frame), "what is refused stays as it was");
+}
+
+/* Makes the event whose letter this is, and answers its effect. */
+static const char *event(char letter, int closed) {
+    unsigned number = letter == 'o' || letter == 'l' || letter == 'L' ? word() : 0;
+    if (closed) {
+        closed_stays();
+        return "Nothing";
+    }
+    switch (letter) {
+    case 'o': return offer(number);
+    case 'f': return send_frame();
+    case 'r': case 'R': return receive_frame(letter == 'R');
+    case 's': return send_ack();
+    case 'a': case 'A': return receive_ack(letter == 'A');
+    case 'l': return lose(&frames, number);
+    case 'L': return lose(&acks, number);
+    case 'c':
+        rignolda_sender_close(&sender);
+        rignolda_receiver_close(&receiver);
+        return "Closed";
+    default: exit(2);
+    }
+}
+
+/* Prints a queue: its entries apart by a word, and another word where it is empty. */
+static void print_queue(const struct queue *queue, int of_frames, const char *apart,
+                        const char *empty) {
+    for (unsigned i = 0; i < queue->count; i++) {
+        printf("%s%u", i > 0 ? apart : "", queue->entries[i].label);
+        if (of_frames)
+            printf("=%u", queue->entries[i].item);
+    }
+    printf("%s", queue->count == 0 ? empty : "");
+}
+
+static void print_step(const char *effect, unsigned delivered_before) {
+    printf("%s %u ", effect, sender.label);
+    if (sender.holding)
+        printf("%u", sender.item);
+    printf("%s %u ", sender.holding ? "" : "-", acked);
+    print_queue(&frames, 1, ",", "-");
+    printf(" ");
+    print_queue(&acks, 0, ",", "-");
+    printf(" %u ", receiver.label);
+    if (count_delivered > delivered_before)
+        printf("%u\n", delivered[count_delivered - 1]);
+    else
+        printf("-\n");
+}
+
+static void print_items(const char *name, const uint32_t *items, unsigned count) {
+    printf("%s:", name);
+    for (unsigned i = 0; i < count; i++)
+        printf(" %u", items[i]);
+    printf("\n");
+}
+
+static void print_text(int closed) {
+    print_items("delivered", delivered, count_delivered);
+    print_items("offered", offered, count_offered);
+    printf("acked: %u\nsend label: %u\nrecv label: %u\nframes:%s", acked, sender.label,
+           receiver.label, frames.count > 0 ? " " : "");
+    print_queue(&frames, 1, " ", "");
+    printf("\nacks:%s", acks.count > 0 ? " " : "");
+    print_queue(&acks, 0, " ", "");
+    printf("\nclosed: %s\n", closed ? "yes" : "no");
+}
+
+static void start(void) {
+    rignolda_sender_init(&sender, (uint16_t)word());
+    rignolda_receiver_init(&receiver, (uint16_t)word());
+    frames = acks = (struct queue){.capacity = params.capacity};
+    for (unsigned count = word(); frames.count < count;) {
+        rignolda_frame frame = {.label = (uint16_t)word()};
+        frame.item = word();
+        put(&frames, frame);
+    }
+    for (unsigned count = word(); acks.count < count;)
+        put(&acks, (rignolda_frame){.label = (uint16_t)word()});
+    acked = count_offered = count_delivered = 0;
+}
+
+int main(int argc, char **argv) {
+    int steps = argc > 1 && !strcmp(argv[1], "steps");
+    unsigned capacity;
+    while (scanf("%u", &capacity) == 1) {
+        params = (rignolda_params){.capacity = (uint16_t)capacity};
+        params.labels = (uint16_t)word();
+        uint8_t refused = rignolda_params_check(&params);
+        if (refused != RIGNOLDA_LAWFUL) {
+            printf("refused %u\n", refused);
+            continue;
+        }
+        start();
+        int closed = 0;
+        if (steps)
+            print_step("-", 0);
+        for (unsigned count = word(); count > 0; count--) {
+            char letter = 0;
+            if (scanf(" %c", &letter) != 1)
+                return 2;
+            unsigned before = count_delivered;
+            const char *effect = event(letter, closed);
+            closed |= letter == 'c';
+            if (steps)
+                print_step(effect, before);
+        }
+        if (!steps)
+            print_text(closed);
+    }
+    return 0;
+}
