@@ -105,6 +105,15 @@ static void try_params(void) {
     must(rignolda_params_check(params) == wanted, "the first check that fails");
 }
 
+/* Every number of labels, with each capacity up to two beyond the greatest. */
+static void try_all_params(void) {
+    for (unsigned capacity = 0; capacity <= 66; capacity++)
+        for (unsigned labels = 0; labels <= UINT16_MAX; labels++) {
+            *params = (rignolda_params){(uint16_t)capacity, (uint16_t)labels};
+            try_params();
+        }
+}
+
 /* What a sender has to be after an acknowledgement, and whether it takes it. */
 static int acked(rignolda_sender *its) {
     if (!lawful() || its->closed || !its->holding || its->label != *label)
@@ -298,6 +307,7 @@ int main(int argc, char **argv) {
         draw_all();
         try_child();
     }
+    try_all_params();
     if (argc > 3)
         try_all_flags();
     printf("%lu rounds\n", rounds);
