@@ -194,13 +194,16 @@ static void send_to(struct child *child) {
     child->pause = child->pause < LONGEST_PAUSE ? 2 * child->pause : LONGEST_PAUSE;
 }
 
-/* Takes what a child has sent, and sends it what is due. */
+/* Takes what a child has sent, and sends it what is due. Where the line repeats a message, the next
+ * item may already wait; but nothing is transmitted in between, since the line would then contain
+ * a message more than its pipe. */
 static void look_down(struct child *child) {
     uint8_t ack[ACK_BYTES];
     for (unsigned i = 0; i < params.capacity && take(child->acks, ack, sizeof ack); i++) {
         on_ack(child, (uint16_t)(ack[0] << 8 | ack[1]));
         if (drawn(repeated)) {
-            send_to(child);
+            rignolda_frame unsent = {0};
+            rignolda_node_poll(&node, &child->link, list, PLACES, &unsent);
             on_ack(child, (uint16_t)(ack[0] << 8 | ack[1]));
         }
     }

@@ -72,6 +72,7 @@ gate() {
         "$kit"/lib/{Scrt1.o,crti.o,crtbeginS.o,crtendS.o,crtn.o,libc.so.6,libc_nonshared.a}
         "$library")
     in_c 'the kit' '20000 1' 300 "${words[@]}"
+    holds 'the checker of reports' tests/library/try_check_report.py
     holds 'all of the archive needs nothing else' "$kit/bin/clang" -nostdlib -static \
         -fuse-ld=lld -Wl,--whole-archive "$library" -Wl,-e,rignolda_params_check -o "$work/alone"
 }
@@ -102,6 +103,7 @@ whole() {
         holds 'cargo: 10000 drawn links' tests/library/compare.py drawn \
             "$work/cargo/release/examples/link" 10000
     fi
+    holds 'the checker of reports' tests/library/try_check_report.py
     holds 'agents: a tree' make -s -C agents INCLUDE="$include" LIBRARY="$library" run
     holds 'agents: spoiled ones are found out' make -s -C agents INCLUDE="$include" \
         LIBRARY="$library" spoiled

@@ -59,6 +59,15 @@ def runs(program):
     return passed, failed
 
 
+def unpack_stab(folder):
+    """The program of the release, unpacked here: the script ./stab looks at all sources first."""
+    program = os.path.join(folder, "stab")
+    with gzip.open(os.path.join(TOP, "release", "stab.gz")) as packed, open(program, "wb") as file:
+        file.write(packed.read())
+    os.chmod(program, 0o700)
+    return program
+
+
 def drawn_job(draw):
     """A lawful job: garbage at the start, and events of which many do something."""
     capacity = draw.choice([1, 1, 2, 3, draw.randint(1, 64)])
@@ -93,12 +102,7 @@ def drawn(program, count, seed):
     found = said(program, [], "".join(map(words_of, jobs))).split("\n")
     found = ["\n".join(found[at:at + 8]) + "\n" for at in range(0, 8 * count, 8)]
     with tempfile.TemporaryDirectory() as folder:
-        # (the program itself: the script ./stab looks at all sources first)
-        program = os.path.join(folder, "stab")
-        with gzip.open(os.path.join(TOP, "release", "stab.gz")) as packed, \
-                open(program, "wb") as file:
-            file.write(packed.read())
-        os.chmod(program, 0o700)
+        program = unpack_stab(folder)
 
         def stab(at):
             path = os.path.join(folder, str(at))
