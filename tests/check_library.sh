@@ -66,6 +66,7 @@ closed() {
 gate() {
     local kit words
     kit=$(dirname -- "$(readlink -f -- "$(type -P rt)")")/../toolchain
+    # shellcheck disable=SC2054
     words=("$kit/bin/clang" -std=gnu11 -O2 -Wall -Wextra -Werror -nostdinc
         -isystem tests/library/bare -I"$include" -fsanitize=undefined -fsanitize-trap=undefined
         -nostdlib -fuse-ld=lld -Wl,--dynamic-linker=/lib64/ld-linux-x86-64.so.2
