@@ -23,7 +23,10 @@ struct Link {
 
 /// The next number of the input.
 fn number<T: std::str::FromStr>(words: &mut SplitAsciiWhitespace<'_>) -> T {
-    words.next().and_then(|word| word.parse().ok()).expect("a number")
+    words
+        .next()
+        .and_then(|word| word.parse().ok())
+        .expect("a number")
 }
 
 /// Puts an entry into a queue, or loses it.
@@ -43,7 +46,10 @@ impl Link {
         let mut frames = VecDeque::new();
         for _ in 0..number::<usize>(words) {
             let label = number(words);
-            frames.push_back(Frame { label, item: number(words) });
+            frames.push_back(Frame {
+                label,
+                item: number(words),
+            });
         }
         let acks = (0..number::<usize>(words)).map(|_| number(words)).collect();
         Link {
@@ -71,7 +77,11 @@ impl Link {
         if !keep {
             self.frames.pop_front();
         }
-        if fresh { "Fresh" } else { "Old" }
+        if fresh {
+            "Fresh"
+        } else {
+            "Old"
+        }
     }
 
     fn receive_ack(&mut self, keep: bool) -> &'static str {
@@ -84,12 +94,20 @@ impl Link {
         if !keep {
             self.acks.pop_front();
         }
-        if taken { "Acked" } else { "Ignored" }
+        if taken {
+            "Acked"
+        } else {
+            "Ignored"
+        }
     }
 
     /// Makes the event of this letter, and answers its effect.
     fn event(&mut self, letter: &str, words: &mut SplitAsciiWhitespace<'_>) -> &'static str {
-        let argument = if "olL".contains(letter) { number::<u32>(words) } else { 0 };
+        let argument = if "olL".contains(letter) {
+            number::<u32>(words)
+        } else {
+            0
+        };
         if self.closed {
             assert!(!self.sender.offer(1) && self.sender.frame().is_none());
             assert!(!self.sender.on_ack(self.sender.label()) && self.receiver.ack().is_none());
@@ -123,7 +141,9 @@ impl Link {
     }
 
     fn frame_words(&self) -> impl Iterator<Item = String> + '_ {
-        self.frames.iter().map(|frame| format!("{}={}", frame.label, frame.item))
+        self.frames
+            .iter()
+            .map(|frame| format!("{}={}", frame.label, frame.item))
     }
 
     fn step(&self, effect: &str, delivered_before: usize) -> String {
@@ -131,7 +151,10 @@ impl Link {
             0 => "-".to_string(),
             _ => words.join(","),
         };
-        let held = self.sender.held().map_or("-".to_string(), |item| item.to_string());
+        let held = self
+            .sender
+            .held()
+            .map_or("-".to_string(), |item| item.to_string());
         let delivered = self.delivered.get(delivered_before);
         format!(
             "{effect} {} {held} {} {} {} {} {}\n",
@@ -153,7 +176,11 @@ impl Link {
         line(&mut text, "recv label", [self.receiver.label()]);
         line(&mut text, "frames", self.frame_words());
         line(&mut text, "acks", &self.acks);
-        line(&mut text, "closed", [if self.closed { "yes" } else { "no" }]);
+        line(
+            &mut text,
+            "closed",
+            [if self.closed { "yes" } else { "no" }],
+        );
         text
     }
 }

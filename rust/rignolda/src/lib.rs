@@ -117,11 +117,18 @@ pub struct Frame {
 
 impl Frame {
     fn of(raw: calls::Frame) -> Frame {
-        Frame { label: raw.label, item: raw.item }
+        Frame {
+            label: raw.label,
+            item: raw.item,
+        }
     }
 
     fn raw(self) -> calls::Frame {
-        calls::Frame { item: self.item, label: self.label, unused: 0 }
+        calls::Frame {
+            item: self.item,
+            label: self.label,
+            unused: 0,
+        }
     }
 }
 
@@ -155,7 +162,7 @@ impl Sender {
     pub fn frame(&self) -> Option<Frame> {
         let mut frame = calls::Frame::default();
         // SAFETY: the call reads this sender, and writes the frame alone.
-        unsafe { calls::rignolda_sender_frame(&self.raw, &mut frame) }.then(|| Frame::of(frame))
+        unsafe { calls::rignolda_sender_frame(&self.raw, &mut frame) }.then_some(Frame::of(frame))
     }
 
     /// Handles an acknowledgement: whether it was that of the item that the sender is holding. Then
@@ -178,7 +185,7 @@ impl Sender {
 
     /// The item that waits for its acknowledgement.
     pub fn held(&self) -> Option<u32> {
-        (self.raw.holding != 0).then(|| self.raw.item)
+        (self.raw.holding != 0).then_some(self.raw.item)
     }
 }
 
@@ -220,7 +227,7 @@ impl Receiver {
         let mut item = 0;
         // SAFETY: the call has this receiver and the item for itself, and only reads the frame.
         unsafe { calls::rignolda_receiver_on_frame(&mut self.raw, &frame.raw(), &mut item) }
-            .then(|| item)
+            .then_some(item)
     }
 
     /// The label to acknowledge now, unless this end is closed. Every frame should be
@@ -228,7 +235,7 @@ impl Receiver {
     pub fn ack(&self) -> Option<u16> {
         let mut label = 0;
         // SAFETY: the call reads this receiver, and writes the label alone.
-        unsafe { calls::rignolda_receiver_ack(&self.raw, &mut label) }.then(|| label)
+        unsafe { calls::rignolda_receiver_ack(&self.raw, &mut label) }.then_some(label)
     }
 
     /// Closes this end for good.

@@ -61,7 +61,7 @@ impl<'a> Node<'a> {
     pub fn ack(&self) -> Option<u16> {
         let mut label = 0;
         // SAFETY: the call reads this node, and writes the label alone.
-        unsafe { calls::rignolda_receiver_ack(&self.raw.above, &mut label) }.then(|| label)
+        unsafe { calls::rignolda_receiver_ack(&self.raw.above, &mut label) }.then_some(label)
     }
 
     /// Offers a child the next item, if its sender has none; the frame to send to it now, if any.
@@ -71,7 +71,7 @@ impl<'a> Node<'a> {
         // SAFETY: the call has the child and the frame for itself, and only reads the node and its
         // list, which has `size` items.
         unsafe { calls::rignolda_node_poll(&self.raw, &mut child.raw, list, size, &mut frame) }
-            .then(|| Frame::of(frame))
+            .then_some(Frame::of(frame))
     }
 
     /// How many items of the list a child has not acknowledged: what the `h` of a restart bounds.

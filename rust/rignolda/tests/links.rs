@@ -61,7 +61,10 @@ fn nothing_happens_after_a_close() {
     assert!(sender.offer(7));
     sender.close();
     assert!(!sender.offer(8) && !sender.on_ack(3));
-    assert_eq!((sender.frame(), sender.label(), sender.held()), (None, 3, Some(7)));
+    assert_eq!(
+        (sender.frame(), sender.label(), sender.held()),
+        (None, 3, Some(7))
+    );
     let mut receiver = Receiver::new(2);
     receiver.close();
     assert_eq!(receiver.on_frame(Frame { label: 0, item: 1 }), None);
@@ -101,5 +104,8 @@ fn a_chain_hands_its_list_on() {
         }
     }
     assert_eq!(leaf.items(), root.items());
-    assert_eq!((upper.acknowledged(), upper.ignored(), lower.offered()), (50, 50, 50));
+    assert_eq!(
+        (upper.acknowledged(), upper.ignored(), lower.offered()),
+        (50, 50, 50)
+    );
 }
