@@ -106,6 +106,7 @@ whole() {
     fi
     holds 'the checker of reports' tests/library/try_check_report.py
     holds 'agents: a tree' make -s -C agents INCLUDE="$include" LIBRARY="$library" run
+    holds 'agents: 20 drawn trees' agents/trials runs 20
     holds 'agents: spoiled ones are found out' make -s -C agents INCLUDE="$include" \
         LIBRARY="$library" spoiled
 }
