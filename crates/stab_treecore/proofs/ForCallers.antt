@@ -1,7 +1,8 @@
 -- For the crates above: facts on what there is one of per link, dealt out by child, and dealt out to
--- the children of each node; and on texts that have one part per node.
+-- the children of each node; on texts that have one part per node; and on all places of a list.
 pub use Rattle.stab_treecore.proofs.Fitting.{AreOpenings, openings_fit}
 pub use Rattle.stab_treecore.proofs.Lines.{next_place}
+pub use Rattle.stab_treecore.proofs.Root.{all_places, all_below, all_items, all_picked, all_there, length_all}
 use Rattle.std.specs.List.{AllZip}
 use Rattle.std.proofs.Common.{◌≡◌, ◌==◌, ◌<◌, ℕ, zero, suc, Bool, true, false, if◌then◌else◌, List, [], ◌∷◌, length, map, get_or, Option, Some, None, option_map, All, refl, ap, sym, ◌∙◌, subst, eq-eqb, arith}
 use Rattle.std.proofs.lemmas.List.Elements.{All-head, All-tail}

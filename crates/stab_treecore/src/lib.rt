@@ -20,7 +20,7 @@ mod text;
 
 pub use event::TreeEvent;
 pub use fault::{OpeningFault, TreeStartFault, TreeStepFault};
-pub use openings::Openings;
+pub use openings::{is_inner, Openings};
 pub use schedule::run_schedule;
 pub use stab_core::LinkAct;
 pub use state::TreeState;

@@ -86,8 +86,8 @@ fn has_child(tree: &Tree, node: NodeId) -> bool
     tree.parents().iter().any(|parent| *parent == Some(node))
 }
 
-/// Whether one link leads into a node, and another from it.
-fn is_inner(tree: &Tree, node: NodeId) -> bool
+/// Whether one link leads into a node, and another from it: no other node has an opening.
+pub fn is_inner(tree: &Tree, node: NodeId) -> bool
     requires { node < length tree.now.parents }
     ensures { result ≡ is_inner tree.now.parents node }
 {

@@ -1,0 +1,11 @@
+pub mod Greedy
+pub mod Splitting
+pub mod Tails
+pub mod Links
+pub mod Ending
+pub mod Trees
+pub mod Setup
+pub mod Enough
+pub mod Edges
+pub mod Climbing
+pub mod Parts

@@ -1,0 +1,21 @@
+use Rattle.std.proofs.Common.{◌≡◌, ℕ, Some}
+use Rattle.stab_tree.specs.Nodes.{parent_at}
+use Rattle.stab_judge.specs.Obeys.{HandsOn, LinkObeys}
+use Rattle.stab_judge.proofs.Enough.{child_obeys, complete, root_obeys, tree_law}
+use Rattle.stab_judge.proofs.laws.nodes_that_obey_are_enough.Goals as goal
+
+pub returns : goal.returns
+returns c net r tree fit entries nodes =
+    let root = root_obeys net r tree nodes in
+    let links : (child parent : ℕ) → parent_at net.tree.parents child ≡ Some parent → LinkObeys net r child parent =
+    λ child parent is_child. (child_obeys net r tree nodes child parent is_child).0 in
+    let handed : (child parent : ℕ) → parent_at net.tree.parents child ≡ Some parent → HandsOn r child parent =
+    λ child parent is_child. (child_obeys net r tree nodes child parent is_child).1 in record {
+      entries = entries;
+      root = root;
+      links = links;
+      handed_on = handed;
+      tree_law = tree_law net r tree fit root links handed c.tree_law_at_every_node.ensures;
+      complete = complete net r tree fit root links handed c.root_obeys_the_complete_law.ensures c.complete_law_of_the_child.ensures
+          c.tree_law_past_an_opening.ensures.complete_law c.laws_of_larger_bounds.ensures.complete;
+    }

@@ -1,0 +1,49 @@
+//! Laws over the definitions alone: each is a function with an empty body, and its contract is the
+//! law.
+
+ghost use Rattle.std.specs.Prelude.{◌≡◌, ◌<◌, ℕ, Some, length};
+ghost use Rattle.stab_judge.specs.Obeys.{HandsOn, LinkObeys, NodeObeys, Obeys, RootObeys};
+ghost use Rattle.stab_judge.specs.Reports.{OnePerNode, ReportValue, acked_at, received_at};
+ghost use Rattle.stab_tree.specs.IsTree.{IsTree};
+ghost use Rattle.stab_tree.specs.Nodes.{parent_at, root_of};
+ghost use Rattle.stab_treecore.specs.EdgeLaw.{EdgeInto};
+ghost use Rattle.stab_treecore.specs.Network.{Network};
+ghost use Rattle.stab_treecore.specs.NodeOpenings.{FitTree};
+
+/// Where each node obeys, the tree law holds at each node, and the complete law below nodes that
+/// all ended with their upstream: nothing else is asked of a report.
+pub fn nodes_that_obey_are_enough()
+    ensures { (net : Network) (report : ReportValue)
+        → IsTree net.tree → FitTree net.tree.parents net.openings
+        → OnePerNode net.tree.parents report
+        → ((node : ℕ) → node < length net.tree.parents → NodeObeys net report node)
+        → Obeys net report }
+{
+    stab_treecore::laws::tree_law_at_every_node();
+    stab_treecore::laws::root_obeys_the_complete_law();
+    stab_treecore::laws::complete_law_of_the_child();
+    stab_treecore::laws::tree_law_past_an_opening();
+    stab_treecore::laws::laws_of_larger_bounds();
+}
+
+/// What a run says of a link, that some events explain what it did, is more than a judge asks: so a
+/// judge finds no link of a run broken. A report obeys whose root, links and ends obey, as those of
+/// a run do.
+pub fn explained_reports_obey()
+    ensures link { (net : Network) (report : ReportValue) (child parent : ℕ)
+        (edge : EdgeInto net child (received_at report parent) (received_at report child))
+        → acked_at report child ≡ Some edge.acked
+        → LinkObeys net report child parent }
+    ensures report { (net : Network) (report : ReportValue)
+        → IsTree net.tree → FitTree net.tree.parents net.openings
+        → OnePerNode net.tree.parents report
+        → RootObeys net report (root_of net.tree.parents)
+        → ((child parent : ℕ) → parent_at net.tree.parents child ≡ Some parent
+        → LinkObeys net report child parent)
+        → ((child parent : ℕ) → parent_at net.tree.parents child ≡ Some parent
+        → HandsOn report child parent)
+        → Obeys net report }
+{
+    stab_core::laws::every_replay_obeys_the_link_law();
+    nodes_that_obey_are_enough();
+}
