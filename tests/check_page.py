@@ -1,0 +1,386 @@
+#!/usr/bin/env python3
+"""Checks page/index.html in Chromium and Firefox, run headless, from a file. By hand:
+
+    tests/check_page.py [--jobs N] [--seed N] [--pictures FOLDER] [chromium|firefox]..
+
+It takes the commands `chromium` and `firefox-esr` (Debian's packages), and the program by ./stab.
+In each browser it looks that
+
+- the page is at most 100 kB, and ready in less than 200 ms;
+- each link example, and each drawn job (1,000 of them), gives the text of `stab link --trace`;
+- each link job that the program refuses is refused, and no other;
+- each exercise is refused with too few events, and solved with the events that are given here;
+- the buttons, the slider, the keys and the address do what they say;
+
+and with --pictures it keeps pictures, light and dark, wide and narrow. The last line is
+'N passed, M failed'.
+"""
+import argparse
+import base64
+import json
+import os
+import pathlib
+import random
+import shutil
+import socket
+import subprocess
+import sys
+import tempfile
+import time
+
+TOP = pathlib.Path(__file__).resolve().parent.parent
+PAGE = TOP / "page" / "index.html"
+DATA = TOP / "crates" / "stab_checks" / "data"
+MOST_BYTES = 100_000
+MOST_MILLISECONDS = 200
+SECONDS = 60
+
+WIDE, NARROW = (1100, 900), (390, 800)
+
+
+class Chromium:
+    """Chromium, driven over a pipe."""
+
+    def __init__(self, folder):
+        to_read, self.write = os.pipe()
+        self.read, to_write = os.pipe()
+        self.rest, self.count = b"", 0
+
+        def wire():
+            os.dup2(to_read, 103), os.dup2(to_write, 104)
+            os.dup2(103, 3), os.dup2(104, 4)
+
+        words = ["chromium", "--headless=new", "--no-sandbox", "--disable-gpu", "--no-first-run",
+                 "--remote-debugging-pipe", f"--user-data-dir={folder}", "about:blank"]
+        quiet = {"stdout": subprocess.DEVNULL, "stderr": subprocess.DEVNULL}
+        self.process = subprocess.Popen(words, preexec_fn=wire, close_fds=False, **quiet)
+        os.close(to_read), os.close(to_write)
+        target = next(t for t in self.ask("Target.getTargets")["targetInfos"] if t["type"] == "page")
+        said = self.ask("Target.attachToTarget", targetId=target["targetId"], flatten=True)
+        self.session = said["sessionId"]
+        self.ask("Page.enable")
+
+    session = None
+
+    def ask(self, method, **params):
+        self.count += 1
+        message = {"id": self.count, "method": method, "params": params}
+        if self.session:
+            message["sessionId"] = self.session
+        data = json.dumps(message).encode() + b"\0"
+        while data:
+            data = data[os.write(self.write, data):]
+        while True:
+            while b"\0" not in self.rest:
+                self.rest += os.read(self.read, 1 << 20)
+            one, _, self.rest = self.rest.partition(b"\0")
+            said = json.loads(one)
+            if said.get("id") == self.count:
+                if "error" in said:
+                    raise RuntimeError(f"{method}: {said['error']}")
+                return said["result"]
+
+    def size(self, width, height, dark):
+        self.ask("Emulation.setDeviceMetricsOverride", width=width, height=height,
+                 deviceScaleFactor=1, mobile=width < 600)
+        scheme = {"name": "prefers-color-scheme", "value": "dark" if dark else "light"}
+        self.ask("Emulation.setEmulatedMedia", features=[scheme])
+
+    def go(self, address):
+        self.ask("Page.navigate", url="about:blank")
+        self.ask("Page.navigate", url=address)
+
+    def run(self, body, *args):
+        """The value of a function of the page with this body and arguments."""
+        text = f"JSON.stringify((function(...args) {{{body}}})(...{json.dumps(args)}) ?? null)"
+        said = self.ask("Runtime.evaluate", expression=text, returnByValue=True)
+        if "exceptionDetails" in said:
+            raise RuntimeError(json.dumps(said["exceptionDetails"])[:500])
+        return json.loads(said["result"]["value"])
+
+    def picture(self):
+        said = self.ask("Page.captureScreenshot", captureBeyondViewport=True,
+                        clip={"x": 0, "y": 0, "scale": 1, **self.whole()})
+        return base64.b64decode(said["data"])
+
+    def whole(self):
+        box = self.ask("Page.getLayoutMetrics")["cssContentSize"]
+        return {"width": box["width"], "height": box["height"]}
+
+    def end(self):
+        self.process.terminate()
+        self.process.wait()
+
+
+class Firefox:
+    """Firefox, driven by its own protocol over a socket of this machine."""
+
+    def __init__(self, folder, dark=False):
+        with socket.socket() as any_port:
+            any_port.bind(("127.0.0.1", 0))
+            port = any_port.getsockname()[1]
+        prefs = {"marionette.port": port, "ui.systemUsesDarkTheme": int(dark),
+                 "layout.css.prefers-color-scheme.content-override": 0 if dark else 1,
+                 "browser.shell.checkDefaultBrowser": False, "app.update.enabled": False}
+        lines = [f"user_pref({json.dumps(k)}, {json.dumps(v)});\n" for k, v in prefs.items()]
+        pathlib.Path(folder, "user.js").write_text("".join(lines))
+        words = ["firefox-esr", "--headless", "--marionette", "--no-remote", "--profile", str(folder)]
+        quiet = {"stdout": subprocess.DEVNULL, "stderr": subprocess.DEVNULL}
+        env = {**os.environ, "HOME": str(folder), "MOZ_HEADLESS_WIDTH": "1100"}
+        self.process = subprocess.Popen(words, env=env, **quiet)
+        self.count, self.rest = 0, b""
+        end = time.time() + SECONDS
+        while True:
+            try:
+                self.socket = socket.create_connection(("127.0.0.1", port))
+                break
+            except OSError:
+                if time.time() > end:
+                    raise
+                time.sleep(0.2)
+        self.message()
+        self.ask("WebDriver:NewSession", capabilities={"alwaysMatch": {}})
+
+    def message(self):
+        while b":" not in self.rest:
+            self.rest += self.socket.recv(1 << 20)
+        length, _, self.rest = self.rest.partition(b":")
+        while len(self.rest) < int(length):
+            self.rest += self.socket.recv(1 << 20)
+        said, self.rest = self.rest[:int(length)], self.rest[int(length):]
+        return json.loads(said)
+
+    def ask(self, method, **params):
+        self.count += 1
+        data = json.dumps([0, self.count, method, params]).encode()
+        self.socket.sendall(str(len(data)).encode() + b":" + data)
+        _, _, error, result = self.message()
+        if error:
+            raise RuntimeError(f"{method}: {error.get('message')}")
+        return result
+
+    def size(self, width, height, dark):
+        self.ask("WebDriver:SetWindowRect", width=width, height=height + 90)
+
+    def go(self, address):
+        self.ask("WebDriver:Navigate", url="about:blank")
+        self.ask("WebDriver:Navigate", url=address)
+
+    def run(self, body, *args):
+        call = f"JSON.stringify((function(...args) {{{body}}})(...{json.dumps(args)}) ?? null)"
+        script = "return window.wrappedJSObject.eval(arguments[0])"
+        said = self.ask("WebDriver:ExecuteScript", script=script, args=[call])
+        return json.loads(said["value"])
+
+    def picture(self):
+        return base64.b64decode(self.ask("WebDriver:TakeScreenshot", full=True)["value"])
+
+    def end(self):
+        self.socket.close()
+        self.process.terminate()
+        self.process.wait()
+
+
+def program(job):
+    """What `stab link --trace` answers: its text, or None where it refuses."""
+    done = subprocess.run([TOP / "stab", "link", "--trace"], input=job, capture_output=True)
+    return done.stdout.decode() if done.returncode == 0 else None
+
+
+def drawn_job(draw):
+    """A drawn job: any start that fits, and events that mostly do something."""
+    capacity = draw.choice([1, 1, 1, 2, 2, 3, 4, 8, 64])
+    labels = draw.choice([2 * capacity + 2, 2 * capacity + 3, draw.randint(2 * capacity + 2, 1000)])
+    label = lambda: draw.choice([draw.randrange(labels), draw.randrange(labels), draw.randrange(65536)])
+    item = lambda: draw.choice([draw.randrange(100), draw.randrange(1 << 32)])
+    start = {"frames": [[label(), item()] for _ in range(draw.randint(0, capacity))],
+             "acks": [label() for _ in range(draw.randint(0, capacity))],
+             "send": label(), "recv": label()}
+    words = ["send_frame", "recv_frame", "send_ack", "recv_ack"] * 4
+    words += ["recv_frame_keep", "recv_ack_keep", "lose_frame", "lose_ack", "offer", "offer", "offer"]
+    events = []
+    for _ in range(draw.choice([0, 10, 50, 200, 200, 400])):
+        word = draw.choice(words)
+        if word == "offer":
+            word = [word, item()]
+        elif word.startswith("lose"):
+            word = [word, draw.choice([0, 1, draw.randrange(capacity + 1), 65535])]
+        events.append(word)
+    if draw.random() < 0.1:
+        events.insert(draw.randint(0, len(events)), "close")
+    return json.dumps({"capacity": capacity, "labels": labels, "start": start, "events": events})
+
+
+def long_job():
+    """As many events as the page takes, so that the lists are as long as they get."""
+    events = []
+    while len(events) + 5 <= 4096:
+        events += [["offer", len(events)], "send_frame", "recv_frame", "send_ack", "recv_ack"]
+    events += ["send_ack"] * (4096 - len(events))
+    start = {"frames": [[9, 9]] * 64, "acks": [9] * 64, "send": 0, "recv": 65535}
+    return json.dumps({"capacity": 64, "labels": 130, "start": start, "events": events})
+
+
+def offered(item):
+    return ["offer", item]
+
+
+def one_round(item):
+    return [offered(item), "send_frame", "recv_frame", "send_ack", "recv_ack"]
+
+
+LATE = [event for item in (11, 12, 13)
+        for event in (offered(item), "send_frame", "recv_ack", "send_ack", "recv_frame")]
+WORST = [offered(10), "recv_ack", "send_ack", offered(11), "recv_ack", "recv_frame", "send_ack",
+         offered(12), "recv_ack"]
+
+# for each exercise events that solve it; without the last of them it is not solved
+SOLVED = [
+    one_round(7) + one_round(8),
+    [offered(7), "send_frame", ["lose_frame", 0], "send_frame", "recv_frame", "send_ack", "recv_ack"],
+    ["recv_frame"],
+    WORST,
+    [offered(10), "recv_ack", "send_ack", "recv_frame", *LATE, offered(14), "send_frame",
+     ["lose_frame", 0], "recv_ack"],
+    WORST + one_round(13),
+]
+
+TEXTS = """return args[0].map(text => {
+  try { return traceText(readJob(text)); }
+  catch (error) { return error instanceof Fault ? null : "error: " + error; }
+});"""
+
+
+class Checks:
+    def __init__(self):
+        self.passed = self.failed = 0
+
+    def see(self, name, holds, more=""):
+        self.passed += bool(holds)
+        self.failed += not holds
+        if not holds:
+            print(f"FAILED: {name} {more}")
+
+    def texts(self, browser, name, jobs, wanted):
+        for first in range(0, len(jobs), 100):
+            part = jobs[first:first + 100]
+            said = browser.run(TEXTS, [text for _, text in part])
+            for (job, _), text, want in zip(part, said, wanted[first:first + 100]):
+                self.see(f"{name}: {job}", text == want, f"\n{text}\nand not\n{want}")
+
+    def exercises(self, browser, name):
+        for i, events in enumerate(SOLVED):
+            body = "return checkTask(args[0], { ...TASKS[args[0]].job, events: args[1] });"
+            self.see(f"{name}: exercise {i + 1} is solved", browser.run(body, i, events) == "")
+            self.see(f"{name}: exercise {i + 1} fails", browser.run(body, i, events[:-1]) != "")
+            self.see(f"{name}: exercise {i + 1} from another start",
+                     browser.run("return checkTask(args[0], RUNS['Two clean rounds']);", i) != "")
+
+    def hands(self, browser, name):
+        """Buttons, slider, keys and the address."""
+        state = "return [at, job.events.length, $('happened').textContent, $('strays').textContent];"
+        browser.run("show(RUNS['The worst start'], 'x'); for (let i = 0; i < 12; i++) $('forth').click();")
+        said = browser.run(state)
+        self.see(f"{name}: forward to the end", said[:2] == [12, 12] and said[3] == "Strays: 1 of at most 1", said)
+        self.see(f"{name}: missing of the worst start", browser.run("return $('missing').textContent") == "Missing: 3 of at most 3")
+        browser.run("$('at').value = 6; $('at').dispatchEvent(new Event('input'));")
+        said = browser.run(state)
+        self.see(f"{name}: the slider", said[0] == 6 and "a stray" in said[2], said)
+        browser.run("document.body.dispatchEvent(new KeyboardEvent('keydown', {key: 'ArrowLeft', bubbles: true}));")
+        self.see(f"{name}: the left key", browser.run(state)[0] == 5)
+        browser.run("$('back').click(); document.querySelector('[data-event=send_ack]').click();")
+        self.see(f"{name}: an event replaces the rest", browser.run(state)[:2] == [5, 5])
+        self.see(f"{name}: its text", browser.run("return jobText(job)").count("send_ack") == 2)
+        browser.run("show(RUNS['A clean start'], 'x');")
+        dim = "return [...document.querySelectorAll('[data-event]')].filter(b => !b.disabled).map(b => b.dataset.event);"
+        self.see(f"{name}: what can happen to a clean link", browser.run(dim) == ["offer", "send_ack", "close"], browser.run(dim))
+        browser.run("show(RUNS['Two labels are too few'], 'x'); go(99); share();")
+        address = browser.run("return location.href")
+        browser.go(address)
+        self.wait(browser)
+        said = browser.run("return [at, job.labels, $('missing-box').className, $('fault').textContent];")
+        self.see(f"{name}: a run in the address", said == [23, 2, "over", ""], said)
+        browser.run("tryJob('{\"capacity\":1,\"labels\":4,\"start\":{\"send\":0,\"recv\":1},\"events\":[\"send_ack\",\"sent\"]}');")
+        said = browser.run("return $('fault').textContent")
+        self.see(f"{name}: a refused job names the place", "events[1]" in said, said)
+        names = """return [...document.querySelectorAll('button, input, select, textarea')].filter(e =>
+            !(e.textContent.trim() || e.getAttribute('aria-label') || e.closest('label'))).length;"""
+        self.see(f"{name}: each control has a name", browser.run(names) == 0)
+
+    def wait(self, browser):
+        end = time.time() + SECONDS
+        while not browser.run("return document.documentElement?.dataset.ready ?? ''"):
+            if time.time() > end:
+                raise RuntimeError("the page is not ready: " + browser.run("return document.body.innerText.slice(0, 300)"))
+            time.sleep(0.05)
+
+
+def pictures(browser, name, folder, dark):
+    for width, height in (WIDE, NARROW):
+        browser.size(width, height, dark)
+        browser.run("show(RUNS['The worst start of capacity two'], 'The worst start of capacity two', 20);")
+        time.sleep(0.6)
+        kind = f"{name}-{'dark' if dark else 'light'}-{'wide' if (width, height) == WIDE else 'narrow'}"
+        pathlib.Path(folder, kind + ".png").write_bytes(browser.picture())
+        wider = browser.run("return document.documentElement.scrollWidth - innerWidth")
+        yield kind, wider
+
+
+def main():
+    words = argparse.ArgumentParser(description=__doc__.splitlines()[0])
+    words.add_argument("--jobs", type=int, default=1000)
+    words.add_argument("--seed", type=int, default=1)
+    words.add_argument("--pictures")
+    words.add_argument("browsers", nargs="*", default=["chromium", "firefox"])
+    words = words.parse_args()
+    checks, draw = Checks(), random.Random(words.seed)
+    checks.see("the page is at most 100 kB", PAGE.stat().st_size <= MOST_BYTES)
+    files = sorted(DATA.glob("links/*.json")) + sorted(DATA.glob("refused/*.json"))
+    jobs = [(f.name, f.read_bytes()) for f in files + [DATA / "worst_start.json"]]
+    # (what is no UTF-8 cannot be pasted)
+    texts = []
+    for job, data in jobs:
+        try:
+            texts.append((job, data.decode()))
+        except UnicodeDecodeError:
+            pass
+    jobs = texts + [(f"drawn job {i}", drawn_job(draw)) for i in range(words.jobs)]
+    jobs.append(("4096 events", long_job()))
+    wanted = [program(text.encode()) for _, text in jobs]
+    accepted = sum(text is not None for text in wanted)
+    print(f"{len(jobs)} jobs, of which the program takes {accepted}")
+    for name in words.browsers:
+        for dark in (False, True):
+            if dark and not words.pictures:
+                continue
+            folder = tempfile.mkdtemp()
+            browser = Chromium(folder) if name == "chromium" else Firefox(folder, dark)
+            try:
+                browser.size(*WIDE, dark)
+                browser.go(PAGE.as_uri())
+                checks.wait(browser)
+                if not dark:
+                    times = []
+                    for _ in range(5):
+                        browser.go(PAGE.as_uri())
+                        checks.wait(browser)
+                        times.append(int(browser.run("return document.documentElement.dataset.ready")))
+                    print(f"{name}: ready after {sorted(times)[2]} ms ({times})")
+                    checks.see(f"{name}: ready in time", sorted(times)[2] < MOST_MILLISECONDS, times)
+                    checks.texts(browser, name, jobs, wanted)
+                    checks.exercises(browser, name)
+                    checks.hands(browser, name)
+                if words.pictures:
+                    os.makedirs(words.pictures, exist_ok=True)
+                    browser.go(PAGE.as_uri())
+                    checks.wait(browser)
+                    for kind, wider in pictures(browser, name, words.pictures, dark):
+                        checks.see(f"{kind}: nothing is cut off", wider <= 0, wider)
+            finally:
+                browser.end()
+                shutil.rmtree(folder, ignore_errors=True)
+    print(f"{checks.passed} passed, {checks.failed} failed")
+    sys.exit(checks.failed > 0)
+
+
+main()
