@@ -168,8 +168,16 @@ class Firefox:
 
     def run(self, body, *args):
         call = f"JSON.stringify((function(...args) {{{body}}})(...{json.dumps(args)}) ?? null)"
-        script = "return window.wrappedJSObject.eval(arguments[0])"
+        # (a script of the page sees what the page's own script declares)
+        script = """const script = document.createElement('script');
+            window.answerOfCheck = undefined;
+            script.textContent = 'window.answerOfCheck = ' + arguments[0];
+            document.documentElement.append(script);
+            script.remove();
+            return window.answerOfCheck;"""
         said = self.ask("WebDriver:ExecuteScript", script=script, args=[call])
+        if said["value"] is None:
+            raise RuntimeError(f"no answer of {body[:200]}")
         return json.loads(said["value"])
 
     def picture(self):
