@@ -9,13 +9,15 @@
 #   ./release.sh --archive  packs the release with the pages and the examples for users, as a file
 #                           in out/ that is the same, byte for byte, whoever packs it
 #
-# What release/ has is in the table of tools/launch. A program is compressed there. The file MANIFEST
-# has the line of the kit, and a line for each of these files: its name, the digest of what it holds,
+# What release/ has is in the table of tools/launch; a program is compressed. The file MANIFEST has
+# the line of the kit, and a line for each of these files: its name, the digest of what it holds,
 # unpacked if it is a program, and the digest of its sources.
 set -uo pipefail
 unset CDPATH
 # shellcheck source=tools/launch
 . "$(dirname -- "$(readlink -f -- "${BASH_SOURCE[0]}")")/tools/launch"
+# shellcheck source=tools/build
+. "$top/tools/build"
 speaker=release
 work=
 passed=0
@@ -67,7 +69,7 @@ holds() {
     fi
 }
 
-# Whether release/ has the manifest and the files of the artefacts, as plain files, and nothing else.
+# Whether release/ has the manifest and the files of the artefacts, as plain files, and no more.
 has_its_files() {
     local artefact
     [ "$(cd -- "$release" 2>/dev/null && find . -mindepth 1 -printf '%y %P\n' | LC_ALL=C sort)" = \

@@ -285,7 +285,7 @@ def lines_of(crate):
 
 
 def tasks_of(crates):
-    """The tasks of rt ci, in the order of the layers: what each waits for, its seconds, its lines."""
+    """The tasks of rt ci, lowest layer first: what each waits for, its seconds, its lines."""
     uses, below, tasks = listed(), {}, {}
     def all_below(name):
         if name not in below:
@@ -326,7 +326,7 @@ def modelled(crates, lanes):
 
 
 def first_use(crates):
-    """The part of these costs that `./stab --prove` has, which proves no tests and tries no edits."""
+    """The part of these costs that `./stab --prove` has, without tests and edits."""
     found, waiting = {}, ["stab_cli"]
     while waiting:
         name = waiting.pop()

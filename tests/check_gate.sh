@@ -218,8 +218,9 @@ tr -d '\n' <"$work/notes" >"$work/notes_in_a_line"
 PATH=$work/bin:$PATH "$house/bench/gate.py" table "$work/notes_in_a_line" "$work/page" 420 \
     "$work/notes" >"$work/out" 2>"$work/err"
 status=$?
-holds 'what each crate cost is in the table' all_in "$work/page" '| `low` | 1.0 | 0.0 | 1.0 | 0.0 | 2.0 |' \
-    '| `mid` | 1.0 | 2.0 | 0.0 | 0.0 | 3.0 |' '| all | 3.7 | 2.0 | 1.0 | 0.3 | 7.0 |'
+holds 'what each crate cost is in the table' all_in "$work/page" \
+    '| `low` | 1.0 | 0.0 | 1.0 | 0.0 | 2.0 |' '| `mid` | 1.0 | 2.0 | 0.0 | 0.0 | 3.0 |' \
+    '| all | 3.7 | 2.0 | 1.0 | 0.3 | 7.0 |'
 holds 'what two processors would take is computed' grep -qF \
     'on two processors `./gate` would take 9.0 minutes, on four 7.0;' "$work/page"
 holds 'and so is the first proof, without tests and edits' grep -qF \

@@ -75,7 +75,7 @@ printf '# Changelog\n\nText.\n\n## 2026-11-23, evening: a release\n\n## 2026-11-
     >"$house/CHANGELOG.md"
 cp -- "$top/release.sh" "$house/"
 mkdir "$house/tools"
-cp -- "$top/tools/launch" "$house/tools/"
+cp -- "$top"/tools/{launch,build} "$house/tools/"
 
 # Runs ./release.sh, and notes its status and what it writes.
 run() {

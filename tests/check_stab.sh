@@ -97,7 +97,7 @@ write_house() {
     echo 'Handles allowed: none.' >"$house/HANDLES"
     mkdir -p "$house/tools"
     cp -- "$top/stab" "$top/rignolda" "$top/release.sh" "$house/"
-    cp -- "$top/tools/launch" "$house/tools/"
+    cp -- "$top"/tools/{launch,build} "$house/tools/"
     : >"$work/calls"
 }
 
