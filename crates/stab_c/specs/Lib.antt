@@ -1,3 +1,4 @@
 pub mod Ends
 pub mod Meaning
 pub mod NodeList
+pub mod Line

@@ -7,6 +7,7 @@
 #![tactic(auto)]
 
 mod child;
+pub mod laws;
 mod line;
 mod node;
 mod receiver;
