@@ -2,3 +2,4 @@ pub mod Ends
 pub mod Meaning
 pub mod NodeList
 pub mod Line
+pub mod Edge
