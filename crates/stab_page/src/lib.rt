@@ -14,3 +14,5 @@ mod link;
 mod numbers;
 mod run;
 mod standing;
+#[cfg(test)]
+mod tests;
