@@ -1,8 +1,12 @@
 #!/usr/bin/env bash
 # Builds the module of the page from the proved crate stab_page.
 #
-#   page/build.sh         writes page/index.html: page/page.html with the module inside, as base64
-#   page/build.sh FILE    writes the module alone to FILE
+#   page/build.sh                 builds it, and writes page/index.html: page/page.html with the
+#                                 module inside, as base64
+#   page/build.sh FILE            builds it, and writes it to FILE alone
+#   page/build.sh --page FILE     writes page/index.html with the module FILE, and builds nothing
+#   page/build.sh --compare FILE  compares page/index.html with the page of the module FILE: the
+#                                 status is 1 where they differ
 #
 # The crate is proved first, over what earlier checks have kept. Then the same compiler makes it for
 # WebAssembly, which it does for a proved crate alone. The last line says how large the module is,
@@ -20,52 +24,68 @@ fail() {
     exit 1
 }
 
-rt=$(type -P rt) || fail "the command rt of the Rattle kit is needed"
-kit=$(dirname -- "$(dirname -- "$(readlink -f -- "$rt")")")
-work=$(mktemp -d)
-trap 'rm -rf -- "$work"' EXIT
-to=${1-}
-[ -z "$to" ] || to=$(readlink -f -- "$to")
-
-cd -- "$top/crates/$crate"
-rt check --jobs 1 >"$work/log" 2>&1 || { cat -- "$work/log" >&2; fail "$crate is not proved"; }
-
-# the libraries of the crate, as crates.txt lists them
-line=$(sed -n "s/^$crate staticlib: *//p" "$top/crates.txt")
-[ -n "$line" ] || fail "crates.txt does not list $crate"
-words=(-L "dependency=$kit/rlibs" --extern "std=$kit/rlibs/std.rlib")
-for library in $line; do
-    if [ -d "$top/crates/$library" ]; then
-        folder=$top/crates/$library/out/rlib
-        words+=(-L "dependency=$folder")
-    else
+# Proves the crate, and builds the module as the file $1.
+build() {
+    local rt kit line library folder words
+    rt=$(type -P rt) || fail "the command rt of the Rattle kit is needed"
+    kit=$(dirname -- "$(dirname -- "$(readlink -f -- "$rt")")")
+    cd -- "$top/crates/$crate"
+    rt check --jobs 1 >"$work/log" 2>&1 || { cat -- "$work/log" >&2; fail "$crate is not proved"; }
+    line=$(sed -n "s/^$crate staticlib: *//p" "$top/crates.txt")
+    [ -n "$line" ] || fail "crates.txt does not list $crate"
+    words=(-L "dependency=$kit/rlibs" --extern "std=$kit/rlibs/std.rlib")
+    for library in $line; do
         folder=$kit/rlibs
-    fi
-    words+=(--extern "$library=$folder/$library.rlib")
-done
-"$kit/bin/rattle" build --crate-name "$crate" src/lib.rt --crate-type staticlib \
-    --target "$target" --toolchain "$kit/toolchain" "${words[@]}" \
-    --antt-project "$kit/rattle/logic/antt-project.json" --logic-built "$kit/logic_built" \
-    --links "$crate=" --jobs 1 --incremental out/incremental -o "$work/library.a" \
-    >"$work/log" 2>&1 || { cat -- "$work/log" >&2; fail "the module was not built"; }
-"$kit/bin/rattle-link" --target "$target" --toolchain "$kit/toolchain" --stack "$stack" \
-    -o "$work/module.wasm" "$work/library.a" >"$work/log" 2>&1 ||
-    { cat -- "$work/log" >&2; fail "the module was not linked"; }
+        if [ -d "$top/crates/$library" ]; then
+            folder=$top/crates/$library/out/rlib
+            words+=(-L "dependency=$folder")
+        fi
+        words+=(--extern "$library=$folder/$library.rlib")
+    done
+    "$kit/bin/rattle" build --crate-name "$crate" src/lib.rt --crate-type staticlib \
+        --target "$target" --toolchain "$kit/toolchain" "${words[@]}" \
+        --antt-project "$kit/rattle/logic/antt-project.json" --logic-built "$kit/logic_built" \
+        --links "$crate=" --jobs 1 --incremental out/incremental -o "$work/library.a" \
+        >"$work/log" 2>&1 || { cat -- "$work/log" >&2; fail "the module was not built"; }
+    "$kit/bin/rattle-link" --target "$target" --toolchain "$kit/toolchain" --stack "$stack" \
+        -o "$1" "$work/library.a" >"$work/log" 2>&1 ||
+        { cat -- "$work/log" >&2; fail "the module was not linked"; }
+}
 
-if [ -n "$to" ]; then
-    cp -- "$work/module.wasm" "$to"
-else
-    base64 -w 0 -- "$work/module.wasm" >"$work/base64"
+# Writes the page with the module $1 to standard output.
+page() {
+    local line module
+    module=$(base64 -w 0 -- "$1")
     while IFS= read -r line || [ -n "$line" ]; do
         if [[ $line == *'{{MODULE}}'* ]]; then
-            printf '%s%s%s\n' "${line%%'{{MODULE}}'*}" "$(cat -- "$work/base64")" \
-                "${line#*'{{MODULE}}'}"
-        else
-            printf '%s\n' "$line"
+            line=${line%%'{{MODULE}}'*}$module${line#*'{{MODULE}}'}
         fi
-    done <"$top/page/page.html" >"$work/index.html"
-    cp -- "$work/index.html" "$top/page/index.html"
-fi
-size=$(wc -c <"$work/module.wasm")
-digest=$(sha256sum <"$work/module.wasm")
+        printf '%s\n' "$line"
+    done <"$top/page/page.html"
+}
+
+work=$(mktemp -d)
+trap 'rm -rf -- "$work"' EXIT
+module=$work/module.wasm
+case ${1-} in
+--page | --compare)
+    [ -f "${2-}" ] || fail "there is no module ${2-}"
+    cp -- "$2" "$module"
+    ;;
+-*) fail "$1 is no flag of this script" ;;
+*)
+    to=${1-}
+    [ -z "$to" ] || to=$(readlink -f -- "$to")
+    build "$module"
+    ;;
+esac
+case ${1-} in
+--compare)
+    page "$module" | cmp -- - "$top/page/index.html" || fail "page/index.html is another page"
+    ;;
+--page | '') page "$module" >"$work/index.html" && cp -- "$work/index.html" "$top/page/index.html" ;;
+*) cp -- "$module" "$to" ;;
+esac
+size=$(wc -c <"$module")
+digest=$(sha256sum <"$module")
 printf 'module: %d bytes, sha256 %s\n' "$size" "${digest%% *}"

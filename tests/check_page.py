@@ -7,7 +7,8 @@ It takes the commands `chromium` and `firefox-esr` (Debian's packages), and the 
 In each browser it looks that
 
 - the page is at most 100 kB, and ready in less than 200 ms;
-- each link example, and each drawn job (1,000 of them), gives the text of `stab link --trace`;
+- each link example, and each drawn job (1,000 of them), gives the text of `stab link --trace`, and
+  the strays and missing items that are counted are within their bounds;
 - each link job that the program refuses is refused, and no other;
 - each exercise is refused with too few events, and solved with the events that are given here;
 - the buttons, the slider, the keys and the address do what they say;
@@ -254,8 +255,12 @@ SOLVED = [
 ]
 
 TEXTS = """return args[0].map(text => {
-  try { return traceText(readJob(text)); }
-  catch (error) { return error instanceof Fault ? null : "error: " + error; }
+  try {
+    const job = readJob(text), link = linkAt(job, job.events.length), c = job.capacity;
+    if (link.strays > c || missingPlaces(link).length !== link.missing) return 'counted wrong';
+    if (missingPlaces(link).some(i => i > 2 * c)) return 'the law is broken';
+    return traceText(job);
+  } catch (error) { return error instanceof Fault ? null : "error: " + error; }
 });"""
 
 
