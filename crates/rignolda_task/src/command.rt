@@ -1,0 +1,103 @@
+use clap::error::ErrorKind;
+use clap::{Arg, ArgMatches, Command, Error, value_parser};
+use stab_frames::{Params, ParamsFault};
+use std::alloc::{AllocError, Global};
+
+/// The version of the program.
+const VERSION: &str = "0.1.0";
+
+/// What the program is to do.
+#[derive(Debug, Drop)]
+pub enum Request {
+    /// Print the worst link job of these parameters.
+    Worst { params: Params },
+    /// Draw the run of a link job, which is read from standard input where no file is named.
+    Draw { file: Option<String> },
+}
+
+/// What the words of a command line ask for, the program's name first. Otherwise the text that
+/// answers them: help, the version, or a mistake with a line on the usage.
+pub fn parse(alloc: Global, words: &[String]) -> Result<Request, Error> {
+    let matches = rignolda(alloc)?.try_get_matches_from(words)?;
+    match matches.subcommand() {
+        Some((word, inner)) if word == "worst" => worst_request(alloc, inner),
+        Some((_, inner)) => Ok(Request::Draw {
+            file: file_of(alloc, inner)?,
+        }),
+        None => Err(rignolda(alloc)?.error(ErrorKind::MissingSubcommand, "no command is named")?),
+    }
+}
+
+/// The worst job of the capacity and the labels that are named.
+fn worst_request(alloc: Global, matches: &ArgMatches<'_>) -> Result<Request, Error> {
+    let capacity = matches.get_one::<u16>("capacity").unwrap_or(0);
+    let labels = matches.get_one::<u16>("labels").unwrap_or(0);
+    match Params::new(capacity, labels) {
+        Ok(params) => Ok(Request::Worst { params }),
+        Err(fault) => Err(mistake_of(alloc, fault)?),
+    }
+}
+
+/// The mistake that two numbers are no parameters of a link.
+fn mistake_of(alloc: Global, fault: ParamsFault) -> Result<Error, AllocError> {
+    let text = match fault {
+        ParamsFault::CapacityOutOfRange => "the capacity of a link is 1 to 64",
+        ParamsFault::LabelsTooFew => "a link has at least twice its capacity and two labels",
+        ParamsFault::LabelsTooMany => "a link has at most 1000 labels",
+    };
+    rignolda(alloc)?.error(ErrorKind::ValueValidation, text)
+}
+
+/// The file that a command names.
+fn file_of(alloc: Global, matches: &ArgMatches<'_>) -> Result<Option<String>, AllocError> {
+    match matches.get_str("FILE") {
+        None => Ok(None),
+        Some(path) => Ok(Some(String::from_str(alloc, path)?)),
+    }
+}
+
+/// The command line of the program.
+fn rignolda<'a>(alloc: Global) -> Result<Command<'a>, AllocError> {
+    Command::new(alloc, "rignolda")
+        .version(VERSION)
+        .about("Makes and examines the jobs of stab")
+        .subcommand_required(true)
+        .arg_required_else_help(true)
+        .subcommand(draw(alloc)?)?
+        .subcommand(worst(alloc)?)
+}
+
+/// The command `draw [FILE]`.
+fn draw<'a>(alloc: Global) -> Result<Command<'a>, AllocError> {
+    Command::new(alloc, "draw")
+        .about("Draws the run of a link job, a line for each event")
+        .arg(Arg::new(alloc, "FILE").help("The job; standard input where it is left out"))
+}
+
+/// The command `worst --capacity C --labels K`.
+fn worst<'a>(alloc: Global) -> Result<Command<'a>, AllocError> {
+    Command::new(alloc, "worst")
+        .about("Prints a link job that delivers as many strays and misses as many items as can be")
+        .arg(number(
+            alloc,
+            "capacity",
+            "C",
+            "How many entries each queue holds, 1 to 64",
+        ))?
+        .arg(number(
+            alloc,
+            "labels",
+            "K",
+            "How many labels there are, from twice the capacity and two to 1000",
+        ))
+}
+
+/// A required option that takes a whole number of 16 bits.
+fn number<'a>(alloc: Global, id: &'a str, name: &'a str, help: &'a str) -> Arg<'a> {
+    Arg::new(alloc, id)
+        .long(id)
+        .value_name(name)
+        .required(true)
+        .value_parser(value_parser!(u16))
+        .help(help)
+}

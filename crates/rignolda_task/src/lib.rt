@@ -1,0 +1,14 @@
+//! What the program `rignolda` does: its command line, its commands, and what it prints.
+//!
+//! A [`Request`] is what the words of a command line name; [`parse`] finds it, or gives the text of
+//! help, of the version or of a mistake. The layer above uses one fact: what is written is the
+//! answer of the request, by the definitions of the layers below, or a fault says why there is none.
+#![tactic(auto)]
+
+mod answer;
+mod command;
+mod program;
+
+pub use answer::{act_draw, act_worst};
+pub use command::{Request, parse};
+pub use program::run;
