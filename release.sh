@@ -97,9 +97,9 @@ is_made_again() {
     make_after_ci "$top" "$1" && cmp -s -- "$2" "$made"
 }
 
-# Whether the page has the module in this file, as base64.
+# Whether the page is the one with the module in this file.
 is_in_page() {
-    base64 -w 0 -- "$1" >"$work/base64" && grep -qF -f "$work/base64" -- "$top/page/index.html"
+    [ -s "$1" ] && "$top/$module_builder" --compare "$1" >>"$log" 2>&1
 }
 
 # Compares the release with what was just proved and built of the present sources.

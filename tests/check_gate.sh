@@ -132,7 +132,7 @@ given_up() {
 }
 
 # The scripts of tests that the gate runs. The first one counts five cases, and the others none.
-mapfile -t scripts < <(sed -nE 's,^ *run (tests/check_\w+\.\w+)$,\1,p' "$top/gate")
+mapfile -t scripts < <(sed -nE 's,^ *run (tests/check_\w+\.\w+)( .*)?$,\1,p' "$top/gate")
 for script in "${scripts[@]}"; do
     write "$house/$script" "echo \"\$PWD: a script of tests\"; echo '0 passed, 0 failed'"
 done

@@ -1,5 +1,5 @@
 #!/usr/bin/env bash
-# Tests the script tests/pages.py in a small house of its own. Nothing of this repository is touched.
+# Tests the script tests/pages.py in a small house of its own, and touches nothing else.
 #
 # The last line is 'N passed, M failed'.
 set -u
@@ -33,6 +33,7 @@ make_house() {
     cat >"$house/crates/low/src/lib.rt" <<'END'
 //! The lowest layer.
 mod cup;
+mod export;
 pub mod laws;
 pub use cup::{Cup, Pours};
 END
@@ -80,6 +81,8 @@ impl Pours for Cup {
     {}
 }
 END
+    printf '/// Fills a cup from C.\n#[unsafe(no_mangle)]\npub extern "C" fn %s\n%s\n{}\n' \
+        'low_fill(cup: &mut Cup)' '    ensures filled { ⊤ }' >"$house/crates/low/src/export.rt"
     printf '/// A law.\npub fn cups_are_cups()\n    ensures { ⊤ }\n{}\n' \
         >"$house/crates/low/src/laws.rt"
     printf '%s\n' '-- What a cup is.' "-- Source: this project's own; it is round." 'use X' '' \
@@ -129,6 +132,7 @@ The lowest layer.
 | `Pours` | What pours. |
 | `Pours::once` `.poured` | Pours once. |
 | `Cup::once` `.more` | As `Pours` says. |
+| `low_fill` `.filled` | Fills a cup from C. |
 | `laws::cups_are_cups` | A law. |
 
 | Definitions | What they say |

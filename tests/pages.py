@@ -42,6 +42,8 @@ class Function:
         # each group: what is said of it, and the names of its clauses, of which one may be none
         self.groups = [(doc, [])]
         self.requires = []
+        # (what C calls is exported, whatever lib.rt names)
+        self.for_c = False
 
     def path(self):
         return f"{self.owner}::{self.name}" if self.owner else self.name
@@ -106,12 +108,13 @@ def functions(path):
             owner, trait = block[1] or block[3], block[1] or block[2]
         elif line == "}":
             owner, trait = None, None
-        fn = re.match(r"(|    )(pub )?fn (\w+)", line)
+        fn = re.match(r"(|    )(pub )?(extern \"C\" )?fn (\w+)", line)
         if fn:
             if trait and trait != owner and not said:
                 said = f"As `{trait}` says."
             module = path.stem if path.stem in ("laws", "examples") else None
-            function = Function(owner or module, fn[3], bool(fn[2] or trait), said)
+            function = Function(owner or module, fn[4], bool(fn[2] or trait), said)
+            function.for_c = bool(fn[3])
             read_head(function, lines, at)
             found.append(function)
         if line.strip().startswith("///"):
@@ -154,7 +157,8 @@ def claims(crate):
         for function in functions(path):
             known = function.owner or function.name
             said = function.groups[0][0]
-            if not function.public or known not in names or not (function.clauses() or said):
+            exported_here = function.public and (known in names or function.for_c)
+            if not exported_here or not (function.clauses() or said):
                 continue
             if not function.clauses() and said.startswith("As `"):
                 continue
