@@ -24,7 +24,7 @@ LISTS = "docs/CLAIMS.md"
 BEGIN = "<!-- begin: made by tests/pages.py, do not edit -->"
 END = "<!-- end -->"
 # The endings of the files that a page may name.
-ENDINGS = "antt|rt|edit|md|py|sh|c|json|run|out|txt|bazel"
+ENDINGS = "antt|rt|edit|md|py|sh|c|h|a|rs|toml|json|run|out|txt|html|svg|wasm|gz|bazel"
 # A page about the past may name what is no more, and the lists cite what they were made of.
 UNCITED = {"CHANGELOG.md", LISTS}
 # What only a build makes.
