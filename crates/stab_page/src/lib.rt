@@ -9,10 +9,14 @@
 mod code;
 mod entry;
 mod export;
-mod laws;
+pub mod laws;
 mod link;
 mod numbers;
 mod run;
 mod standing;
+
+pub use code::{EventCode, FrameCode};
+pub use export::stab_page_report;
+
 #[cfg(test)]
 mod tests;
