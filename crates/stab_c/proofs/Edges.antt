@@ -9,7 +9,7 @@ use Rattle.stab_core.proofs.ForCallers.{prefix_of_grown, prefix_of_prefix, prefi
 use Rattle.stab_treecore.specs.TreeLaw.{TreeLaw}
 use Rattle.stab_treecore.proofs.Upwards.{law_below, law_past_opening}
 use Rattle.stab_c.specs.Ends.{SenderEnd, ReceiverEnd, accepts, offered_to}
-use Rattle.stab_c.specs.Line.{Line, LineAct, line_step, line_run, held, new_count, with_taken, receives_frame, receives_ack}
+use Rattle.stab_c.specs.Line.{Line, LineAct, line_step, line_run, held, with_taken, receives_frame, receives_ack}
 use Rattle.stab_c.specs.Line.{offer_item, frame_sent, frame_comes, ack_sent, ack_comes, frame_lost, ack_lost, sender_closes, receiver_closes}
 use Rattle.stab_c.specs.Edge.{Edge, EdgeAct, is_offer, offers_next, edge_step, edge_run, new_edge}
 use Rattle.stab_c.specs.Edge.{list_grows, child_polled, on_line}
@@ -145,8 +145,8 @@ child_obeys_law p list frames acks sender receiver acts most_strays most_missing
     let led : Led p before e = after_run p before acts (record { counted = refl; begins = begins }) in
     let items : List ℕ = map (λ f. f.item) frames in
     let law : LinkLaw p.capacity items e.line.offered e.line.acked e.line.delivered =
-        subst (λ (l : Line). LinkLaw p.capacity items l.offered l.acked l.delivered) led.leads
-        (line_obeys_law p frames acks sender receiver led.acts lawful few_frames few_acks)
+    subst (λ (l : Line). LinkLaw p.capacity items l.offered l.acked l.delivered) led.leads
+    (line_obeys_law p frames acks sender receiver led.acts lawful few_frames few_acks)
     in
     law_past_opening (most_strays + p.capacity) opening (items ++ garbage) published e.line.delivered
     (most_missing + (2 * p.capacity + 1))

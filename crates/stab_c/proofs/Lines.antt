@@ -1,5 +1,5 @@
 -- A line between two ends of this library is a replay of the link.
-use Rattle.std.proofs.Common.{◌≡◌, ℕ, zero, suc, ◌+◌, ◌≤◌, Bool, true, false, if◌then◌else◌, not, List, [], ◌∷◌, ◌++◌, map, length, slice_get, slice_index, Some, None, Option, ◌==◌, ◌&&◌, refl, sym, ◌∙◌, ap, subst, true≢false, arith}
+use Rattle.std.proofs.Common.{◌≡◌, ℕ, ◌+◌, ◌≤◌, Bool, true, false, if◌then◌else◌, not, List, [], ◌∷◌, ◌++◌, map, length, slice_index, Some, None, Option, ◌==◌, ◌&&◌, refl, sym, ◌∙◌, ap, subst, true≢false, arith}
 use Rattle.std.proofs.lemmas.Bool.{eq-eqb, ne_eqb}
 use Rattle.std.proofs.lemmas.List.{length_push}
 use Rattle.stab_frames.specs.declared.frame.Frame.{Frame}
@@ -7,14 +7,13 @@ use Rattle.stab_frames.specs.Parameters.{Parameters, AreLawful, next}
 use Rattle.stab_frames.specs.Queue.{without}
 use Rattle.stab_core.specs.declared.event.Event.{Event}
 use Rattle.stab_core.specs.declared.event.Event.TheVariants.{Offer, SendFrame, RecvFrame, SendAck, RecvAck, LoseFrame, LoseAck}
-use Rattle.stab_core.specs.declared.start.Start.{Start}
 use Rattle.stab_core.specs.LinkLaw.{LinkLaw}
 use Rattle.stab_core.specs.LinkState.{LinkState, has_room}
 use Rattle.stab_core.specs.Replay.{opening, replay}
 use Rattle.stab_core.specs.Step.{after_front, takes, goes_on}
 use Rattle.stab_core.proofs.Replays.{replay-append}
 use Rattle.stab_core.proofs.LinkLaws.{replay_link_law}
-use Rattle.stab_c.specs.Ends.{SenderEnd, ReceiverEnd, after_frame, new_receiver}
+use Rattle.stab_c.specs.Ends.{SenderEnd, ReceiverEnd, new_receiver}
 use Rattle.stab_c.specs.Line.{Line, LineAct, line_step, line_run, link_of, IsReplay, new_count, start_of, with_taken}
 use Rattle.stab_c.specs.Line.{offer_item, frame_sent, frame_comes, ack_sent, ack_comes, frame_lost, ack_lost, sender_closes, receiver_closes}
 

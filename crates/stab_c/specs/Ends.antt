@@ -2,8 +2,8 @@
 -- may be closed. These are the steps of an end, and what it sends. A closed end never changes.
 -- Source: the stop-and-wait data link of Dolev, Self-Stabilization, MIT Press 2000; that each end
 -- closes by itself is this project's own.
-use Rattle.std.specs.Prelude.{ℕ, ◌==◌, ◌&&◌, ◌||◌, not, Bool, true, false, if◌then◌else◌}
-use Rattle.std.specs.Prelude.{Option, Some, None, is_none, is_some, option_map}
+use Rattle.std.specs.Prelude.{ℕ, ◌==◌, ◌&&◌, not, Bool, true, false, if◌then◌else◌}
+use Rattle.std.specs.Prelude.{Option, Some, None, is_none, option_map}
 use Rattle.stab_frames.specs.declared.frame.Frame.{Frame}
 use Rattle.stab_frames.specs.Parameters.{Parameters, next}
 use Rattle.stab_core.specs.Halves.{SenderState, waits_for}
