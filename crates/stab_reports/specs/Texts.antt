@@ -1,0 +1,32 @@
+-- The text of a report, as `stab run` prints one: two lines for each node, in file order.
+-- Example: For a node a at depth 1 that received 7, 8, with 2 acknowledged, and ended with its
+-- upstream: `a depth 1 received 2 acked 2 ended upstream`, a newline, `items: 7 8`, a newline.
+-- Source: this project's profile; numbers are in plain decimal, as std prints them.
+use Rattle.std.specs.Prelude.{ℕ, Bool, List, [], ◌++◌, length, codes, Option, slice_index_or}
+use Rattle.std.specs.Prelude.{if◌then◌else◌}
+use Rattle.std.specs.List.{flat_map, range_with_len}
+use Rattle.stab_core.specs.Texts.{newline, numbers_line}
+use Rattle.stab_tree.specs.Nodes.{Nodes}
+use Rattle.stab_tree.specs.Steps.{depth_of}
+use Rattle.stab_treecore.specs.Texts.{node_counts}
+use Rattle.stab_judge.specs.Reports.{ReportValue, received_at, acked_at, has_ended}
+
+-- the end of a node's first line
+unfoldable pub ended_entry : Bool → List ℕ
+ended_entry ended = if ended then codes " ended upstream" else codes " ended turns"
+
+-- the two lines of a node: its counts with why it ended, and the items that it received
+unfoldable pub node_report : List ℕ → ℕ → List ℕ → Option ℕ → Bool → List ℕ
+node_report name depth received acked ended =
+    node_counts name depth (length received) acked ++ ended_entry ended ++ newline
+    ++ numbers_line (codes "items:") received
+
+-- the lines of a node of a tree
+abbrev pub lines_of : Nodes → ReportValue → ℕ → List ℕ
+lines_of nodes r node =
+    node_report (slice_index_or nodes.names node []) (depth_of nodes.parents node)
+    (received_at r node) (acked_at r node) (has_ended r node)
+
+-- the lines of each node
+unfoldable pub report_text : Nodes → ReportValue → List ℕ
+report_text nodes r = flat_map (lines_of nodes r) (range_with_len 0 (length nodes.parents))
