@@ -16,7 +16,8 @@ use std::alloc::{AllocError, Global};
 
 /// The values of these events, in their order.
 pub(crate) fn event_values(alloc: Global, events: &[Event]) -> Result<Vec<Value>, AllocError>
-    ensures means { IfOk result (λ values. entries event_meant (items_view values.items) ≡ Some events.now) }
+    ensures means { IfOk result (λ values.
+        entries event_meant (items_view values.items) ≡ Some events.now) }
     ensures flat { IfOk result (λ values. items_depth (items_view values.items) ≤ 1) }
 {
     let mut values = Vec::with_capacity(alloc, events.len())?;
@@ -70,7 +71,8 @@ pub(crate) fn start_value(alloc: Global, from: &Start) -> Result<Value, AllocErr
 
 /// The values of these frames: lists of a label and an item.
 fn frame_values(alloc: Global, frames: &[Frame]) -> Result<Vec<Value>, AllocError>
-    ensures means { IfOk result (λ values. entries frame_meant (items_view values.items) ≡ Some frames.now) }
+    ensures means { IfOk result (λ values.
+        entries frame_meant (items_view values.items) ≡ Some frames.now) }
     ensures flat { IfOk result (λ values. items_depth (items_view values.items) ≤ 1) }
 {
     let mut values = Vec::with_capacity(alloc, frames.len())?;
@@ -90,7 +92,8 @@ fn frame_value(alloc: Global, frame: Frame) -> Result<Value, AllocError>
 
 /// The values of these labels.
 fn label_values(alloc: Global, labels: &[Label]) -> Result<Vec<Value>, AllocError>
-    ensures means { IfOk result (λ values. entries label_meant (items_view values.items) ≡ Some labels.now) }
+    ensures means { IfOk result (λ values.
+        entries label_meant (items_view values.items) ≡ Some labels.now) }
     ensures flat { IfOk result (λ values. items_depth (items_view values.items) ≤ 0) }
 {
     let mut values = Vec::with_capacity(alloc, labels.len())?;

@@ -46,7 +46,8 @@ pub fn worst_job(alloc: Global, params: Params) -> Result<LinkJob, AllocError>
         let s = replay params (opening job.start) job.events in
         (s.offered ≡ range_with_len FIRST_ITEM (2 * c + 2)) × (s.acked ≡ 2 * c + 1)
         × (s.delivered ≡ start_items job.start ++ (FIRST_ITEM + 2 * c + 1) ∷ [])) }
-    ensures no_smaller { IfOk result (λ job. (most_strays most_missing : ℕ) → let c = params.capacity in
+    ensures no_smaller { IfOk result (λ job.
+        (most_strays most_missing : ℕ) → let c = params.capacity in
         let s = replay params (opening job.start) job.events in
         LinkLawWithin most_strays most_missing (start_items job.start) s.offered s.acked s.delivered
         → (c ≤ most_strays) × (2 * c + 1 ≤ most_missing)) }
