@@ -1,0 +1,72 @@
+ghost use Rattle.std.specs.Prelude.{◌≡◌, codes, is_some, option_map, IfOk};
+ghost use Rattle.serde_json.specs.View.{view};
+ghost use Rattle.stab_job.specs.Jobs.{job};
+ghost use Rattle.stab_script.specs.LinkJobs.{link_job};
+ghost use Rattle.stab_explain.specs.Kinds.{chosen, kind_of};
+ghost use Rattle.stab_explain.specs.Refusals.{refusal_of, refused};
+
+use serde_json::Value;
+use stab_findings::{Kind, Refusal};
+use stab_job::{JobFault, read_job};
+use stab_script::{LinkJobFault, read_link_job};
+use std::alloc::{AllocError, Global};
+
+/// The kind that is given, or the one that the value looks like: an object with a member `tree` is
+/// a job of a tree, and everything else a link job.
+pub(crate) fn chosen(given: Option<Kind>, value: Option<&Value>) -> Kind
+    ensures { result ≡ chosen given (option_map (λ lent. view lent.now) value.entry) }
+{
+    match given {
+        Some(kind) => kind,
+        None => kind_of(value),
+    }
+}
+
+/// The kind that the value looks like.
+fn kind_of(value: Option<&Value>) -> Kind
+    ensures { result ≡ kind_of (option_map (λ lent. view lent.now) value.entry) }
+{
+    match value {
+        Some(value) if value.get("tree").is_some() => Kind::Job,
+        _ => Kind::LinkJob,
+    }
+}
+
+/// The fault that the reader of that kind finds in the bytes, where it finds one; only memory can
+/// be refused.
+pub(crate) fn refusal_of(
+    alloc: Global,
+    kind: Kind,
+    bytes: &[u8],
+) -> Result<Option<Refusal>, AllocError>
+    ensures { IfOk result (λ refusal. refusal ≡ refusal_of kind bytes.now) }
+{
+    match kind {
+        Kind::LinkJob => link_job_refusal(alloc, bytes),
+        Kind::Job => job_refusal(alloc, bytes),
+    }
+}
+
+/// The fault that `read_link_job` finds.
+fn link_job_refusal(alloc: Global, bytes: &[u8]) -> Result<Option<Refusal>, AllocError>
+    ensures { IfOk result (λ refusal. refusal ≡ refused Refusal.LinkJob (link_job bytes.now)) }
+{
+    match read_link_job(alloc, bytes) {
+        Ok(_) => Ok(None),
+        Err(LinkJobFault::Memory) => Err(AllocError),
+        Err(fault) => Ok(Some(Refusal::LinkJob(fault))),
+    }
+}
+
+/// The fault that `read_job` finds.
+fn job_refusal(alloc: Global, bytes: &[u8]) -> Result<Option<Refusal>, AllocError>
+    ensures { IfOk result (λ refusal. refusal ≡ refused Refusal.Job (job bytes.now)) }
+{
+    let Err(fault) = read_job(alloc, bytes) else {
+        return Ok(None);
+    };
+    if fault == JobFault::Memory {
+        return Err(AllocError);
+    }
+    Ok(Some(Refusal::Job(fault)))
+}

@@ -1,0 +1,99 @@
+//! Where bytes are no JSON.
+
+use crate::notes::{Notes, Piece};
+use crate::place::Place;
+use serde_json::{Error, Value};
+use std::alloc::AllocError;
+
+/// Adds the line and the column at which bytes are no JSON, and what is probably wrong there.
+pub fn look_at_bytes(notes: &mut Notes, bytes: &[u8]) -> Result<(), AllocError> {
+    match Value::from_slice(notes.alloc(), bytes) {
+        Ok(_) => Ok(()),
+        Err(error) if error.is_memory() => Err(AllocError),
+        Err(error) => add_error(notes, bytes, &error),
+    }
+}
+
+/// Adds where JSON ends, and what is probably wrong there.
+fn add_error(notes: &mut Notes, bytes: &[u8], error: &Error) -> Result<(), AllocError> {
+    let place = if bytes.is_empty() {
+        Place::whole()
+    } else {
+        Place::spot(error.line(), error.column())
+    };
+    notes.add(
+        notes.of_json(),
+        &place,
+        &[
+            Piece::Words("not JSON"),
+            Piece::Words(hint_of(bytes, error)),
+        ],
+    )
+}
+
+/// What is probably wrong with bytes that are no JSON.
+fn hint_of(bytes: &[u8], error: &Error) -> &'static str {
+    if bytes.is_empty() {
+        return "; the file is empty";
+    }
+    if let Some(hint) = hint_of_encoding(bytes) {
+        return hint;
+    }
+    if error.is_eof() {
+        return "; the text ends too early";
+    }
+    let at = offset_of(bytes, error.line(), error.column());
+    hint_between(last_before(bytes, at), bytes.get(at).copied())
+}
+
+/// What the first bytes say of the encoding, where it is not the one of JSON.
+fn hint_of_encoding(bytes: &[u8]) -> Option<&'static str> {
+    match bytes {
+        [0xEF, 0xBB, 0xBF, ..] => Some("; a byte order mark is before the text, and JSON has none"),
+        [0xFF, 0xFE, ..] | [0xFE, 0xFF, ..] => Some("; the text is UTF-16, and has to be UTF-8"),
+        _ => None,
+    }
+}
+
+/// The offset of this line and column, both counted from 1; the end where they are past it.
+fn offset_of(bytes: &[u8], line: usize, column: usize) -> usize {
+    let mut left = line.saturating_sub(1);
+    let mut start = 0;
+    for (at, byte) in bytes.iter().enumerate() {
+        if left == 0 {
+            break;
+        }
+        if *byte == b'\n' {
+            left -= 1;
+            start = at.saturating_add(1);
+        }
+    }
+    start.saturating_add(column.saturating_sub(1))
+}
+
+/// The last byte before this offset that is no white space.
+fn last_before(bytes: &[u8], at: usize) -> Option<u8> {
+    let mut last = None;
+    for byte in bytes.iter().take(at) {
+        if !matches!(*byte, b' ' | b'\t' | b'\n' | b'\r') {
+            last = Some(*byte);
+        }
+    }
+    last
+}
+
+/// What is probably wrong between these two bytes: the last one that was read, and the one at which
+/// reading stopped.
+fn hint_between(before: Option<u8>, at: Option<u8>) -> &'static str {
+    match (before, at) {
+        (_, None) => "; the text ends too early",
+        (Some(b','), Some(b']' | b'}')) => "; no comma may be after the last entry or member",
+        (_, Some(b'/' | b'#')) => "; JSON has no comments",
+        (_, Some(b'\'')) => "; a text is written in double quotation marks",
+        (Some(b'"' | b']' | b'}' | b'0'..=b'9'), Some(b'"' | b'[' | b'{')) =>
+            "; a comma is missing",
+        (_, Some(b',')) => "; an entry or a member is missing before the comma",
+        (_, Some(0x80..=0xFF)) => "; the text is not UTF-8, or such a character is outside a text",
+        _ => "",
+    }
+}
