@@ -2,14 +2,16 @@ ghost use Rattle.std.specs.Prelude.{◌≡◌, ◌≢◌, ◌⊎◌, ℕ, List, 
 ghost use Rattle.std.specs.Prelude.{IfErr, IfOk, IfSome, OnOk};
 ghost use Rattle.std.specs.Io.KnownBytes.{Appends, Keeps};
 ghost use Rattle.rignolda_task.specs.Drawn.{IsDrawn, IsUndrawn};
+ghost use Rattle.rignolda_task.specs.Explained.{IsReadIfClean};
 ghost use Rattle.stab_write.specs.WorstTexts.{IsWorstText};
 
 use stab_draw::run_text;
+use stab_explain::{explain, explanation_text};
 use stab_frames::Params;
 use stab_script::read_link_job;
 use stab_task::{CliFault, load};
 use stab_write::worst_text;
-use std::alloc::Global;
+use std::alloc::{AllocError, Global};
 use std::io::{Read, Write};
 
 /// Writes the worst link job of these parameters: the reader of link jobs reads it as this job.
@@ -67,6 +69,44 @@ fn draw_bytes(alloc: Global, bytes: &[u8]) -> Result<String, CliFault>
     let job = read_link_job(alloc, bytes)?;
     let text = run_text(alloc, &job)?;
     Ok(text)
+}
+
+/// Reads a job, and writes what is wrong with it and where. It answers true where nothing is, which
+/// is so only of a job that the reader of its kind accepts.
+pub fn act_explain<R: Read, W: Write>(
+    alloc: Global,
+    reader: &mut R,
+    writer: &mut W,
+) -> Result<bool, CliFault>
+    ensures accepted { IfOk result (λ is_clean.
+        IfSome (R.remaining reader.old) (IsReadIfClean is_clean)) }
+    ensures nothing { IfErr result (λ fault.
+        fault ≢ CliFault.Write → Keeps (W.contents writer.old) (W.contents writer.new)) }
+{
+    let (text, is_clean) = explain_input(alloc, reader)?;
+    write_text(writer, &text)?;
+    Ok(is_clean)
+}
+
+/// The text of the explanation of what the reader gives, and whether nothing is wrong with it.
+fn explain_input<R: Read>(alloc: Global, reader: &mut R) -> Result<(String, bool), CliFault>
+    ensures accepted { IfOk result (λ both.
+        IfSome (R.remaining reader.old) (IsReadIfClean both.1)) }
+    ensures no_write { IfErr result (λ fault. fault ≢ CliFault.Write) }
+{
+    let bytes = load(alloc, reader)?;
+    let explained = explain_bytes(alloc, &bytes)?;
+    Ok(explained)
+}
+
+/// The text of the explanation of these bytes, and whether nothing is wrong with them.
+fn explain_bytes(alloc: Global, bytes: &[u8]) -> Result<(String, bool), AllocError>
+    ensures accepted { IfOk result (λ both. IsReadIfClean both.1 bytes.now) }
+{
+    let explanation = explain(alloc, None, bytes)?;
+    let text = explanation_text(alloc, &explanation)?;
+    let is_clean = explanation.is_clean();
+    Ok((text, is_clean))
 }
 
 /// Writes a whole text, and asks the writer for a flush.

@@ -13,6 +13,9 @@ pub enum Request {
     Worst { params: Params },
     /// Draw the run of a link job, which is read from standard input where no file is named.
     Draw { file: Option<String> },
+    /// Say what is wrong with a job and where; it is read from standard input where no file is
+    /// named.
+    Explain { file: Option<String> },
 }
 
 /// What the words of a command line ask for, the program's name first. Otherwise the text that
@@ -21,6 +24,9 @@ pub fn parse(alloc: Global, words: &[String]) -> Result<Request, Error> {
     let matches = rignolda(alloc)?.try_get_matches_from(words)?;
     match matches.subcommand() {
         Some((word, inner)) if word == "worst" => worst_request(alloc, inner),
+        Some((word, inner)) if word == "explain" => Ok(Request::Explain {
+            file: file_of(alloc, inner)?,
+        }),
         Some((_, inner)) => Ok(Request::Draw {
             file: file_of(alloc, inner)?,
         }),
@@ -64,6 +70,7 @@ fn rignolda<'a>(alloc: Global) -> Result<Command<'a>, AllocError> {
         .subcommand_required(true)
         .arg_required_else_help(true)
         .subcommand(draw(alloc)?)?
+        .subcommand(explain(alloc)?)?
         .subcommand(worst(alloc)?)
 }
 
@@ -71,6 +78,13 @@ fn rignolda<'a>(alloc: Global) -> Result<Command<'a>, AllocError> {
 fn draw<'a>(alloc: Global) -> Result<Command<'a>, AllocError> {
     Command::new(alloc, "draw")
         .about("Draws the run of a link job, a line for each event")
+        .arg(Arg::new(alloc, "FILE").help("The job; standard input where it is left out"))
+}
+
+/// The command `explain [FILE]`.
+fn explain<'a>(alloc: Global) -> Result<Command<'a>, AllocError> {
+    Command::new(alloc, "explain")
+        .about("Says what is wrong with a link job or a job of a tree, and where")
         .arg(Arg::new(alloc, "FILE").help("The job; standard input where it is left out"))
 }
 

@@ -9,6 +9,6 @@ mod answer;
 mod command;
 mod program;
 
-pub use answer::{act_draw, act_worst};
+pub use answer::{act_draw, act_explain, act_worst};
 pub use command::{Request, parse};
 pub use program::run;

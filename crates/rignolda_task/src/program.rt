@@ -1,10 +1,13 @@
-use crate::answer::{act_draw, act_worst};
+use crate::answer::{act_draw, act_explain, act_worst};
 use crate::command::{Request, parse};
 use clap::Error;
 use clap::error::ErrorKind;
 use stab_task::{CliFault, words};
 use std::rt::{Env, Files};
 use std::{fs, io};
+
+/// The status of an explanation in which something was found.
+const FOUND: u8 = 1;
 
 /// The status of a command line that is refused.
 const REFUSED: u8 = 2;
@@ -13,7 +16,8 @@ const REFUSED: u8 = 2;
 const NO_MEMORY: u8 = 3;
 
 /// Runs the program, prints what it answers, and gives the status to end with: 0, or 1 where a job
-/// or a file is refused, 2 where the command line is, and 3 where a start, memory or a write is.
+/// or a file is refused or an explanation has a finding, 2 where the command line is refused, and 3
+/// where a start, memory or a write is.
 ///
 /// A fault is one line on the standard error. Where a job is to be typed at a terminal, a line there
 /// says so first.
@@ -52,18 +56,45 @@ fn done<R: Files + Input + Print + Eprint + AllocGlobal>(
     request: &Request,
     is_typed: bool,
 ) -> u8 {
-    let acted = match request {
-        Request::Worst { params } => act_worst(rt.alloc(), *params, &mut io::writer(rt)),
-        Request::Draw { file: Some(path) } => draw_file(rt, path),
-        Request::Draw { file: None } => {
-            if is_typed {
-                let _ = eprintln!(rt; "rignolda: reading a job from the terminal");
-            }
-            act_draw(rt.alloc(), &mut rt.reader(), &mut io::writer(rt))
+    match request {
+        Request::Worst { params } => {
+            status_of(rt, act_worst(rt.alloc(), *params, &mut io::writer(rt)))
         }
-    };
+        Request::Draw { file: Some(path) } => status_of(rt, draw_file(rt, path)),
+        Request::Draw { file: None } => {
+            say_that_it_reads(rt, is_typed);
+            let drawn = act_draw(rt.alloc(), &mut rt.reader(), &mut io::writer(rt));
+            status_of(rt, drawn)
+        }
+        Request::Explain { file: Some(path) } => status_found(rt, explain_file(rt, path)),
+        Request::Explain { file: None } => {
+            say_that_it_reads(rt, is_typed);
+            let explained = act_explain(rt.alloc(), &mut rt.reader(), &mut io::writer(rt));
+            status_found(rt, explained)
+        }
+    }
+}
+
+/// Says that a job is to be typed, where standard input is a terminal.
+fn say_that_it_reads<R: Eprint>(rt: &R, is_typed: bool) {
+    if is_typed {
+        let _ = eprintln!(rt; "rignolda: reading a job from the terminal");
+    }
+}
+
+/// The status of what was done; a fault is printed.
+fn status_of<R: Eprint>(rt: &R, acted: Result<(), CliFault>) -> u8 {
     match acted {
         Ok(()) => 0,
+        Err(fault) => failed(rt, fault),
+    }
+}
+
+/// The status of an explanation, by whether nothing was found; a fault is printed.
+fn status_found<R: Eprint>(rt: &R, explained: Result<bool, CliFault>) -> u8 {
+    match explained {
+        Ok(true) => 0,
+        Ok(false) => FOUND,
         Err(fault) => failed(rt, fault),
     }
 }
@@ -72,7 +103,23 @@ fn done<R: Files + Input + Print + Eprint + AllocGlobal>(
 fn draw_file<R: Files + Print + AllocGlobal>(rt: &R, path: &String) -> Result<(), CliFault> {
     match fs::open(rt, path) {
         Ok(mut file) => act_draw(rt.alloc(), &mut file, &mut io::writer(rt)),
-        Err(error) if error.kind() == io::ErrorKind::OutOfMemory => Err(CliFault::Memory),
-        Err(_) => Err(CliFault::Open),
+        Err(error) => Err(unopened(&error)),
+    }
+}
+
+/// Explains the job in a file.
+fn explain_file<R: Files + Print + AllocGlobal>(rt: &R, path: &String) -> Result<bool, CliFault> {
+    match fs::open(rt, path) {
+        Ok(mut file) => act_explain(rt.alloc(), &mut file, &mut io::writer(rt)),
+        Err(error) => Err(unopened(&error)),
+    }
+}
+
+/// The fault of a file that cannot be opened.
+fn unopened(error: &io::Error) -> CliFault {
+    if error.kind() == io::ErrorKind::OutOfMemory {
+        CliFault::Memory
+    } else {
+        CliFault::Open
     }
 }

@@ -1,3 +1,5 @@
+ghost use Rattle.std.specs.Prelude.{◌≡◌, IsTrue, None};
+
 use crate::refusal::{Kind, Refusal};
 use stab_core::StartFault;
 use std::fmt;
@@ -46,7 +48,9 @@ pub struct Explanation {
 
 impl Explanation {
     /// Whether the reader accepts the bytes and nothing at all was found.
-    pub fn is_clean(&self) -> bool {
+    pub fn is_clean(&self) -> bool
+        ensures { IsTrue result → self.now.refusal ≡ None }
+    {
         self.refusal.is_none() && self.findings.is_empty() && self.omitted == 0
     }
 }

@@ -28,9 +28,10 @@ const HELP: &str = "Makes and examines the jobs of stab
 Usage: rignolda <COMMAND>
 
 Commands:
-  draw   Draws the run of a link job, a line for each event
-  worst  Prints a link job that delivers as many strays and misses as many items as can be
-  help   Print this message or the help of the given subcommand(s)
+  draw     Draws the run of a link job, a line for each event
+  explain  Says what is wrong with a link job or a job of a tree, and where
+  worst    Prints a link job that delivers as many strays and misses as many items as can be
+  help     Print this message or the help of the given subcommand(s)
 
 Options:
   -h, --help     Print help
@@ -57,6 +58,7 @@ const TAKEN: &[(&[&str], &str)] = &[
     (&["rignolda", "worst", "--help"], WORST_HELP),
     (&["rignolda", "draw"], "Draw { file: None }"),
     (&["rignolda", "draw", "a"], "Draw { file: Some(\"a\") }"),
+    (&["rignolda", "explain"], "Explain { file: None }"),
     (
         &["rignolda", "worst", "--labels", "4", "--capacity=1"],
         "Worst { params: Params { capacity: 1, labels: 4 } }",
