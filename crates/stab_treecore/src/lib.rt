@@ -20,7 +20,7 @@ mod text;
 
 pub use event::TreeEvent;
 pub use fault::{OpeningFault, TreeStartFault, TreeStepFault};
-pub use openings::{is_inner, Openings};
+pub use openings::{Openings, is_inner};
 pub use schedule::run_schedule;
 pub use stab_core::LinkAct;
 pub use state::TreeState;
