@@ -16,14 +16,16 @@ use Rattle.stab_core.specs.Trace.{Traced, traced_opening, traced_step, traced_re
 use Rattle.stab_core.proofs.InOrder.{in_order_after_front, in_order_without, after_front-nil, after_front-map, without-map}
 use Rattle.stab_core.proofs.Circle.{acks_in_order, answer_in_order}
 use Rattle.stab_core.proofs.Sources.{stray_count, item_at, label_at, frame_at, origin_at, origin_sent, start_places, start_origins}
-use Rattle.stab_core.proofs.Kept.{Kept, kept_open, kept_offer, kept_send, kept_fewer_frames, kept_acks, kept_fresh, kept_acked, kept_close}
+use Rattle.stab_core.proofs.FreeLabel.{IsFree}
+use Rattle.stab_core.proofs.Answering.{label_of, answering_fewer, answering_sent}
+use Rattle.stab_core.proofs.Kept.{Kept, IsNear, free_is_near, kept_open, kept_offer, kept_send, kept_fewer_frames, kept_acks, kept_fresh, kept_acked, kept_close}
 
 -- what is in transit and what was taken, by their places, which are those of the trace
-pub record Invariant (p : Parameters) (start : Start) (t : Traced) : Type 0 where
+pub record Invariant (p : Parameters) (start : Start) (from : ℕ) (Followed : ℕ → Type 0) (t : Traced) : Type 0 where
   pub queued : List ℕ
   pub taken : List ℕ
   pub bound : ℕ
-  pub kept : Kept p start t.state queued taken bound
+  pub kept : Kept p start from Followed t.state queued taken bound
   pub queued_are : t.queued ≡ map (origin_at start) queued
   pub taken_are : t.origins ≡ map (origin_at start) taken
 
@@ -36,10 +38,11 @@ by_test P false passes fails = fails refl
 abbrev after : Parameters → Traced → Event → Traced
 after p t e = record { state = open_step p t.state e; queued = queued_after p t e; origins = origins_after t e }
 
-module _ (p : Parameters) (start : Start) where
+module _ (p : Parameters) (start : Start) (from : ℕ) (Followed : ℕ → Type 0)
+    (near : (j : ℕ) → Followed j → IsNear p from j) where
   -- an event that leaves frames and delivered items as they are
-  same_places : {t : Traced} {s : LinkState} (inv : Invariant p start t) → Kept p start s inv.queued inv.taken inv.bound
-      → Invariant p start (record { state = s; queued = t.queued; origins = t.origins })
+  same_places : {t : Traced} {s : LinkState} (inv : Invariant p start from Followed t) → Kept p start from Followed s inv.queued inv.taken inv.bound
+      → Invariant p start from Followed (record { state = s; queued = t.queued; origins = t.origins })
   same_places inv kept =
       record {
         queued = inv.queued;
@@ -51,15 +54,15 @@ module _ (p : Parameters) (start : Start) where
       }
 
   -- an offer
-  after_offer : (t : Traced) (item : ℕ) → Invariant p start t → Invariant p start (after p t (Offer item))
+  after_offer : (t : Traced) (item : ℕ) → Invariant p start from Followed t → Invariant p start from Followed (after p t (Offer item))
   after_offer t item inv =
       cond_both (is_idle t.state) (record t.state { offered = t.state.offered ++ item ∷ [] }) t.state
-      (λ s. Invariant p start (record { state = s; queued = t.queued; origins = t.origins }))
-      (λ idle. same_places inv (kept_offer p start item idle inv.kept)) (λ _. inv)
+      (λ s. Invariant p start from Followed (record { state = s; queued = t.queued; origins = t.origins }))
+      (λ idle. same_places inv (kept_offer p start from Followed near item idle inv.kept)) (λ _. inv)
 
   -- the sender sends the frame of the item that waits
-  frame_sent : {t : Traced} → is_holding t.state ≡ true → Invariant p start t
-      → Invariant p start (record {
+  frame_sent : {t : Traced} → is_holding t.state ≡ true → Invariant p start from Followed t
+      → Invariant p start from Followed (record {
         state = record t.state { frames = t.state.frames ++ current_frame t.state ∷ [] };
         queued = t.queued ++ Sent (length t.state.offered - 1) ∷ [];
         origins = t.origins;
@@ -72,7 +75,7 @@ module _ (p : Parameters) (start : Start) where
         queued = inv.queued ++ place ∷ [];
         taken = inv.taken;
         bound = inv.bound;
-        kept = kept_send p start holding inv.kept;
+        kept = kept_send p start from Followed near holding inv.kept;
         queued_are =
             ap₂ (λ origins origin. origins ++ origin ∷ []) inv.queued_are
             (ap Sent last ∙ sym (origin_sent start t.state.acked))
@@ -81,10 +84,10 @@ module _ (p : Parameters) (start : Start) where
       }
 
   -- it does so where there is room
-  after_send_frame : (t : Traced) → Invariant p start t → Invariant p start (after p t SendFrame)
+  after_send_frame : (t : Traced) → Invariant p start from Followed t → Invariant p start from Followed (after p t SendFrame)
   after_send_frame t inv =
       by_test
-      (λ sends. Invariant p start (record {
+      (λ sends. Invariant p start from Followed (record {
         state = if sends then record t.state { frames = t.state.frames ++ current_frame t.state ∷ [] } else t.state;
         queued = if sends then t.queued ++ Sent (length t.state.offered - 1) ∷ [] else t.queued;
         origins = t.origins;
@@ -106,8 +109,8 @@ module _ (p : Parameters) (start : Start) where
   -- the receiver has taken the front frame's label before
   received_old : (keep : Bool) (s : LinkState) {origins : List Origin} (place : ℕ) (queued : List ℕ) {taken : List ℕ}
       {bound : ℕ} → origins ≡ map (origin_at start) taken
-      → Kept p start (record s { frames = map (frame_at p start s.offered) (place ∷ queued) }) (place ∷ queued) taken bound
-      → Invariant p start (record {
+      → Kept p start from Followed (record s { frames = map (frame_at p start s.offered) (place ∷ queued) }) (place ∷ queued) taken bound
+      → Invariant p start from Followed (record {
         state = record s { frames = after_front keep (map (frame_at p start s.offered) (place ∷ queued)) };
         queued = after_front keep (map (origin_at start) (place ∷ queued));
         origins = origins ++ [];
@@ -118,7 +121,7 @@ module _ (p : Parameters) (start : Start) where
         queued = after_front keep (place ∷ queued);
         taken = taken;
         bound = bound;
-        kept = kept_fewer_frames p start frames_are (in_order_after_front keep (place ∷ queued)) kept;
+        kept = kept_fewer_frames p start from Followed near frames_are (in_order_after_front keep (place ∷ queued)) kept;
         queued_are = after_front-map (origin_at start) keep (place ∷ queued);
         taken_are = append-nil origins ∙ taken_are;
       }
@@ -126,8 +129,8 @@ module _ (p : Parameters) (start : Start) where
   -- the receiver takes the front frame
   received_fresh : (keep : Bool) (s : LinkState) {origins : List Origin} (place : ℕ) (queued : List ℕ) {taken : List ℕ}
       {bound : ℕ} → label_at p start place ≢ s.recv_label → origins ≡ map (origin_at start) taken
-      → Kept p start (record s { frames = map (frame_at p start s.offered) (place ∷ queued) }) (place ∷ queued) taken bound
-      → Invariant p start (record {
+      → Kept p start from Followed (record s { frames = map (frame_at p start s.offered) (place ∷ queued) }) (place ∷ queued) taken bound
+      → Invariant p start from Followed (record {
         state = record s {
           frames = after_front keep (map (frame_at p start s.offered) (place ∷ queued));
           recv_label = label_at p start place;
@@ -141,7 +144,7 @@ module _ (p : Parameters) (start : Start) where
         queued = after_front keep (place ∷ queued);
         taken = taken ++ place ∷ [];
         bound = place + 1;
-        kept = kept_fresh p start keep fresh kept;
+        kept = kept_fresh p start from Followed near keep fresh kept;
         queued_are = after_front-map (origin_at start) keep (place ∷ queued);
         taken_are =
             ap (λ list. list ++ origin_at start place ∷ []) taken_are ∙ sym (map_push (origin_at start) taken place);
@@ -150,8 +153,8 @@ module _ (p : Parameters) (start : Start) where
   -- the front frame is received, where there is one
   received : (keep : Bool) (s : LinkState) {origins : List Origin} (queued : List ℕ) {taken : List ℕ} {bound : ℕ}
       → origins ≡ map (origin_at start) taken
-      → Kept p start (record s { frames = map (frame_at p start s.offered) queued }) queued taken bound
-      → Invariant p start (receiving keep s origins queued)
+      → Kept p start from Followed (record s { frames = map (frame_at p start s.offered) queued }) queued taken bound
+      → Invariant p start from Followed (receiving keep s origins queued)
   received keep s {origins} [] {taken} {bound} taken_are kept =
       record {
         queued = [];
@@ -163,7 +166,7 @@ module _ (p : Parameters) (start : Start) where
       }
   received keep s {origins} (place ∷ queued) taken_are kept =
       by_test
-      (λ old. Invariant p start (record {
+      (λ old. Invariant p start from Followed (record {
         state =
             if old then record s { frames = after_front keep (map (frame_at p start s.offered) (place ∷ queued)) }
             else record s {
@@ -179,12 +182,12 @@ module _ (p : Parameters) (start : Start) where
       (λ fresh. received_fresh keep s place queued (eqb-false _ _ fresh) taken_are kept)
 
   -- so for the frames and origins that stand in the link
-  after_recv_frame : (keep : Bool) (t : Traced) → Invariant p start t → Invariant p start (after p t (RecvFrame keep))
+  after_recv_frame : (keep : Bool) (t : Traced) → Invariant p start from Followed t → Invariant p start from Followed (after p t (RecvFrame keep))
   after_recv_frame keep t inv =
       subst₂
       (λ (frames : List Frame) (queued : List Origin).
-      Kept p start (record t.state { frames = frames }) inv.queued inv.taken inv.bound
-      → Invariant p start (record {
+      Kept p start from Followed (record t.state { frames = frames }) inv.queued inv.taken inv.bound
+      → Invariant p start from Followed (record {
         state = receives_frame keep (record t.state { frames = frames }) (slice_get frames 0);
         queued = after_front keep queued;
         origins = t.origins ++ taken_origin (record t.state { frames = frames }) (slice_get frames 0) (slice_get queued 0);
@@ -193,30 +196,36 @@ module _ (p : Parameters) (start : Start) where
       (received keep t.state inv.queued inv.taken_are) inv.kept
 
   -- the receiver answers, where there is room
-  after_send_ack : (t : Traced) → Invariant p start t → Invariant p start (after p t SendAck)
+  after_send_ack : (t : Traced) → Invariant p start from Followed t → Invariant p start from Followed (after p t SendAck)
   after_send_ack t inv =
       cond_both (has_room p t.state.acks) (record t.state { acks = t.state.acks ++ t.state.recv_label ∷ [] }) t.state
-      (λ s. Invariant p start (record { state = s; queued = t.queued; origins = t.origins }))
-      (λ _. same_places inv (kept_acks p start (answer_in_order t.state.acks t.state.recv_label) inv.kept)) (λ _. inv)
+      (λ s. Invariant p start from Followed (record { state = s; queued = t.queued; origins = t.origins }))
+      (λ _. same_places inv (kept_acks p start from Followed near (answer_in_order t.state.acks t.state.recv_label)
+      (λ answered answering. (_, answering_sent p start answering)) inv.kept)) (λ _. inv)
 
   -- the front of these acknowledgements is received, where there is one
   acknowledged : (keep : Bool) (s : LinkState) (acks : List ℕ) {queued taken : List ℕ} {bound : ℕ}
-      → Kept p start (record s { acks = acks }) queued taken bound
-      → Kept p start (receives_ack p keep (record s { acks = acks }) (slice_get acks 0)) queued taken bound
+      → Kept p start from Followed (record s { acks = acks }) queued taken bound
+      → Kept p start from Followed (receives_ack p keep (record s { acks = acks }) (slice_get acks 0)) queued taken bound
   acknowledged keep s [] kept = kept
   acknowledged keep s (label ∷ acks) {queued} {taken} {bound} kept =
-      cond_both (is_holding s && (label == s.send_label)) _ _ (λ next_state. Kept p start next_state queued taken bound)
+      cond_both (is_holding s && (label == s.send_label)) _ _ (λ next_state. Kept p start from Followed next_state queued taken bound)
       (λ matches.
       let both = and_parts (is_holding s) (label == s.send_label) matches in
-      kept_acked p start keep s both.0 (eqb-true _ _ both.1) kept)
-      (λ _. kept_acks p start (λ labels. acks_in_order s.recv_label labels (in_order_after_front keep (label ∷ acks))) kept)
+      kept_acked p start from Followed near keep s both.0 (eqb-true _ _ both.1) kept)
+      (λ _. kept_acks p start from Followed near (λ labels. acks_in_order s.recv_label labels (in_order_after_front keep (label ∷ acks)))
+      (λ answered answering. (
+        after_front keep answered,
+        answering_fewer p start (ap (after_front keep) answering.acks_are ∙ after_front-map (label_of p start taken) keep answered)
+            (in_order_after_front keep answered) answering,
+      )) kept)
 
   -- so for those that stand in the link
-  after_recv_ack : (keep : Bool) (t : Traced) → Invariant p start t → Invariant p start (after p t (RecvAck keep))
+  after_recv_ack : (keep : Bool) (t : Traced) → Invariant p start from Followed t → Invariant p start from Followed (after p t (RecvAck keep))
   after_recv_ack keep t inv = same_places inv (acknowledged keep t.state t.state.acks inv.kept)
 
   -- a frame vanishes
-  after_lose_frame : (i : ℕ) (t : Traced) → Invariant p start t → Invariant p start (after p t (LoseFrame i))
+  after_lose_frame : (i : ℕ) (t : Traced) → Invariant p start from Followed t → Invariant p start from Followed (after p t (LoseFrame i))
   after_lose_frame i t inv =
       let of_places = without-map (frame_at p start t.state.offered) i inv.queued in
       let frames_are = ap (without i) inv.kept.transit.frames_are ∙ of_places in
@@ -224,19 +233,24 @@ module _ (p : Parameters) (start : Start) where
         queued = without i inv.queued;
         taken = inv.taken;
         bound = inv.bound;
-        kept = kept_fewer_frames p start frames_are (in_order_without i inv.queued) inv.kept;
+        kept = kept_fewer_frames p start from Followed near frames_are (in_order_without i inv.queued) inv.kept;
         queued_are = ap (without i) inv.queued_are ∙ without-map (origin_at start) i inv.queued;
         taken_are = inv.taken_are;
       }
 
   -- an acknowledgement vanishes
-  after_lose_ack : (i : ℕ) (t : Traced) → Invariant p start t → Invariant p start (after p t (LoseAck i))
+  after_lose_ack : (i : ℕ) (t : Traced) → Invariant p start from Followed t → Invariant p start from Followed (after p t (LoseAck i))
   after_lose_ack i t inv =
       same_places inv
-      (kept_acks p start (λ labels. acks_in_order t.state.recv_label labels (in_order_without i t.state.acks)) inv.kept)
+      (kept_acks p start from Followed near (λ labels. acks_in_order t.state.recv_label labels (in_order_without i t.state.acks))
+      (λ answered answering. (
+        without i answered,
+        answering_fewer p start (ap (without i) answering.acks_are ∙ without-map (label_of p start inv.taken) i answered)
+            (in_order_without i answered) answering,
+      )) inv.kept)
 
   -- every event on an open link keeps the invariants
-  after_event : (t : Traced) (e : Event) → Invariant p start t → Invariant p start (after p t e)
+  after_event : (t : Traced) (e : Event) → Invariant p start from Followed t → Invariant p start from Followed (after p t e)
   after_event t (Offer item) inv = after_offer t item inv
   after_event t SendFrame inv = after_send_frame t inv
   after_event t (RecvFrame keep) inv = after_recv_frame keep t inv
@@ -244,23 +258,24 @@ module _ (p : Parameters) (start : Start) where
   after_event t (RecvAck keep) inv = after_recv_ack keep t inv
   after_event t (LoseFrame i) inv = after_lose_frame i t inv
   after_event t (LoseAck i) inv = after_lose_ack i t inv
-  after_event t Close inv = same_places inv (kept_close p start inv.kept)
+  after_event t Close inv = same_places inv (kept_close p start from Followed near inv.kept)
 
   -- every step keeps them: a closed link stays as it is
-  step_keeps : (t : Traced) (e : Event) → Invariant p start t → Invariant p start (traced_step p t e)
+  pub step_keeps : (t : Traced) (e : Event) → Invariant p start from Followed t → Invariant p start from Followed (traced_step p t e)
   step_keeps t e inv =
       cond_both t.state.closed t
       (record { state = step p t.state e; queued = queued_after p t e; origins = origins_after t e })
-      (Invariant p start) (λ _. inv)
+      (Invariant p start from Followed) (λ _. inv)
       (λ still_open. rw (cond-false t.state.closed t.state (open_step p t.state e) still_open) (after_event t e inv))
 
   -- every event list keeps them
-  replay_keeps : (t : Traced) (events : List Event) → Invariant p start t → Invariant p start (traced_replay p t events)
+  replay_keeps : (t : Traced) (events : List Event) → Invariant p start from Followed t → Invariant p start from Followed (traced_replay p t events)
   replay_keeps t [] inv = inv
   replay_keeps t (e ∷ events) inv = replay_keeps (traced_step p t e) events (step_keeps t e inv)
 
-  -- they hold at the opening
-  at_opening : Invariant p start (traced_opening start)
+module _ (p : Parameters) (start : Start) where
+  -- they hold at the opening, of each free item number
+  pub at_opening : Invariant p start 0 (IsFree p start) (traced_opening start)
   at_opening =
       record {
         queued = start_places start;
@@ -272,5 +287,7 @@ module _ (p : Parameters) (start : Start) where
       }
 
   -- so they hold of every replay from the start
-  pub every_replay_keeps : (events : List Event) → Invariant p start (traced_replay p (traced_opening start) events)
-  every_replay_keeps events = replay_keeps (traced_opening start) events at_opening
+  pub every_replay_keeps : (events : List Event)
+      → Invariant p start 0 (IsFree p start) (traced_replay p (traced_opening start) events)
+  every_replay_keeps events =
+      replay_keeps p start 0 (IsFree p start) (free_is_near p start) (traced_opening start) events at_opening

@@ -1,5 +1,5 @@
 -- The labels that the sender gives its items, one after the other.
-use Rattle.std.proofs.Common.{◌≡◌, ◌≢◌, ℕ, zero, suc, ◌+◌, ◌<◌, ◌≤◌, max, leb, ◌⊎◌, inl, inr, ⊎_elim, arith, add-one, leb-true, leb-false}
+use Rattle.std.proofs.Common.{◌≡◌, ◌≢◌, ℕ, zero, suc, ◌+◌, ◌<◌, ◌≤◌, max, leb, ◌⊎◌, inl, inr, ⊎_elim, refl, sym, ◌∙◌, ap, arith, add-one, leb-true, leb-false}
 use Rattle.std.proofs.lemmas.Bool.{cond_both}
 use Rattle.stab_frames.specs.Parameters.{Parameters, next}
 use Rattle.stab_core.specs.declared.start.Start.{Start}
@@ -38,6 +38,22 @@ labels_differ p start i k before few same =
     let one : Counted p.labels start.send_label i (item_label p start i) = counted_label p start i (omega arith) in
     let other : Counted p.labels start.send_label k (item_label p start k) = counted_label p start k few in
     omega arith
+
+-- the labels after the first one are those of a start that begins with the second
+item_label-later : (p : Parameters) (start : Start) (i : ℕ)
+    → item_label p start (suc i) ≡ item_label p (record start { send_label = next p start.send_label }) i
+item_label-later p start zero = refl
+item_label-later p start (suc i) = ap (next p) (item_label-later p start i)
+
+-- no two items have one label that are nearer to each other than there are labels
+pub near_labels_differ : (p : Parameters) (start : Start) (i k : ℕ) → i < k → k < p.labels + i
+    → item_label p start i ≢ item_label p start k
+near_labels_differ p start zero k before near same = labels_differ p start 0 k before (omega arith) same
+near_labels_differ p start (suc i) zero before near same = absurd (omega arith)
+near_labels_differ p start (suc i) (suc k) before near same =
+    let later : Start = record start { send_label = next p start.send_label } in
+    near_labels_differ p later i k (omega arith) (omega arith)
+    (sym (item_label-later p start i) ∙ same ∙ item_label-later p start k)
 
 -- the next label is another one
 pub next_differs : (p : Parameters) (label : ℕ) → 2 ≤ p.labels → next p label ≢ label

@@ -11,9 +11,12 @@ pub mod Circle
 pub mod FreeLabel
 pub mod Sources
 pub mod Ordering
+pub mod Answering
 pub mod Reading
 pub mod Kept
 pub mod Events
 pub mod LinkLaws
+pub mod FewerLabels
 pub mod CounterExamples
 pub mod WorstStart
+pub mod TooFewLabels

@@ -1,9 +1,9 @@
 -- The laws of a replay, read off the invariants.
-use Rattle.std.proofs.Common.{◌≡◌, ℕ, ◌+◌, ◌<◌, ◌≤◌, List, [], ◌∷◌, ◌++◌, map, length, slice_index, refl, sym, ◌∙◌, ap, ap₂, subst, Contains, arith}
+use Rattle.std.proofs.Common.{◌≡◌, ℕ, ◌+◌, ◌*◌, ◌<◌, ◌≤◌, List, [], ◌∷◌, ◌++◌, map, length, slice_index, refl, sym, ◌∙◌, ap, ap₂, subst, Contains, arith}
 use mathlib.Core.List.{map-map}
 use Rattle.std.proofs.lemmas.Bool.{cond_both, cond-true}
 use Rattle.std.proofs.lemmas.List.{length-map, map-append}
-use Rattle.stab_frames.specs.Parameters.{Parameters, AreLawful}
+use Rattle.stab_frames.specs.Parameters.{Parameters, AreLawful, fewest_labels}
 use Rattle.stab_core.specs.declared.event.Event.{Event}
 use Rattle.stab_core.specs.declared.origin.Origin.TheVariants.{Stray, Sent}
 use Rattle.stab_core.specs.declared.start.Start.{Start}
@@ -11,15 +11,16 @@ use Rattle.stab_core.specs.LinkState.{LinkState}
 use Rattle.stab_core.specs.Replay.{IsLawful, start_items, opening, replay}
 use Rattle.stab_core.specs.Step.{step}
 use Rattle.stab_core.specs.Picks.{Picks}
-use Rattle.stab_core.specs.LinkLaw.{HalfLaw, HalfLawAt, LinkLaw, NoneMissing}
+use Rattle.stab_core.specs.LinkLaw.{HalfLaw, HalfLawAt, LinkLaw, NoneMissingFrom, SharperLinkLaw}
 use Rattle.stab_core.specs.Trace.{Traced, traced_opening, traced_step, traced_replay, Explains}
 use Rattle.stab_core.proofs.ForCallers.{few_rising, below_higher, map_below, member_is_raised, raised, Parted, parted}
 use Rattle.stab_core.proofs.Sources.{stray_count, item_at, origin_at, item_sent, item_stray, origin_sent, origin_stray}
-use Rattle.stab_core.proofs.FreeLabel.{free_label}
+use Rattle.stab_core.proofs.FreeLabel.{IsFree, free_label}
+use Rattle.stab_core.proofs.Answering.{few_below, few_below-parted}
 use Rattle.stab_core.proofs.Events.{Invariant, every_replay_keeps}
 
 -- the trace steps as the link does
-traced_step_state : (p : Parameters) (t : Traced) (e : Event) → (traced_step p t e).state ≡ step p t.state e
+pub traced_step_state : (p : Parameters) (t : Traced) (e : Event) → (traced_step p t e).state ≡ step p t.state e
 traced_step_state p t e =
     cond_both t.state.closed t _ (λ (next_trace : Traced). next_trace.state ≡ step p t.state e)
     (λ closed. sym (cond-true t.state.closed _ _ closed)) (λ _. refl)
@@ -44,7 +45,8 @@ map-parted bound {more} parts at_place at_low at_high on_low on_high =
     (map-map at_place (λ (i : ℕ). bound + i) parts.high
     ∙ map_below (λ i. at_place (bound + i)) at_high more parts.high (λ i _. on_high i) parts.high_below)
 
-module _ (p : Parameters) (start : Start) (t : Traced) (inv : Invariant p start t) where
+module _ (p : Parameters) (start : Start) (from : ℕ) (Followed : ℕ → Type 0) (t : Traced)
+    (inv : Invariant p start from Followed t) where
   -- the taken places are those of strays, then those of offered items
   taken_parts : Parted (stray_count start) (length t.state.offered) 0 inv.taken
   taken_parts =
@@ -132,14 +134,45 @@ module _ (p : Parameters) (start : Start) (t : Traced) (inv : Invariant p start 
         taken_picked = sent_picked;
       }
 
-  -- from a free item number on none is missing there, so none from 2c + 1 on
-  none_missing : AreLawful p → IsLawful p start → NoneMissing p.capacity t.state.acked taken_parts.high
-  none_missing parameters lawful i late passed =
-      let (j, within, free) = free_label p start parameters lawful in
+  -- from an item number on that is followed none is missing there
+  none_missing_from : (j : ℕ) → Followed j → NoneMissingFrom j t.state.acked taken_parts.high
+  none_missing_from j followed i late passed =
       let place : ℕ = stray_count start + i in
-      let taken : Contains inv.taken place = (inv.kept.readings j free).none_missing i (omega arith) passed in
+      let taken : Contains inv.taken place = (inv.kept.readings j followed).none_missing i late passed in
       member_is_raised (stray_count start) i taken_parts.low taken_parts.high taken_parts.low_below
       (subst (λ (places : List ℕ). Contains places place) taken_parts.both taken)
+
+  -- so the link law holds where one of the first 2c + 2 item numbers is followed
+  pub followed_link_law : IsLawful p start → (j : ℕ) → j ≤ 2 * p.capacity + 1 → Followed j
+      → LinkLaw p.capacity (start_items start) t.state.offered t.state.acked t.state.delivered
+  followed_link_law lawful j within followed =
+      (_, half_law lawful, λ i late passed. none_missing_from j followed i (omega arith) passed)
+
+  -- and where no more items than these are acknowledged
+  pub few_acked_link_law : IsLawful p start → t.state.acked ≤ 2 * p.capacity + 1
+      → LinkLaw p.capacity (start_items start) t.state.offered t.state.acked t.state.delivered
+  few_acked_link_law lawful few = (_, half_law lawful, λ i late passed. absurd (omega arith))
+
+  -- where there are enough labels, only as many items are missing as labels of the start and of strays came
+  pub answered_link_law : fewest_labels p.capacity ≤ p.labels → IsLawful p start
+      → SharperLinkLaw p.capacity (start_items start) t.state.offered t.state.acked t.state.delivered
+  unfolding half_law stray_items
+  answered_link_law enough lawful =
+      let strays : ℕ = stray_count start in
+      let few_acks = lawful.acks in
+      let as_many : length stray_items ≡ length taken_parts.low = length-map taken_parts.low (slice_index (start_items start)) in
+      let few_low : length stray_items ≤ p.capacity = few_strays lawful in
+      let few : few_below strays inv.taken ≡ length taken_parts.low =
+      ap (few_below strays) taken_parts.both ∙ few_below-parted strays taken_parts.low taken_parts.high taken_parts.low_below in
+      let (answered, answering) = inv.kept.answers (omega arith) in (
+        _,
+        half_law lawful,
+        λ i late passed.
+            let missing : p.capacity + 1 + length stray_items ≤ i = late in
+            member_is_raised strays i taken_parts.low taken_parts.high taken_parts.low_below
+            (subst (λ (places : List ℕ). Contains places (strays + i)) taken_parts.both
+            (answering.none_missing i (omega arith) passed (omega arith))),
+      )
 
 -- every replay is explained by its origins
 pub replay_explained : (p : Parameters) (start : Start) (events : List Event)
@@ -148,7 +181,7 @@ pub replay_explained : (p : Parameters) (start : Start) (events : List Event)
 replay_explained p start events =
     let t : Traced = traced_replay p (traced_opening start) events in
     subst (λ (s : LinkState). Explains (start_items start) s.offered t.origins s.delivered)
-    (traced_replay_state p (traced_opening start) events) (explained p start t (every_replay_keeps p start events))
+    (traced_replay_state p (traced_opening start) events) (explained p start 0 (IsFree p start) t (every_replay_keeps p start events))
 
 -- every replay acknowledged only what was offered, and all of it but at most the last
 pub replay_acked : (p : Parameters) (start : Start) (events : List Event)
@@ -165,14 +198,23 @@ replay_half_law p start events lawful =
     let t : Traced = traced_replay p (traced_opening start) events in
     subst (λ (s : LinkState). HalfLaw p.capacity (start_items start) s.offered s.acked s.delivered)
     (traced_replay_state p (traced_opening start) events)
-    (_, half_law p start t (every_replay_keeps p start events) lawful)
+    (_, half_law p start 0 (IsFree p start) t (every_replay_keeps p start events) lawful)
 
 -- every replay from a lawful start obeys the link law
 pub replay_link_law : (p : Parameters) (start : Start) (events : List Event) → AreLawful p → IsLawful p start
     → let s = replay p (opening start) events in LinkLaw p.capacity (start_items start) s.offered s.acked s.delivered
 replay_link_law p start events parameters lawful =
     let t : Traced = traced_replay p (traced_opening start) events in
-    let inv : Invariant p start t = every_replay_keeps p start events in
+    let (j, within, free) = free_label p start parameters lawful in
     subst (λ (s : LinkState). LinkLaw p.capacity (start_items start) s.offered s.acked s.delivered)
     (traced_replay_state p (traced_opening start) events)
-    (_, half_law p start t inv lawful, none_missing p start t inv parameters lawful)
+    (followed_link_law p start 0 (IsFree p start) t (every_replay_keeps p start events) lawful j within free)
+
+-- and the sharper one
+pub replay_sharper_link_law : (p : Parameters) (start : Start) (events : List Event) → AreLawful p → IsLawful p start
+    → let s = replay p (opening start) events in SharperLinkLaw p.capacity (start_items start) s.offered s.acked s.delivered
+replay_sharper_link_law p start events parameters lawful =
+    let t : Traced = traced_replay p (traced_opening start) events in
+    subst (λ (s : LinkState). SharperLinkLaw p.capacity (start_items start) s.offered s.acked s.delivered)
+    (traced_replay_state p (traced_opening start) events)
+    (answered_link_law p start 0 (IsFree p start) t (every_replay_keeps p start events) parameters.enough_labels lawful)

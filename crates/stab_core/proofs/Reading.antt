@@ -8,10 +8,9 @@ use Rattle.std.proofs.lemmas.List.Elements.{Contains-push, Contains-append_left}
 use Rattle.stab_frames.specs.Parameters.{Parameters}
 use Rattle.stab_core.specs.declared.start.Start.{Start}
 use Rattle.stab_core.specs.Step.{after_front}
-use Rattle.stab_core.proofs.Labels.{item_label, item_label-more, labels_differ, next_differs}
+use Rattle.stab_core.proofs.Labels.{item_label, item_label-more, next_differs}
 use Rattle.stab_core.proofs.InOrder.{InOrder, in_order_after_front, Each-in_order, Each-push, after_front-map}
 use Rattle.stab_core.proofs.Circle.{circle, Absent, AllAre, TurnsTo, TurnsTo-in_order, TurnsTo-push, TurnsTo-absent, absent_other, at_receiver, at_frames, circle_sent, taking_in_order, acks_in_order}
-use Rattle.stab_core.proofs.FreeLabel.{IsFree}
 use Rattle.stab_core.proofs.Sources.{stray_count, label_at, label_sent}
 
 -- the labels on the circle, where the frames of these places are queued
@@ -37,7 +36,7 @@ pub record Reading (p : Parameters) (start : Start) (j acked : ℕ) (acks : List
   pub remembered : j ≤ acked → recv_label ≡ item_label p start acked → Contains taken (stray_count start + acked)
   pub none_missing : NoneMissingFrom start j acked taken
 
-module _ (p : Parameters) (start : Start) (j : ℕ) (free : IsFree p start j) where
+module _ (p : Parameters) (start : Start) (j : ℕ) (some_labels : 2 ≤ p.labels) where
   -- where the item's label is on no frame, all frames that have it are its own
   own_from_absent : (item : ℕ) (queued : List ℕ) → Absent (item_label p start item) (map (label_at p start) queued)
       → Each (IsOwn p start item) queued
@@ -72,16 +71,16 @@ module _ (p : Parameters) (start : Start) (j : ℕ) (free : IsFree p start j) wh
         none_missing = none_missing;
       }
 
-  -- at the start none of the labels is that of item j
-  pub reading_open : (acks : List ℕ) (recv_label : ℕ) (queued : List ℕ) {taken : List ℕ}
+  -- where item j is not acknowledged yet and its label is nowhere, as at the start
+  pub reading_open : (acked : ℕ) (acks : List ℕ) (recv_label : ℕ) (queued : List ℕ) {taken : List ℕ} → acked ≤ j
       → Absent (item_label p start j) (on_circle p start acks recv_label queued)
-      → Reading p start j 0 acks recv_label queued taken
-  reading_open acks recv_label queued absent =
-      elim (cases_lt 0 j) [
-        | inl before ↦ before_turn 0 before absent
+      → Reading p start j acked acks recv_label queued taken
+  reading_open acked acks recv_label queued ahead absent =
+      elim (cases_lt acked j) [
+        | inl before ↦ before_turn acked before absent
         | inr begun ↦
-            let first : j ≡ 0 = omega arith in
-            at_turn 0 acks recv_label queued begun (rw first at absent) (λ i _ passed. absurd (omega arith))
+            let first : j ≡ acked = omega arith in
+            at_turn acked acks recv_label queued begun (rw first at absent) (λ i late passed. absurd (omega arith))
       ]
 
   -- where labels vanish, or are repeated where they stand, the circle reads the same
@@ -108,17 +107,18 @@ module _ (p : Parameters) (start : Start) (j : ℕ) (free : IsFree p start j) wh
       ∙ ap (λ label. circle acks recv_label (labels ++ label ∷ [])) (sym (label_sent p start acked))
       ∙ ap (circle acks recv_label) (sym (map_push (label_at p start) queued (stray_count start + acked)))
 
-  -- so what is read stays: the label is that of no item before, and the frame is the item's own
+  -- so what is read stays: the label is not that of item j, and the frame is the item's own
   pub reading_send : {acked : ℕ} {acks : List ℕ} {recv_label : ℕ} {queued taken : List ℕ}
+      → (acked < j → item_label p start acked ≢ item_label p start j)
       → Reading p start j acked acks recv_label queued taken
       → Reading p start j acked acks recv_label (queued ++ (stray_count start + acked) ∷ []) taken
-  reading_send {acked} {acks} {recv_label} {queued} reading =
+  reading_send {acked} {acks} {recv_label} {queued} others_differ reading =
       let before_it : List ℕ = on_circle p start acks recv_label queued in
       let label : ℕ = item_label p start acked in
       let more = one_more acked acks recv_label queued in
       record {
         early = λ before.
-            let other : label ≢ item_label p start j = labels_differ p start acked j before free.few in
+            let other : label ≢ item_label p start j = others_differ before in
             subst (Absent (item_label p start j)) more
             (Each-push (λ x. x ≢ item_label p start j) before_it label (reading.early before) other);
         late = λ begun. subst (TurnsTo label) more (TurnsTo-push label before_it (reading.late begun));
@@ -188,7 +188,7 @@ module _ (p : Parameters) (start : Start) (j : ℕ) (free : IsFree p start j) wh
             subst (λ (item : ℕ). Absent (item_label p start item) labels) turn (reading.early before)
         | inr begun ↦
             let after : ℕ = item_label p start (acked + 1) in
-            let differs : after ≢ label = rw (item_label-more p start acked) (next_differs p label free.some_labels) in
+            let differs : after ≢ label = rw (item_label-more p start acked) (next_differs p label some_labels) in
             absent_other label after labels differs (all_are_own begun reading)
       ]
 

@@ -1,12 +1,12 @@
 -- The replay of the worst events from the worst start, round by round, and what it shows of the bounds of the link law.
-use Rattle.std.proofs.Common.{◌≡◌, ◌≢◌, ℕ, false, zero, suc, ◌+◌, ◌*◌, ◌<◌, ◌≤◌, inl, inr, List, [], ◌∷◌, ◌++◌, map, length, get_or, slice_index, Contains, refl, sym, ◌∙◌, ap, arith, append_assoc, append-nil, add-one, length-append}
+use Rattle.std.proofs.Common.{◌≡◌, ◌≢◌, ℕ, false, zero, suc, ◌+◌, ◌*◌, ◌<◌, ◌≤◌, inl, inr, List, [], ◌∷◌, ◌++◌, map, length, get_or, slice_index, Contains, refl, sym, ◌∙◌, ap, ap₂, arith, append_assoc, append-nil, add-one, length-append}
 use Rattle.std.specs.List.{range_with_len}
 use Rattle.std.proofs.lemmas.Bool.{cases_lt, eq-eqb, ne_eqb, lt-ltb, lt-leb}
 use Rattle.std.proofs.lemmas.List.{get_or_append_left, length-map}
 use Rattle.std.proofs.lemmas.List.Elements.{Contains-push_cases}
 use Rattle.std.proofs.lemmas.List.FromFn.{length-range_with_len, get_or-range_with_len}
 use Rattle.stab_frames.specs.declared.frame.Frame.{Frame}
-use Rattle.stab_frames.specs.Parameters.{Parameters, AreLawful}
+use Rattle.stab_frames.specs.Parameters.{Parameters, AreLawful, next}
 use Rattle.stab_core.specs.declared.event.Event.{Event}
 use Rattle.stab_core.specs.declared.event.Event.TheVariants.{Offer, SendFrame, SendAck}
 use Rattle.stab_core.specs.LinkState.{LinkState}
@@ -22,7 +22,7 @@ use Rattle.stab_core.proofs.Replays.{replay-append}
 -- ---- numbers that count up
 
 -- so many numbers, and the one after them, are one number more
-range_push : (first count next : ℕ) → first + count ≡ next
+pub range_push : (first count next : ℕ) → first + count ≡ next
     → range_with_len first count ++ next ∷ [] ≡ range_with_len first (count + 1)
 range_push first zero next is = ap (λ x. x ∷ []) (omega arith)
 range_push first (suc count) next is =
@@ -30,7 +30,7 @@ range_push first (suc count) next is =
     (ap (λ rest. first ∷ rest) (range_push (first + 1) count next (omega arith) ∙ ap (range_with_len (first + 1)) (add-one count)))
 
 -- each of them is no lower than the first, and below the one after the last
-range_bounds : (first count x : ℕ) → Contains (range_with_len first count) x → (first ≤ x) × (x < first + count)
+pub range_bounds : (first count x : ℕ) → Contains (range_with_len first count) x → (first ≤ x) × (x < first + count)
 range_bounds first count x member =
     let (k, here) = member_stands (range_with_len first count) x member in
     let within : k < count = omega (arith, here.within, length-range_with_len first count) in
@@ -40,18 +40,18 @@ range_bounds first count x member =
 -- ---- the steps of a round
 
 -- the frame of a label and an item
-abbrev frame : ℕ → ℕ → Frame
+abbrev pub frame : ℕ → ℕ → Frame
 frame label item = record { label = label; item = item }
 
--- The items count up from `first`, and the sender's label is the number of its item: it never begins at 0 again.
+-- The items count up from `first`.
 module _ (p : Parameters) (first : ℕ) where
-  -- between two rounds: the sender is idle after this many items
-  abbrev idle : List Frame → List ℕ → ℕ → ℕ → List ℕ → LinkState
-  idle frames acks count recv_label delivered =
+  -- between two rounds: the sender is idle after this many items, with this label
+  abbrev pub idle : List Frame → List ℕ → ℕ → ℕ → ℕ → List ℕ → LinkState
+  idle frames acks count label recv_label delivered =
       record {
         frames = frames;
         acks = acks;
-        send_label = count;
+        send_label = label;
         offered = range_with_len first count;
         acked = count;
         recv_label = recv_label;
@@ -60,113 +60,134 @@ module _ (p : Parameters) (first : ℕ) where
       }
 
   -- within a round: one item more was offered, and waits
-  abbrev holding : List Frame → List ℕ → ℕ → ℕ → List ℕ → LinkState
-  holding frames acks count recv_label delivered =
-      record (idle frames acks count recv_label delivered) { offered = range_with_len first (count + 1) }
+  abbrev pub holding : List Frame → List ℕ → ℕ → ℕ → ℕ → List ℕ → LinkState
+  holding frames acks count label recv_label delivered =
+      record (idle frames acks count label recv_label delivered) { offered = range_with_len first (count + 1) }
 
   -- the next item is offered
-  item_offered : (frames : List Frame) (acks : List ℕ) (count item recv_label : ℕ) (delivered : List ℕ) → first + count ≡ item
-      → step p (idle frames acks count recv_label delivered) (Offer item) ≡ holding frames acks count recv_label delivered
-  item_offered frames acks count item recv_label delivered is =
+  pub item_offered : (frames : List Frame) (acks : List ℕ) (count label item recv_label : ℕ) (delivered : List ℕ)
+      → first + count ≡ item
+      → step p (idle frames acks count label recv_label delivered) (Offer item)
+      ≡ holding frames acks count label recv_label delivered
+  item_offered frames acks count label item recv_label delivered is =
       rw (eq-eqb _ _ (length-range_with_len first count), range_push first count item is)
 
-  -- an acknowledgement with its label arrives
-  item_acked : (frames : List Frame) (acks : List ℕ) (count recv_label : ℕ) (delivered : List ℕ) → count + 1 < p.labels
-      → step p (holding frames (count ∷ acks) count recv_label delivered) take_ack
-      ≡ idle frames acks (count + 1) recv_label delivered
-  item_acked frames acks count recv_label delivered more =
-      rw (eq-eqb _ _ (length-range_with_len first (count + 1)), eq-eqb count count refl, lt-leb p.labels (count + 1) more)
+  -- an acknowledgement with the sender's label arrives
+  pub label_acked : (frames : List Frame) (acks : List ℕ) (count label recv_label : ℕ) (delivered : List ℕ)
+      → step p (holding frames (label ∷ acks) count label recv_label delivered) take_ack
+      ≡ idle frames acks (count + 1) (next p label) recv_label delivered
+  label_acked frames acks count label recv_label delivered =
+      rw (eq-eqb _ _ (length-range_with_len first (count + 1)), eq-eqb label label refl) refl
+
+  -- where the label after it is one, the sender has that now
+  pub item_acked : (frames : List Frame) (acks : List ℕ) (count label recv_label : ℕ) (delivered : List ℕ)
+      → label + 1 < p.labels
+      → step p (holding frames (label ∷ acks) count label recv_label delivered) take_ack
+      ≡ idle frames acks (count + 1) (label + 1) recv_label delivered
+  item_acked frames acks count label recv_label delivered more =
+      label_acked frames acks count label recv_label delivered
+      ∙ ap (λ l. idle frames acks (count + 1) l recv_label delivered) (rw (lt-leb p.labels (label + 1) more) refl)
 
   -- both: the acknowledgement was there before the item
-  acked_unsent : (frames : List Frame) (acks : List ℕ) (count item recv_label : ℕ) (delivered : List ℕ) → first + count ≡ item
-      → count + 1 < p.labels
-      → step p (step p (idle frames (count ∷ acks) count recv_label delivered) (Offer item)) take_ack
-      ≡ idle frames acks (count + 1) recv_label delivered
-  acked_unsent frames acks count item recv_label delivered is more =
-      ap (λ s. step p s take_ack) (item_offered frames (count ∷ acks) count item recv_label delivered is)
-      ∙ item_acked frames acks count recv_label delivered more
+  pub acked_unsent : (frames : List Frame) (acks : List ℕ) (count label item recv_label : ℕ) (delivered : List ℕ)
+      → first + count ≡ item → label + 1 < p.labels
+      → step p (step p (idle frames (label ∷ acks) count label recv_label delivered) (Offer item)) take_ack
+      ≡ idle frames acks (count + 1) (label + 1) recv_label delivered
+  acked_unsent frames acks count label item recv_label delivered is more =
+      ap (λ s. step p s take_ack) (item_offered frames (label ∷ acks) count label item recv_label delivered is)
+      ∙ item_acked frames acks count label recv_label delivered more
 
   -- the receiver sends the label that it remembers
-  label_answered : (frames : List Frame) (count recv_label : ℕ) (delivered : List ℕ) → 1 ≤ p.capacity
-      → step p (idle frames [] count recv_label delivered) SendAck ≡ idle frames (recv_label ∷ []) count recv_label delivered
-  label_answered frames count recv_label delivered room = rw (lt-ltb 0 p.capacity room)
+  pub label_answered : (frames : List Frame) (acks : List ℕ) (count label recv_label : ℕ) (delivered : List ℕ)
+      → length acks < p.capacity
+      → step p (idle frames acks count label recv_label delivered) SendAck
+      ≡ idle frames (acks ++ recv_label ∷ []) count label recv_label delivered
+  label_answered frames acks count label recv_label delivered room = rw (lt-ltb (length acks) p.capacity room)
 
   -- where that is the sender's own label, it acknowledges the next item
-  acked_by_label : (frames : List Frame) (count item : ℕ) (delivered : List ℕ) → first + count ≡ item → 1 ≤ p.capacity
-      → count + 1 < p.labels
-      → step p (step p (step p (idle frames [] count count delivered) SendAck) (Offer item)) take_ack
-      ≡ idle frames [] (count + 1) count delivered
-  acked_by_label frames count item delivered is room more =
-      ap (λ s. step p (step p s (Offer item)) take_ack) (label_answered frames count count delivered room)
-      ∙ acked_unsent frames [] count item count delivered is more
+  pub acked_by_label : (frames : List Frame) (count label item : ℕ) (delivered : List ℕ) → first + count ≡ item
+      → 1 ≤ p.capacity → label + 1 < p.labels
+      → step p (step p (step p (idle frames [] count label label delivered) SendAck) (Offer item)) take_ack
+      ≡ idle frames [] (count + 1) (label + 1) label delivered
+  acked_by_label frames count label item delivered is room more =
+      ap (λ s. step p (step p s (Offer item)) take_ack) (label_answered frames [] count label label delivered room)
+      ∙ acked_unsent frames [] count label item label delivered is more
 
-  -- a stray with another label is taken
-  stray_taken : (frames : List Frame) (label stray count recv_label : ℕ) (delivered : List ℕ) → label ≢ recv_label
-      → step p (idle (frame label stray ∷ frames) [] count recv_label delivered) take_frame
-      ≡ idle frames [] count label (delivered ++ stray ∷ [])
-  stray_taken frames label stray count recv_label delivered other = rw (ne_eqb label recv_label other)
+  -- a frame with another label is taken while the sender is idle
+  pub stray_taken : (frames : List Frame) (acks : List ℕ) (taken stray count label recv_label : ℕ) (delivered : List ℕ)
+      → taken ≢ recv_label
+      → step p (idle (frame taken stray ∷ frames) acks count label recv_label delivered) take_frame
+      ≡ idle frames acks count label taken (delivered ++ stray ∷ [])
+  stray_taken frames acks taken stray count label recv_label delivered other = rw (ne_eqb taken recv_label other)
 
   -- the item that waits is sent
-  item_sent : (count item recv_label : ℕ) (delivered : List ℕ) → first + count ≡ item → 1 ≤ p.capacity
-      → step p (holding [] [] count recv_label delivered) SendFrame ≡ holding (frame count item ∷ []) [] count recv_label delivered
-  item_sent count item recv_label delivered is room =
+  pub item_sent : (frames : List Frame) (acks : List ℕ) (count label item recv_label : ℕ) (delivered : List ℕ)
+      → first + count ≡ item → length frames < p.capacity
+      → step p (holding frames acks count label recv_label delivered) SendFrame
+      ≡ holding (frames ++ frame label item ∷ []) acks count label recv_label delivered
+  item_sent frames acks count label item recv_label delivered is room =
       let waits : get_or (range_with_len first (count + 1)) count 0 ≡ item =
       get_or-range_with_len first (count + 1) count 0 (omega arith) ∙ is in
-      rw (eq-eqb _ _ (length-range_with_len first (count + 1)), lt-ltb 0 p.capacity room, waits)
+      rw (eq-eqb _ _ (length-range_with_len first (count + 1)), lt-ltb (length frames) p.capacity room, waits)
 
   -- its frame is taken
-  item_taken : (label item count recv_label : ℕ) (delivered : List ℕ) → label ≢ recv_label
-      → step p (holding (frame label item ∷ []) [] count recv_label delivered) take_frame
-      ≡ holding [] [] count label (delivered ++ item ∷ [])
-  item_taken label item count recv_label delivered other = rw (ne_eqb label recv_label other)
+  item_taken : (taken item count label recv_label : ℕ) (delivered : List ℕ) → taken ≢ recv_label
+      → step p (holding (frame taken item ∷ []) [] count label recv_label delivered) take_frame
+      ≡ holding [] [] count label taken (delivered ++ item ∷ [])
+  item_taken taken item count label recv_label delivered other = rw (ne_eqb taken recv_label other)
 
   -- ---- the rounds
 
   -- the rounds of the start's acknowledgements
-  after_start_acks : (frames : List Frame) (rounds count item recv_label : ℕ) (delivered : List ℕ) → first + count ≡ item
-      → count + rounds < p.labels
-      → replay p (idle frames (range_with_len count rounds) count recv_label delivered) (acked_by_start item rounds)
-      ≡ idle frames [] (count + rounds) recv_label delivered
-  after_start_acks frames zero count item recv_label delivered is more =
-      ap (λ n. idle frames [] n recv_label delivered) (omega arith)
-  after_start_acks frames (suc rounds) count item recv_label delivered is more =
+  pub after_start_acks : (frames : List Frame) (rounds count label item recv_label : ℕ) (delivered : List ℕ)
+      → first + count ≡ item → label + rounds < p.labels
+      → replay p (idle frames (range_with_len label rounds) count label recv_label delivered) (acked_by_start item rounds)
+      ≡ idle frames [] (count + rounds) (label + rounds) recv_label delivered
+  after_start_acks frames zero count label item recv_label delivered is more =
+      ap₂ (λ n l. idle frames [] n l recv_label delivered) (omega arith) (omega arith)
+  after_start_acks frames (suc rounds) count label item recv_label delivered is more =
       ap (λ s. replay p s (acked_by_start (item + 1) rounds))
-      (acked_unsent frames (range_with_len (count + 1) rounds) count item recv_label delivered is (omega arith))
-      ∙ after_start_acks frames rounds (count + 1) (item + 1) recv_label delivered (omega arith) (omega arith)
-      ∙ ap (λ n. idle frames [] n recv_label delivered) (omega arith)
+      (acked_unsent frames (range_with_len (label + 1) rounds) count label item recv_label delivered is (omega arith))
+      ∙ after_start_acks frames rounds (count + 1) (label + 1) (item + 1) recv_label delivered (omega arith) (omega arith)
+      ∙ ap₂ (λ n l. idle frames [] n l recv_label delivered) (omega arith) (omega arith)
 
-  -- the rounds of the strays
-  after_strays : (rounds count item stray : ℕ) (delivered : List ℕ) → first + count ≡ item → 1 ≤ p.capacity
-      → count + rounds < p.labels
-      → replay p (idle (counted_frames (count + 1) stray rounds) [] count count delivered) (acked_by_receiver item rounds)
-      ≡ idle [] [] (count + rounds) (count + rounds) (delivered ++ range_with_len stray rounds)
-  after_strays zero count item stray delivered is room more =
-      rw (append-nil delivered) (ap (λ n. idle [] [] n n delivered) (omega arith))
-  after_strays (suc rounds) count item stray delivered is room more =
-      let rest : List Frame = counted_frames (count + 1 + 1) (stray + 1) rounds in
+  -- the rounds of the strays, with more frames after them
+  pub after_strays : (more : List Frame) (rounds count label item stray : ℕ) (delivered : List ℕ) → first + count ≡ item
+      → 1 ≤ p.capacity → label + rounds < p.labels
+      → replay p (idle (counted_frames (label + 1) stray rounds ++ more) [] count label label delivered)
+      (acked_by_receiver item rounds)
+      ≡ idle more [] (count + rounds) (label + rounds) (label + rounds) (delivered ++ range_with_len stray rounds)
+  after_strays more zero count label item stray delivered is room enough =
+      rw (append-nil delivered) (ap₂ (λ n l. idle more [] n l l delivered) (omega arith) (omega arith))
+  after_strays more (suc rounds) count label item stray delivered is room enough =
+      let rest : List Frame = counted_frames (label + 1 + 1) (stray + 1) rounds ++ more in
       let later : List Event = acked_by_receiver (item + 1) rounds in
       ap (λ s. replay p (step p s take_frame) later)
-      (acked_by_label (frame (count + 1) stray ∷ rest) count item delivered is room (omega arith))
-      ∙ ap (λ s. replay p s later) (stray_taken rest (count + 1) stray (count + 1) count delivered (λ same. omega arith))
-      ∙ after_strays rounds (count + 1) (item + 1) (stray + 1) (delivered ++ stray ∷ []) (omega arith) room (omega arith)
+      (acked_by_label (frame (label + 1) stray ∷ rest) count label item delivered is room (omega arith))
+      ∙ ap (λ s. replay p s later)
+      (stray_taken rest [] (label + 1) stray (count + 1) (label + 1) label delivered (λ same. omega arith))
+      ∙ after_strays more rounds (count + 1) (label + 1) (item + 1) (stray + 1) (delivered ++ stray ∷ []) (omega arith) room (omega arith)
       ∙ rw (append_assoc delivered (stray ∷ []) (range_with_len (stray + 1) rounds))
-      (ap (λ n. idle [] [] n n (delivered ++ range_with_len stray (suc rounds))) (omega arith))
+      (ap₂ (λ n l. idle more [] n l l (delivered ++ range_with_len stray (suc rounds))) (omega arith) (omega arith))
 
   -- the last round, in which an item is delivered
   after_last : (count item : ℕ) (delivered : List ℕ) → first + count ≡ item → 1 ≤ p.capacity → count + 1 < p.labels
-      → replay p (idle [] [] count count delivered) (delivered_at_last item)
-      ≡ holding [] [] (count + 1) (count + 1) (delivered ++ (item + 1) ∷ [])
+      → replay p (idle [] [] count count count delivered) (delivered_at_last item)
+      ≡ holding [] [] (count + 1) (count + 1) (count + 1) (delivered ++ (item + 1) ∷ [])
   after_last count item delivered is room more =
-      ap (λ s. step p (step p (step p s (Offer (item + 1))) SendFrame) take_frame) (acked_by_label [] count item delivered is room more)
-      ∙ ap (λ s. step p (step p s SendFrame) take_frame) (item_offered [] [] (count + 1) (item + 1) count delivered (omega arith))
-      ∙ ap (λ s. step p s take_frame) (item_sent (count + 1) (item + 1) count delivered (omega arith) room)
-      ∙ item_taken (count + 1) (item + 1) (count + 1) count delivered (λ same. omega arith)
+      ap (λ s. step p (step p (step p s (Offer (item + 1))) SendFrame) take_frame)
+      (acked_by_label [] count count item delivered is room more)
+      ∙ ap (λ s. step p (step p s SendFrame) take_frame)
+      (item_offered [] [] (count + 1) (count + 1) (item + 1) count delivered (omega arith))
+      ∙ ap (λ s. step p s take_frame)
+      (item_sent [] [] (count + 1) (count + 1) (item + 1) count delivered (omega arith) (omega arith))
+      ∙ item_taken (count + 1) (item + 1) (count + 1) (count + 1) count delivered (λ same. omega arith)
 
   -- all rounds
   after_worst : (stray : ℕ) → 1 ≤ p.capacity → 2 * p.capacity + 2 ≤ p.labels
       → let c = p.capacity in
       replay p (opening (worst_start c stray)) (worst_events c first)
-      ≡ holding [] [] (2 * c + 1) (2 * c + 1) (range_with_len stray c ++ (first + 2 * c + 1) ∷ [])
+      ≡ holding [] [] (2 * c + 1) (2 * c + 1) (2 * c + 1) (range_with_len stray c ++ (first + 2 * c + 1) ∷ [])
   after_worst stray room labels =
       let c : ℕ = p.capacity in
       let strays : List ℕ = range_with_len stray c in
@@ -175,10 +196,12 @@ module _ (p : Parameters) (first : ℕ) where
       let by_start : List Event = acked_by_start first c in
       let by_receiver : List Event = acked_by_receiver (first + c) c in
       let at_last : List Event = delivered_at_last (first + 2 * c) in
-      let acks_taken : replay p start by_start ≡ idle frames [] c c [] =
-      after_start_acks frames c 0 first c [] (omega arith) (omega arith) ∙ ap (λ n. idle frames [] n c []) (omega arith) in
-      let strays_taken : replay p (idle frames [] c c []) by_receiver ≡ idle [] [] (2 * c) (2 * c) strays =
-      after_strays c c (first + c) stray [] (omega arith) room (omega arith) ∙ ap (λ n. idle [] [] n n strays) (omega arith) in
+      let acks_taken : replay p start by_start ≡ idle frames [] c c c [] =
+      after_start_acks frames c 0 0 first c [] (omega arith) (omega arith) ∙ ap (λ n. idle frames [] n n c []) (omega arith) in
+      let strays_taken : replay p (idle frames [] c c c []) by_receiver ≡ idle [] [] (2 * c) (2 * c) (2 * c) strays =
+      ap (λ queued. replay p (idle queued [] c c c []) by_receiver) (sym (append-nil frames))
+      ∙ after_strays [] c c c (first + c) stray [] (omega arith) room (omega arith)
+      ∙ ap (λ n. idle [] [] n n n strays) (omega arith) in
       replay-append p start (by_start ++ by_receiver) at_last
       ∙ ap (λ s. replay p s at_last)
       (replay-append p start by_start by_receiver ∙ ap (λ s. replay p s by_receiver) acks_taken ∙ strays_taken)
@@ -187,7 +210,7 @@ module _ (p : Parameters) (first : ℕ) where
 -- ---- the start
 
 -- the items of the frames count up as well
-counted_items : (label item count : ℕ) → map (λ f. f.item) (counted_frames label item count) ≡ range_with_len item count
+pub counted_items : (label item count : ℕ) → map (λ f. f.item) (counted_frames label item count) ≡ range_with_len item count
 counted_items label item zero = refl
 counted_items label item (suc count) = ap (λ rest. item ∷ rest) (counted_items (label + 1) (item + 1) count)
 

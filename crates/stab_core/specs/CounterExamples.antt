@@ -2,7 +2,7 @@
 -- one for each capacity that reaches the bounds where none is. Where a rule is left out the
 -- capacity is 1, for which four labels are the fewest lawful ones.
 -- Source: this project's own.
-use Rattle.std.specs.Prelude.{ℕ, zero, suc, ◌+◌, ◌*◌, Bool, true, false, List, [], ◌∷◌, ◌++◌}
+use Rattle.std.specs.Prelude.{ℕ, zero, suc, ◌+◌, ◌-◌, ◌*◌, Bool, true, false, List, [], ◌∷◌, ◌++◌}
 use Rattle.std.specs.Prelude.{slice_get, if◌then◌else◌, Option, Some, None}
 use Rattle.std.specs.List.{range_with_len}
 use Rattle.stab_frames.specs.declared.frame.Frame.{Frame}
@@ -142,3 +142,28 @@ delivered_at_last item =
 abbrev pub worst_events : ℕ → ℕ → List Event
 worst_events c item =
     acked_by_start item c ++ acked_by_receiver (item + c) c ++ delivered_at_last (item + 2 * c)
+
+-- One label too few for the argument of the link law: 2c labels, with any capacity c.
+abbrev pub too_few_labels : ℕ → Parameters
+too_few_labels c = record { capacity = c; labels = 2 * c }
+
+-- The sender begins with 2c, which is none of its labels, and goes on with 0. The labels 2c and then
+-- 0 to 2c - 1 come to it in the order in which it waits for them. The strays count up from this one.
+abbrev pub too_few_labels_start : ℕ → ℕ → Start
+too_few_labels_start c stray =
+    record {
+      frames = counted_frames c stray c;
+      acks = 2 * c ∷ range_with_len 0 (c - 1);
+      send_label = 2 * c;
+      recv_label = c - 1;
+    }
+
+-- The items 0 to 2c are acknowledged by the labels of the start, as in the worst events; but item 1
+-- is sent too, in the place of the first stray. Its frame has the label 0 and comes last. Item 2c +
+-- 1 has the label 0 again, and the answer to that frame acknowledges it.
+abbrev pub too_few_labels_events : ℕ → ℕ → List Event
+too_few_labels_events c item =
+    (Offer item ∷ take_ack ∷ SendAck ∷ take_frame ∷ Offer (item + 1) ∷ SendFrame ∷ take_ack ∷ [])
+    ++ acked_by_start (item + 2) (c - 1) ++ acked_by_receiver (item + c + 1) (c - 1)
+    ++ SendAck ∷ Offer (item + 2 * c) ∷ take_ack ∷ take_frame
+    ∷ SendAck ∷ Offer (item + 2 * c + 1) ∷ take_ack ∷ []

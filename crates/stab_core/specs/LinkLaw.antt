@@ -50,3 +50,11 @@ NoneMissing capacity = NoneMissingFrom (2 * capacity + 1)
 -- the link law: at most c strays, and only some of the first 2c + 1 acknowledged items are missing
 abbrev pub LinkLaw : ℕ → List ℕ → List ℕ → ℕ → List ℕ → Type 0
 LinkLaw capacity = LinkLawWithin capacity (2 * capacity + 1)
+
+-- The sharper link law: of the acknowledged items only some among the first c + 1 are missing, and
+-- among one more for each stray that was delivered. With no stray these are c + 1, and with c of
+-- them 2c + 1, as in the link law.
+abbrev pub SharperLinkLaw : ℕ → List ℕ → List ℕ → ℕ → List ℕ → Type 0
+SharperLinkLaw capacity start_items offered acked delivered =
+    (places : List ℕ) × (half : HalfLawAt capacity start_items offered acked delivered places)
+    × NoneMissingFrom (capacity + 1 + length half.strays) acked places

@@ -10,7 +10,9 @@ ghost use Rattle.stab_core.specs.CounterExamples.{any_frame_step, any_frame_star
 ghost use Rattle.stab_core.specs.CounterExamples.{any_frame_events};
 ghost use Rattle.stab_core.specs.CounterExamples.{four_labels, worst_start, worst_events};
 ghost use Rattle.stab_core.specs.CounterExamples.{take_frame, take_ack};
-ghost use Rattle.stab_core.specs.LinkLaw.{HalfLaw, LinkLaw, LinkLawWithin};
+ghost use Rattle.stab_core.specs.CounterExamples.{too_few_labels, too_few_labels_start};
+ghost use Rattle.stab_core.specs.CounterExamples.{too_few_labels_events};
+ghost use Rattle.stab_core.specs.LinkLaw.{HalfLaw, LinkLaw, LinkLawWithin, SharperLinkLaw};
 ghost use Rattle.stab_core.specs.LinkState.{LinkState};
 ghost use Rattle.stab_core.specs.Reachable.{IsReachable};
 ghost use Rattle.stab_core.specs.Replay.{IsLawful, opening, replay, start_items};
@@ -66,6 +68,35 @@ pub fn every_replay_obeys_the_link_law()
     ensures { (p : Parameters) (start : Start) (events : List Event)
         → AreLawful p → IsLawful p start → let s = replay p (opening start) events in
         LinkLaw p.capacity (start_items start) s.offered s.acked s.delivered }
+{}
+
+/// The sharper link law: of the acknowledged items only some among the first `c + 1` can be missing,
+/// and among one more for each stray that was delivered. So who has seen no stray misses less.
+pub fn every_replay_obeys_the_sharper_link_law()
+    ensures { (p : Parameters) (start : Start) (events : List Event)
+        → AreLawful p → IsLawful p start → let s = replay p (opening start) events in
+        SharperLinkLaw p.capacity (start_items start) s.offered s.acked s.delivered }
+{}
+
+/// One label fewer than a link has is enough: the link law, with the same bounds, holds with `2c +
+/// 1` labels or more.
+pub fn one_label_fewer_is_enough()
+    ensures { (p : Parameters) (start : Start) (events : List Event)
+        → 1 ≤ p.capacity → 2 * p.capacity + 1 ≤ p.labels
+        → IsLawful p start → let s = replay p (opening start) events in
+        LinkLaw p.capacity (start_items start) s.offered s.acked s.delivered }
+{}
+
+/// And two fewer are too few, for every capacity: with `2c` labels these events break the link law
+/// from a lawful start, since item number `2c + 1` is acknowledged and was not delivered. So `2c +
+/// 1` labels are the fewest.
+pub fn two_labels_fewer_are_too_few()
+    ensures lawful { (c stray : ℕ) → 1 ≤ c
+        → IsLawful (too_few_labels c) (too_few_labels_start c stray) }
+    ensures broken { (c item stray : ℕ) → 1 ≤ c → item + 2 * c + 2 ≤ stray
+        → let start = too_few_labels_start c stray in
+        let s = replay (too_few_labels c) (opening start) (too_few_labels_events c item) in
+        ¬ LinkLaw c (start_items start) s.offered s.acked s.delivered }
 {}
 
 /// The half law alone, which says nothing of missing items, and for which the number of labels does

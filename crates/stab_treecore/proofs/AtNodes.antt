@@ -108,7 +108,7 @@ path_sum-same t tree number_into number node same is_node =
 -- where each link has this capacity, so has the link into a child
 module _ (net : Network) (capacity : ℕ) (tree : IsTree net.tree) (one_each : length net.links ≡ length (links_of net.tree.parents))
     (alike : All (λ link. link.params.capacity ≡ capacity) net.links) where
-  its_capacity : (child parent : ℕ) → parent_at net.tree.parents child ≡ Some parent → capacity_into net child ≡ capacity
+  pub its_capacity : (child parent : ℕ) → parent_at net.tree.parents child ≡ Some parent → capacity_into net child ≡ capacity
   its_capacity child parent is_child =
       let (link, is) = one_by_child net.tree.parents net.links 0 child parent one_each is_child in
       ap (λ o. option_map_or (λ (l : LinkSetup). l.params.capacity) o 0) is

@@ -5,6 +5,7 @@ pub mod Linked
 pub mod Opened
 pub mod Stepped
 pub mod AtNodes
+pub mod SharperNodes
 pub mod ForCallers
 pub mod Replayed
 pub mod Edges

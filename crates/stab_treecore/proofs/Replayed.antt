@@ -8,7 +8,7 @@ use Rattle.stab_frames.specs.Parameters.{Parameters, AreLawful}
 use Rattle.stab_core.specs.declared.event.Event.{Event}
 use Rattle.stab_core.specs.declared.start.Start.{Start}
 use Rattle.stab_core.specs.Link.{LinkValue}
-use Rattle.stab_core.specs.LinkLaw.{LinkLaw}
+use Rattle.stab_core.specs.LinkLaw.{LinkLaw, SharperLinkLaw}
 use Rattle.stab_core.specs.LinkSetup.{CanBegin, LinkSetup}
 use Rattle.stab_core.specs.LinkState.{LinkState}
 use Rattle.stab_core.specs.Reachable.{IsReachable}
@@ -19,13 +19,15 @@ use Rattle.stab_tree.specs.Nodes.{parent_at, root_of}
 use Rattle.stab_treecore.specs.declared.event.TreeEvent.{TreeEvent}
 use Rattle.stab_treecore.specs.ByChild.{by_child}
 use Rattle.stab_treecore.specs.Network.{IsNetwork, Network, setup_into}
-use Rattle.stab_treecore.specs.NodeLaws.{capacity_into, garbage_into, LinkLawInto, TreeLawAtNodes}
+use Rattle.stab_treecore.specs.NodeLaws.{capacity_into, garbage_into, LawInto, TreeLawAtNodes}
+use Rattle.stab_treecore.specs.SharperLaw.{SharperTreeLawAtNodes}
 use Rattle.stab_treecore.specs.NodeOpenings.{opening_at}
 use mathlib.Core.List.{IsPrefix}
 use Rattle.stab_treecore.specs.TreeReplay.{opened, tree_opening, tree_replay}
 use Rattle.stab_treecore.specs.TreeStep.{next_item, event_on, link_after, tree_step}
 use Rattle.stab_treecore.specs.WholeTree.{WholeTree, link_into, received, source}
 use Rattle.stab_treecore.proofs.AtNodes.{nodes_obey}
+use Rattle.stab_treecore.proofs.SharperNodes.{sharper_nodes}
 use Rattle.stab_treecore.proofs.ForCallers.{holds_by_child, map-by_child}
 use Rattle.stab_treecore.proofs.Linked.{kind-set, same_kind}
 use Rattle.stab_treecore.proofs.Opened.{linked_nodes}
@@ -238,16 +240,16 @@ opening_is_run net one_per_link =
           (received t parent, ap (λ l. l.state.offered ++ received t parent) found.at_start);
     }
 
--- the law of one link that the tree law needs: every replay from a lawful start obeys the link law
-abbrev pub ReplaysObey : Type 0
-ReplaysObey =
+-- what the tree law needs of one link: every replay from a lawful start obeys a law of links
+abbrev pub ReplaysObey : (ℕ → List ℕ → List ℕ → ℕ → List ℕ → Type 0) → Type 0
+ReplaysObey Law =
     (p : Parameters) (start : Start) (events : List Event) → AreLawful p → IsLawful p start
-    → let s = replay p (opening start) events in LinkLaw p.capacity (start_items start) s.offered s.acked s.delivered
+    → let s = replay p (opening start) events in Law p.capacity (start_items start) s.offered s.acked s.delivered
 
--- so between a parent and its child there is a link that obeys the link law, and the child's opening comes before what it delivered
-pub run_links : ReplaysObey → (net : Network) (t : WholeTree) → IsRun net t → All CanBegin net.links
-    → (child parent : ℕ) → parent_at net.tree.parents child ≡ Some parent → LinkLawInto net child (received t parent) (received t child)
-run_links obey net t run lawful child parent is_child =
+-- so between a parent and its child there is a link that obeys the law, and the child's opening comes before what it delivered
+pub run_links : (Law : ℕ → List ℕ → List ℕ → ℕ → List ℕ → Type 0) → ReplaysObey Law → (net : Network) (t : WholeTree) → IsRun net t → All CanBegin net.links
+    → (child parent : ℕ) → parent_at net.tree.parents child ≡ Some parent → LawInto Law net child (received t parent) (received t child)
+run_links Law obey net t run lawful child parent is_child =
     let child_of : parent_at t.parents child ≡ Some parent = ap (λ ps. parent_at ps child) run.parents_stay ∙ is_child in
     let kind : is_some (link_into t child) ≡ true = same_kind t.links t.parents child run.linked ∙ ap is_some child_of in
     elim (none_or_some (link_into t child)) [
@@ -264,8 +266,8 @@ run_links obey net t run lawful child parent is_child =
           let garbage : garbage_into net child ≡ start_items start = ap (λ o. option_map_or (λ (l : LinkSetup). start_items l.start) o []) was.leads in
           let capacity : capacity_into net child ≡ p.capacity = ap (λ o. option_map_or (λ (l : LinkSetup). l.params.capacity) o 0) was.leads in
           let begins : CanBegin was.setup = holds_by_child CanBegin net.tree.parents net.links child was.setup lawful was.leads in
-          let law : LinkLaw p.capacity (start_items start) link.state.offered link.state.acked link.state.delivered =
-          subst (λ s. LinkLaw p.capacity (start_items start) s.offered s.acked s.delivered) (sym reached)
+          let law : Law p.capacity (start_items start) link.state.offered link.state.acked link.state.delivered =
+          subst (λ s. Law p.capacity (start_items start) s.offered s.acked s.delivered) (sym reached)
           (obey p start events begins.0 begins.1) in (
             link.state.delivered,
             fed,
@@ -273,8 +275,8 @@ run_links obey net t run lawful child parent is_child =
               link.state.offered,
               link.state.acked,
               run.prefixes child parent link child_of some.1,
-              subst (λ c. LinkLaw c (garbage_into net child) link.state.offered link.state.acked link.state.delivered) (sym capacity)
-                  (subst (λ xs. LinkLaw p.capacity xs link.state.offered link.state.acked link.state.delivered) (sym garbage) law),
+              subst (λ c. Law c (garbage_into net child) link.state.offered link.state.acked link.state.delivered) (sym capacity)
+                  (subst (λ xs. Law p.capacity xs link.state.offered link.state.acked link.state.delivered) (sym garbage) law),
             ),
           )
     ]
@@ -290,10 +292,19 @@ run_root net t run node root =
     ]
 
 -- each node obeys the tree law after each schedule
-pub schedule_obeys : StepsReach → ReplaysObey → (net : Network) (events : List TreeEvent) → IsNetwork net
+pub schedule_obeys : StepsReach → ReplaysObey LinkLaw → (net : Network) (events : List TreeEvent) → IsNetwork net
     → TreeLawAtNodes net (received (tree_replay (tree_opening net) events))
 schedule_obeys steps obey net events is =
     let t = tree_replay (tree_opening net) events in
     let run : IsRun net t = replay_keeps steps net (tree_opening net) events (opening_is_run net is.one_per_link) in
     nodes_obey net is.tree (received t) (run_root net t run (root_of net.tree.parents) is.tree.root_has_none) is.openings_fit
-    (run_links obey net t run is.can_begin)
+    (run_links LinkLaw obey net t run is.can_begin)
+
+-- and the sharper one
+pub schedule_obeys_sharper : StepsReach → ReplaysObey SharperLinkLaw → (net : Network) (events : List TreeEvent) → IsNetwork net
+    → SharperTreeLawAtNodes net (received (tree_replay (tree_opening net) events))
+schedule_obeys_sharper steps obey net events is =
+    let t = tree_replay (tree_opening net) events in
+    let run : IsRun net t = replay_keeps steps net (tree_opening net) events (opening_is_run net is.one_per_link) in
+    sharper_nodes net is.tree (received t) (run_root net t run (root_of net.tree.parents) is.tree.root_has_none) is.openings_fit
+    (run_links SharperLinkLaw obey net t run is.can_begin)

@@ -6,6 +6,7 @@ pub mod NodeLaws
 pub mod NodeOpenings
 pub mod Paths
 pub mod Refusals
+pub mod SharperLaw
 pub mod Texts
 pub mod TreeInside
 pub mod TreeLaw

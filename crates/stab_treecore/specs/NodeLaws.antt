@@ -48,18 +48,27 @@ abbrev pub most_missing : Network → ℕ → ℕ
 most_missing net node =
     path_sum net.tree.parents (λ child. 2 * capacity_into net child + 1) node
 
--- a link that obeys the link law offered a prefix of the first list and delivered the second
-abbrev pub LinkLawBetween : ℕ → List ℕ → List ℕ → List ℕ → Type 0
-LinkLawBetween capacity start_items above below =
+-- a link that obeys a law of links offered a prefix of the first list and delivered the second
+abbrev pub LawBetween : (ℕ → List ℕ → List ℕ → ℕ → List ℕ → Type 0)
+    → ℕ → List ℕ → List ℕ → List ℕ → Type 0
+LawBetween Law capacity start_items above below =
     (offered : List ℕ) × (acked : ℕ) × IsPrefix offered above
-    × LinkLaw capacity start_items offered acked below
+    × Law capacity start_items offered acked below
 
 -- the same of the link into a node, where the second list is the node's opening, strays that nobody
 -- published, and then what the link delivered
-abbrev pub LinkLawInto : Network → ℕ → List ℕ → List ℕ → Type 0
-LinkLawInto net child above below =
+abbrev pub LawInto : (ℕ → List ℕ → List ℕ → ℕ → List ℕ → Type 0)
+    → Network → ℕ → List ℕ → List ℕ → Type 0
+LawInto Law net child above below =
     (delivered : List ℕ) × (below ≡ opening_at net.openings.lists child ++ delivered)
-    × LinkLawBetween (capacity_into net child) (garbage_into net child) above delivered
+    × LawBetween Law (capacity_into net child) (garbage_into net child) above delivered
+
+-- both for the link law
+abbrev pub LinkLawBetween : ℕ → List ℕ → List ℕ → List ℕ → Type 0
+LinkLawBetween = LawBetween LinkLaw
+
+abbrev pub LinkLawInto : Network → ℕ → List ℕ → List ℕ → Type 0
+LinkLawInto = LawInto LinkLaw
 
 -- the half tree law at each node
 abbrev pub HalfTreeLawAtNodes : Network → (ℕ → List ℕ) → Type 0

@@ -3,9 +3,9 @@
 //! body; its contract is the law.
 
 ghost use mathlib.Core.List.{IsPrefix};
-ghost use Rattle.std.specs.Prelude.{◌≡◌, ℕ, ◌+◌, ◌*◌, ◌<◌, ◌≤◌, List, [], ◌++◌, length, Some, All};
+ghost use Rattle.std.specs.Prelude.{◌≡◌, ℕ, ◌+◌, ◌*◌, ◌<◌, ◌≤◌, List, [], ◌++◌, length, Some, All, max};
 ghost use Rattle.stab_core.specs.declared.start.Start.{Start};
-ghost use Rattle.stab_core.specs.LinkLaw.{HalfLaw, LinkLaw};
+ghost use Rattle.stab_core.specs.LinkLaw.{HalfLaw, LinkLaw, SharperLinkLaw};
 ghost use Rattle.stab_core.specs.Replay.{IsLawful, start_items};
 ghost use Rattle.stab_frames.specs.Parameters.{AreLawful, Parameters};
 ghost use Rattle.stab_tree.specs.IsTree.{IsTree};
@@ -20,6 +20,8 @@ ghost use Rattle.stab_treecore.specs.NodeLaws.{LinkLawBetween, LinkLawInto};
 ghost use Rattle.stab_treecore.specs.NodeLaws.{HalfTreeLawAtNodes, TreeLawAtNodes};
 ghost use Rattle.stab_treecore.specs.NodeOpenings.{FitTree};
 ghost use Rattle.stab_treecore.specs.Paths.{path_lists};
+ghost use Rattle.stab_treecore.specs.SharperLaw.{SharperTreeLaw, SharperTreeLawAtNodes};
+ghost use Rattle.stab_treecore.specs.SharperLaw.{fewest_missing, missing_without_strays};
 ghost use Rattle.stab_treecore.specs.Refusals.{OnePerLink};
 ghost use Rattle.stab_treecore.specs.TreeLaw.{HalfTreeLaw, TreeLaw, CompleteLaw};
 ghost use Rattle.stab_treecore.specs.TreeReplay.{tree_opening, tree_replay};
@@ -140,6 +142,57 @@ pub fn tree_law_of_edges()
 {
     stab_core::laws::every_replay_obeys_the_link_law();
 }
+
+/// The step of the sharper law, which counts strays: a link adds `c + 1` to what its child can miss
+/// without strays, and one for each stray in the child's list. At any rate it adds at most `2c + 1`
+/// to what the parent can miss without strays.
+pub fn sharper_tree_law_of_the_child()
+    ensures { (capacity most_strays without_strays most_missing acked : ℕ)
+        (start_items garbage published received offered delivered : List ℕ)
+        → IsPrefix offered received
+        → SharperTreeLaw most_strays without_strays most_missing garbage published received
+        → SharperLinkLaw capacity start_items offered acked delivered
+        → SharperTreeLaw (most_strays + capacity) (without_strays + (capacity + 1))
+        (max most_missing (without_strays + (2 * capacity + 1)))
+        (start_items ++ garbage) published delivered }
+{}
+
+/// The sharper tree law at every node, where a run keeps no schedule but tells the edge law of each
+/// link.
+pub fn sharper_tree_law_of_edges()
+    ensures { (net : Network) (received : ℕ → List ℕ)
+        → IsTree net.tree → FitTree net.tree.parents net.openings
+        → received (root_of net.tree.parents) ≡ net.published
+        → ((child parent : ℕ) → parent_at net.tree.parents child ≡ Some parent
+        → EdgeInto net child (received parent) (received child))
+        → SharperTreeLawAtNodes net received }
+{
+    stab_core::laws::every_replay_obeys_the_sharper_link_law();
+}
+
+/// The sharper tree law at every node, after every schedule.
+pub fn every_schedule_obeys_the_sharper_tree_law()
+    ensures { (net : Network) (events : List TreeEvent)
+        → IsNetwork net
+        → SharperTreeLawAtNodes net (received (tree_replay (tree_opening net) events)) }
+{
+    stab_core::laws::reachable_steps();
+    stab_core::laws::every_replay_obeys_the_sharper_link_law();
+}
+
+/// The sharper bounds are no larger than M, the sum of `2c + 1`: without strays it is less by C, the
+/// sum of `c`.
+pub fn sharper_bounds_are_smaller()
+    ensures without_strays { (net : Network) (node : ℕ)
+        → missing_without_strays net node + strays_bound net node ≡ most_missing net node }
+    ensures at_any_rate { (net : Network) (node : ℕ)
+        → fewest_missing net node ≤ most_missing net node }
+    ensures of_one_capacity { (net : Network) (capacity node : ℕ)
+        → IsTree net.tree → OnePerLink net.tree.parents net.links
+        → All (λ link. link.params.capacity ≡ capacity) net.links
+        → node < length net.tree.parents → 1 ≤ depth_of net.tree.parents node
+        → fewest_missing net node ≡ depth_of net.tree.parents node * (capacity + 1) + capacity }
+{}
 
 /// Where all links have one capacity, the bounds of a node at depth d are d times those of one
 /// link.
