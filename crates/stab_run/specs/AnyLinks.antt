@@ -1,13 +1,25 @@
--- What contracts see of a link of either kind: what it was given, what names it, and its kind.
+-- What contracts see of a link of either kind, and of what belongs to it: what it was given, what
+-- names it, its kind, and which ends are its own.
 -- Source: this project's own.
-use Rattle.std.specs.Prelude.{◌≡◌}
+use Rattle.std.specs.Prelude.{◌≡◌, List, [], map}
 use Rattle.stab_core.specs.LinkSetup.{LinkSetup}
-use Rattle.stab_word.specs.AnyEnds.{AnyLinkId, locked, of_words}
-use Rattle.stab_run.specs.LinkKinds.{LinkKind, behind_lock, two_words}
+use Rattle.stab_lock.specs.Accounts.{Sender, Receiver}
+use Rattle.stab_lock.specs.Settling.{DifferFromReplay}
+use Rattle.stab_lock.specs.declared.settle.SettleFault.{SettleFault}
+use Rattle.stab_word.specs.AnyEnds.{AnyLinkId, any_recv_end, any_recv_finished, any_send_end}
+use Rattle.stab_word.specs.AnyEnds.{any_send_finished, locked, of_words}
+use Rattle.stab_word.specs.declared.any_recv.AnyRecv.{AnyRecv}
+use Rattle.stab_word.specs.declared.any_recv.AnyRecvDone.{AnyRecvDone}
+use Rattle.stab_word.specs.declared.any_send.AnySend.{AnySend}
+use Rattle.stab_word.specs.declared.any_send.AnySendDone.{AnySendDone}
+use Rattle.stab_run.specs.LinkKinds.{IsLocked, LinkKind, behind_lock, kind_for, two_words}
 use Rattle.stab_run.specs.declared.any_link.AnyLink.{AnyLink}
 use Rattle.stab_run.specs.declared.any_link.AnyLink.TheVariants.{Lock, Word}
 use Rattle.stab_run.specs.declared.any_link.AnyOpening.{AnyOpening}
 use Rattle.stab_run.specs.declared.any_link.AnyOpening.TheVariants as opening
+use Rattle.stab_run.specs.declared.any_link.KeptLinks.{KeptLinks}
+use Rattle.stab_run.specs.declared.any_link.KeptLinks.TheVariants.{None, Kept}
+use Rattle.stab_run.specs.declared.links.Links.{Links}
 
 -- its parameters and its start
 abbrev pub given_to : AnyLink → LinkSetup
@@ -19,6 +31,15 @@ abbrev pub name_of : AnyLink → AnyLinkId
 name_of (Lock link) = locked
 name_of (Word link) = of_words link
 
+-- its kind
+abbrev pub kind_of : AnyLink → LinkKind
+kind_of (Lock link) = behind_lock
+kind_of (Word link) = two_words
+
+-- it is of the kind that a run over these links has for its parameters
+abbrev pub IsOneOf : Links → AnyLink → Type 0
+IsOneOf links link = kind_of link ≡ kind_for links (given_to link).params
+
 -- this splits it
 abbrev pub IsOpenedBy : AnyLink → AnyOpening → Type 0
 IsOpenedBy (Lock link) opening.Lock = Unit {0}
@@ -26,7 +47,34 @@ IsOpenedBy (Lock link) (opening.Word splits) = ⊥
 IsOpenedBy (Word link) opening.Lock = ⊥
 IsOpenedBy (Word link) (opening.Word splits) = splits ≡ link
 
--- its kind
-abbrev pub kind_of : AnyLink → LinkKind
-kind_of (Lock link) = behind_lock
-kind_of (Word link) = two_words
+-- an end of either side is that of this link
+abbrev pub Sends : {R : Type 0} → AnyLink → AnySend R → Type 0
+Sends link end = (any_send_end end).link ≡ name_of link
+
+abbrev pub Receives : {R : Type 0} → AnyLink → AnyRecv R → Type 0
+Receives link end = (any_recv_end end).link ≡ name_of link
+
+-- and so is a finished end
+abbrev pub HasSent : AnyLink → AnySendDone → Type 0
+HasSent link done = (any_send_finished done).link ≡ name_of link
+
+abbrev pub HasReceived : AnyLink → AnyRecvDone → Type 0
+HasReceived link done = (any_recv_finished done).link ≡ name_of link
+
+-- the account of a finished end
+abbrev pub sent_by : AnySendDone → Sender
+sent_by done = (any_send_finished done).account
+
+abbrev pub received_by : AnyRecvDone → Receiver
+received_by done = (any_recv_finished done).account
+
+-- what is known where a link of this setup is called different in a run over these links: it has
+-- a lock, and its history differs from these accounts in this way
+abbrev pub MayDiffer : Links → LinkSetup → Sender → Receiver → SettleFault → Type 0
+MayDiffer links link send recv why =
+    IsLocked links link × DifferFromReplay link.params link.start send recv why
+
+-- the kind of each link that a report keeps, in file order of the children
+abbrev pub kinds_of : KeptLinks → List LinkKind
+kinds_of None = []
+kinds_of (Kept links) = map kind_of links.value.items

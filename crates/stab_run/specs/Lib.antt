@@ -3,5 +3,4 @@ pub mod RunFaults
 pub mod LinkRuns
 pub mod LinkKinds
 pub mod AnyLinks
-pub mod RunLinks
 pub mod Runs

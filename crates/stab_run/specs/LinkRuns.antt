@@ -4,26 +4,17 @@ use Rattle.std.specs.Prelude.{◌≡◌, ◌<◌, ℕ, List, [], ◌∷◌, ◌+
 use Rattle.stab_core.specs.declared.event.Event.{Event}
 use Rattle.stab_core.specs.LinkSetup.{LinkSetup}
 use Rattle.stab_core.specs.Replay.{opening, replay}
-use Rattle.stab_lock.specs.Accounts.{Sender, Receiver, new_sender, new_receiver}
-use Rattle.stab_lock.specs.Ends.{SendEnd, RecvEnd}
+use Rattle.stab_lock.specs.Accounts.{Sender, Receiver}
 use Rattle.stab_lock.specs.Settling.{Agree}
 use Rattle.stab_lock.specs.declared.settle.SettleFault.{SettleFault}
 use Rattle.stab_node.specs.declared.account.Ended.{Ended}
 use Rattle.stab_node.specs.declared.account.Ended.TheVariants.{Upstream}
 use Rattle.stab_node.specs.Work.{HasAll, IsServed}
-use Rattle.stab_script.specs.Scripts.{Acts, sender_half, receiver_half}
 use Rattle.stab_tree.specs.Links.{links_of}
 use Rattle.stab_tree.specs.Nodes.{parent_at, root_of}
 use Rattle.stab_treecore.specs.Network.{Network}
 use Rattle.stab_treecore.specs.NodeOpenings.{opening_at}
 use Rattle.stab_workers.specs.ByNode.{ended_at, entry_into, received_at}
-
--- the ends of a link that have made no call, each with its half of the link's script
-abbrev pub new_send_end : Acts → SendEnd
-new_send_end script = record { account = new_sender; acts = sender_half script }
-
-abbrev pub new_recv_end : Acts → RecvEnd
-new_recv_end script = record { account = new_receiver; acts = receiver_half script }
 
 -- one list of events explains the accounts of both ends of a link
 pub record IsSettled (link : LinkSetup) (send : Sender) (recv : Receiver) : Type 0 where
@@ -39,10 +30,6 @@ AreSettled (link ∷ links) [] recvs = ⊥
 AreSettled (link ∷ links) (send ∷ sends) [] = ⊥
 AreSettled (link ∷ links) (send ∷ sends) (recv ∷ recvs) =
     IsSettled link send recv × AreSettled links sends recvs
-
--- a link leads into this node
-abbrev pub LeadsInto : List (Option ℕ) → ℕ → Type 0
-LeadsInto parents child = (parent : ℕ) × (parent_at parents child ≡ Some parent)
 
 -- A link leads into this node, and this holds of its setup.
 pub record HoldsInto (P : LinkSetup → Type 0) (parents : List (Option ℕ)) (links : List LinkSetup)

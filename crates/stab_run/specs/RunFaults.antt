@@ -1,10 +1,25 @@
--- The fault of a run by that of its workers, and what is known of the workers at a fault.
+-- Why a run gives no report: first by the part of the run that the fault comes of, and then the
+-- whole of it.
+-- Example: For the chain r, a, b of which the link into a cannot begin, a run over locks is refused
+-- with the fault of that start at a. `IsRunReason` of a fault of a worker asks that every start can
+-- begin, so no such fault is answered there.
 -- Source: this project's own.
-use Rattle.std.specs.Prelude.{ℕ, ◌<◌, Bool, true, false}
+use Rattle.std.specs.Prelude.{◌≡◌, ◌<◌, ℕ, List, length, All, Option}
+use Rattle.stab_core.specs.LinkSetup.{CanBegin, LinkSetup}
+use Rattle.stab_job.specs.JobValues.{JobValue, network}
+use Rattle.stab_lock.specs.Accounts.{Sender, Receiver}
 use Rattle.stab_node.specs.declared.account.Ended.{Ended}
-use Rattle.stab_node.specs.Turns.{IsOver}
+use Rattle.stab_node.specs.declared.fault.NodeFault.TheVariants.{Gate}
+use Rattle.stab_node.specs.Turns.{IsOver, IsRefused}
+use Rattle.stab_run.specs.AnyLinks.{MayDiffer}
+use Rattle.stab_run.specs.LinkKinds.{HaveOnePlace, IsLocked}
+use Rattle.stab_run.specs.LinkRuns.{HoldsInto, IsFirstRefused}
+use Rattle.stab_run.specs.Runs.{IsFirstUnlawful}
+use Rattle.stab_run.specs.declared.links.Links.{Links}
 use Rattle.stab_run.specs.declared.run_fault.RunFault.{RunFault}
 use Rattle.stab_run.specs.declared.run_fault.RunFault.TheVariants as run
+use Rattle.stab_workers.specs.ByNode.{ended_at}
+use Rattle.stab_workers.specs.FirstFault.{IsFirstToGiveUp, IsFirstUnstarted}
 use Rattle.stab_workers.specs.declared.fault.WorkersFault.{WorkersFault}
 use Rattle.stab_workers.specs.declared.fault.WorkersFault.TheVariants as workers
 
@@ -14,42 +29,56 @@ of_workers (workers.Thread node) = run.Thread node
 of_workers (workers.Node node fault) = run.Node node fault
 of_workers workers.Memory = run.Memory
 
--- the fault is that of a start, and it comes only once the starts are looked at
-abbrev pub is_of_start : RunFault → Bool
-is_of_start run.CapacityNotOne = false
-is_of_start (run.Start child fault) = true
-is_of_start (run.Thread node) = false
-is_of_start (run.Node node fault) = false
-is_of_start (run.Settle child fault) = false
-is_of_start run.Memory = false
-
-abbrev pub comes_after_starts : RunFault → Bool
-comes_after_starts run.CapacityNotOne = false
-comes_after_starts (run.Start child fault) = false
-comes_after_starts (run.Thread node) = true
-comes_after_starts (run.Node node fault) = true
-comes_after_starts (run.Settle child fault) = true
-comes_after_starts run.Memory = true
-
--- the fault can come of the workers, and of settling
-abbrev pub comes_of_workers : RunFault → Bool
-comes_of_workers run.CapacityNotOne = false
-comes_of_workers (run.Start child fault) = false
-comes_of_workers (run.Thread node) = true
-comes_of_workers (run.Node node fault) = true
-comes_of_workers (run.Settle child fault) = false
-comes_of_workers run.Memory = true
-
-abbrev pub comes_of_settling : RunFault → Bool
-comes_of_settling run.CapacityNotOne = false
-comes_of_settling (run.Start child fault) = false
-comes_of_settling (run.Thread node) = false
-comes_of_settling (run.Node node fault) = false
-comes_of_settling (run.Settle child fault) = true
-comes_of_settling run.Memory = true
-
--- the turns of the workers of so many nodes are over, and all these nodes are done
-pub record AllAreOver (count : ℕ) (has_passed : ℕ → ℕ → Type 0) (is_done : ℕ → Type 0)
-    (turns : ℕ) : Type 0 where
-  pub over : (node : ℕ) → node < count → (ended : Ended) × IsOver (has_passed node) turns ended
+-- What the workers of so many nodes asked of their gate, each with these turns and ended for this
+-- reason: the gate let each turn begin that a worker made, and was told by each node that it is
+-- done.
+pub record HaveAsked (has_passed : ℕ → ℕ → Type 0) (is_done : ℕ → Type 0) (count turns : ℕ)
+    (ended : List Ended) : Type 0 where
+  pub over : (node : ℕ) → node < count → IsOver (has_passed node) turns (ended_at ended node)
   pub done : (node : ℕ) → node < count → is_done node
+
+-- a start is refused: it is the first in file order that its link cannot begin from
+abbrev pub IsStartReason : List (Option ℕ) → List LinkSetup → RunFault → Type 0
+IsStartReason parents links (run.Start child reason) = IsFirstUnlawful parents links child reason
+IsStartReason parents links fault = ⊥
+
+-- The workers of a job give no accounts: the worker of this node is the first that could not be
+-- started, or the first that gave up. The gate is named only where it refused a turn of that node.
+abbrev pub IsWorkersReason : JobValue → (ℕ → ℕ → Type 0) → (ℕ → ℕ → Type 0) → (ℕ → Type 0)
+    → RunFault → Type 0
+IsWorkersReason job has_passed may_refuse is_done (run.Thread node) =
+    IsFirstUnstarted (length job.tree.parents) is_done node
+IsWorkersReason job has_passed may_refuse is_done (run.Node node why) =
+    IsFirstToGiveUp (length job.tree.parents) has_passed is_done job.turns node
+    × (why ≡ Gate → IsRefused (has_passed node) (may_refuse node) job.turns)
+IsWorkersReason job has_passed may_refuse is_done run.Memory = Unit {0}
+IsWorkersReason job has_passed may_refuse is_done fault = ⊥
+
+-- the links are not all settled with these accounts: this is the first that is called different
+abbrev pub IsSettlingReason : Links → List (Option ℕ) → List LinkSetup → List Sender
+    → List Receiver → RunFault → Type 0
+IsSettlingReason links parents setups sends recvs (run.Settle child why) =
+    IsFirstRefused (MayDiffer links) parents setups sends recvs child why
+IsSettlingReason links parents setups sends recvs run.Memory = Unit {0}
+IsSettlingReason links parents setups sends recvs fault = ⊥
+
+-- each link has the capacity that a run over these links asks for, and can begin
+abbrev pub CanStart : Links → JobValue → Type 0
+CanStart links job = HaveOnePlace links job.params × All CanBegin (network job).links
+
+-- Why a run of a job over these links gives no report, by what its gate says of turns and nodes.
+-- The capacities are looked at first, and by a run over words alone. A start is the first that its
+-- link cannot begin from, and the faults after it come only where every link can. A link is called
+-- different only after the turns of all workers, and only where it has a lock.
+abbrev pub IsRunReason : Links → JobValue → (ℕ → ℕ → Type 0) → (ℕ → ℕ → Type 0) → (ℕ → Type 0)
+    → RunFault → Type 0
+IsRunReason links job has_passed may_refuse is_done run.CapacityNotOne =
+    ¬ HaveOnePlace links job.params
+IsRunReason links job has_passed may_refuse is_done (run.Start child reason) =
+    HaveOnePlace links job.params
+    × IsFirstUnlawful job.tree.parents (network job).links child reason
+IsRunReason links job has_passed may_refuse is_done (run.Settle child why) =
+    CanStart links job × HoldsInto (IsLocked links) job.tree.parents (network job).links child
+    × (ended : List Ended) × HaveAsked has_passed is_done (length job.tree.parents) job.turns ended
+IsRunReason links job has_passed may_refuse is_done fault =
+    CanStart links job × IsWorkersReason job has_passed may_refuse is_done fault

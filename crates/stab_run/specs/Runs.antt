@@ -6,21 +6,26 @@
 -- explain it. If r ended as Upstream, `HandsOn` asks that 2 are acknowledged on the link into a,
 -- since r has two items; so here r ended as Turns.
 -- Source: this project's profile.
-use Rattle.std.specs.Prelude.{◌≡◌, ℕ, suc, ◌+◌, ◌*◌, ◌<◌, List, length, Option, Some, None}
+use Rattle.std.specs.Prelude.{◌≡◌, ℕ, suc, ◌+◌, ◌*◌, ◌<◌, List, length, map, Option, Some, None}
 use Rattle.stab_core.specs.declared.start.StartFault.{StartFault}
 use Rattle.stab_core.specs.Link.{IsReason}
 use Rattle.stab_core.specs.LinkSetup.{CanBegin, LinkSetup}
 use Rattle.stab_core.specs.Replay.{IsLawful}
+use Rattle.stab_job.specs.JobValues.{JobValue, network}
 use Rattle.stab_node.specs.declared.account.Ended.{Ended}
 use Rattle.stab_node.specs.declared.account.Ended.TheVariants.{Upstream}
 use Rattle.stab_tree.specs.Nodes.{parent_at, root_of}
 use Rattle.stab_tree.specs.Steps.{ancestor, depth_of}
+use Rattle.stab_treecore.specs.SharperLaw.{SharperTreeLawAtNodes}
 use Rattle.stab_treecore.specs.EdgeLaw.{EdgeInto}
-use Rattle.stab_treecore.specs.Network.{Network}
-use Rattle.stab_treecore.specs.NodeLaws.{held_bound, most_missing, most_strays, path_garbage}
+use Rattle.stab_treecore.specs.Network.{IsNetwork, Network}
+use Rattle.stab_treecore.specs.NodeLaws.{HalfTreeLawAtNodes, TreeLawAtNodes, held_bound}
+use Rattle.stab_treecore.specs.NodeLaws.{most_missing, most_strays, path_garbage}
 use Rattle.stab_treecore.specs.TreeLaw.{CompleteLaw, TreeLaw}
 use Rattle.stab_workers.specs.ByNode.{ended_at, entry_into, received_at}
-use Rattle.stab_run.specs.Reports.{Reported, acked_at}
+use Rattle.stab_run.specs.LinkKinds.{HaveOnePlace, kind_for}
+use Rattle.stab_run.specs.Reports.{OnePerNode, Reported, acked_at}
+use Rattle.stab_run.specs.declared.links.Links.{Links}
 
 -- the root has the published items, and no link leads into it
 pub record RootHas (net : Network) (r : Reported) : Type 0 where
@@ -69,6 +74,23 @@ TreeLawByDepth net received =
     (node : ℕ) → node < length net.tree.parents
     → TreeLaw (depth_of net.tree.parents node + held_bound net node)
     (3 * depth_of net.tree.parents node) (path_garbage net node) net.published (received node)
+
+-- A report of a run of a job over these links. The root has the published items, some events
+-- explain each link, which was of the kind that the run has for its parameters, and a node that
+-- ended with its upstream hands on what it received; the half tree law, the tree law, the sharper
+-- one and, below such nodes, the complete law hold. The job is a network, so every link could begin.
+pub record IsReport (links : Links) (job : JobValue) (report : Reported) : Type 0 where
+  pub one_place : HaveOnePlace links job.params
+  pub nodes : OnePerNode job.tree.parents report
+  pub root : RootHas (network job) report
+  pub edges : AreExplained (network job) report
+  pub kinds : report.kinds ≡ map (kind_for links) job.params
+  pub handed_on : HandsOn job.tree.parents report
+  pub half_tree_law : HalfTreeLawAtNodes (network job) (received_at report.received)
+  pub tree_law : TreeLawAtNodes (network job) (received_at report.received)
+  pub sharper_tree_law : SharperTreeLawAtNodes (network job) (received_at report.received)
+  pub complete : CompleteBelowEnded (network job) report
+  pub network : IsNetwork (network job)
 
 -- This node is the first in file order into which a link leads that cannot begin from its start
 -- under its parameters, for this reason.

@@ -1,62 +1,32 @@
-//! A link of either kind: of two words where its capacity is one, and with a lock elsewhere.
+//! A link of either kind, and what a run does with one: it is made, split into its two ends, and
+//! settled with them once they are finished.
 
-ghost use Rattle.std.specs.Prelude.{◌≡◌, IfOk};
+ghost use Rattle.std.specs.Prelude.{◌≡◌, [], ◌∷◌, if◌then◌else◌, IfErr, IfOk, OnOk};
 ghost use Rattle.stab_core.specs.LinkSetup.{setup};
 ghost use Rattle.stab_core.specs.Replay.{IsLawful};
-ghost use Rattle.stab_run.specs.AnyLinks.{IsOpenedBy, given_to, kind_of};
-ghost use Rattle.stab_run.specs.LinkKinds.{IsLarge, mixed_kind};
+ghost use Rattle.stab_lock.specs.Accounts.{new_receiver, new_sender};
+ghost use Rattle.stab_run.specs.AnyLinks.{HasReceived, HasSent, IsOneOf, IsOpenedBy, MayDiffer};
+ghost use Rattle.stab_run.specs.AnyLinks.{Receives, Sends, given_to, kind_of, received_by};
+ghost use Rattle.stab_run.specs.AnyLinks.{sent_by};
+ghost use Rattle.stab_run.specs.LinkKinds.{HaveOnePlace, behind_lock, kind_for, two_words};
+ghost use Rattle.stab_run.specs.LinkRuns.{IsSettled};
+ghost use Rattle.stab_script.specs.Scripts.{receiver_half, sender_half};
+ghost use Rattle.stab_word.specs.AnyEnds.{any_recv_end, any_send_end};
 
-use crate::link::{RunLink, SplitLink};
-use crate::run_links::RunLinks;
+use crate::links::Links;
 use stab_core::Start;
 use stab_frames::Params;
 use stab_lock::{LockLink, SettleFault, Settled};
 use stab_script::Script;
 use stab_word::{AnyRecv, AnyRecvDone, AnySend, AnySendDone, WordLink, WordOpening};
 use std::alloc::{AllocError, Global};
-use std::marker::Model;
 use std::snapshot::Snapshot;
-
-/// A link with a lock, whose capacity is not one. Contracts see its parameters and its start.
-#[derive(Drop)]
-pub(crate) struct LargeLink {
-    link: LockLink,
-}
-
-impl Model for LargeLink {
-    ghost use Rattle.stab_core.specs.LinkSetup.{LinkSetup};
-    ghost use Rattle.stab_run.specs.LinkKinds.{IsLarge};
-
-    ghost Value = { LinkSetup };
-
-    ghost view = { λ l. l.link };
-
-    ghost invariant = { λ l. IsLarge l.link };
-}
-
-impl LargeLink {
-    /// The link itself, which its ends share.
-    fn link(&self) -> &LockLink
-        ensures { result.now ≡ self.now }
-    {
-        &self.link
-    }
-
-    /// The link itself.
-    fn into_link(self) -> LockLink
-        ensures link { result ≡ self }
-        ensures large { IsLarge self }
-    {
-        let LargeLink { link } = self;
-        link
-    }
-}
 
 /// A link of either kind.
 #[derive(Drop)]
 pub(crate) enum AnyLink {
-    /// A link with a lock, whose capacity is not one.
-    Lock(LargeLink),
+    /// A link with a lock.
+    Lock(LockLink),
     /// A link of two words.
     Word(WordLink),
 }
@@ -70,112 +40,107 @@ pub(crate) enum AnyOpening {
     Word(WordOpening),
 }
 
-impl RunLink for AnyLink {
-    ghost use Rattle.std.specs.Prelude.{◌≡◌, ⊤};
-    ghost use Rattle.stab_lock.specs.Settling.{DifferFromReplay};
-    ghost use Rattle.stab_run.specs.AnyLinks.{IsOpenedBy, given_to, kind_of, name_of};
-    ghost use Rattle.stab_run.specs.LinkKinds.{IsLarge, mixed_kind};
-    ghost use Rattle.stab_word.specs.AnyEnds.{any_recv_finished, any_send_finished};
+/// The links of a run before they were settled, in file order of the children, as its report keeps
+/// them. No link is kept: only contracts see of which kind each of them is.
+#[derive(Drop)]
+pub(crate) enum KeptLinks {
+    /// No run made the report.
+    None,
+    /// These links.
+    Kept(Snapshot<Vec<AnyLink>>),
+}
 
-    type Opening = AnyOpening;
-
-    type SendDone = AnySendDone;
-
-    type RecvDone = AnyRecvDone;
-
-    ghost given = { λ link. given_to link };
-
-    ghost opens = { λ link opening. IsOpenedBy link opening };
-
-    ghost has_sent = { λ link done. (any_send_finished done).link ≡ name_of link };
-
-    ghost has_received = { λ link done. (any_recv_finished done).link ≡ name_of link };
-
-    ghost sent = { λ done. (any_send_finished done).account };
-
-    ghost received = { λ done. (any_recv_finished done).account };
-
-    ghost can_have = { λ p. ⊤ };
-
-    ghost kind = { kind_of };
-
-    ghost kind_for = { mixed_kind };
-
-    ghost may_differ = { λ link send recv why.
-        IsLarge link × DifferFromReplay link.params link.start send recv why };
-
-    /// A link of two words where the capacity is one, and a link with a lock elsewhere.
-    fn make(
-        alloc: Global,
-        params: Params,
-        start: &Start,
-    ) -> Result<(AnyLink, AnyOpening), AllocError>
-        requires lawful { IsLawful params start.now }
-        ensures given { IfOk result (λ made. given_to made.0 ≡ setup params start.now) }
-        ensures opens { IfOk result (λ made. IsOpenedBy made.0 made.1) }
-        ensures kind { IfOk result (λ made. kind_of made.0 ≡ mixed_kind params) }
-    {
-        if params.capacity() == 1 {
-            let (link, opening) = WordLink::make(alloc, params, start)?;
-            Ok((AnyLink::Word(link), AnyOpening::Word(opening)))
-        } else {
-            let (link, ()) = LockLink::make(alloc, params, start)?;
-            Ok((AnyLink::Lock(LargeLink { link }), AnyOpening::Lock))
-        }
-    }
-
-    fn kept(links: &Vec<AnyLink>) -> RunLinks {
-        RunLinks::Mixed(Snapshot::of(links))
-    }
-
-    fn settle(self, send: AnySendDone, recv: AnyRecvDone) -> Result<Settled, SettleFault> {
-        match (self, send, recv) {
-            (AnyLink::Lock(link), AnySendDone::Lock(send), AnyRecvDone::Lock(recv)) => {
-                LockLink::settle(link.into_link(), send, recv)
-            }
-            (AnyLink::Word(link), AnySendDone::Word(send), AnyRecvDone::Word(recv)) => {
-                Ok(WordLink::settle(link, send, recv))
-            }
-            _ => unreachable!(),
-        }
+/// Whether a link with these parameters is two words.
+fn is_of_words(links: Links, params: Params) -> bool
+    ensures { kind_for links params ≡ (if result then two_words else behind_lock) }
+{
+    match links {
+        Links::Locked => false,
+        Links::Words => true,
+        Links::Mixed => params.capacity() == 1,
     }
 }
 
-impl<'a, R> SplitLink<'a, R> for AnyLink {
-    ghost use Rattle.std.specs.Prelude.{◌≡◌};
-    ghost use Rattle.stab_run.specs.AnyLinks.{name_of};
-    ghost use Rattle.stab_word.specs.AnyEnds.{any_recv_end, any_send_end};
+impl AnyLink {
+    /// A link at a lawful start, and what splits it.
+    pub(crate) fn make(
+        alloc: Global,
+        links: Links,
+        params: Params,
+        start: &Start,
+    ) -> Result<(AnyLink, AnyOpening), AllocError>
+        requires one_place { HaveOnePlace links (params ∷ []) }
+        requires lawful { IsLawful params start.now }
+        ensures given { IfOk result (λ made. given_to made.0 ≡ setup params start.now) }
+        ensures opens { IfOk result (λ made. IsOpenedBy made.0 made.1) }
+        ensures kind { IfOk result (λ made. kind_of made.0 ≡ kind_for links params) }
+    {
+        if is_of_words(links, params) {
+            match WordLink::new(alloc, params, start) {
+                Ok((link, opening)) => Ok((AnyLink::Word(link), AnyOpening::Word(opening))),
+                Err(_) => Err(AllocError),
+            }
+        } else {
+            match LockLink::new(alloc, params, start.copy(alloc)?) {
+                Ok(link) => Ok((AnyLink::Lock(link), AnyOpening::Lock)),
+                Err(_) => Err(AllocError),
+            }
+        }
+    }
 
-    type SendEnd = AnySend<'a, R>;
-
-    type RecvEnd = AnyRecv<'a, R>;
-
-    ghost sends = { λ link end. (any_send_end end).link ≡ name_of link };
-
-    ghost receives = { λ link end. (any_recv_end end).link ≡ name_of link };
-
-    ghost send_account = { λ end. (any_send_end end).account };
-
-    ghost send_acts = { λ end. (any_send_end end).acts };
-
-    ghost recv_account = { λ end. (any_recv_end end).account };
-
-    ghost recv_acts = { λ end. (any_recv_end end).acts };
-
-    fn split(
+    /// The two ends of the link, which have made no call, each with its half of the script.
+    pub(crate) fn split<'a, R>(
         &'a self,
         alloc: Global,
         opening: AnyOpening,
         script: Script,
-    ) -> Result<(AnySend<'a, R>, AnyRecv<'a, R>), AllocError> {
+    ) -> Result<(AnySend<'a, R>, AnyRecv<'a, R>), AllocError>
+        requires { IsOpenedBy self.now opening }
+        ensures sends { IfOk result (λ ends. Sends self.now ends.0) }
+        ensures receives { IfOk result (λ ends. Receives self.now ends.1) }
+        ensures send_account { IfOk result (λ ends. (any_send_end ends.0).account ≡ new_sender) }
+        ensures recv_account { IfOk result (λ ends. (any_recv_end ends.1).account ≡ new_receiver) }
+        ensures send_acts { IfOk result (λ ends. (any_send_end ends.0).acts ≡ sender_half script) }
+        ensures recv_acts { IfOk result (λ ends.
+            (any_recv_end ends.1).acts ≡ receiver_half script) }
+    {
         match (self, opening) {
             (AnyLink::Lock(link), AnyOpening::Lock) => {
-                let (send, recv) = LockLink::split(link.link(), script);
+                let (send, recv) = link.split(script);
                 Ok((AnySend::Lock(send), AnyRecv::Lock(recv)))
             }
             (AnyLink::Word(link), AnyOpening::Word(opening)) => {
-                let (send, recv) = WordLink::split(link, alloc, opening, script)?;
+                let (send, recv) = link.split(alloc, opening, script)?;
                 Ok((AnySend::Word(send), AnyRecv::Word(recv)))
+            }
+            _ => unreachable!(),
+        }
+    }
+
+    /// Settles a link with its two finished ends: one list of events explains both accounts. Which
+    /// links the run has is for contracts alone.
+    pub(crate) fn settle(
+        self,
+        _links: Links,
+        send: AnySendDone,
+        recv: AnyRecvDone,
+    ) -> Result<Settled, SettleFault>
+        requires one_of { IsOneOf _links self }
+        requires send { HasSent self send }
+        requires recv { HasReceived self recv }
+        ensures send { IfOk result (λ settled. settled.send ≡ sent_by send) }
+        ensures recv { IfOk result (λ settled. settled.recv ≡ received_by recv) }
+        ensures settled { OnOk result
+            (IsSettled (given_to self) (sent_by send) (received_by recv)) }
+        ensures refused { IfErr result
+            (MayDiffer _links (given_to self) (sent_by send) (received_by recv)) }
+    {
+        match (self, send, recv) {
+            (AnyLink::Lock(link), AnySendDone::Lock(send), AnyRecvDone::Lock(recv)) => {
+                link.settle(send, recv)
+            }
+            (AnyLink::Word(link), AnySendDone::Word(send), AnyRecvDone::Word(recv)) => {
+                Ok(link.settle(send, recv))
             }
             _ => unreachable!(),
         }

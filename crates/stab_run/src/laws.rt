@@ -11,10 +11,11 @@ ghost use Rattle.stab_treecore.specs.Network.{Network};
 ghost use Rattle.stab_treecore.specs.NodeLaws.{HalfTreeLawAtNodes, LinkLawInto, TreeLawAtNodes};
 ghost use Rattle.stab_treecore.specs.NodeOpenings.{FitTree};
 ghost use Rattle.stab_treecore.specs.Refusals.{OnePerLink};
+ghost use Rattle.stab_treecore.specs.SharperLaw.{SharperTreeLawAtNodes};
 ghost use Rattle.stab_workers.specs.ByNode.{received_at};
 
 /// Where every link of a report is explained, each node obeys the tree law, and so the half tree
-/// law.
+/// law; and the sharper law, which counts the strays that a node received.
 pub fn explained_reports_obey_the_tree_law()
     ensures tree_law { (net : Network) (report : Reported)
         → IsTree net.tree → FitTree net.tree.parents net.openings
@@ -24,9 +25,14 @@ pub fn explained_reports_obey_the_tree_law()
         → IsTree net.tree → FitTree net.tree.parents net.openings
         → RootHas net report → AreExplained net report
         → HalfTreeLawAtNodes net (received_at report.received) }
+    ensures sharper_tree_law { (net : Network) (report : Reported)
+        → IsTree net.tree → FitTree net.tree.parents net.openings
+        → RootHas net report → AreExplained net report
+        → SharperTreeLawAtNodes net (received_at report.received) }
 {
     stab_treecore::laws::tree_law_of_edges();
     stab_treecore::laws::half_tree_law_at_every_node();
+    stab_treecore::laws::sharper_tree_law_of_edges();
 }
 
 /// Where every link of a report is explained, each obeys the link law: between what the parent

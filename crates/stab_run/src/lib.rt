@@ -10,20 +10,16 @@
 mod any_link;
 mod ends;
 pub mod laws;
-mod link;
-mod locked;
-mod mixed;
+mod links;
 mod report;
 mod run;
 mod run_fault;
-mod run_links;
+mod runs;
 mod settle;
 mod starts;
-mod words;
 
-pub use locked::run_locked;
-pub use mixed::run_mixed;
+pub use links::Links;
 pub use report::{Report, report_text};
 pub use run_fault::RunFault;
+pub use runs::{run_locked, run_mixed, run_words};
 pub use stab_job::{Job, JobFault, read_job};
-pub use words::run_words;

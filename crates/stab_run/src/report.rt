@@ -4,7 +4,7 @@ ghost use Rattle.std.specs.Prelude.{◌≡◌, [], ◌++◌, ◌<◌, length, st
 ghost use Rattle.stab_run.specs.Reports.{OnePerNode, ended_entry, node_report, lines_of};
 ghost use Rattle.stab_run.specs.Reports.{report_text};
 
-use crate::run_links::RunLinks;
+use crate::any_link::KeptLinks;
 use stab_core::push_items_line;
 use stab_frames::{Item, Sequence};
 use stab_node::Ended;
@@ -25,12 +25,12 @@ pub struct Report {
     /// Why each node's worker made no further turn.
     pub ended: Vec<Ended>,
     #[derive_where(skip)]
-    pub(crate) links: RunLinks,
+    pub(crate) links: KeptLinks,
 }
 
 impl Model for Report {
     ghost use Rattle.stab_run.specs.Reports.{Reported};
-    ghost use Rattle.stab_run.specs.RunLinks.{kinds_of};
+    ghost use Rattle.stab_run.specs.AnyLinks.{kinds_of};
 
     ghost Value = { Reported };
 
@@ -56,7 +56,7 @@ impl Report {
             received,
             acked,
             ended,
-            links: RunLinks::None,
+            links: KeptLinks::None,
         }
     }
 }

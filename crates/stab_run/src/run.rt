@@ -1,98 +1,83 @@
-//! What the runs have in common once the workers have ended: the links are settled, and the report
-//! is made of what the workers left.
+//! The one body of the runs: the starts are looked at, the links are made and split, the workers
+//! run over their ends, the links are settled, and the report is made of what the workers left.
 
 ghost use Rattle.std.specs.List.{AllZip};
-ghost use Rattle.std.specs.Prelude.{◌≡◌, ℕ, true, All, IfErr, IfOk, OnOk, map};
+ghost use Rattle.std.specs.Prelude.{◌≡◌, All, IfErr, IfOk, length, map};
 ghost use Rattle.stab_core.specs.LinkSetup.{CanBegin};
 ghost use Rattle.stab_job.specs.JobValues.{network};
-ghost use Rattle.stab_lock.specs.declared.settle.SettleFault.{SettleFault};
-ghost use Rattle.stab_run.specs.LinkRuns.{IsFirstRefused, IsRun, LeadsInto};
-ghost use Rattle.stab_run.specs.Reports.{OnePerNode};
-ghost use Rattle.stab_run.specs.RunFaults.{comes_of_settling};
-ghost use Rattle.stab_run.specs.Runs.{AreExplained, CompleteBelowEnded, HandsOn, RootHas};
-ghost use Rattle.stab_treecore.specs.Network.{IsNetwork};
-ghost use Rattle.stab_treecore.specs.NodeLaws.{HalfTreeLawAtNodes, TreeLawAtNodes};
-ghost use Rattle.stab_workers.specs.ByNode.{received_at};
+ghost use Rattle.stab_run.specs.AnyLinks.{HasReceived, HasSent, IsOneOf, given_to, kind_of};
+ghost use Rattle.stab_run.specs.AnyLinks.{received_by, sent_by};
+ghost use Rattle.stab_run.specs.LinkKinds.{HaveOnePlace, kind_for};
+ghost use Rattle.stab_run.specs.LinkRuns.{IsRun};
+ghost use Rattle.stab_run.specs.RunFaults.{HaveAsked, IsRunReason, IsSettlingReason};
+ghost use Rattle.stab_run.specs.Runs.{IsReport};
 
+use crate::any_link::{AnyLink, KeptLinks};
+use crate::ends::{run_ends, split_all};
 use crate::laws;
-use crate::link::RunLink;
+use crate::links::Links;
 use crate::report::Report;
 use crate::run_fault::RunFault;
 use crate::settle::settle_all;
+use crate::starts::{check_starts, make_links};
 use stab_job::Job;
+use stab_node::Gate;
+use stab_word::{AnyRecvDone, AnySendDone};
 use stab_workers::Gathered;
 use std::alloc::Global;
+use std::snapshot::Snapshot;
+use std::sync::Wait;
+use std::thread::Threads;
 
-/// The report of what the workers left, with the laws of every node.
-pub(crate) fn report_of<L: RunLink>(
+/// Runs a job over these links, which have the capacities that they ask for.
+///
+/// Every start is looked at before any worker is started; every worker that was started has ended
+/// when this call returns. Where a link has a lock, its two ends have agreed with its own history.
+pub(crate) fn run<R: Threads + Wait + Send + Sync, G: Gate + Sync>(
+    rt: &R,
     alloc: Global,
+    which: Links,
     job: &Job,
-    links: Vec<L>,
-    gathered: Gathered<L::RecvDone, L::SendDone>,
+    gate: &G,
 ) -> Result<Report, RunFault>
-    requires given { map L.given links.items ≡ (network job.now).links }
-    requires lawful { All CanBegin (network job.now).links }
-    requires run { IsRun (network job.now)
-        gathered.received.items gathered.ended.items (map L.sent gathered.sends.items)
-        (map L.received gathered.recvs.items) }
-    requires sends { AllZip L.has_sent links.items gathered.sends.items }
-    requires recvs { AllZip L.has_received links.items gathered.recvs.items }
-    ensures network { OnOk result (IsNetwork (network job.now)) }
-    ensures nodes { IfOk result (λ report. OnePerNode job.now.tree.parents report) }
-    ensures ended { IfOk result (λ report. report.ended ≡ gathered.ended.items) }
-    ensures root { IfOk result (RootHas (network job.now)) }
-    ensures edges { IfOk result (AreExplained (network job.now)) }
-    ensures handed_on { IfOk result (λ report. HandsOn job.now.tree.parents report) }
-    ensures kinds { IfOk result (λ report. report.kinds ≡ map L.kind links.items) }
-    ensures half_tree_law { IfOk result (λ report.
-        HalfTreeLawAtNodes (network job.now) (received_at report.received)) }
-    ensures tree_law { IfOk result (λ report.
-        TreeLawAtNodes (network job.now) (received_at report.received)) }
-    ensures complete { IfOk result (CompleteBelowEnded (network job.now)) }
-    ensures unsettled { IfErr result (λ fault. (child : ℕ) (why : SettleFault)
-        → fault ≡ RunFault.Settle child why
-        → LeadsInto job.now.tree.parents child) }
-    ensures refused { IfErr result (λ fault. (child : ℕ) (why : SettleFault)
-        → fault ≡ RunFault.Settle child why
-        → IsFirstRefused L.may_differ job.now.tree.parents (network job.now).links
-        (map L.sent gathered.sends.items) (map L.received gathered.recvs.items) child why) }
-    ensures of_settling { IfErr result (λ fault. comes_of_settling fault ≡ true) }
+    requires { HaveOnePlace which job.now.params }
+    ensures report { IfOk result (IsReport which job.now) }
+    ensures turns { IfOk result (λ report. HaveAsked (G.has_passed gate.now) (G.is_done gate.now)
+        (length job.now.tree.parents) job.now.turns report.ended) }
+    ensures refused { IfErr result (IsRunReason which job.now
+        (G.has_passed gate.now) (G.may_refuse gate.now) (G.is_done gate.now)) }
 {
-    let report = settled_report::<L>(alloc, job, links, gathered)?;
-    let _tree = job.tree().root();
-    laws::explained_reports_obey_the_tree_law();
-    laws::nothing_is_missing_below_ended_nodes();
+    check_starts(job.params(), job.tree(), job.starts())?;
+    let (links, openings) = make_links(alloc, which, job.params(), job.starts())?;
+    let (sends, recvs) = split_all::<R>(alloc, &links, openings, job.scripts())?;
+    let gathered = run_ends(rt, rt, alloc, job, sends, recvs, gate)?;
+    let report = report_of(alloc, which, job, links, gathered)?;
     Ok(report)
 }
 
 /// The report of what the workers left, once the links are settled.
-fn settled_report<L: RunLink>(
+fn report_of(
     alloc: Global,
+    which: Links,
     job: &Job,
-    links: Vec<L>,
-    gathered: Gathered<L::RecvDone, L::SendDone>,
+    links: Vec<AnyLink>,
+    gathered: Gathered<AnyRecvDone, AnySendDone>,
 ) -> Result<Report, RunFault>
-    requires given { map L.given links.items ≡ (network job.now).links }
+    requires one_place { HaveOnePlace which job.now.params }
+    requires given { map given_to links.items ≡ (network job.now).links }
     requires lawful { All CanBegin (network job.now).links }
+    requires one_of { All (IsOneOf which) links.items }
+    requires kinds { map kind_of links.items ≡ map (kind_for which) job.now.params }
     requires run { IsRun (network job.now)
-        gathered.received.items gathered.ended.items (map L.sent gathered.sends.items)
-        (map L.received gathered.recvs.items) }
-    requires sends { AllZip L.has_sent links.items gathered.sends.items }
-    requires recvs { AllZip L.has_received links.items gathered.recvs.items }
-    ensures nodes { IfOk result (λ report. OnePerNode job.now.tree.parents report) }
+        gathered.received.items gathered.ended.items (map sent_by gathered.sends.items)
+        (map received_by gathered.recvs.items) }
+    requires sends { AllZip HasSent links.items gathered.sends.items }
+    requires recvs { AllZip HasReceived links.items gathered.recvs.items }
+    ensures report { IfOk result (IsReport which job.now) }
     ensures ended { IfOk result (λ report. report.ended ≡ gathered.ended.items) }
-    ensures root { IfOk result (RootHas (network job.now)) }
-    ensures edges { IfOk result (AreExplained (network job.now)) }
-    ensures handed_on { IfOk result (λ report. HandsOn job.now.tree.parents report) }
-    ensures kinds { IfOk result (λ report. report.kinds ≡ map L.kind links.items) }
-    ensures unsettled { IfErr result (λ fault. (child : ℕ) (why : SettleFault)
-        → fault ≡ RunFault.Settle child why
-        → LeadsInto job.now.tree.parents child) }
-    ensures refused { IfErr result (λ fault. (child : ℕ) (why : SettleFault)
-        → fault ≡ RunFault.Settle child why
-        → IsFirstRefused L.may_differ job.now.tree.parents (network job.now).links
-        (map L.sent gathered.sends.items) (map L.received gathered.recvs.items) child why) }
-    ensures of_settling { IfErr result (λ fault. comes_of_settling fault ≡ true) }
+    ensures refused { IfErr result (IsSettlingReason which job.now.tree.parents
+        (network job.now).links (map sent_by gathered.sends.items)
+        (map received_by gathered.recvs.items)) }
 {
     let tree = job.tree();
     let Gathered {
@@ -101,9 +86,11 @@ fn settled_report<L: RunLink>(
         sends,
         recvs,
     } = gathered;
-    let kept = L::kept(&links);
-    let acked = settle_all::<L>(alloc, tree, links, sends, recvs)?;
+    let kept = KeptLinks::Kept(Snapshot::of(&links));
+    let acked = settle_all(alloc, which, tree, links, sends, recvs)?;
     let _root = tree.root();
+    laws::explained_reports_obey_the_tree_law();
+    laws::nothing_is_missing_below_ended_nodes();
     Ok(Report {
         received,
         acked,

@@ -1,18 +1,18 @@
 //! The links of a job at their starts.
 
-ghost use Rattle.std.specs.Prelude.{◌≡◌, ℕ, true, All, IfNone, IfOk, IfErr, IfSome, OnOk};
-ghost use Rattle.std.specs.Prelude.{length, map};
+ghost use Rattle.std.specs.Prelude.{◌≡◌, All, IfNone, IfOk, IfErr, IfSome, OnOk, length, map};
 ghost use Rattle.std.specs.List.{AllZip};
-ghost use Rattle.stab_core.specs.declared.start.StartFault.{StartFault};
 ghost use Rattle.stab_core.specs.Link.{IsReason};
 ghost use Rattle.stab_core.specs.LinkSetup.{CanBegin, setups};
 ghost use Rattle.stab_core.specs.Replay.{IsLawful};
 ghost use Rattle.stab_frames.specs.Parameters.{AreLawful};
-ghost use Rattle.stab_run.specs.RunFaults.{is_of_start};
-ghost use Rattle.stab_run.specs.Runs.{IsFirstUnlawful};
+ghost use Rattle.stab_run.specs.AnyLinks.{IsOneOf, IsOpenedBy, given_to, kind_of};
+ghost use Rattle.stab_run.specs.LinkKinds.{HaveOnePlace, kind_for};
+ghost use Rattle.stab_run.specs.RunFaults.{IsStartReason};
 ghost use Rattle.stab_tree.specs.Links.{links_of};
 
-use crate::link::RunLink;
+use crate::any_link::{AnyLink, AnyOpening};
+use crate::links::Links;
 use crate::run_fault::RunFault;
 use stab_core::{Start, StartFault};
 use stab_frames::Params;
@@ -42,10 +42,8 @@ pub(crate) fn check_starts(params: &[Params], tree: &Tree, starts: &[Start]) -> 
     requires one_params_each { length params.now ≡ length (links_of tree.now.parents) }
     requires one_start_each { length starts.now ≡ length (links_of tree.now.parents) }
     ensures can_begin { OnOk result (All CanBegin (setups params.now starts.now)) }
-    ensures unlawful { IfErr result (λ fault. (child : ℕ) (reason : StartFault)
-        → fault ≡ RunFault.Start child reason
-        → IsFirstUnlawful tree.now.parents (setups params.now starts.now) child reason) }
-    ensures of_start { IfErr result (λ fault. is_of_start fault ≡ true) }
+    ensures refused { IfErr result
+        (IsStartReason tree.now.parents (setups params.now starts.now)) }
 {
     for place in 0..tree.link_count() {
         let link = usize::from(place);
@@ -58,25 +56,27 @@ pub(crate) fn check_starts(params: &[Params], tree: &Tree, starts: &[Start]) -> 
 }
 
 /// Each link with its parameters at its start, and what splits it.
-pub(crate) fn make_links<L: RunLink>(
+pub(crate) fn make_links(
     alloc: Global,
+    which: Links,
     params: &[Params],
     starts: &[Start],
-) -> Result<(Vec<L>, Vec<L::Opening>), AllocError>
-    requires params { All L.can_have params.now }
+) -> Result<(Vec<AnyLink>, Vec<AnyOpening>), AllocError>
+    requires one_place { HaveOnePlace which params.now }
     requires one_each { length params.now ≡ length starts.now }
     requires can_begin { All CanBegin (setups params.now starts.now) }
     ensures links { IfOk result (λ made.
-        map L.given made.0.items ≡ setups params.now starts.now) }
+        map given_to made.0.items ≡ setups params.now starts.now) }
     ensures one_link_each { IfOk result (λ made. length made.0.items ≡ length starts.now) }
+    ensures one_of { IfOk result (λ made. All (IsOneOf which) made.0.items) }
     ensures kinds { IfOk result (λ made.
-        map L.kind made.0.items ≡ map L.kind_for params.now) }
-    ensures openings { IfOk result (λ made. AllZip L.opens made.0.items made.1.items) }
+        map kind_of made.0.items ≡ map (kind_for which) params.now) }
+    ensures openings { IfOk result (λ made. AllZip IsOpenedBy made.0.items made.1.items) }
 {
     let mut links = Vec::with_capacity(alloc, starts.len())?;
     let mut openings = Vec::with_capacity(alloc, starts.len())?;
     'links: for place in 0..starts.len() {
-        let (link, opening) = L::make(alloc, params[place], &starts[place])?;
+        let (link, opening) = AnyLink::make(alloc, which, params[place], &starts[place])?;
         links.push_reserved(link);
         openings.push_reserved(opening);
     }

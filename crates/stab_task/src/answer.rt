@@ -4,20 +4,22 @@ ghost use Rattle.std.specs.Io.KnownBytes.{Appends, Keeps};
 ghost use Rattle.stab_core.specs.Link.{IsReason, link_at};
 ghost use Rattle.stab_core.specs.Replay.{IsLawful, opening, replay};
 ghost use Rattle.stab_job.specs.JobValues.{network};
+ghost use Rattle.stab_run.specs.Runs.{IsReport};
 ghost use Rattle.stab_treecore.specs.Network.{IsNetwork};
 ghost use Rattle.stab_treecore.specs.Refusals.{IsScheduleReason, NamesLink};
 ghost use Rattle.stab_treecore.specs.TreeReplay.{tree_opening, tree_replay};
 ghost use Rattle.stab_task.specs.Answers.{IsLinkAnswer, IsTreeAnswer, IsRunAnswer};
-ghost use Rattle.stab_task.specs.Answers.{HasOnePlace, IsAnswer, IsFault, IsReport};
-ghost use Rattle.stab_task.specs.Answers.{IsRunReason, IsRunText, kinds_by, link_answer};
-ghost use Rattle.stab_task.specs.Answers.{tree_answer};
+ghost use Rattle.stab_task.specs.Answers.{IsAnswer, IsFault, IsFreeRunReason, IsRunText};
+ghost use Rattle.stab_task.specs.Answers.{link_answer, tree_answer};
 
-use crate::command::{Links, Task};
+use crate::command::Task;
 use crate::fault::CliFault;
 use crate::file::load;
 use stab_core::{Link, StartFault, link_text, push_origins_text, run_link, run_traced};
 use stab_node::Free;
-use stab_run::{Job, Report, RunFault, read_job, report_text, run_locked, run_mixed, run_words};
+use stab_run::{
+    Job, Links, Report, RunFault, read_job, report_text, run_locked, run_mixed, run_words,
+};
 use stab_script::{LinkJob, read_link_job};
 use stab_treecore::{TreeStartFault, TreeState, run_schedule, schedule_text};
 use std::alloc::Global;
@@ -203,7 +205,7 @@ fn run_text<T: Threads + Wait + Send + Sync>(
     job: &Job,
 ) -> Result<String, RunFault>
     ensures text { IfOk result (λ text. IsRunText links job.now (string_bytes text)) }
-    ensures reason { IfErr result (IsRunReason links job.now) }
+    ensures reason { IfErr result (IsFreeRunReason links job.now) }
 {
     let report = run_job(rt, alloc, links, job)?;
     Ok(report_text(alloc, job.tree(), &report)?)
@@ -216,10 +218,8 @@ fn run_job<T: Threads + Wait + Send + Sync>(
     links: Links,
     job: &Job,
 ) -> Result<Report, RunFault>
-    ensures report { IfOk result (IsReport (network job.now)) }
-    ensures kinds { IfOk result (λ report. report.kinds ≡ kinds_by links job.now) }
-    ensures one_place { OnOk result (HasOnePlace links job.now) }
-    ensures reason { IfErr result (IsRunReason links job.now) }
+    ensures report { IfOk result (IsReport links job.now) }
+    ensures reason { IfErr result (IsFreeRunReason links job.now) }
 {
     let gate = Free::for_nodes(job.tree().len());
     match links {

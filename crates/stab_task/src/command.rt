@@ -14,6 +14,7 @@ use crate::fault::CliFault;
 use clap::error::ErrorKind;
 use clap::parser::ValueSource;
 use clap::{Arg, ArgAction, ArgMatches, Command, Error};
+use stab_run::Links;
 use std::alloc::{AllocError, Global};
 
 /// What the program is to do.
@@ -25,17 +26,6 @@ pub enum Task {
     Tree,
     /// Run a job by one worker per node, over these links.
     Run { links: Links },
-}
-
-/// What the links of a run are.
-#[derive(Clone, Copy, Debug, PartialEq, Eq, Hash)]
-pub enum Links {
-    /// Each is a state and its history, behind a lock.
-    Locked,
-    /// Each is two words, and has capacity one.
-    Words,
-    /// Each of capacity one is two words, and each other one is behind a lock.
-    Mixed,
 }
 
 /// The task that these words name, the program's name first, and its file where there is one.

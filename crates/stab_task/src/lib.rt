@@ -14,7 +14,8 @@ mod file;
 mod run;
 
 pub use answer::act;
-pub use command::{Links, Task, parse};
+pub use command::{Task, parse};
 pub use fault::CliFault;
 pub use file::{LoadFault, load};
 pub use run::{perform, words};
+pub use stab_run::Links;

@@ -5,9 +5,12 @@ use Rattle.stab_node.specs.Work.{HasAll, IsServed}
 use Rattle.stab_tree.specs.Links.{links_of}
 use Rattle.stab_tree.specs.Nodes.{root_of}
 use Rattle.stab_treecore.specs.NodeOpenings.{opening_at}
+use Rattle.stab_workers.proofs.ForCallers.{at_error}
 use Rattle.stab_workers.specs.ByNode.{received_at}
 use Rattle.stab_run.specs.LinkRuns.{IsRun}
+use Rattle.stab_run.specs.RunFaults.{HaveAsked, IsWorkersReason}
 use Rattle.stab_run.proofs.Paired.{entry_read}
+use Rattle.stab_run.proofs.Reasons.{workers_reason}
 use Rattle.stab_run.proofs.ends.run_ends.Goals as goal
 
 pub returns-clause-run : goal.returns-clause-run
@@ -58,4 +61,26 @@ returns-clause-run g c =
     }))
 
 pub returns-clause-turns : goal.returns-clause-turns
-returns-clause-turns g c = rw (← c.turns.ensures.turns, ← c.tree.ensures.tree) c.in_ok-gathered.ensures.turns
+returns-clause-turns g c =
+    let job = c.args.job.now in
+    let gate = c.args.gate.now in
+    subst (λ turns. HaveAsked (g.G.Gate.has_passed gate) (g.G.Gate.is_done gate) (length job.tree.parents) turns c.in_ok-gathered.gathered.ended.items)
+    c.turns.ensures.turns
+    (subst
+    (λ tree. HaveAsked (g.G.Gate.has_passed gate) (g.G.Gate.is_done gate) (length tree.parents) c.turns.result
+    c.in_ok-gathered.gathered.ended.items)
+    c.tree.ensures.tree
+    (record { over = c.in_ok-gathered.ensures.turns; done = c.in_ok-gathered.ensures.done }))
+
+-- each fault of the workers is one of the run
+pub returns-in_err-gathered-clause-refused : goal.returns-in_err-gathered-clause-refused
+returns-in_err-gathered-clause-refused g c =
+    let job = c.args.job.now in
+    let gate = c.args.gate.now in
+    at_error _ _
+    (λ fault. IsWorkersReason job (g.G.Gate.has_passed gate) (g.G.Gate.may_refuse gate) (g.G.Gate.is_done gate) fault)
+    c.from_residual.ensures.1
+    (workers_reason job (g.G.Gate.has_passed gate) (g.G.Gate.may_refuse gate) (g.G.Gate.is_done gate) _
+    (rw (← c.tree.ensures.tree) c.in_err-gathered.ensures.unstarted)
+    (rw (← c.tree.ensures.tree, ← c.turns.ensures.turns) c.in_err-gathered.ensures.gave_up)
+    (rw (← c.turns.ensures.turns) c.in_err-gathered.ensures.refused))

@@ -2,12 +2,14 @@ use Rattle.std.proofs.Common.{◌≡◌, ◌<◌, ◌+◌, ◌∙◌, ap, length
 use Rattle.std.proofs.lemmas.List.Elements.{All-push}
 use Rattle.stab_lock.specs.Accounts.{new_receiver, new_sender}
 use Rattle.stab_script.specs.Scripts.{receiver_half, sender_half}
+use Rattle.stab_word.specs.AnyEnds.{any_recv_end, any_send_end}
+use Rattle.stab_run.specs.AnyLinks.{IsOpenedBy, Receives, Sends}
 use Rattle.stab_run.proofs.Paired.{more_paired, next_paired, one_more_end, one_more_paired}
 use Rattle.stab_run.proofs.ends.split_all.Goals as goal
 
 pub take_first-opening-requires : goal.take_first-opening-requires
 take_first-opening-requires g c =
-    more_paired g.L.RunLink.opens c.args.links.now c.links.openings.items c.links.place c.links-test.true c.links.invariant.openings
+    more_paired IsOpenedBy c.args.links.now c.links.openings.items c.links.place c.links-test.true c.links.invariant.openings
 
 pub links-preserved : goal.links-preserved
 links-preserved g c =
@@ -19,7 +21,7 @@ links-preserved g c =
     let in_links : place < length links = c.links-test.true in
     let in_scripts : place < length scripts = omega (arith, in_links, c.requires.scripts) in
     let next =
-    next_paired g.L.RunLink.opens links c.take_first-opening.new.openings.items place link c.take_first-opening.result c.links.openings.items in_links
+    next_paired IsOpenedBy links c.take_first-opening.new.openings.items place link c.take_first-opening.result c.links.openings.items in_links
     c.index-links-place.is c.links.invariant.openings c.take_first-opening.ensures in
     record {
       send_room = c.push_reserved.ensures.capacity ∙ c.links.invariant.send_room;
@@ -28,27 +30,27 @@ links-preserved g c =
       recv_count = c.push_reserved-in-links.ensures.len ∙ ap (λ n. n + 1) c.links.invariant.recv_count;
       senders =
           rw c.push_reserved.ensures.items
-          (one_more_paired g.L.SplitLink.sends links c.links.sends.items place link c.in_ok-send.send in_links c.index-links-place.is
+          (one_more_paired (λ link end. Sends link end) links c.links.sends.items place link c.in_ok-send.send in_links c.index-links-place.is
           c.links.invariant.senders c.in_ok-send.ensures.sends);
       receivers =
           rw c.push_reserved-in-links.ensures.items
-          (one_more_paired g.L.SplitLink.receives links c.links.recvs.items place link c.in_ok-send.recv in_links c.index-links-place.is
+          (one_more_paired (λ link end. Receives link end) links c.links.recvs.items place link c.in_ok-send.recv in_links c.index-links-place.is
           c.links.invariant.receivers c.in_ok-send.ensures.receives);
       send_acts =
           rw c.push_reserved.ensures.items
-          (one_more_end g.L.SplitLink.send_acts sender_half c.links.sends.items c.in_ok-send.send scripts place script c.in_ok-script.script in_scripts
+          (one_more_end (λ end. (any_send_end end).acts) sender_half c.links.sends.items c.in_ok-send.send scripts place script c.in_ok-script.script in_scripts
           c.index-scripts-place.is c.in_ok-script.ensures c.in_ok-send.ensures.send_acts c.links.invariant.send_acts);
       recv_acts =
           rw c.push_reserved-in-links.ensures.items
-          (one_more_end g.L.SplitLink.recv_acts receiver_half c.links.recvs.items c.in_ok-send.recv scripts place script c.in_ok-script.script in_scripts
+          (one_more_end (λ end. (any_recv_end end).acts) receiver_half c.links.recvs.items c.in_ok-send.recv scripts place script c.in_ok-script.script in_scripts
           c.index-scripts-place.is c.in_ok-script.ensures c.in_ok-send.ensures.recv_acts c.links.invariant.recv_acts);
       new_senders =
           rw c.push_reserved.ensures.items
-          (All-push (λ end. g.L.SplitLink.send_account end ≡ new_sender) c.links.sends.items _ c.links.invariant.new_senders
+          (All-push (λ end. (any_send_end end).account ≡ new_sender) c.links.sends.items _ c.links.invariant.new_senders
           c.in_ok-send.ensures.send_account);
       new_receivers =
           rw c.push_reserved-in-links.ensures.items
-          (All-push (λ end. g.L.SplitLink.recv_account end ≡ new_receiver) c.links.recvs.items _ c.links.invariant.new_receivers
+          (All-push (λ end. (any_recv_end end).account ≡ new_receiver) c.links.recvs.items _ c.links.invariant.new_receivers
           c.in_ok-send.ensures.recv_account);
       openings = next.1;
     }

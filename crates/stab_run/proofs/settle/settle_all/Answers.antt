@@ -1,17 +1,15 @@
 use Rattle.std.proofs.Common.{rules, ◌≡◌, ◌<◌, ◌+◌, length, map, Some, None, ap, sym, ◌∙◌, subst}
 use Rattle.std.proofs.lemmas.List.{length-map}
 use Rattle.stab_tree.specs.Nodes.{parent_at}
-use Rattle.stab_run.specs.LinkRuns.{IsFirstRefused, LeadsInto}
+use Rattle.stab_run.specs.AnyLinks.{HasReceived, HasSent, MayDiffer, given_to, received_by, sent_by}
+use Rattle.stab_run.specs.LinkRuns.{IsFirstRefused}
 use Rattle.stab_run.proofs.Settlements.{none_settled, root_settled, child_settled, first_refused}
 use Rattle.stab_run.proofs.Paired.{as_many_paired}
 use Rattle.stab_run.proofs.settle.settle_all.Goals as goal
 use Rattle.stab_run.proofs.settle.settle_all.Goals.{in-None, in-Some+in-Ok}
 
 pub nodes-init : goal.nodes-init
-nodes-init g c =
-    let given = g.L.RunLink.given in
-    let sent = g.L.RunLink.sent in
-    let received = g.L.RunLink.received in
+nodes-init c =
     let links = c.args.links.items in
     let sends = c.args.sends.items in
     let recvs = c.args.recvs.items in
@@ -20,22 +18,23 @@ nodes-init g c =
       number = search rules;
       so_far =
           rw (c.in_ok-acked.ensures.items, c.from-links.ensures.0, c.from-sends.ensures.0, c.from-recvs.ensures.0)
-          (none_settled c.args.tree.now.parents (map given links) (map sent sends) (map received recvs)
-          (length-map links given ∙ c.requires.links)
-          (length-map sends sent ∙ (as_many_paired g.L.RunLink.has_sent links sends c.requires.sends ∙ c.requires.links))
-          (length-map recvs received ∙ (as_many_paired g.L.RunLink.has_received links recvs c.requires.recvs ∙ c.requires.links)));
+          (none_settled c.args.tree.now.parents (map given_to links) (map sent_by sends) (map received_by recvs)
+          (length-map links given_to ∙ c.requires.links)
+          (length-map sends sent_by ∙ (as_many_paired HasSent links sends c.requires.sends ∙ c.requires.links))
+          (length-map recvs received_by ∙ (as_many_paired HasReceived links recvs c.requires.recvs ∙ c.requires.links)));
+      one_of = rw c.from-links.ensures.0 c.requires.one_of;
       senders = rw (c.from-links.ensures.0, c.from-sends.ensures.0) c.requires.sends;
       receivers = rw (c.from-links.ensures.0, c.from-recvs.ensures.0) c.requires.recvs;
     }
 
 pub nodes-preserved : goal.nodes-preserved
-nodes-preserved g c =
+nodes-preserved c =
     let parents = c.args.tree.now.parents in
     let place = c.nodes.place in
     let within : place < length parents = search rules in
-    let given = map g.L.RunLink.given in
-    let sent = map g.L.RunLink.sent in
-    let received = map g.L.RunLink.received in
+    let given = map given_to in
+    let sent = map sent_by in
+    let received = map received_by in
     elim c.match-parent.branch [
       | in-None w ↦
           let no_parent : parent_at parents place ≡ None =
@@ -47,6 +46,7 @@ nodes-preserved g c =
                 rw (w.acked-is, w.links-is, w.sends-is, w.recvs-is, w.push_reserved.ensures.items)
                 (root_settled parents (given c.args.links.items) (sent c.args.sends.items) (received c.args.recvs.items) c.nodes.acked.items
                 (given c.nodes.links.items) (sent c.nodes.sends.items) (received c.nodes.recvs.items) place c.nodes.invariant.so_far within no_parent);
+            one_of = rw w.links-is c.nodes.invariant.one_of;
             senders = rw (w.links-is, w.sends-is) c.nodes.invariant.senders;
             receivers = rw (w.links-is, w.recvs-is) c.nodes.invariant.receivers;
           }
@@ -64,32 +64,24 @@ nodes-preserved g c =
                 (sent c.nodes.sends.items) (sent w.settle_first.new.sends.items) (received c.nodes.recvs.items)
                 (received w.settle_first.new.recvs.items) c.nodes.invariant.so_far within is_child first.settled first.the_link first.the_send
                 first.the_recv);
+            one_of = rw w.links-is w.in-Ok.ensures.one_of;
             senders = rw (w.links-is, w.sends-is) w.in-Ok.ensures.senders;
             receivers = rw (w.links-is, w.recvs-is) w.in-Ok.ensures.receivers;
           }
     ]
 
--- the node that is named is a child
-pub returns-in-Err-clause-unsettled : goal.returns-in-Err-clause-unsettled
-returns-in-Err-clause-unsettled g c = λ child why is.
-    let same : c.new-node.result ≡ child = cc in
-    subst (LeadsInto c.args.tree.now.parents) same (c.in-Some.field-0, sym c.parent.ensures.value ∙ c.in-Some.is)
-
 -- the link into this child, which is refused, is the first that is left
 pub returns-in-Err-clause-refused : goal.returns-in-Err-clause-refused
-returns-in-Err-clause-refused g c = λ child why is.
+returns-in-Err-clause-refused c =
     let parents = c.args.tree.now.parents in
-    let links = map g.L.RunLink.given c.args.links.items in
-    let sends = map g.L.RunLink.sent c.args.sends.items in
-    let recvs = map g.L.RunLink.received c.args.recvs.items in
+    let links = map given_to c.args.links.items in
+    let sends = map sent_by c.args.sends.items in
+    let recvs = map received_by c.args.recvs.items in
     let place = c.nodes.place in
     let within : place < length parents = search rules in
-    let same : c.new-node.result ≡ child = cc in
-    let reason : c.in-Err.fault ≡ why = cc in
     let is_child : parent_at parents place ≡ Some c.in-Some.field-0 =
     ap (λ n. parent_at parents n) (sym c.new-node.ensures) ∙ (sym c.parent.ensures.value ∙ c.in-Some.is) in
-    subst (λ w. IsFirstRefused g.L.RunLink.may_differ parents links sends recvs child w) reason
-    (subst (λ n. IsFirstRefused g.L.RunLink.may_differ parents links sends recvs n c.in-Err.fault) (sym c.new-node.ensures ∙ same)
-    (first_refused g.L.RunLink.may_differ parents links sends recvs c.nodes.acked.items (map g.L.RunLink.given c.nodes.links.items)
-    (map g.L.RunLink.sent c.nodes.sends.items) (map g.L.RunLink.received c.nodes.recvs.items) place c.in-Some.field-0 c.in-Err.fault
-    c.nodes.invariant.so_far within is_child c.in-Err.ensures.refused))
+    subst (λ n. IsFirstRefused (MayDiffer c.args.which) parents links sends recvs n c.in-Err.fault) (sym c.new-node.ensures)
+    (first_refused (MayDiffer c.args.which) parents links sends recvs c.nodes.acked.items (map given_to c.nodes.links.items)
+    (map sent_by c.nodes.sends.items) (map received_by c.nodes.recvs.items) place c.in-Some.field-0 c.in-Err.fault
+    c.nodes.invariant.so_far within is_child c.in-Err.ensures.refused)

@@ -1,23 +1,25 @@
-use Rattle.std.proofs.Common.{◌<◌, ◌+◌, ◌∙◌, ap, refl, sym, length, map, subst, take_all, arith}
-use Rattle.stab_core.specs.LinkSetup.{setup, setups}
+use Rattle.std.proofs.Common.{◌<◌, ◌+◌, ◌∙◌, ap, refl, sym, length, map, take_all, arith}
+use Rattle.std.proofs.lemmas.List.Elements.{All-push}
+use Rattle.stab_core.specs.LinkSetup.{LinkSetup, setup, setups}
 use Rattle.stab_core.proofs.Setups.{as_many_setups, can_begin_at, setup_at}
+use Rattle.stab_run.specs.AnyLinks.{IsOneOf, IsOpenedBy, given_to, kind_of}
+use Rattle.stab_run.specs.LinkKinds.{kind_for}
 use Rattle.stab_run.proofs.Begun.{one_more_given}
+use Rattle.stab_run.proofs.OfKinds.{one_of_all}
 use Rattle.stab_run.proofs.Paired.{one_more_end, paired_push}
 use Rattle.stab_run.proofs.starts.make_links.Goals as goal
 
 pub bounds-params-place : goal.bounds-params-place
-bounds-params-place g c = omega (arith, c.links-test.true, c.requires.one_each)
+bounds-params-place c = omega (arith, c.links-test.true, c.requires.one_each)
 
-pub make-requires-clause-params : goal.make-requires-clause-params
-make-requires-clause-params g c =
+pub make-requires-clause-one_place : goal.make-requires-clause-one_place
+make-requires-clause-one_place c =
     let params = c.args.params.now in
-    let place = c.links.place in
-    let its_params = c.index-params-place.result in
-    let in_params : place < length params = omega (arith, c.links-test.true, c.requires.one_each) in
-    subst g.L.RunLink.can_have (sym c.index-params-place.is) (c.requires.params place its_params in_params)
+    let in_params : c.links.place < length params = omega (arith, c.links-test.true, c.requires.one_each) in
+    one_of_all c.args.which params c.links.place c.index-params-place.result in_params c.index-params-place.is c.requires.one_place
 
 pub make-requires-clause-lawful : goal.make-requires-clause-lawful
-make-requires-clause-lawful g c =
+make-requires-clause-lawful c =
     let params = c.args.params.now in
     let place = c.links.place in
     let in_params : place < length params = omega (arith, c.links-test.true, c.requires.one_each) in
@@ -25,7 +27,7 @@ make-requires-clause-lawful g c =
     c.index-params-place.is c.index-starts-place.is c.requires.can_begin).1
 
 pub links-preserved : goal.links-preserved
-links-preserved g c =
+links-preserved c =
     let params = c.args.params.now in
     let starts = c.args.starts.now in
     let place = c.links.place in
@@ -40,29 +42,33 @@ links-preserved g c =
       opening_count = c.push_reserved-in-links.ensures.len ∙ ap (λ n. n + 1) c.links.invariant.opening_count;
       given =
           rw c.push_reserved.ensures.items
-          (one_more_given g.L.RunLink.given c.links.links.items c.in_ok-link.link (setups params starts) place next within
+          (one_more_given given_to c.links.links.items c.in_ok-link.link (setups params starts) place next within
           (setup_at params starts place c.index-params-place.result c.index-starts-place.result in_params in_starts c.index-params-place.is
           c.index-starts-place.is)
           c.in_ok-link.ensures.given c.links.invariant.given);
+      one_of =
+          rw c.push_reserved.ensures.items
+          (All-push (λ link. IsOneOf c.args.which link) c.links.links.items c.in_ok-link.link c.links.invariant.one_of
+          (c.in_ok-link.ensures.kind ∙ ap (λ (s : LinkSetup). kind_for c.args.which s.params) (sym c.in_ok-link.ensures.given)));
       kinds =
           rw c.push_reserved.ensures.items
-          (one_more_end g.L.RunLink.kind g.L.RunLink.kind_for c.links.links.items c.in_ok-link.link params place c.index-params-place.result
+          (one_more_end kind_of (kind_for c.args.which) c.links.links.items c.in_ok-link.link params place c.index-params-place.result
           c.index-params-place.result in_params c.index-params-place.is refl c.in_ok-link.ensures.kind c.links.invariant.kinds);
       openings =
           rw (c.push_reserved.ensures.items, c.push_reserved-in-links.ensures.items)
-          (paired_push g.L.RunLink.opens c.links.links.items c.links.openings.items c.in_ok-link.link c.in_ok-link.opening
+          (paired_push IsOpenedBy c.links.links.items c.links.openings.items c.in_ok-link.link c.in_ok-link.opening
           c.links.invariant.openings c.in_ok-link.ensures.opens);
     }
 
 pub returns-clause-links : goal.returns-clause-links
-returns-clause-links g c =
+returns-clause-links c =
     let params = c.args.params.now in
     let starts = c.args.starts.now in
     c.links.invariant.given
     ∙ take_all c.links.place (setups params starts) (omega (arith, c.links-test.false, as_many_setups params starts c.requires.one_each))
 
 pub returns-clause-kinds : goal.returns-clause-kinds
-returns-clause-kinds g c =
+returns-clause-kinds c =
     let params = c.args.params.now in
     c.links.invariant.kinds
-    ∙ ap (λ ps. map g.L.RunLink.kind_for ps) (take_all c.links.place params (omega (arith, c.links-test.false, c.requires.one_each)))
+    ∙ ap (λ ps. map (kind_for c.args.which) ps) (take_all c.links.place params (omega (arith, c.links-test.false, c.requires.one_each)))
