@@ -28,6 +28,18 @@
  *   - two_ends_on_a_line_obey_the_link_law: so at most capacity strays (items that lay on the line)
  *     are delivered, then offered items in their order, each at most once; and of the acknowledged
  *     items only some among the first 2 * capacity + 1 can be missing.
+ *   - a_tree_of_nodes_obeys_the_tree_law: let each link of a tree of at most 64 nodes be such a
+ *     line, with lawful parameters of its own; let the list of each inner node (neither the root
+ *     nor a leaf) begin with at most h items, h being at most 64, and the list of a leaf with none.
+ *     C, M and E are the sums over a node's path from the root: of capacity and of 2 * capacity + 1
+ *     over the links, and of h over the inner nodes, itself among them. Then the node's list is at
+ *     most C + E strays and after them published items in their order, each at most once; and
+ *     before its last one only some among the first M can be missing. When the count begins, a
+ *     child was offered nothing yet, or its sender holds the first item of the list; what lies
+ *     before that item in the buffer is not counted.
+ *   - calls_of_nodes_are_acts_of_the_tree: what the calls do makes up what these laws are about.
+ *     Each call that steps an end, or says what to send, has a clause `act`, which says what step
+ *     of the laws' own definitions it is.
  */
 #ifndef RIGNOLDA_H
 #define RIGNOLDA_H
@@ -170,14 +182,16 @@ void rignolda_receiver_close(rignolda_receiver *receiver);
 
 /*
  * In each call of one node, list and size are the same buffer; size counts its items (of 4 bytes
- * each). Give and ask the receiver of a node by rignolda_receiver_ack(&node.above, ..), and close
- * the ends by rignolda_receiver_close and rignolda_sender_close. For the root the receiver is not
- * used.
+ * each), which nothing else changes. Frames, offers and acknowledgements of a node go by the calls
+ * below alone. Ask for the label to acknowledge by rignolda_receiver_ack(&node.above, ..), and
+ * close the ends by rignolda_receiver_close and rignolda_sender_close. The receiver of the root is
+ * not used.
  */
 
 /*
  * Makes a node whose list is the first `opening` items of the buffer, with an open receiver that
  * remembers this label. 0 is a node that begins with nothing.
+ * Law: these items count as strays; h is the most of them that an inner node may begin with.
  */
 void rignolda_node_init(rignolda_node *node, uint16_t label, uint32_t opening);
 
@@ -196,6 +210,7 @@ bool rignolda_node_publish(rignolda_node *node, uint32_t *list, size_t size, uin
  * (then old_frames is one more), or the receiver is closed, or the list is full. A fresh frame that
  * finds the list full is lost, as on the line.
  * So the list is its opening and then what the receiver delivered.
+ * Law: it is at most C + E strays, then published items in their order.
  */
 bool rignolda_node_on_frame(rignolda_node *node, uint32_t *list, size_t size,
                             const rignolda_frame *frame);
@@ -204,7 +219,7 @@ bool rignolda_node_on_frame(rignolda_node *node, uint32_t *list, size_t size,
  * Asks what to send to a child now. First the child's sender is offered the next item, where there
  * is one and the sender is open and idle; then offered is one more. True: *frame is the frame to
  * send. False: the sender is closed, or has nothing to send; *frame stays as it was.
- * What a child is offered is a prefix of the list.
+ * Law: what a child is offered is a prefix of the list (offers_are_a_prefix_of_the_list).
  */
 bool rignolda_node_poll(const rignolda_node *node, rignolda_child *child, const uint32_t *list,
                         size_t size, rignolda_frame *frame);

@@ -1,12 +1,13 @@
 //! Links the archive of the proved library: that which `RIGNOLDA_LIBRARY` names, else that of the
-//! release or of the last build in this repository.
+//! release, of the last build in this repository, or of an unpacked archive.
 use std::path::{Path, PathBuf};
 use std::{env, fs};
 
-const PLACES: [&str; 3] = [
+const PLACES: [&str; 4] = [
     "../../release/librignolda.a",
     "../../release/libstab_c.a",
     "../../crates/stab_c/out/libstab_c.a",
+    "../../lib/librignolda.a",
 ];
 
 fn main() {

@@ -131,6 +131,18 @@ pub offers_prefix : (p : Parameters) (list : List ℕ) (frames : List Frame) (ac
 offers_prefix p list frames acks sender receiver acts begins =
     (after_run p (new_edge list frames acks sender receiver) acts (record { counted = refl; begins = begins })).kept.begins
 
+-- and the link law holds of what happened on the line
+pub edge_obeys_law : (p : Parameters) (list : List ℕ) (frames : List Frame) (acks : List ℕ) (sender : SenderEnd)
+    (receiver : ReceiverEnd) (acts : List EdgeAct) → AreLawful p → length frames ≤ p.capacity → length acks ≤ p.capacity
+    → IsPrefix (held sender.state.item) list
+    → let e = edge_run p (new_edge list frames acks sender receiver) acts in
+    LinkLaw p.capacity (map (λ f. f.item) frames) e.line.offered e.line.acked e.line.delivered
+edge_obeys_law p list frames acks sender receiver acts lawful few_frames few_acks begins =
+    let before : Edge = new_edge list frames acks sender receiver in
+    let led : Led p before (edge_run p before acts) = after_run p before acts (record { counted = refl; begins = begins }) in
+    subst (λ (l : Line). LinkLaw p.capacity (map (λ f. f.item) frames) l.offered l.acked l.delivered) led.leads
+    (line_obeys_law p frames acks sender receiver led.acts lawful few_frames few_acks)
+
 -- so the child obeys the tree law where its parent does
 pub child_obeys_law : (p : Parameters) (list : List ℕ) (frames : List Frame) (acks : List ℕ) (sender : SenderEnd)
     (receiver : ReceiverEnd) (acts : List EdgeAct) (most_strays most_missing : ℕ) (opening garbage published : List ℕ)
@@ -140,15 +152,10 @@ pub child_obeys_law : (p : Parameters) (list : List ℕ) (frames : List Frame) (
     → TreeLaw (most_strays + p.capacity + length opening) (most_missing + (2 * p.capacity + 1))
     (opening ++ (map (λ f. f.item) frames ++ garbage)) published (opening ++ e.line.delivered)
 child_obeys_law p list frames acks sender receiver acts most_strays most_missing opening garbage published lawful few_frames few_acks begins above =
-    let before : Edge = new_edge list frames acks sender receiver in
-    let e : Edge = edge_run p before acts in
-    let led : Led p before e = after_run p before acts (record { counted = refl; begins = begins }) in
+    let e : Edge = edge_run p (new_edge list frames acks sender receiver) acts in
     let items : List ℕ = map (λ f. f.item) frames in
-    let law : LinkLaw p.capacity items e.line.offered e.line.acked e.line.delivered =
-    subst (λ (l : Line). LinkLaw p.capacity items l.offered l.acked l.delivered) led.leads
-    (line_obeys_law p frames acks sender receiver led.acts lawful few_frames few_acks)
-    in
     law_past_opening (most_strays + p.capacity) opening (items ++ garbage) published e.line.delivered
     (most_missing + (2 * p.capacity + 1))
     (law_below p.capacity most_strays e.line.acked items garbage published e.list e.line.offered e.line.delivered
-    led.kept.begins most_missing above law)
+    (offers_prefix p list frames acks sender receiver acts begins) most_missing above
+    (edge_obeys_law p list frames acks sender receiver acts lawful few_frames few_acks begins))

@@ -3,3 +3,5 @@ pub mod Meaning
 pub mod NodeList
 pub mod Line
 pub mod Edge
+pub mod NodeTree
+pub mod Acts

@@ -109,7 +109,7 @@ new_count frames acks sender receiver =
       delivered = [];
     }
 
--- the start of the link that such a line is: its sender's label and its receiver's, whatever they are
+-- the start of the link that such a line is: its two ends may have any labels
 abbrev pub start_of : List Frame → List ℕ → SenderEnd → ReceiverEnd → Start
 start_of frames acks sender receiver =
     record {

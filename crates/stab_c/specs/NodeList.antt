@@ -2,7 +2,7 @@
 -- beyond the buffer is read as the buffer's, so every bit pattern means a list.
 -- Source: this project's own.
 use Rattle.std.specs.Prelude.{ℕ, ◌+◌, ◌-◌, ◌==◌, ◌&&◌, not, Bool, if◌then◌else◌, min, nat_lt}
-use Rattle.std.specs.Prelude.{List, [], ◌∷◌, ◌++◌, length, take, slice_get, Option, Some, None, is_some}
+use Rattle.std.specs.Prelude.{List, length, take, slice_get, Option, Some, None, is_some}
 use Rattle.stab_frames.specs.declared.frame.Frame.{Frame}
 use Rattle.stab_c.specs.declared.child.Child.{Child}
 use Rattle.stab_c.specs.declared.node.Node.{Node}
@@ -25,13 +25,14 @@ offered_in items child = take child.offered items
 abbrev pub has_place : Node → List ℕ → Bool
 has_place node buffer = nat_lt node.length (length buffer) && nat_lt node.length most_items
 
--- the list after an item came that is taken or not
-abbrev pub grown : Bool → List ℕ → ℕ → List ℕ
-grown taken items item = if taken then items ++ item ∷ [] else items
-
 -- the node takes this frame: its receiver would deliver it, and its list has a place for the item
 abbrev pub takes_frame : Node → List ℕ → Frame → Bool
 takes_frame node buffer frame = delivers (receiver_end node.above) frame && has_place node buffer
+
+-- the node loses this frame: its receiver would deliver it, and its list has no place for the item
+abbrev pub loses_frame : Node → List ℕ → Frame → Bool
+loses_frame node buffer frame =
+    delivers (receiver_end node.above) frame && not (has_place node buffer)
 
 -- the frame is old: the open receiver remembers its label
 abbrev pub is_old : ReceiverEnd → Frame → Bool

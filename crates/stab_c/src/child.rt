@@ -1,8 +1,9 @@
 ghost use Rattle.std.specs.Prelude.{◌≡◌, ◌&&◌, not, true, false, is_none, is_some, slice_get};
 ghost use Rattle.std.specs.Prelude.{◌+◌, ◌<◌, IfSome, if◌then◌else◌};
 ghost use Rattle.stab_frames.specs.Parameters.{fault_of};
+ghost use Rattle.stab_c.specs.Acts.{IsAckReceived, IsPolled, answered};
 ghost use Rattle.stab_c.specs.Ends.{acknowledges, after_ack, frame_to_send, new_sender};
-ghost use Rattle.stab_c.specs.Meaning.{parameters_of, sender_end, written_frame};
+ghost use Rattle.stab_c.specs.Meaning.{frame_of, parameters_of, sender_end, written_frame};
 ghost use Rattle.stab_c.specs.NodeList.{counted, list_in, most_items, offered_next, takes_next};
 
 use crate::line::{LineFrame, LinkParams};
@@ -92,6 +93,9 @@ pub extern "C" fn rignolda_node_poll(
     ensures some { result ≡ is_some (frame_to_send (sender_end child.new.sender)) }
     ensures written { frame.new ≡
         written_frame frame.old (frame_to_send (sender_end child.new.sender)) }
+    ensures act { IsPolled (list_in list.now node.now) child.old.offered
+        (sender_end child.old.sender) child.new.offered (sender_end child.new.sender)
+        (answered result (frame_of frame.new)) }
 {
     offer_next(node, child, list);
     rignolda_sender_frame(&child.sender, frame)
@@ -106,6 +110,9 @@ pub extern "C" fn rignolda_child_on_ack(child: &mut Child, params: &LinkParams, 
         sender_end child.new.sender ≡
         after_ack (parameters_of params.now) (sender_end child.old.sender) label }
     ensures refused { result ≡ false → child.new.sender ≡ child.old.sender }
+    ensures act { is_none (fault_of params.now.capacity params.now.labels) ≡ true →
+        IsAckReceived (parameters_of params.now) (sender_end child.old.sender) label result
+        (sender_end child.new.sender) }
     ensures offered { child.new.offered ≡ child.old.offered }
     ensures acknowledged { child.new.acknowledged ≡ counted result child.old.acknowledged }
     ensures ignored { child.new.ignored ≡ counted (not result) child.old.ignored }

@@ -1,8 +1,10 @@
 ghost use Rattle.std.specs.Prelude.{◌≡◌, ◌&&◌, true, false, length, if◌then◌else◌};
+ghost use Rattle.stab_c.specs.Acts.{IsFrameReceived};
 ghost use Rattle.stab_c.specs.Ends.{after_frame, delivers, new_receiver};
+ghost use Rattle.stab_c.specs.Line.{with_taken};
 ghost use Rattle.stab_c.specs.Meaning.{frame_of, receiver_end};
-ghost use Rattle.stab_c.specs.NodeList.{backlog, counted, grown, has_place, is_old, list_in};
-ghost use Rattle.stab_c.specs.NodeList.{takes_frame};
+ghost use Rattle.stab_c.specs.NodeList.{backlog, counted, has_place, is_old, list_in};
+ghost use Rattle.stab_c.specs.NodeList.{loses_frame, takes_frame};
 
 use crate::child::Child;
 use crate::line::LineFrame;
@@ -40,7 +42,7 @@ pub extern "C" fn rignolda_node_init(node: &mut Node, label: u16, opening: u32)
 #[unsafe(no_mangle)]
 pub extern "C" fn rignolda_node_publish(node: &mut Node, list: &mut [u32], item: u32) -> bool
     ensures had_place { result ≡ has_place node.old list.old }
-    ensures list { list_in list.new node.new ≡ grown result (list_in list.old node.old) item }
+    ensures list { list_in list.new node.new ≡ with_taken result (list_in list.old node.old) item }
     ensures size { length list.new ≡ length list.old }
     ensures receiver { node.new.above ≡ node.old.above }
     ensures count { node.new.old_frames ≡ node.old.old_frames }
@@ -66,7 +68,7 @@ pub extern "C" fn rignolda_node_on_frame(
 ) -> bool
     ensures taken { result ≡ takes_frame node.old list.old (frame_of frame.now) }
     ensures list { list_in list.new node.new ≡
-        grown result (list_in list.old node.old) frame.now.item }
+        with_taken result (list_in list.old node.old) frame.now.item }
     ensures size { length list.new ≡ length list.old }
     ensures receiver { receiver_end node.new.above ≡
         (if result then after_frame (receiver_end node.old.above) (frame_of frame.now)
@@ -76,6 +78,9 @@ pub extern "C" fn rignolda_node_on_frame(
     ensures refused { result ≡ false →
         (node.new.above ≡ node.old.above) × (node.new.length ≡ node.old.length) }
     ensures unwritten { result ≡ false → list.new ≡ list.old }
+    ensures act { loses_frame node.old list.old (frame_of frame.now) ≡ false →
+        IsFrameReceived (receiver_end node.old.above) (frame_of frame.now) result
+        (receiver_end node.new.above) }
 {
     if !rignolda_receiver_is_fresh(&node.above, frame) {
         if node.above.closed == 0 {

@@ -1,4 +1,5 @@
 ghost use Rattle.std.specs.Prelude.{◌≡◌, is_some, false, if◌then◌else◌};
+ghost use Rattle.stab_c.specs.Acts.{IsAckSent, IsFrameReceived, IsReceiverClosed, answered};
 ghost use Rattle.stab_c.specs.Ends.{ack_to_send, after_frame, closed_receiver, delivers};
 ghost use Rattle.stab_c.specs.Ends.{new_receiver};
 ghost use Rattle.stab_c.specs.Meaning.{frame_of, receiver_end, written};
@@ -44,8 +45,8 @@ pub extern "C" fn rignolda_receiver_is_fresh(receiver: &ReceiverHalf, frame: &Li
     receiver.closed == 0 && fresh
 }
 
-/// Gives the receiver a frame. If it is open and the frame is fresh, then it writes the frame's item
-/// and returns true.
+/// Gives the receiver a frame. If it is open and the frame is fresh, then it writes the frame's
+/// item and returns true.
 #[unsafe(no_mangle)]
 pub extern "C" fn rignolda_receiver_on_frame(
     receiver: &mut ReceiverHalf,
@@ -58,6 +59,8 @@ pub extern "C" fn rignolda_receiver_on_frame(
     ensures step { receiver_end receiver.new ≡
         after_frame (receiver_end receiver.old) (frame_of frame.now) }
     ensures refused { result ≡ false → receiver.new ≡ receiver.old }
+    ensures act { IsFrameReceived (receiver_end receiver.old) (frame_of frame.now) result
+        (receiver_end receiver.new) }
 {
     if receiver.closed != 0 {
         return false;
@@ -73,11 +76,13 @@ pub extern "C" fn rignolda_receiver_on_frame(
     }
 }
 
-/// Writes the label to acknowledge now, and returns true; or returns false where the receiver is closed.
+/// Writes the label to acknowledge now, and returns true; or returns false where the receiver is
+/// closed.
 #[unsafe(no_mangle)]
 pub extern "C" fn rignolda_receiver_ack(receiver: &ReceiverHalf, label: &mut u16) -> bool
     ensures some { result ≡ is_some (ack_to_send (receiver_end receiver.now)) }
     ensures written { label.new ≡ written label.old (ack_to_send (receiver_end receiver.now)) }
+    ensures act { IsAckSent (receiver_end receiver.now) (answered result label.new) }
 {
     if receiver.closed != 0 {
         return false;
@@ -89,7 +94,8 @@ pub extern "C" fn rignolda_receiver_ack(receiver: &ReceiverHalf, label: &mut u16
 /// Closes the receiver for good: it takes no frame any more, and sends no acknowledgement.
 #[unsafe(no_mangle)]
 pub extern "C" fn rignolda_receiver_close(receiver: &mut ReceiverHalf)
-    ensures { receiver_end receiver.new ≡ closed_receiver (receiver_end receiver.old) }
+    ensures step { receiver_end receiver.new ≡ closed_receiver (receiver_end receiver.old) }
+    ensures act { IsReceiverClosed (receiver_end receiver.old) (receiver_end receiver.new) }
 {
     receiver.closed = 1;
 }

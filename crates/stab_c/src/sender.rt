@@ -1,8 +1,9 @@
 ghost use Rattle.std.specs.Prelude.{◌≡◌, ◌&&◌, is_none, is_some, true, false};
 ghost use Rattle.stab_frames.specs.Parameters.{fault_of};
+ghost use Rattle.stab_c.specs.Acts.{IsAckReceived, IsFrameSent, IsOffer, IsSenderClosed, answered};
 ghost use Rattle.stab_c.specs.Ends.{accepts, acknowledges, after_ack, closed_sender};
 ghost use Rattle.stab_c.specs.Ends.{frame_to_send, new_sender, offered_to};
-ghost use Rattle.stab_c.specs.Meaning.{parameters_of, sender_end, written_frame};
+ghost use Rattle.stab_c.specs.Meaning.{frame_of, parameters_of, sender_end, written_frame};
 
 use crate::line::{LineFrame, LinkParams};
 use stab_core::Sender;
@@ -52,6 +53,7 @@ pub extern "C" fn rignolda_sender_offer(sender: &mut SenderHalf, item: u32) -> b
     ensures taken { result ≡ accepts (sender_end sender.old) }
     ensures step { sender_end sender.new ≡ offered_to (sender_end sender.old) item }
     ensures refused { result ≡ false → sender.new ≡ sender.old }
+    ensures act { IsOffer (sender_end sender.old) item result (sender_end sender.new) }
 {
     if sender.closed != 0 || !meant(sender).hold(item) {
         return false;
@@ -67,6 +69,7 @@ pub extern "C" fn rignolda_sender_frame(sender: &SenderHalf, frame: &mut LineFra
     ensures some { result ≡ is_some (frame_to_send (sender_end sender.now)) }
     ensures written { frame.new ≡
         written_frame frame.old (frame_to_send (sender_end sender.now)) }
+    ensures act { IsFrameSent (sender_end sender.now) (answered result (frame_of frame.new)) }
 {
     if sender.closed != 0 {
         return false;
@@ -84,8 +87,8 @@ pub extern "C" fn rignolda_sender_frame(sender: &SenderHalf, frame: &mut LineFra
     }
 }
 
-/// Gives the sender an acknowledgement, and returns true if it is the one that it waits for: then the
-/// sender is idle with the next label. Parameters that are not lawful are refused.
+/// Gives the sender an acknowledgement, and returns true if it is the one that it waits for: then
+/// the sender is idle with the next label. Parameters that are not lawful are refused.
 #[unsafe(no_mangle)]
 pub extern "C" fn rignolda_sender_on_ack(
     sender: &mut SenderHalf,
@@ -97,6 +100,9 @@ pub extern "C" fn rignolda_sender_on_ack(
     ensures step { is_none (fault_of params.now.capacity params.now.labels) ≡ true →
         sender_end sender.new ≡ after_ack (parameters_of params.now) (sender_end sender.old) label }
     ensures refused { result ≡ false → sender.new ≡ sender.old }
+    ensures act { is_none (fault_of params.now.capacity params.now.labels) ≡ true →
+        IsAckReceived (parameters_of params.now) (sender_end sender.old) label result
+        (sender_end sender.new) }
 {
     let Ok(lawful) = Params::new(params.capacity, params.labels) else {
         return false;
@@ -110,10 +116,12 @@ pub extern "C" fn rignolda_sender_on_ack(
     true
 }
 
-/// Closes the sender for good: it takes no offer and no acknowledgement any more, and sends nothing.
+/// Closes the sender for good: it takes no offer and no acknowledgement any more, and it sends
+/// nothing.
 #[unsafe(no_mangle)]
 pub extern "C" fn rignolda_sender_close(sender: &mut SenderHalf)
-    ensures { sender_end sender.new ≡ closed_sender (sender_end sender.old) }
+    ensures step { sender_end sender.new ≡ closed_sender (sender_end sender.old) }
+    ensures act { IsSenderClosed (sender_end sender.old) (sender_end sender.new) }
 {
     sender.closed = 1;
 }

@@ -9,10 +9,16 @@
 //! `2 * capacity + 1`.
 //!
 //! A [`Node`] is a receiver, a list in memory that the caller lends, and a [`Child`] for each link
-//! below it.
+//! below it. In a tree of nodes, with a line like this for each link, the list of a node is at most
+//! C + E strays and after them published items in their order, each at most once; and before its
+//! last one none is missing, except among the first M. C, M and E are sums over the node's path
+//! from the root: of `capacity` and of `2 * capacity + 1` over the links, and over the inner nodes
+//! of the most items, at most 64, that their lists may begin with.
 //!
-//! Each call is one of the C library that this crate links, whose code is proved. None takes
-//! memory, waits, reads a clock, or panics. What goes over a line, and when, is the caller's.
+//! Each call is one of the C library that this crate links, whose code is proved: it is a step of
+//! the definitions that these laws are about, from every bit pattern of its structs. None takes
+//! memory, waits, reads a clock, or panics. What goes over a line, and when, is the caller's. The
+//! header `include/rignolda.h` names the laws.
 //!
 //! ```
 //! use rignolda::{Params, Receiver, Sender};

@@ -5,7 +5,8 @@ use crate::{calls, Frame, Params};
 ///
 /// The list is what the node begins with, its opening, and then what came: published items at the
 /// root, elsewhere what the receiver delivered. Each child is offered the list in its order. A list
-/// that is full takes no fresh frame, as if the line had lost it.
+/// that is full takes no fresh frame, as if the line had lost it. What holds of the list in a tree
+/// is said at the head of this crate.
 ///
 /// ```
 /// use rignolda::{Child, Node, Params};
