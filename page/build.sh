@@ -16,8 +16,8 @@ unset CDPATH
 top=$(dirname -- "$(dirname -- "$(readlink -f -- "${BASH_SOURCE[0]}")")")
 crate=stab_page
 target=wasm64-unknown-unknown
-# bytes of the module's stack: the lists of a link are on it
-stack=4194304
+# bytes of the module's stack: the lists of all links of a tree are on it, and copies of them
+stack=16777216
 
 fail() {
     printf 'page/build.sh: %s\n' "$1" >&2
@@ -40,11 +40,12 @@ build() {
     words=(-L "dependency=$kit/rlibs" --extern "std=$kit/rlibs/std.rlib")
     for library in $line; do
         folder=$kit/rlibs
-        if [ -d "$top/crates/$library" ]; then
-            folder=$top/crates/$library/out/rlib
-            words+=(-L "dependency=$folder")
-        fi
+        [ ! -d "$top/crates/$library" ] || folder=$top/crates/$library/out/rlib
         words+=(--extern "$library=$folder/$library.rlib")
+    done
+    # (these libraries use others of the repository)
+    for folder in "$top"/crates/*/out/rlib; do
+        words+=(-L "dependency=$folder")
     done
     "$kit/bin/rattle" build --crate-name "$crate" src/lib.rt --crate-type staticlib \
         --target "$target" --toolchain "$kit/toolchain" "${words[@]}" \

@@ -9,7 +9,10 @@ In each browser it looks that
 - the page is at most 100 kB, and ready in less than 200 ms;
 - each link example, and each drawn job (1,000 of them), gives the text of `stab link --trace`, and
   the strays and missing items that are counted are within their bounds;
-- each link job that the program refuses is refused, and no other;
+- each tree example that fits the page, and each drawn small tree with a schedule (1,000 of them),
+  gives the text of `stab tree`; the strays and missing items of each node are those that an own
+  count finds in this text, and within bounds that are added up here;
+- each job that the program refuses is refused, and no other, but for trees that are too large;
 - each exercise is refused with too few events, and solved with the events that are given here;
 - the buttons, the slider, the keys and the address do what they say;
 
@@ -190,9 +193,9 @@ class Firefox:
         self.process.wait()
 
 
-def program(job):
-    """What `stab link --trace` answers: its text, or None where it refuses."""
-    done = subprocess.run([TOP / "stab", "link", "--trace"], input=job, capture_output=True)
+def program(job, *words):
+    """What `stab link --trace` answers, or `stab` with these words: its text, or None where it refuses."""
+    done = subprocess.run([TOP / "stab", *(words or ["link", "--trace"])], input=job, capture_output=True)
     return done.stdout.decode() if done.returncode == 0 else None
 
 
@@ -230,6 +233,82 @@ def long_job():
     return json.dumps({"capacity": 64, "labels": 130, "start": start, "events": events})
 
 
+# the published items of a drawn tree begin here, and what is in its links is below
+PUBLISHED = 1000
+
+
+def drawn_tree(draw):
+    """A drawn tree that fits the page, in any file order, with a schedule that mostly does something."""
+    count = draw.choice([1, 2, 2, 3, 3, 4, 5, 8])
+    names = draw.sample(["r", "a", "b", "c-1", "node_2", "x", "y", "a-long-name-of-a-node"], count)
+    above = {name: draw.choice(names[:i]) for i, name in enumerate(names) if i > 0}
+    order = draw.sample(names, count)
+    tree = [{"name": name, "parent": above[name]} if name in above else {"name": name} for name in order]
+    children = [name for name in order if name in above]
+    capacity = draw.choice([1, 1, 1, 2, 3, 8])
+    job = {"capacity": capacity, "labels": draw.choice([2 * capacity + 2, 2 * capacity + 3, 1000]), "tree": tree,
+           "items": [PUBLISHED + i for i in range(draw.choice([0, 3, 10, 30, 256]))]}
+    params = {name: (job["capacity"], job["labels"]) for name in children}
+    if draw.random() < 0.5:
+        for name in children:
+            if draw.random() < 0.5:
+                own = draw.choice([1, 2, 4])
+                params[name] = (own, 2 * own + 2)
+        job["links"] = [{"capacity": params[name][0], "labels": params[name][1]} for name in children]
+    if draw.random() < 0.8:
+        job["starts"] = []
+        for name in children:
+            own, labels = params[name]
+            label = lambda: draw.choice([draw.randrange(labels), draw.randrange(labels), draw.randrange(65536)])
+            job["starts"].append({"frames": [[label(), draw.randrange(PUBLISHED)] for _ in range(draw.randint(0, own))],
+                                  "acks": [label() for _ in range(draw.randint(0, own))], "send": label(), "recv": label()})
+    words = ["offer", "send_frame", "recv_frame", "send_ack", "recv_ack"] * 5
+    words += ["recv_frame_keep", "recv_ack_keep", "lose_frame", "lose_ack"]
+    schedule = []
+    for _ in range(draw.choice([0, 20, 100, 256, 256]) if children else 0):
+        word = draw.choice(words)
+        place = [draw.choice([0, 1, 65535])] if word.startswith("lose") else []
+        schedule.append([draw.choice(children), word, *place])
+    if schedule and draw.random() < 0.1:
+        schedule[draw.randrange(len(schedule))] = [draw.choice(children), "close"]
+    job["schedule"] = schedule
+    return json.dumps(job)
+
+
+def fits_page(job):
+    """Whether a tree that the program takes fits the page."""
+    job = json.loads(job)
+    wide = [job["capacity"]] + [own["capacity"] for own in job.get("links", []) if own]
+    held = job.get("version") == 2 and any(job.get("openings", []))
+    return len(job["tree"]) <= 8 and len(job.get("schedule", [])) <= 256 and len(job["items"]) <= 256 and max(wide) <= 8 and not held
+
+
+def standing(job, text):
+    """Of each node its strays, its missing items and their bounds, counted in the text of the program. No
+    published item may be in a link at its start, and each is published once."""
+    job, rows = json.loads(job), []
+    lists = [[int(word) for word in line.split()[1:]] for line in text.splitlines()[1::2]]
+    above = {node["name"]: node.get("parent") for node in job["tree"]}
+    own = iter(job.get("links", [{"capacity": job["capacity"]} for _ in job["tree"]]))
+    capacity = {name: (next(own) or job)["capacity"] for name, parent in above.items() if parent is not None}
+    for name, items in zip(above, lists):
+        places = [job["items"].index(item) for item in items if item in job["items"]]
+        path = []
+        while above[name] is not None:
+            path.append(capacity[name])
+            name = above[name]
+        missing = len(set(range(max(places, default=0))) - set(places))
+        rows.append([len(items) - len(places), sum(path), missing, sum(2 * c + 1 for c in path)])
+    return rows
+
+
+def tells_apart(job):
+    """Whether each published item is published once and is in no link at its start."""
+    job = json.loads(job)
+    strays = [item for start in job.get("starts", []) for _, item in start.get("frames", [])]
+    return len(set(job["items"])) == len(job["items"]) and not set(strays) & set(job["items"])
+
+
 def offered(item):
     return ["offer", item]
 
@@ -253,6 +332,25 @@ SOLVED = [
      ["lose_frame", 0], "recv_ack"],
     WORST + one_round(13),
 ]
+
+# the same for the exercises of a tree: the node, and what happens on the link into it
+WORST_ON = ["offer", "recv_ack", "send_ack", "offer", "recv_ack", "recv_frame", "send_ack", "offer", "recv_ack"]
+ROUND = ["offer", "send_frame", "recv_frame", "send_ack", "recv_ack"]
+A, B = 1, 2
+SOLVED_TREES = [
+    [[A, word] for word in ROUND] + [[B, word] for word in ROUND[:3]],
+    [[A, "recv_frame"], [B, "recv_frame"]] + [[B, word] for word in ROUND[:3]],
+    [[A, word] for word in WORST_ON + ROUND * 3] + [[B, word] for word in WORST_ON + ROUND[:3]],
+]
+
+TREES = """return args[0].map(text => {
+  try {
+    const job = readTree(text), text_ = treeText(job), { nodes } = treeAfter(job, job.events.length);
+    if (treeText(readTree(treeJobText(job))) !== text_) return ["another tree is saved"];
+    if (nodes.some(node => node.list.length !== node.origins.length)) return ["an item has no origin"];
+    return [text_, nodes.map(n => [n.strays, n.mostStrays, n.missing, n.mostMissing])];
+  } catch (error) { return error instanceof TooLarge ? ["too large"] : error instanceof Fault ? [null] : ["error: " + error]; }
+});"""
 
 TEXTS = """return args[0].map(text => {
   try {
@@ -280,6 +378,68 @@ class Checks:
             said = browser.run(TEXTS, [text for _, text in part])
             for (job, _), text, want in zip(part, said, wanted[first:first + 100]):
                 self.see(f"{name}: {job}", text == want, f"\n{text}\nand not\n{want}")
+
+    def trees(self, browser, name, jobs, wanted):
+        for first in range(0, len(jobs), 100):
+            part = jobs[first:first + 100]
+            said = browser.run(TREES, [text for _, text in part])
+            for (job, data), answer, want in zip(part, said, wanted[first:first + 100]):
+                if want is None:
+                    self.see(f"{name}: {job} is refused", answer[0] in (None, "too large"), answer)
+                elif not fits_page(data):
+                    self.see(f"{name}: {job} does not fit", answer[0] == "too large", answer)
+                else:
+                    self.see(f"{name}: {job}", answer[0] == want, f"\n{answer[0]}\nand not\n{want}")
+                    if answer[0] != want:
+                        continue
+                    counts = standing(data, want)
+                    self.see(f"{name}: bounds of {job}", [row[1::2] for row in answer[1]] == [row[1::2] for row in counts], answer)
+                    self.see(f"{name}: within bounds of {job}", all(a <= b and c <= d for a, b, c, d in answer[1]), answer)
+                    if tells_apart(data):
+                        self.see(f"{name}: counts of {job}", answer[1] == counts, f"{answer[1]} and not {counts}")
+
+    def tree_exercises(self, browser, name):
+        body = "return checkTree(args[0], { ...TREE_TASKS[args[0]].job, events: args[1] });"
+        for i, events in enumerate(SOLVED_TREES):
+            self.see(f"{name}: tree exercise {i + 1} is solved", browser.run(body, i, events) == "", browser.run(body, i, events))
+            self.see(f"{name}: tree exercise {i + 1} fails", browser.run(body, i, events[:-1]) != "")
+            self.see(f"{name}: tree exercise {i + 1} from another start",
+                     browser.run("return checkTree(args[0], TREES['A clean tree']);", i) != "")
+
+    def tree_hands(self, browser, name):
+        """Buttons, slider, keys and the address of the tree."""
+        state = """return [isTreeSeen, treeAt, tree.events.length, tree.names[child],
+            [...$('t-nodes').rows].map(row => [...row.cells].slice(2, 4).map(cell => cell.textContent).join('; '))];"""
+        browser.run("$('see-tree').click(); $('t-runs').value = 'Two links under one schedule'; $('t-load').click(); $('t-last').click();")
+        said = browser.run(state)
+        self.see(f"{name}: the tree at its end", said[0] and said[1] == said[2] == 48 and said[3] == "b", said)
+        self.see(f"{name}: counts at the nodes", said[4] == ["0 of at most 0; 0 of at most 0", "1 of at most 1; 3 of at most 3",
+                                                             "1 of at most 2; 5 of at most 6"], said)
+        browser.run("$('t-at').value = 6; $('t-at').dispatchEvent(new Event('input'));")
+        said = browser.run("return [treeAt, $('t-happened').textContent, tree.names[child]];")
+        self.see(f"{name}: the slider of the tree", said[0] == 6 and "delivers 99" in said[1] and said[2] == "a", said)
+        browser.run("document.body.dispatchEvent(new KeyboardEvent('keydown', {key: 'ArrowLeft', bubbles: true}));")
+        self.see(f"{name}: the left key in the tree", browser.run(state)[1] == 5)
+        browser.run("document.querySelector('[data-act=recv_frame]').click();")
+        self.see(f"{name}: an event replaces the rest of the schedule", browser.run(state)[1:3] == [6, 6])
+        self.see(f"{name}: the saved schedule", json.loads(browser.run("return treeJobText(tree)"))["schedule"][5] == ["a", "recv_frame"])
+        browser.run("showTree(TREES['A clean chain, nothing done yet'], 'x'); pick(2);")
+        dim = "return [...document.querySelectorAll('[data-act]')].filter(b => !b.disabled).map(b => b.dataset.act);"
+        self.see(f"{name}: nothing to offer yet", browser.run(dim) == ["send_ack", "close"], browser.run(dim))
+        browser.run("pick(1);")
+        self.see(f"{name}: the root offers", browser.run(dim) == ["offer", "send_ack", "close"], browser.run(dim))
+        browser.run("showTree(TREES['A wider second link'], 'x'); goTree(12); share();")
+        address = browser.run("return location.href")
+        browser.go(address)
+        self.wait(browser)
+        said = browser.run("return [isTreeSeen, treeAt, tree.events.length, $('fault').textContent];")
+        self.see(f"{name}: a tree in the address", said == [True, 12, 22, ""], said)
+        many = json.dumps({"capacity": 1, "labels": 4, "items": [], "tree": [{"name": f"n{i}", **({"parent": "n0"} if i else {})} for i in range(9)]})
+        said = browser.run("tryJob(args[0]); return $('fault').textContent", many)
+        self.see(f"{name}: a tree that is too large", "this page takes at most 8 nodes" in said, said)
+        said = browser.run("tryJob(args[0], 'x'); return [isTreeSeen, job.events.length]",
+                           json.dumps({"capacity": 1, "labels": 4, "start": {"send": 0, "recv": 1}, "events": ["send_ack"]}))
+        self.see(f"{name}: a link job shows the link", said == [False, 1], said)
 
     def exercises(self, browser, name):
         for i, events in enumerate(SOLVED):
@@ -337,6 +497,11 @@ def pictures(browser, name, folder, dark):
         pathlib.Path(folder, kind + ".png").write_bytes(browser.picture())
         wider = browser.run("return document.documentElement.scrollWidth - innerWidth")
         yield kind, wider
+        for title, at in (("Two links under one schedule", 40), ("A clean tree", 30)):
+            browser.run("showTree(TREES[args[0]], args[0], args[1]);", title, at)
+            time.sleep(0.6)
+            pathlib.Path(folder, f"{kind}-{title.split()[0].lower()}-tree.png").write_bytes(browser.picture())
+            yield f"{kind}, {title}", browser.run("return document.documentElement.scrollWidth - innerWidth")
 
 
 def main():
@@ -360,6 +525,15 @@ def main():
     jobs = texts + [(f"drawn job {i}", drawn_job(draw)) for i in range(words.jobs)]
     jobs.append(("4096 events", long_job()))
     wanted = [program(text.encode()) for _, text in jobs]
+    files = sorted(DATA.glob("trees/*.json")) + sorted(DATA.glob("refused_trees/*.json"))
+    trees = [(f.name, f.read_text()) for f in files]
+    # (the page does not look at scripts and turns)
+    unseen = lambda text: any(f'"{word}"' in text for word in ("scripts", "turns"))
+    trees = [(f.name, text) for f, (_, text) in zip(files, trees) if "refused" not in f.parent.name or not unseen(text)]
+    trees += [(f"drawn tree {i}", drawn_tree(draw)) for i in range(words.jobs)]
+    wanted_trees = [program(text.encode(), "tree") for _, text in trees]
+    fitting = sum(want is not None and fits_page(text) for (_, text), want in zip(trees, wanted_trees))
+    print(f"{len(trees)} trees, of which {fitting} fit the page")
     accepted = sum(text is not None for text in wanted)
     print(f"{len(jobs)} jobs, of which the program takes {accepted}")
     for name in words.browsers:
@@ -383,6 +557,9 @@ def main():
                     checks.texts(browser, name, jobs, wanted)
                     checks.exercises(browser, name)
                     checks.hands(browser, name)
+                    checks.trees(browser, name, trees, wanted_trees)
+                    checks.tree_exercises(browser, name)
+                    checks.tree_hands(browser, name)
                 if words.pictures:
                     os.makedirs(words.pictures, exist_ok=True)
                     browser.go(PAGE.as_uri())

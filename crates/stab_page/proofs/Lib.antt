@@ -1,2 +1,4 @@
-mod Lists
+mod Bounds
+mod Schedule
 mod Strays
+mod Trees

@@ -1,6 +1,4 @@
-pub mod Codes
-pub mod PageLink
-pub mod PageLinkInside
-pub mod Effects
-pub mod Standing
-pub mod Report
+pub mod TreeCodes
+pub mod TracedTree
+pub mod TreeStanding
+pub mod TreeReport

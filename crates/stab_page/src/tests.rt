@@ -1,8 +1,10 @@
-//! The worst start, as a page asks for it.
+//! The worst start and a small tree, as a page asks for them.
 
-use crate::code::{EventCode, FrameCode};
 use crate::export::stab_page_report;
-use crate::numbers::MAX_NUMBERS;
+use crate::tree_code::{LinkCode, TreeEventCode};
+use crate::tree_export::stab_page_tree_report;
+use stab_page_link::code::{EventCode, FrameCode};
+use stab_page_link::numbers::MAX_NUMBERS;
 use std::test::Fail;
 
 /// The worst events: items 10 to 13 are offered.
@@ -37,4 +39,36 @@ fn worst_start(rt: HostRuntime) {
     ];
     assert!(rt; count == 35);
     assert!(rt; &numbers[..35] == wanted.as_slice());
+}
+
+/// A stray on the link from the root into the only other node, and then one published item, with
+/// its acknowledgement.
+#[test]
+fn stray_in_a_tree(rt: HostRuntime) {
+    let link = LinkCode {
+        capacity: 1,
+        labels: 4,
+        send_label: 0,
+        recv_label: 1,
+        frame_count: 1,
+        ack_count: 0,
+        acks: [0; 8],
+        frames: [FrameCode { label: 2, item: 99 }; 8],
+    };
+    let events = [2, 0, 1, 2, 4, 5].map(|kind| TreeEventCode {
+        child: 1,
+        place: 0,
+        kind,
+    });
+    let mut numbers = [0; MAX_NUMBERS];
+    let count = stab_page_tree_report(&[65535, 0], &[link], &[7], &events, &mut numbers);
+    let wanted = [
+        1, 1, 0, 0, 0, 0, 0, // the root: its item, strays and missing items with their bounds
+        1, 0, 1, 0, 1, 0, 0, 0, 0, 1, 2, 2, 0, // the link: labels, counts, lengths
+        7, 99, 7, 0, 0, 1, 0, // offered, delivered, origins
+        2, 0, 0, 1, 0, 1, 1, 0, 3, // the other node: its items, strays and missing items
+        6, 3, 1, 2, 3, 2, 5, // effects
+    ];
+    assert!(rt; count == 43);
+    assert!(rt; &numbers[..43] == wanted.as_slice());
 }

@@ -1,0 +1,6 @@
+pub mod Codes
+pub mod PageLink
+pub mod PageLinkInside
+pub mod Effects
+pub mod Standing
+pub mod Report
