@@ -40,6 +40,8 @@ impl<'a> Judge<'a> {
         ensures none { IsNone result ↔ Obeys self.now report.now }
         ensures broken { IfSome result (IsBroken self.now report.now) }
         ensures first { IfSome result (IsFirst self.now report.now) }
+        ensures known { IfSome result
+            (λ broken. place_of self.now broken < length self.now.tree.parents) }
     {
         let _tree = self.tree.root();
         laws::nodes_that_obey_are_enough();

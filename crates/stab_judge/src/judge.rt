@@ -82,7 +82,7 @@ impl<'a> Judge<'a> {
     }
 
     /// What a node begins with that nobody published.
-    pub(crate) fn opening_at(&self, node: NodeId) -> &[Item]
+    pub fn opening_at(&self, node: NodeId) -> &[Item]
         requires { node < length self.now.tree.parents }
         ensures { result.now ≡ opening_at self.now.openings.lists node }
     {
@@ -90,7 +90,7 @@ impl<'a> Judge<'a> {
     }
 
     /// The capacity of the link into a node, and 0 at the root.
-    pub(crate) fn capacity_into(&self, node: NodeId) -> u16
+    pub fn capacity_into(&self, node: NodeId) -> u16
         ensures { result ≡ capacity_into self.now node }
     {
         match self.tree.link_place(node) {
@@ -100,7 +100,7 @@ impl<'a> Judge<'a> {
     }
 
     /// The items in the frames of the link into a node at its start.
-    pub(crate) fn garbage_into(&self, node: NodeId) -> &[Item]
+    pub fn garbage_into(&self, node: NodeId) -> &[Item]
         ensures { result.now ≡ garbage_into self.now node }
     {
         match self.tree.link_place(node) {

@@ -1,15 +1,18 @@
-//! Reads the text of a report of `stab run`, so that a judge can judge it.
+//! Reads the text of a report of `stab run`, or that of `stab tree`, so that a judge can judge it.
 //!
 //! [`read_report`] takes the counts and items out of a text, prints the report that they make, and
 //! compares it with the text byte by byte. So what is accepted is exactly the text of the report
-//! that is answered, with the names and depths of the tree.
+//! that is answered, with the names and depths of the tree. [`read_tree_text`] does the same of the
+//! text of a tree, and [`read_text`] looks which of both a text is.
 #![tactic(auto)]
 
 mod fault;
 mod lines;
 mod read;
 mod text;
+mod tree;
 
 pub use fault::ReportFault;
-pub use read::read_report;
+pub use read::{read_report, read_text, read_tree_text};
 pub use text::report_text;
+pub use tree::tree_text;

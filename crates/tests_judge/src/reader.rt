@@ -2,7 +2,7 @@
 
 use serde_json::Value;
 use stab_judge::Report;
-use stab_reports::{ReportFault, read_report, report_text};
+use stab_reports::{ReportFault, read_report, read_text, read_tree_text, report_text, tree_text};
 use stab_tree::{NodeId, Tree, read_tree};
 use std::alloc::Global;
 use std::process::Abort;
@@ -43,6 +43,14 @@ items: 99 8
 
 ";
 
+/// The text of a tree.
+const OF_TREE: &str = "\
+r depth 0 received 2 acked -
+items: 7 8
+a depth 1 received 2 acked 2
+items: 99 8
+";
+
 /// The tree of the two nodes.
 fn tree(rt: &(impl Abort + Alloc<A = Global>)) -> Tree {
     let value = Value::from_str(rt.alloc(), TREE).expect(rt, "JSON");
@@ -75,5 +83,30 @@ fn the_first_line_that_differs_is_named(rt: HostRuntime) {
             refusal(&rt, *text) == Some(ReportFault::Line(*line)),
             "{line}"
         );
+    }
+}
+
+#[test]
+fn a_tree_is_read_and_printed_again(rt: HostRuntime) {
+    let tree = tree(&rt);
+    let report = read_tree_text(rt.alloc(), &tree, OF_TREE.as_bytes()).expect(&rt, "a tree");
+    let text = tree_text(rt.alloc(), &tree, &report).expect(&rt, "a text");
+    assert!(rt; text.as_str() == OF_TREE);
+    let of_run = report_text(rt.alloc(), &tree, &report).expect(&rt, "a text");
+    assert!(rt; of_run.as_str().matches(" ended turns\n").count() == 2);
+}
+
+#[test]
+fn the_first_line_says_which_text_it_is(rt: HostRuntime) {
+    let rows = [
+        (REPORT, None),
+        (OF_TREE, None),
+        (ZERO, Some(2)),
+        ("", Some(1)),
+    ];
+    let tree = tree(&rt);
+    for (text, line) in &rows {
+        let fault = read_text(rt.alloc(), &tree, text.as_bytes()).err();
+        assert!(rt; fault == line.map(ReportFault::Line), "{line:?}");
     }
 }

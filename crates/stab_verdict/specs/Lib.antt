@@ -1,0 +1,2 @@
+pub mod BoundsTexts
+pub mod Verdicts

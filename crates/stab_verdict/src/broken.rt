@@ -1,0 +1,199 @@
+//! The part of a report that is broken, as text.
+
+ghost use Rattle.std.specs.Prelude.{◌≡◌, ◌++◌, ◌<◌, length, string_bytes, IfOk, OnOk};
+ghost use Rattle.stab_judge.specs.Obeys.{place_of};
+ghost use Rattle.stab_judge.specs.Reports.{OnePerNode};
+ghost use Rattle.stab_verdict.specs.Verdicts.{broken_text, ended_words, entries_text};
+ghost use Rattle.stab_verdict.specs.Verdicts.{handed_on_text, items_line, no_count_text};
+ghost use Rattle.stab_verdict.specs.Verdicts.{of_them_words, opening_text, own_lists};
+ghost use Rattle.stab_verdict.specs.Verdicts.{published_text, root_count_text};
+
+use crate::law::{list_above, name_above, push_link_law};
+use stab_core::push_items_line;
+use stab_frames::Item;
+use stab_judge::{Broken, Judge, Report};
+use stab_tree::Tree;
+use std::alloc::{AllocError, Global};
+
+/// What is said of a broken part of a report.
+pub(crate) fn broken_text(
+    alloc: Global,
+    judge: &Judge<'_>,
+    tree: &Tree,
+    published: &[Item],
+    report: &Report,
+    broken: Broken,
+) -> Result<String, AllocError>
+    requires same_tree { judge.now.tree ≡ tree.now }
+    requires same_items { judge.now.published ≡ published.now }
+    requires entries { OnePerNode tree.now.parents report.now }
+    requires known { place_of judge.now broken < length tree.now.parents }
+    ensures { IfOk result (λ text. string_bytes text ≡ broken_text judge.now report.now broken) }
+{
+    let mut text = String::new(alloc);
+    push_broken(&mut text, judge, tree, published, report, broken)?;
+    Ok(text)
+}
+
+/// Adds what is said of a broken part.
+fn push_broken(
+    text: &mut String,
+    judge: &Judge<'_>,
+    tree: &Tree,
+    published: &[Item],
+    report: &Report,
+    broken: Broken,
+) -> Result<(), AllocError>
+    requires same_tree { judge.now.tree ≡ tree.now }
+    requires same_items { judge.now.published ≡ published.now }
+    requires entries { OnePerNode tree.now.parents report.now }
+    requires known { place_of judge.now broken < length tree.now.parents }
+    ensures { OnOk result (string_bytes text.new
+        ≡ string_bytes text.old ++ broken_text judge.now report.now broken) }
+{
+    let root = tree.root();
+    match broken {
+        Broken::Entries => push_entries(text),
+        Broken::Published => {
+            push_published(text, tree.name(root), published, report.received_at(root))
+        }
+        Broken::RootCount => push_root_count(text, tree.name(root)),
+        Broken::NoCount(child) => push_no_count(text, tree.name(child)),
+        Broken::Opening(child) => push_opening(
+            text,
+            tree.name(child),
+            judge.opening_at(child),
+            report.received_at(child),
+        ),
+        Broken::LinkLaw(child) => push_link_law(text, judge, tree, report, child),
+        Broken::HandedOn(child) => push_handed_on(
+            text,
+            tree.name(child),
+            name_above(judge, tree, child),
+            list_above(judge, tree, report, child).len() as u64,
+            report.acked_at(child).unwrap_or(0),
+        ),
+    }
+}
+
+/// Adds the line of the items of a node.
+#[tactic(auto, unfolding(crate::specs::Verdicts::items_line))]
+pub(crate) fn push_items(text: &mut String, name: &str, items: &[Item]) -> Result<(), AllocError>
+    ensures { OnOk result (string_bytes text.new
+        ≡ string_bytes text.old ++ items_line name.now items.now) }
+{
+    text.push_str("items of ")?;
+    text.push_str(name)?;
+    push_items_line(text, ":", items)
+}
+
+/// Adds that the report has another number of nodes.
+#[tactic(auto, unfolding(crate::specs::Verdicts::entries_text))]
+fn push_entries(text: &mut String) -> Result<(), AllocError>
+    ensures { OnOk result (string_bytes text.new ≡ string_bytes text.old ++ entries_text) }
+{
+    text.push_str("the report has another number of nodes than the tree\n")
+}
+
+/// Adds that the root has other items than the published ones.
+#[tactic(auto, unfolding(crate::specs::Verdicts::published_text))]
+fn push_published(
+    text: &mut String,
+    name: &str,
+    published: &[Item],
+    items: &[Item],
+) -> Result<(), AllocError>
+    ensures { OnOk result (string_bytes text.new
+        ≡ string_bytes text.old ++ published_text name.now published.now items.now) }
+{
+    text.push_str(name)?;
+    text.push_str(": its items are not the published ones\n")?;
+    push_items_line(text, "published:", published)?;
+    push_items(text, name, items)
+}
+
+/// Adds that there is a count at the root.
+#[tactic(auto, unfolding(crate::specs::Verdicts::root_count_text))]
+fn push_root_count(text: &mut String, name: &str) -> Result<(), AllocError>
+    ensures { OnOk result (string_bytes text.new
+        ≡ string_bytes text.old ++ root_count_text name.now) }
+{
+    text.push_str(name)?;
+    text.push_str(": it has a count of acknowledged items, and no link leads into the root\n")
+}
+
+/// Adds that there is no count at a node.
+#[tactic(auto, unfolding(crate::specs::Verdicts::no_count_text))]
+fn push_no_count(text: &mut String, name: &str) -> Result<(), AllocError>
+    ensures { OnOk result (string_bytes text.new
+        ≡ string_bytes text.old ++ no_count_text name.now) }
+{
+    text.push_str(name)?;
+    text.push_str(": it has no count of acknowledged items\n")
+}
+
+/// Adds that the list of a node does not begin with its opening.
+#[tactic(auto, unfolding(crate::specs::Verdicts::opening_text))]
+fn push_opening(
+    text: &mut String,
+    name: &str,
+    opening: &[Item],
+    items: &[Item],
+) -> Result<(), AllocError>
+    ensures { OnOk result (string_bytes text.new
+        ≡ string_bytes text.old ++ opening_text name.now opening.now items.now) }
+{
+    text.push_str(name)?;
+    text.push_str(": its items do not begin with its opening\n")?;
+    push_own_lists(text, name, opening, items)
+}
+
+/// Adds the opening of a node, and its items.
+#[tactic(auto, unfolding(crate::specs::Verdicts::own_lists))]
+pub(crate) fn push_own_lists(
+    text: &mut String,
+    name: &str,
+    opening: &[Item],
+    items: &[Item],
+) -> Result<(), AllocError>
+    ensures { OnOk result (string_bytes text.new
+        ≡ string_bytes text.old ++ own_lists name.now opening.now items.now) }
+{
+    push_items_line(text, "opening:", opening)?;
+    push_items(text, name, items)
+}
+
+/// Adds that a parent ended with its upstream, and not all of its items are acknowledged.
+#[tactic(auto, unfolding(crate::specs::Verdicts::handed_on_text))]
+fn push_handed_on(
+    text: &mut String,
+    name: &str,
+    above: &str,
+    count: u64,
+    acked: u64,
+) -> Result<(), AllocError>
+    ensures { OnOk result (string_bytes text.new
+        ≡ string_bytes text.old ++ handed_on_text name.now above.now count acked) }
+{
+    text.push_str(name)?;
+    text.push_str(": ")?;
+    text.push_str(above)?;
+    push_ended(text, count)?;
+    push_of_them(text, acked)
+}
+
+/// Adds that a node of so many items ended with its upstream.
+#[tactic(auto, unfolding(crate::specs::Verdicts::ended_words))]
+fn push_ended(text: &mut String, count: u64) -> Result<(), AllocError>
+    ensures { OnOk result (string_bytes text.new ≡ string_bytes text.old ++ ended_words count) }
+{
+    write!(text, " ended upstream with {count} items,")
+}
+
+/// Adds how many of these are acknowledged.
+#[tactic(auto, unfolding(crate::specs::Verdicts::of_them_words))]
+fn push_of_them(text: &mut String, acked: u64) -> Result<(), AllocError>
+    ensures { OnOk result (string_bytes text.new ≡ string_bytes text.old ++ of_them_words acked) }
+{
+    write!(text, " and {acked} of them are acknowledged\n")
+}

@@ -1,0 +1,269 @@
+"""Checks that `rignolda check` accepts what `stab` prints, and refuses what is spoiled where it is.
+
+Run by hand, and not by the gate: python3 tests/check_reports.py [COUNT [SEED [RIGNOLDA]]]
+
+Each job is drawn: a tree with starts, scripts, openings, links of their own and few turns, and items
+of which many are equal to one another and to strays. `stab run`, with `--words`, `--mixed` or
+neither, or `stab tree` prints a report of it, which `rignolda check` has to accept. Then one item is
+swapped with the next, doubled, altered or dropped, or a count or an ending is altered, and
+`rignolda check` has to answer what the plain checker below answers: that the report obeys, or which
+part is broken first, at which node; or that the text is no report, with the line. The checker is
+written from docs/FORMATS.md, tries every number of strays, and shares nothing with the program. Of
+reports of runs it is compared with agents/check_report.py as well.
+"""
+
+import collections
+import json
+import random
+import re
+import subprocess
+import sys
+import tempfile
+from pathlib import Path
+
+ROOT = Path(__file__).resolve().parent.parent
+sys.dont_write_bytecode = True
+sys.path.insert(0, str(ROOT / "agents"))
+import check_report  # noqa: E402
+
+ACTS = ["offer", "offer", "send_frame", "send_frame", "recv_frame", "recv_frame", "recv_frame_keep",
+        "send_ack", "send_ack", "recv_ack", "recv_ack", "recv_ack_keep", "close"]
+SAID = {
+    "published": "its items are not the published ones",
+    "root count": "it has a count of acknowledged items, and no link leads into the root",
+    "no count": "it has no count of acknowledged items",
+    "opening": "its items do not begin with its opening",
+    "link law": "what it has after its opening is not what the link law allows",
+}
+
+
+def drawn_job(draw, words):
+    """A job that `stab` accepts; all capacities are 1 where its links are to be words."""
+    def capacity():
+        return 1 if words else draw.choice([1, 1, 2, 3])
+    most, nodes = capacity(), draw.choice([1, 2, 3, 4, 5, 8])
+    names = [f"n{at}" for at in range(nodes)]
+    draw.shuffle(names)
+    order = list(range(nodes))
+    parents = [None] + [draw.randrange(max(0, at - 3), at) for at in range(1, nodes)]
+    if draw.random() < 0.3:
+        draw.shuffle(order)                     # a child may come before its parent in the file
+    tree = [{"name": names[at]} if parents[at] is None else
+            {"name": names[at], "parent": names[parents[at]]} for at in order]
+    top = draw.choice([3, 20, 2 ** 32])
+    made = {"capacity": most, "labels": 2 * most + 2 + draw.randrange(4), "tree": tree,
+            "items": [draw.randrange(top) for _ in range(draw.randrange(14))],
+            "turns": draw.choice([1, 3, 10, 40, 200, 1000])}
+    links = [at for at in order if parents[at] is not None]
+    own = [most] * len(links)
+    if draw.random() < 0.5:
+        made["links"] = []
+        for at in range(len(links)):
+            own[at] = draw.choice([most, capacity()])
+            made["links"].append({"capacity": own[at], "labels": 2 * own[at] + 2})
+    if draw.random() < 0.8:
+        made["starts"] = [{
+            "frames": [[draw.randrange(9), draw.randrange(top)]
+                       for _ in range(draw.randrange(own[at] + 1))],
+            "acks": [draw.randrange(9) for _ in range(draw.randrange(own[at] + 1))],
+            "send": draw.randrange(9), "recv": draw.randrange(9)} for at in range(len(links))]
+    if draw.random() < 0.6:
+        made["scripts"] = [{"seed": [draw.randrange(99), at], "length": 40,
+                            "loss": draw.choice([0, 100, 400]), "repeat": draw.choice([0, 300])}
+                           for at in range(len(links))]
+    if draw.random() < 0.6:
+        made.update(version=2, h=3)
+        made["openings"] = [[draw.randrange(top) for _ in range(draw.randrange(4))]
+                            if parents[at] is not None and at in parents else [] for at in order]
+    if links:
+        made["schedule"] = [[names[draw.choice(links)], draw.choice(ACTS[:-1] * 9 + ACTS)]
+                            for _ in range(draw.choice([0, 30, 200]))]
+    return made
+
+
+def is_picked(part, whole):
+    """Whether some items of `whole`, in their order, are `part`."""
+    at = 0
+    for item in part:
+        while at < len(whole) and whole[at] != item:
+            at += 1
+        if at == len(whole):
+            return False
+        at += 1
+    return True
+
+
+def link_law(above, acked, capacity, frames, delivered):
+    """Whether the delivered list can be cut into strays, early items, sure items and one more."""
+    if acked > len(above):
+        return False
+    first = 2 * capacity + 1
+    for more in (above[acked:acked + 1], []):
+        sure = above[first:acked] + more
+        if sure and delivered[-len(sure):] != sure:
+            continue
+        rest = delivered[:len(delivered) - len(sure)]
+        for strays in range(min(capacity, len(rest)) + 1):
+            if is_picked(rest[:strays], frames) and is_picked(rest[strays:], above[:min(first, acked)]):
+                return True
+    return False
+
+
+def depth_of(node, parents):
+    """How many links there are from the root to a node."""
+    return 0 if parents[node] is None else 1 + depth_of(parents[node], parents)
+
+
+def read(job, text, with_ends):
+    """What a text says of each node, or the first line that is not as it has to be."""
+    parents = {node["name"]: node.get("parent") for node in job["tree"]}
+    lines = text.split("\n")
+    found, at = {}, 0
+    for name in parents:
+        at += 1
+        counts = lines[at - 1] if at <= len(lines) else ""
+        items = lines[at] if at < len(lines) else ""
+        number = r"(0|[1-9][0-9]*)"
+        end = r" ended (upstream|turns)" if with_ends else "()"
+        form = re.fullmatch(f"{re.escape(name)} depth {depth_of(name, parents)} received {number} "
+                            f"acked (-|{number}){end}", counts)
+        listed = re.fullmatch(f"items:(?: {number})*", items)
+        numbers = [int(word) for word in items.split(" ")[1:]] if listed else None
+        if not form or (numbers is not None and int(form[1]) != len(numbers)) \
+                or (form[3] is not None and int(form[3]) >= 2 ** 64):
+            return at
+        at += 1
+        if numbers is None or max(numbers, default=0) >= 2 ** 32:
+            return at
+        found[name] = (numbers, None if form[3] is None else int(form[3]), form[4] == "upstream")
+    return found if lines[at:] == [""] else at + 1
+
+
+def judged(job, text):
+    """What is broken of a text first: the line that is no line of a report, a part and its node, or
+    nothing."""
+    parents = {node["name"]: node.get("parent") for node in job["tree"]}
+    said = read(job, text, re.search(" ended (upstream|turns)$", text.split("\n")[0]) is not None)
+    if isinstance(said, int):
+        return said
+    links = [name for name in parents if parents[name] is not None]
+    for at, (name, parent) in enumerate(parents.items()):
+        items, acked, _ = said[name]
+        if parent is None:
+            if items != job["items"]:
+                return "published", name
+            if acked is not None:
+                return "root count", name
+            continue
+        link = links.index(name)
+        opening = job.get("openings", [[]] * len(parents))[at]
+        capacity = job["links"][link]["capacity"] if "links" in job else job["capacity"]
+        frames = [item for _, item in job["starts"][link]["frames"]] if "starts" in job else []
+        above, _, ended = said[parent]
+        if acked is None:
+            return "no count", name
+        if items[:len(opening)] != opening:
+            return "opening", name
+        if not link_law(above, acked, capacity, frames, items[len(opening):]):
+            return "link law", name
+        if ended and acked != len(above):
+            return "handed on", name
+    return None
+
+
+def spoiled(draw, text):
+    """The text with one item, count or ending altered. Mostly the number of items is counted again,
+    so that the text is still that of a report."""
+    lines = text.split("\n")[:-1]
+    node = draw.randrange(len(lines) // 2)
+    counts, items = lines[2 * node], lines[2 * node + 1].split(" ")[1:]
+    way = draw.choice(["swap", "double", "alter", "drop"] * 3 + ["count", "end", "byte"])
+    if way == "count":
+        counts = re.sub("acked (-|[0-9]+)", lambda _: f"acked {draw.choice(['-', 0, 1, 2, 5, 9])}",
+                        counts)
+    elif way == "end":
+        counts = re.sub(" ended .*", draw.choice([" ended upstream", " ended turns", ""]), counts)
+    elif way == "byte":
+        at = draw.randrange(len(text))
+        return way, text[:at] + draw.choice(["", " ", "0", "\n", "7"]) + text[at + 1:]
+    elif items:
+        at = draw.randrange(len(items))
+        if way == "swap":
+            items[at:at + 2] = items[at:at + 2][::-1]
+        elif way == "double":
+            items.insert(at, items[at])
+        elif way == "alter":
+            items[at] = str(draw.choice([int(items[at]) ^ 1, draw.randrange(20)]))
+        else:
+            del items[at]
+        if draw.random() < 0.95:
+            counts = re.sub("received [0-9]+", f"received {len(items)}", counts)
+    lines[2 * node:2 * node + 2] = [counts, " ".join(["items:", *items])]
+    return way, "\n".join(lines) + "\n"
+
+
+def answer_of(program, folder, job, text, swapped):
+    """The status of `rignolda check`, and the first line that it writes, on either output."""
+    (folder / "job").write_text(job)
+    (folder / "report").write_text(text)
+    words, given = (["job", "-"], text) if swapped else (["-", "report"], job)
+    done = subprocess.run([program, "check", *words], input=given.encode(), cwd=folder,
+                          capture_output=True)
+    return done.returncode, (done.stdout or done.stderr).decode().split("\n")[0]
+
+
+def expected(found):
+    """The status and the beginning of the first line for what the plain checker found."""
+    if found is None:
+        return 0, "obeys"
+    if isinstance(found, int):
+        return 1, f"rignolda: not a report: line {found} is not as a report of this tree has it"
+    part, node = found
+    return 1, f"{node}: " + SAID.get(part, "")
+
+
+def main():
+    """Draws jobs, and compares."""
+    count = int(sys.argv[1]) if len(sys.argv) > 1 else 10000
+    draw = random.Random(int(sys.argv[2]) if len(sys.argv) > 2 else 1)
+    program = sys.argv[3] if len(sys.argv) > 3 else ROOT / "rignolda"
+    failed, found_parts = 0, collections.Counter()
+    with tempfile.TemporaryDirectory() as folder:
+        folder = Path(folder)
+        for case in range(count):
+            command = draw.choice([["run"], ["run", "--words"], ["run", "--mixed"], ["tree"]])
+            job = drawn_job(draw, "--words" in command)
+            whole = json.dumps(job)
+            done = subprocess.run([ROOT / "stab", *command], input=whole.encode(),
+                                  capture_output=True)
+            text = done.stdout.decode()
+            if done.returncode:
+                print(f"FAILED {case}: stab {command}: {done.stderr.decode()}{whole}")
+                failed += 1
+                continue
+            way, other = spoiled(draw, text)
+            for kind, report in (("true", text), (way, other)):
+                found = judged(job, report)
+                status, line = answer_of(program, folder, whole, report, draw.random() < 0.5)
+                wants, begins = expected(found)
+                good = status == wants and line.startswith(begins)
+                if kind == "true":
+                    good = good and found is None
+                if isinstance(found, tuple) and found[0] == "handed on":
+                    good = good and " ended upstream with " in line
+                if re.search(r" ended [a-z]+\n", report) and not isinstance(found, int):
+                    good = good and (check_report.fault(job, report) is None) == (found is None)
+                found_parts[kind, "no report" if isinstance(found, int) else
+                            found[0] if found else "obeys"] += 1
+                if not good:
+                    failed += 1
+                    print(f"FAILED {case} {kind}: {found}, and the answer is {status} {line}\n"
+                          f"{whole}\n{report}")
+    for (kind, part), times in sorted(found_parts.items()):
+        print(f"{kind}: {part} {times}")
+    print(f"{2 * count - failed} passed, {failed} failed")
+    return 1 if failed else 0
+
+
+if __name__ == "__main__":
+    sys.exit(main())
