@@ -1,2 +1,4 @@
 pub mod Words
 pub mod Runs
+pub mod Schedules
+pub mod Rows

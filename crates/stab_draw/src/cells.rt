@@ -1,8 +1,9 @@
 //! Words in their columns.
 
 ghost use Rattle.std.specs.Prelude.{◌≡◌, ◌++◌, ◌-◌, ◌≤◌, codes, decimal, length, replicate};
-ghost use Rattle.std.specs.Prelude.{slice_get, string_bytes, OnOk};
+ghost use Rattle.std.specs.Prelude.{[], slice_get, slice_index_or, string_bytes, OnOk};
 ghost use Rattle.stab_draw.specs.Runs.{state_cells};
+ghost use Rattle.stab_draw.specs.Schedules.{act_word, name_cell};
 ghost use Rattle.stab_draw.specs.Words.{cell, effect_word, event_word, frame_word, item_word};
 ghost use Rattle.stab_draw.specs.Words.{queue_word};
 
@@ -10,6 +11,7 @@ use crate::words::{push_acks, push_effect, push_event, push_frames, push_item};
 use itoa::Buffer;
 use stab_core::{Effect, Event, Link};
 use stab_frames::Item;
+use stab_tree::{NodeId, Tree};
 use std::alloc::AllocError;
 
 /// Adds the rest of a line: the link, and the item that was delivered in this step.
@@ -33,7 +35,7 @@ pub(crate) fn push_state_cells(
 }
 
 /// The item that the sender holds.
-fn held(link: &Link) -> Option<Item>
+pub(crate) fn held(link: &Link) -> Option<Item>
     ensures { result ≡ slice_get link.now.state.offered link.now.state.acked }
 {
     link.offered().get(link.acked() as usize).copied()
@@ -48,6 +50,41 @@ pub(crate) fn push_event_cell(text: &mut String, event: Event) -> Result<(), All
     let from = text.len();
     push_event(text, event)?;
     pad(text, from, 19)
+}
+
+/// Adds an event in its column, or the offer of no item.
+#[tactic(auto, unfolding(crate::specs::Words::cell, crate::specs::Schedules::act_word))]
+pub(crate) fn push_act_cell(text: &mut String, event: Option<Event>) -> Result<(), AllocError>
+    ensures { OnOk result
+        (string_bytes text.new ≡ string_bytes text.old ++ cell 19 (act_word event)) }
+{
+    match event {
+        Some(event) => push_event_cell(text, event),
+        None => text.push_str("\"offer\"             "),
+    }
+}
+
+/// Adds the name of a node in its column.
+#[tactic(auto, unfolding(crate::specs::Words::cell))]
+pub(crate) fn push_name_cell(text: &mut String, tree: &Tree, node: NodeId) -> Result<(), AllocError>
+    ensures { OnOk result
+        (string_bytes text.new ≡ string_bytes text.old ++ name_cell tree.now node) }
+{
+    let from = text.len();
+    text.push_str(name_of(tree, node))?;
+    pad(text, from, 9)
+}
+
+/// The name of a node; what is no node has none.
+fn name_of(tree: &Tree, node: NodeId) -> &str
+    ensures { result.now ≡ slice_index_or tree.now.names node [] }
+{
+    let _tree = tree.root();
+    if node.place() < tree.len() {
+        tree.name(node)
+    } else {
+        ""
+    }
 }
 
 /// Adds an effect in its column.

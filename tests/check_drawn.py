@@ -1,0 +1,280 @@
+#!/usr/bin/env python3
+"""Compares the drawn runs of this repository with those that `rignolda draw` prints.
+
+    tests/check_drawn.py            compares the files NAME.run of the examples, the drawn runs of
+                                    docs/PROTOCOL.md, and the pictures of docs/pictures
+    tests/check_drawn.py --write    writes these pictures anew
+
+A file NAME.run has the words of the printed run of NAME.json, whatever the spaces between them. A
+drawn run of the page is that of the example that is cited last before it. Its cells say what the
+cells of the printed run say. Its marks say what the printed run lets one see: v, ^ and x that an
+entry was received or lost, and * what comes from the start, or is a copy of a label from there.
+
+The program is the one that ./rignolda starts. Where none was released or built of these sources, it
+is the one that the gate has left in crates/rignolda/out; PROGRAM in the environment names another.
+The last line is 'N passed, M failed'.
+"""
+
+import gzip
+import json
+import os
+import re
+import subprocess
+import sys
+import tempfile
+from pathlib import Path
+
+TOP = Path(__file__).resolve().parent.parent
+DATA = TOP / "crates/stab_checks/data"
+PAGE = TOP / "docs/PROTOCOL.md"
+PICTURES = TOP / "docs/pictures"
+# Each picture, with its example.
+DRAWN = {
+    "a_clean_round": "links/two_clean_rounds",
+    "the_worst_start": "worst_start",
+    "labels_enough": "links/why_two_labels_are_too_few",
+    "two_links": "trees/two_links_under_one_schedule",
+}
+# The run of the page that no job has: two labels are refused.
+WITHOUT_JOB = ["What goes wrong with two labels"]
+
+
+# Prints the program that was built of these sources, or `release` where that of release/ was.
+LOOK = """. "$0/tools/launch"; speaker=drawn; read_table rignolda; find_sources
+if find_built rignolda; then printf '%s' "${built[rignolda]}"
+elif is_released rignolda; then printf 'release'; fi"""
+
+
+def program(room):
+    """The program that draws, or None: the one that is named, or one of these sources."""
+    named = os.environ.get("PROGRAM")
+    if named:
+        return Path(named)
+    known = subprocess.run(["bash", "-c", LOOK, TOP], capture_output=True, text=True).stdout
+    if known == "release":
+        unpacked = Path(room) / "rignolda"
+        unpacked.write_bytes(gzip.decompress((TOP / "release/rignolda.gz").read_bytes()))
+        unpacked.chmod(0o755)
+        return unpacked
+    if known:
+        return Path(known)
+    # (the gate has just built it)
+    built = TOP / "crates/rignolda/out/rignolda"
+    return built if built.is_file() else None
+
+
+def draw(drawer, name, *words):
+    """What the program draws of an example, or None and what it said."""
+    job = DATA / (name + ".json")
+    done = subprocess.run([drawer, "draw", *words, job], capture_output=True, text=True)
+    if done.returncode == 0:
+        return done.stdout, None
+    return None, done.stderr.strip() or f"status {done.returncode}"
+
+
+def words_of(text):
+    """The words of each line."""
+    return [line.split() for line in text.splitlines()]
+
+
+# ---- the drawn runs of the page
+
+
+class Marked:
+    """A link as the page draws it: a printed run, with what comes from the start marked."""
+
+    def __init__(self, lines):
+        self.rows = [dict(zip(lines[0].split(), line.split())) for line in lines[1:]]
+        start = self.rows[0]
+        self.frames = [entry + "*" for entry in entries(start["frames"])]
+        self.acks = [entry + "*" for entry in entries(start["acks"])]
+        self.remembers = start["remembers"] + "*"
+        self.stray_items = {entry.split("=")[1] for entry in entries(start["frames"])}
+
+    def cells(self):
+        """The cells of the page for each row: those with marks as they have to be."""
+        for row in self.rows:
+            event, mark = json.loads(row["event"]) if row["event"] != "start" else "start", {}
+            delivers = row["delivers"]
+            if event != "start":
+                mark, delivers = self.step(event, row)
+            yield {"event": event if isinstance(event, str) else f"{event[0]} {event[1]}",
+                   "effect": row["effect"], "label": row["label"], "holds": row["holds"],
+                   "acked": row["acked"], "frames": queue(mark.get("frames"), self.frames),
+                   "acks": queue(mark.get("acks"), self.acks), "remembers": self.remembers,
+                   "delivers": delivers}
+
+    def step(self, event, row):
+        """Takes a step: the marks of the two queues, and what is delivered."""
+        name = event if isinstance(event, str) else event[0]
+        effect, delivers = row["effect"], row["delivers"]
+        if effect == "Nothing":
+            return {}, delivers
+        if name == "send_frame" and effect == "Sent":
+            self.frames.append(f"{row['label']}={row['holds']}")
+        elif name == "send_ack" and effect == "Sent":
+            self.acks.append(self.remembers)
+        elif name.startswith("recv_frame"):
+            kept, front = name.endswith("keep"), self.frames[0]
+            if not kept:
+                self.frames.pop(0)
+            if effect == "Fresh":
+                star = "*" if front.endswith("*") else ""
+                self.remembers, delivers = row["remembers"] + star, delivers + star
+            return {"frames": "v"}, delivers
+        elif name.startswith("recv_ack"):
+            if not name.endswith("keep"):
+                self.acks.pop(0)
+            return {"acks": "^"}, delivers
+        elif name == "lose_frame":
+            self.frames.pop(event[1])
+            return {"frames": "x"}, delivers
+        elif name == "lose_ack":
+            self.acks.pop(event[1])
+            return {"acks": "x"}, delivers
+        return {}, delivers
+
+    def agrees(self, row):
+        """Whether the queues are those of the printed run."""
+        return (entries(row["frames"]) == [entry.rstrip("*") for entry in self.frames]
+                and entries(row["acks"]) == [entry.rstrip("*") for entry in self.acks])
+
+
+def entries(word):
+    """The entries of a queue."""
+    return [] if word == "-" else word.split(",")
+
+
+def queue(mark, queued):
+    """A queue as the page draws it, after its mark."""
+    if mark and mark != "x":
+        # (a front that is kept is drawn after its mark, like the others)
+        return " ".join([mark, *queued])
+    return " ".join([mark, *queued] if mark else queued) or "-"
+
+
+def blocks():
+    """The drawn runs of the page: the line of each, the example cited last before it, its heading,
+    and its lines."""
+    example, heading, block, start = None, None, None, 0
+    for number, line in enumerate(PAGE.read_text().splitlines(), 1):
+        if line.startswith("```"):
+            if block and any(is_head(one) for one in block):
+                yield start, example, heading, block
+            block, start = (None, 0) if block is not None else ([], number)
+        elif block is not None:
+            block.append(line)
+        else:
+            if line.startswith("#"):
+                heading, example = line.lstrip("# "), None
+            for token in re.findall(r"`([\w/]+)`", line):
+                if (DATA / (token + ".run")).is_file():
+                    example = token
+
+
+def is_head(line):
+    """Whether a line names the columns of a run of a link."""
+    return line.split()[:5] == ["event", "effect", "label", "holds", "acked"]
+
+
+NAMES = ["event", "effect", "label", "holds", "acked", "frames", "acks", "remembers", "delivers"]
+
+
+def cut(head, line):
+    """The number of a drawn row, and its cells by name."""
+    at = [found.start() for found in re.finditer(r"\S+", head)][:10]
+    ends = at[1:] + [len(line) + 1]
+    cells = {name: line[first:last].strip() for name, first, last in zip(NAMES, at, ends)}
+    return line[:at[0]].strip(), cells
+
+
+def compare_block(drawer, example, lines):
+    """What is wrong with a drawn run of the page, or None."""
+    text, said = draw(drawer, example)
+    if text is None:
+        return said
+    marked = Marked(text.splitlines())
+    wanted = {}
+    for place, cells in enumerate(marked.cells()):
+        if not marked.agrees(marked.rows[place]):
+            return f"the printed run is not one of queues at row {place}"
+        wanted["" if place == 0 else str(place)] = cells
+    top = next(at for at, line in enumerate(lines) if is_head(line))
+    drawn = [cut(lines[top], line) for line in lines[top + 1:] if line.strip()]
+    order = list(wanted)
+    if [number for number, _ in drawn] != order[-len(drawn):]:
+        return "its rows are not all up to the last one"
+    for number, cells in drawn:
+        effect = wanted[number]
+        if number == "":
+            effect = dict(effect, effect="")
+        if cells["delivers"] == "" and effect["delivers"] == "-":
+            effect = dict(effect, delivers="")
+        # (an item that is a stray of the link above has a mark, which this link knows nothing of)
+        for name in ("event", "holds"):
+            if cells[name].endswith("*"):
+                effect = dict(effect, **{name: effect[name] + "*"})
+        for name in NAMES:
+            if cells[name] != effect[name]:
+                return f"row {number or 'start'}, {name}: {cells[name]!r}, and not {effect[name]!r}"
+    return None
+
+
+# ---- all of it
+
+
+def check(drawer):
+    """Compares everything: the name of each, and what is wrong, or None."""
+    for path in sorted(DATA.glob("**/*.run")):
+        name = str(path.relative_to(DATA).with_suffix(""))
+        text, said = draw(drawer, name)
+        same = text is not None and words_of(text) == words_of(path.read_text())
+        yield f"examples/{name}.run", None if same else said or "the program draws another run"
+    for line, example, heading, lines in blocks():
+        if example:
+            yield f"docs/PROTOCOL.md:{line}, {example}", compare_block(drawer, example, lines)
+        elif heading not in WITHOUT_JOB:
+            yield f"docs/PROTOCOL.md:{line}", "no example is cited before this run"
+    for name, example in DRAWN.items():
+        path = PICTURES / (name + ".svg")
+        text, said = draw(drawer, example, "--svg")
+        same = text is not None and path.is_file() and path.read_text() == text
+        fault = None if same else said or "tests/check_drawn.py --write draws it anew"
+        yield f"docs/pictures/{name}.svg", fault
+    unknown = sorted(path.name for path in PICTURES.glob("*") if path.stem not in DRAWN)
+    yield "docs/pictures has no other files", ", ".join(unknown) or None
+
+
+def write(drawer):
+    """Writes the pictures."""
+    PICTURES.mkdir(exist_ok=True)
+    for name, example in DRAWN.items():
+        text, said = draw(drawer, example, "--svg")
+        if text is None:
+            sys.exit(f"{name}: {said}")
+        (PICTURES / (name + ".svg")).write_text(text)
+
+
+def main():
+    if sys.argv[1:] not in ([], ["--write"]):
+        sys.exit("tests/check_drawn.py takes --write, or no words at all")
+    with tempfile.TemporaryDirectory() as room:
+        drawer = program(room)
+        if drawer is None:
+            print("drawn: no rignolda was built of these sources: run ./release.sh, or ./gate")
+            print("0 passed, 1 failed")
+            sys.exit(1)
+        if sys.argv[1:]:
+            write(drawer)
+            return
+        passed = failed = 0
+        for name, fault in check(drawer):
+            passed, failed = passed + (fault is None), failed + (fault is not None)
+            print(f"same   {name}" if fault is None else f"OTHER  {name}\n       {fault}")
+        if failed:
+            print(f"drawn: by {drawer}; where the sources are newer, run ./release.sh first")
+        print(f"{passed} passed, {failed} failed")
+        sys.exit(0 if failed == 0 else 1)
+
+
+main()
