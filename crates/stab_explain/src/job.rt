@@ -7,13 +7,13 @@ use crate::links::{
 use crate::openings::{look_at_opening_lists, look_at_openings};
 use crate::schedule::{look_at_root_steps, look_at_schedule};
 use crate::scripts::look_at_made_scripts;
-use crate::tree::{look_at_nodes, look_at_tree};
 use serde_json::Value;
 use stab_findings::{
     Known, Notes, Piece, Place, count_of, list_of, list_or_absent, look_at_items, look_at_members,
     look_at_numbers, look_at_params, look_at_whole,
 };
 use stab_job::JobFault;
+use stab_nodes::{look_at_nodes, look_at_tree};
 use stab_script::MAX_EVENTS;
 use stab_tree::Tree;
 use std::alloc::AllocError;

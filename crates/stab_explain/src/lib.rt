@@ -14,12 +14,10 @@ mod explained;
 mod job;
 mod links;
 mod openings;
-mod parents;
 mod reader;
 mod schedule;
 mod scripts;
 mod text;
-mod tree;
 
 pub use explained::explain;
 pub use stab_findings::{Explanation, Finding, Kind, MAX_FINDINGS, Matter, Refusal};

@@ -56,6 +56,9 @@ pub(crate) fn place_of_link<'a>(member: &'a str, entry: usize, tree: &'a Tree) -
 pub(crate) fn look_at_lists_of_links(notes: &mut Notes, value: &Value) -> Result<(), AllocError> {
     let starts = list_or_absent(notes, &Place::member("starts"), value.get("starts"), STARTS)?;
     for (i, start) in starts.iter().enumerate() {
+        if notes.is_done() {
+            break;
+        }
         look_at_start(notes, Place::member("starts").entry(i), start)?;
     }
     look_at_scripts(notes, value)?;
@@ -71,6 +74,9 @@ fn look_at_scripts(notes: &mut Notes, value: &Value) -> Result<(), AllocError> {
         SCRIPTS,
     )?;
     for (i, script) in scripts.iter().enumerate() {
+        if notes.is_done() {
+            break;
+        }
         look_at_script(notes, Place::member("scripts").entry(i), script)?;
     }
     Ok(())
@@ -80,6 +86,9 @@ fn look_at_scripts(notes: &mut Notes, value: &Value) -> Result<(), AllocError> {
 fn look_at_links(notes: &mut Notes, value: &Value) -> Result<(), AllocError> {
     let links = list_or_absent(notes, &Place::member("links"), value.get("links"), LINKS)?;
     for (i, link) in links.iter().enumerate() {
+        if notes.is_done() {
+            break;
+        }
         look_at_link(notes, Place::member("links").entry(i), link)?;
     }
     Ok(())
@@ -159,6 +168,9 @@ pub(crate) fn look_at_starts(
         return Ok(());
     };
     for (i, start) in starts.iter().enumerate() {
+        if notes.is_done() {
+            break;
+        }
         if let Some(capacity) = capacity_at(value, i) {
             look_at_begin(notes, place_of_link("starts", i, tree), start, capacity)?;
         }
@@ -174,6 +186,9 @@ pub(crate) fn look_at_members_of_links(notes: &mut Notes, value: &Value) -> Resu
         return Ok(());
     };
     for (i, script) in scripts.iter().enumerate() {
+        if notes.is_done() {
+            break;
+        }
         look_at_script_members(notes, Place::member("scripts").entry(i), script)?;
     }
     Ok(())
@@ -190,6 +205,9 @@ pub(crate) fn look_at_entries(
         return Ok(());
     };
     for (i, entry) in list.iter().enumerate() {
+        if notes.is_done() {
+            break;
+        }
         look_at_members(notes, Place::member(member).entry(i), entry, known)?;
     }
     Ok(())

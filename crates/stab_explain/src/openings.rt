@@ -26,6 +26,9 @@ pub(crate) fn look_at_opening_lists(notes: &mut Notes, value: &Value) -> Result<
     let place = Place::member("openings");
     let openings = list_or_absent(notes, &place, value.get("openings"), OPENINGS)?;
     for (i, opening) in openings.iter().enumerate() {
+        if notes.is_done() {
+            break;
+        }
         let items = list_of(notes, &place.entry(i), opening, OPENING)?;
         look_at_items(notes, place.entry(i), items)?;
     }
@@ -123,6 +126,9 @@ fn is_parent(tree: &Tree, place: usize) -> bool {
 /// Looks whether only inner nodes have an opening with an item.
 fn look_at_places(notes: &mut Notes, openings: &[Value], tree: &Tree) -> Result<(), AllocError> {
     for (i, opening) in openings.iter().enumerate() {
+        if notes.is_done() {
+            break;
+        }
         if i >= usize::from(tree.len()) {
             break;
         }
@@ -145,6 +151,9 @@ fn look_at_lengths(
     hold: u16,
 ) -> Result<(), AllocError> {
     for (i, opening) in openings.iter().enumerate() {
+        if notes.is_done() {
+            break;
+        }
         if length_of(opening) > usize::from(hold) {
             notes.refuse(
                 JobFault::Opening(OpeningFault::OpeningTooLong),

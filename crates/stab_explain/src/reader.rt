@@ -1,6 +1,8 @@
-ghost use Rattle.std.specs.Prelude.{◌≡◌, codes, is_some, option_map, IfOk};
+ghost use Rattle.std.specs.Prelude.{◌≡◌, ℕ, List, Some, None, false, codes, is_some};
+ghost use Rattle.std.specs.Prelude.{option_map, IfOk};
 ghost use Rattle.serde_json.specs.View.{view};
 ghost use Rattle.stab_job.specs.Jobs.{job};
+ghost use Rattle.stab_json.specs.Values.{value_of};
 ghost use Rattle.stab_script.specs.LinkJobs.{link_job};
 ghost use Rattle.stab_explain.specs.Kinds.{chosen, kind_of};
 ghost use Rattle.stab_explain.specs.Refusals.{refusal_of, refused};
@@ -33,17 +35,32 @@ fn kind_of(value: Option<&Value>) -> Kind
 }
 
 /// The fault that the reader of that kind finds in the bytes, where it finds one; only memory can
-/// be refused.
+/// be refused. Bytes that are known to be no JSON are not read again.
 pub(crate) fn refusal_of(
     alloc: Global,
     kind: Kind,
     bytes: &[u8],
+    is_json: bool,
 ) -> Result<Option<Refusal>, AllocError>
+    requires { is_json ≡ false → value_of bytes.now ≡ None }
     ensures { IfOk result (λ refusal. refusal ≡ refusal_of kind bytes.now) }
 {
+    if !is_json {
+        return Ok(Some(not_json(kind)));
+    }
     match kind {
         Kind::LinkJob => link_job_refusal(alloc, bytes),
         Kind::Job => job_refusal(alloc, bytes),
+    }
+}
+
+/// The fault of bytes that are no JSON.
+fn not_json(kind: Kind) -> Refusal
+    ensures { (bytes : List ℕ) → value_of bytes ≡ None → refusal_of kind bytes ≡ Some result }
+{
+    match kind {
+        Kind::LinkJob => Refusal::LinkJob(LinkJobFault::Json),
+        Kind::Job => Refusal::Job(JobFault::Json),
     }
 }
 

@@ -31,6 +31,9 @@ pub(crate) fn look_at_schedule(
         return Ok(());
     };
     for (i, step) in steps.iter().enumerate() {
+        if notes.is_done() {
+            break;
+        }
         look_at_step(notes, Place::member("schedule").entry(i), step)?;
     }
     look_at_names(notes, steps.as_slice(), tree)
@@ -39,6 +42,9 @@ pub(crate) fn look_at_schedule(
 /// Looks whether the names of the steps are names of nodes.
 fn look_at_names(notes: &mut Notes, steps: &[Value], tree: &Tree) -> Result<(), AllocError> {
     for (i, step) in steps.iter().enumerate() {
+        if notes.is_done() {
+            break;
+        }
         if let Some(name) = name_of(step) {
             if tree.find(name).is_none() {
                 add_unknown(notes, Place::member("schedule").entry(i), name, tree)?;
@@ -87,6 +93,9 @@ pub(crate) fn look_at_root_steps(
         return Ok(());
     };
     for (i, step) in steps.iter().enumerate() {
+        if notes.is_done() {
+            break;
+        }
         if let Some(name) = name_of(step) {
             if tree.find(name) == Some(tree.root()) {
                 add_root(notes, Place::member("schedule").entry(i), name)?;

@@ -1,7 +1,7 @@
 //! The text of an explanation.
 
 use stab_core::StartFault;
-use stab_findings::{Explanation, Finding, Kind, Matter, Refusal, push_number};
+use stab_findings::{Explanation, Finding, Kind, MAX_COUNTED, Matter, Refusal, push_number};
 use std::alloc::{AllocError, Global};
 
 /// The lines of an explanation: each finding, how many more there are, and last what `stab`
@@ -41,7 +41,11 @@ fn push_omitted(text: &mut String, omitted: u64) -> Result<(), AllocError> {
     if omitted == 0 {
         return Ok(());
     }
-    text.push_str("and ")?;
+    text.push_str(if omitted >= MAX_COUNTED {
+        "and at least "
+    } else {
+        "and "
+    })?;
     push_number(text, omitted)?;
     text.push_str(" more\n")
 }

@@ -55,6 +55,9 @@ pub fn look_at_events(
     values: &[Value],
 ) -> Result<(), AllocError> {
     for (i, value) in values.iter().enumerate() {
+        if notes.is_done() {
+            break;
+        }
         look_at_event(notes, place.entry(i), value)?;
     }
     Ok(())

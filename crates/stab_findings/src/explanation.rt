@@ -1,4 +1,4 @@
-ghost use Rattle.std.specs.Prelude.{◌≡◌, IsTrue, None};
+ghost use Rattle.std.specs.Prelude.{◌≡◌, ◌↔◌, IsTrue, None, []};
 
 use crate::refusal::{Kind, Refusal};
 use stab_core::StartFault;
@@ -49,7 +49,8 @@ pub struct Explanation {
 impl Explanation {
     /// Whether the reader accepts the bytes and nothing at all was found.
     pub fn is_clean(&self) -> bool
-        ensures { IsTrue result → self.now.refusal ≡ None }
+        ensures { IsTrue result ↔ ((self.now.refusal ≡ None)
+            × (self.now.findings.items ≡ []) × (self.now.omitted ≡ 0)) }
     {
         self.refusal.is_none() && self.findings.is_empty() && self.omitted == 0
     }

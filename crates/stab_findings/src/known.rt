@@ -31,6 +31,9 @@ pub fn look_at_members(
         return Ok(());
     };
     for name in members.keys() {
+        if notes.is_done() {
+            break;
+        }
         look_at_member(notes, place.part(name.as_str()), name.as_str(), known)?;
     }
     Ok(())

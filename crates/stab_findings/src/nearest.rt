@@ -7,6 +7,9 @@ use strsim::osa_distance;
 /// The most bytes of a name to which the nearest known one is looked for.
 const MAX_COMPARED: usize = 32;
 
+/// The most bytes of a known name that is compared: a longer one is near none of those.
+const MAX_KNOWN: usize = 64;
+
 /// One edit is allowed for so many bytes of a name, if it is to be near a known one.
 const BYTES_PER_EDIT: usize = 3;
 
@@ -36,7 +39,7 @@ impl<'a> Nearest<'a> {
 
     /// Takes this name, where it is nearer.
     pub fn offer(&mut self, alloc: Global, name: &str, known: &'a str) -> Result<(), AllocError> {
-        if self.fewer_than <= 1 {
+        if self.fewer_than <= 1 || known.len() > MAX_KNOWN {
             return Ok(());
         }
         let edits = osa_distance(alloc, name, known)?;

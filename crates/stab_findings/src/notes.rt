@@ -1,3 +1,8 @@
+ghost use Rattle.std.specs.Prelude.{◌≡◌, ◌↔◌, ◌<◌, ◌≤◌, ◌++◌, IsTrue, OnErr, OnOk, decimal};
+ghost use Rattle.std.specs.Prelude.{length, string_bytes};
+ghost use Rattle.stab_findings.specs.Gathered.{Adds, most_counted, most_findings, nothing};
+ghost use Rattle.stab_findings.specs.Shapes.{of_json, of_shape};
+
 use crate::explanation::{Finding, Matter};
 use crate::place::Place;
 use crate::refusal::{Kind, Refusal};
@@ -8,9 +13,14 @@ use stab_job::JobFault;
 use stab_script::LinkJobFault;
 use stab_tree::NodeId;
 use std::alloc::{AllocError, Global};
+use std::marker::Model;
 
 /// The most findings that an explanation has.
 pub const MAX_FINDINGS: usize = 100;
+
+/// The most further findings that are counted: where there are as many, the rest of the job is not
+/// looked at.
+pub const MAX_COUNTED: u64 = 1_000_000;
 
 /// The most characters that are shown of a text of the job.
 const MAX_SHOWN: usize = 40;
@@ -37,9 +47,23 @@ pub struct Notes {
     alloc: Global,
 }
 
+impl Model for Notes {
+    ghost use Rattle.stab_findings.specs.Gathered.{Gathered};
+
+    ghost Value = { Gathered };
+
+    ghost view = { λ n. record {
+      findings = n.findings.items;
+      omitted = n.omitted;
+      kind = n.kind;
+    } };
+}
+
 impl Notes {
     /// No findings about bytes of this kind.
-    pub fn new(alloc: Global, kind: Kind) -> Notes {
+    pub fn new(alloc: Global, kind: Kind) -> Notes
+        ensures { result ≡ nothing kind }
+    {
         Notes {
             findings: Vec::new(alloc),
             omitted: 0,
@@ -49,12 +73,16 @@ impl Notes {
     }
 
     /// The findings, and how many more there were.
-    pub fn into_parts(self) -> (Vec<Finding>, u64) {
+    pub fn into_parts(self) -> (Vec<Finding>, u64)
+        ensures { (result.0.items ≡ self.findings) × (result.1 ≡ self.omitted) }
+    {
         (self.findings, self.omitted)
     }
 
     /// That something has another shape.
-    pub fn of_shape(&self) -> Matter {
+    pub fn of_shape(&self) -> Matter
+        ensures { result ≡ Matter.Refused (of_shape self.now.kind) }
+    {
         match self.kind {
             Kind::LinkJob => Matter::Refused(Refusal::LinkJob(LinkJobFault::Shape)),
             Kind::Job => Matter::Refused(Refusal::Job(JobFault::Shape)),
@@ -62,7 +90,9 @@ impl Notes {
     }
 
     /// That the bytes are no JSON.
-    pub fn of_json(&self) -> Matter {
+    pub fn of_json(&self) -> Matter
+        ensures { result ≡ Matter.Refused (of_json self.now.kind) }
+    {
         match self.kind {
             Kind::LinkJob => Matter::Refused(Refusal::LinkJob(LinkJobFault::Json)),
             Kind::Job => Matter::Refused(Refusal::Job(JobFault::Json)),
@@ -86,8 +116,17 @@ impl Notes {
     }
 
     /// Whether further findings are counted alone.
-    pub fn is_full(&self) -> bool {
+    pub fn is_full(&self) -> bool
+        ensures { IsTrue result ↔ (most_findings ≤ length self.now.findings) }
+    {
         self.findings.len() >= MAX_FINDINGS
+    }
+
+    /// Whether no further finding is counted.
+    pub fn is_done(&self) -> bool
+        ensures { IsTrue result ↔ (most_counted ≤ self.now.omitted) }
+    {
+        self.omitted >= MAX_COUNTED
     }
 
     /// Adds a finding of a job of a tree.
@@ -96,7 +135,13 @@ impl Notes {
         fault: JobFault,
         place: &Place<'_>,
         pieces: &[Piece<'_>],
-    ) -> Result<(), AllocError> {
+    ) -> Result<(), AllocError>
+        ensures added { OnOk result (length self.old.findings < most_findings
+            → Adds (Matter.Refused (Refusal.Job fault)) self.old self.new) }
+        ensures full { most_findings ≤ length self.old.findings
+            → self.new.findings ≡ self.old.findings }
+        ensures kind { self.new.kind ≡ self.old.kind }
+    {
         self.add(Matter::Refused(Refusal::Job(fault)), place, pieces)
     }
 
@@ -106,7 +151,14 @@ impl Notes {
         matter: Matter,
         place: &Place<'_>,
         pieces: &[Piece<'_>],
-    ) -> Result<(), AllocError> {
+    ) -> Result<(), AllocError>
+        ensures added { OnOk result (length self.old.findings < most_findings
+            → Adds matter self.old self.new) }
+        ensures full { most_findings ≤ length self.old.findings
+            → self.new.findings ≡ self.old.findings }
+        ensures kind { self.new.kind ≡ self.old.kind }
+        ensures unchanged { OnErr result (self.new ≡ self.old) }
+    {
         if self.is_full() {
             self.omitted = self.omitted.saturating_add(1);
             return Ok(());
@@ -178,7 +230,9 @@ fn words_of(value: &Value) -> &'static str {
 }
 
 /// Adds a number.
-pub fn push_number(line: &mut String, number: u64) -> Result<(), AllocError> {
+pub fn push_number(line: &mut String, number: u64) -> Result<(), AllocError>
+    ensures { OnOk result (string_bytes line.new ≡ string_bytes line.old ++ decimal number) }
+{
     let mut buffer = Buffer::new();
     line.push_str(buffer.format(number))
 }

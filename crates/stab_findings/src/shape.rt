@@ -1,5 +1,10 @@
 //! Whether values have the shapes that the readers want.
 
+ghost use Rattle.std.specs.Prelude.{◌≡◌, IfOk, unwrap_or};
+ghost use Rattle.serde_json.specs.Data.{no_items};
+ghost use Rattle.serde_json.specs.Find.{as_array};
+ghost use Rattle.serde_json.specs.View.{items_view, view};
+
 use crate::notes::{Notes, Piece};
 use crate::place::Place;
 use serde_json::Value;
@@ -115,6 +120,9 @@ fn look_at_frame(notes: &mut Notes, place: Place<'_>, value: &Value) -> Result<(
 /// Looks at the frames of a start.
 fn look_at_frames(notes: &mut Notes, place: Place<'_>, values: &[Value]) -> Result<(), AllocError> {
     for (i, value) in values.iter().enumerate() {
+        if notes.is_done() {
+            break;
+        }
         look_at_frame(notes, place.item(i), value)?;
     }
     Ok(())
@@ -123,6 +131,9 @@ fn look_at_frames(notes: &mut Notes, place: Place<'_>, values: &[Value]) -> Resu
 /// Looks at the acknowledgements of a start.
 fn look_at_acks(notes: &mut Notes, place: Place<'_>, values: &[Value]) -> Result<(), AllocError> {
     for (i, value) in values.iter().enumerate() {
+        if notes.is_done() {
+            break;
+        }
         look_at_label(notes, &place.item(i), value)?;
     }
     Ok(())
@@ -135,6 +146,9 @@ pub fn look_at_items(
     values: &[Value],
 ) -> Result<(), AllocError> {
     for (i, value) in values.iter().enumerate() {
+        if notes.is_done() {
+            break;
+        }
         look_at_item(notes, &place.item(i), value)?;
     }
     Ok(())
@@ -146,7 +160,10 @@ pub fn list_of<'v>(
     place: &Place<'_>,
     value: &'v Value,
     want: &str,
-) -> Result<&'v [Value], AllocError> {
+) -> Result<&'v [Value], AllocError>
+    ensures { IfOk result (λ list. items_view list.now
+        ≡ unwrap_or (as_array (view value.now)) no_items) }
+{
     match value.as_array() {
         Some(list) => Ok(list.as_slice()),
         None => {

@@ -1,4 +1,7 @@
-//! What is wrong with a tree.
+ghost use Rattle.std.specs.Prelude.{◌≡◌, ◌≢◌, Ok, IfOk, IfSome, IsNone};
+ghost use Rattle.serde_json.specs.View.{view};
+ghost use Rattle.stab_tree.specs.Nodes.{Nodes};
+ghost use Rattle.stab_tree.specs.Read.{tree_of};
 
 use crate::parents::{look_at_cycles, look_at_parents, look_at_roots};
 use serde_json::Value;
@@ -37,11 +40,14 @@ pub(crate) fn refuse_tree(
     notes.refuse(JobFault::Tree(fault), place, pieces)
 }
 
-/// The tree of a job, where there is one; its checks are looked at, one after the other.
-pub(crate) fn look_at_tree(
-    notes: &mut Notes,
-    tree: Option<&Value>,
-) -> Result<Option<Tree>, AllocError> {
+/// The tree that the member of a job is, where it is one; otherwise what is wrong with it is added,
+/// by the reader's checks, one after the other.
+pub fn look_at_tree(notes: &mut Notes, tree: Option<&Value>) -> Result<Option<Tree>, AllocError>
+    ensures tree { IfOk result (λ found. IfSome found (λ its_tree. IfSome tree.entry (λ value.
+        tree_of (view value.now) ≡ Ok its_tree))) }
+    ensures none { IfOk result (λ found. IsNone found → IfSome tree.entry (λ value.
+        (its_tree : Nodes) → tree_of (view value.now) ≢ Ok its_tree)) }
+{
     let Some(value) = tree else {
         return Ok(None);
     };
@@ -96,6 +102,9 @@ fn add_tree(notes: &mut Notes, fault: TreeFault, value: &Value) -> Result<(), Al
 /// Looks at the shapes of the nodes.
 fn look_at_shapes(notes: &mut Notes, nodes: &[Value]) -> Result<(), AllocError> {
     for (i, node) in nodes.iter().enumerate() {
+        if notes.is_done() {
+            break;
+        }
         look_at_shape(notes, Place::member("tree").entry(i), node)?;
     }
     Ok(())
@@ -213,11 +222,14 @@ fn add_twin(notes: &mut Notes, node: usize, name: &str, first: usize) -> Result<
 }
 
 /// Looks for members of nodes that are not known.
-pub(crate) fn look_at_nodes(notes: &mut Notes, tree: Option<&Value>) -> Result<(), AllocError> {
+pub fn look_at_nodes(notes: &mut Notes, tree: Option<&Value>) -> Result<(), AllocError> {
     let Some(Value::Array(nodes)) = tree else {
         return Ok(());
     };
     for (i, node) in nodes.iter().enumerate() {
+        if notes.is_done() {
+            break;
+        }
         look_at_members(notes, Place::member("tree").entry(i), node, NODE_MEMBERS)?;
     }
     Ok(())
