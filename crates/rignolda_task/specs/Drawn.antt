@@ -1,24 +1,60 @@
--- The drawn run of the link job that some bytes are, and why they have none.
+-- The drawn run of the job that some bytes are, and why they have none. A run is drawn as text or
+-- as a picture.
 -- Example: The bytes of the worst start of capacity 1 are a link job with a lawful start, and the
 -- text has the names of the columns, the line of the start and twelve more. For bytes that are not
--- JSON there is no text, and the fault is the one of `stab link`.
+-- JSON there is no text, and the fault is the one of `stab link`. The bytes of the example
+-- two_links_under_one_schedule have a member `tree`, so the text is that of their schedule.
 -- Source: this project's own.
-use Rattle.std.specs.Prelude.{◌≡◌, ℕ, false, List, Ok}
+use Rattle.std.specs.Prelude.{◌≡◌, ℕ, Bool, false, List, None, Ok, All}
 use Rattle.stab_core.specs.Replay.{IsLawful}
 use Rattle.stab_draw.specs.Runs.{run_text}
+use Rattle.stab_draw.specs.Schedules.{schedule_run_text}
+use Rattle.stab_explain.specs.Kinds.{chosen}
+use Rattle.stab_findings.specs.declared.refusal.Kind.{Kind}
+use Rattle.stab_findings.specs.declared.refusal.Kind.TheVariants as kind
+use Rattle.stab_job.specs.JobValues.{JobValue, network}
+use Rattle.stab_job.specs.Jobs.{job as whole_job}
+use Rattle.stab_json.specs.Values.{value_of}
 use Rattle.stab_script.specs.declared.link_job.LinkJob.{LinkJob}
 use Rattle.stab_script.specs.LinkJobs.{link_job}
 use Rattle.stab_task.specs.Answers.{IsFault}
-use Rattle.stab_task.specs.declared.command.Task.TheVariants.{Link}
+use Rattle.stab_task.specs.declared.command.Task.{Task}
+use Rattle.stab_task.specs.declared.command.Task.TheVariants.{Link, Tree}
 use Rattle.stab_task.specs.declared.fault.CliFault.{CliFault}
+use Rattle.stab_treecore.specs.Network.{IsNetwork}
+use Rattle.stab_treecore.specs.Refusals.{NamesLink}
 
--- these bytes are a link job with a lawful start, and this is the text of its run
-pub record IsDrawn (input text : List ℕ) : Type 0 where
+-- these bytes are a link job with a lawful start, and this is the text of its run, unless it is
+-- drawn as a picture
+pub record IsDrawnLink (is_picture : Bool) (input text : List ℕ) : Type 0 where
   pub job : LinkJob
   pub read : link_job input ≡ Ok job
   pub lawful : IsLawful job.params job.start
-  pub the_text : text ≡ run_text job
+  pub the_text : is_picture ≡ false → text ≡ run_text job
 
--- why these bytes have no run: what keeps a link job from its answer
+-- these bytes are a job, whose starts are lawful and whose schedule names links alone, and this is
+-- the text of the schedule's run, unless it is drawn as a picture
+pub record IsDrawnTree (is_picture : Bool) (input text : List ℕ) : Type 0 where
+  pub job : JobValue
+  pub read : whole_job input ≡ Ok job
+  pub begins : IsNetwork (network job)
+  pub named : All (NamesLink job.tree.parents) job.schedule
+  pub the_text : is_picture ≡ false → text ≡ schedule_run_text (network job) job.schedule
+
+-- the run of bytes of this kind
+abbrev pub IsDrawnAs : Kind → Bool → List ℕ → List ℕ → Type 0
+IsDrawnAs kind.LinkJob is_picture input text = IsDrawnLink is_picture input text
+IsDrawnAs kind.Job is_picture input text = IsDrawnTree is_picture input text
+
+-- the task of `stab` that refuses bytes of this kind as they are refused here
+abbrev pub task_of : Kind → Task
+task_of kind.LinkJob = Link false
+task_of kind.Job = Tree
+
+-- the run of these bytes, whose kind is seen by them
+abbrev pub IsDrawn : Bool → List ℕ → List ℕ → Type 0
+IsDrawn is_picture input text = IsDrawnAs (chosen None (value_of input)) is_picture input text
+
+-- why these bytes have no run: what keeps `stab` from its answer
 abbrev pub IsUndrawn : List ℕ → CliFault → Type 0
-IsUndrawn input fault = IsFault (Link false) input fault
+IsUndrawn input fault = IsFault (task_of (chosen None (value_of input))) input fault

@@ -1,2 +1,4 @@
+pub mod Begun
+pub mod Checked
 pub mod Drawn
 pub mod Explained

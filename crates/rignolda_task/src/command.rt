@@ -1,6 +1,10 @@
+use crate::bounds::bounds_line;
+use crate::check::{check_line, named_file};
+use crate::random::{random, random_request};
 use clap::error::ErrorKind;
-use clap::{Arg, ArgMatches, Command, Error, value_parser};
+use clap::{Arg, ArgAction, ArgMatches, Command, Error, value_parser};
 use stab_frames::{Params, ParamsFault};
+use stab_random::DrawOptions;
 use std::alloc::{AllocError, Global};
 
 /// The version of the program.
@@ -10,12 +14,34 @@ const VERSION: &str = "0.1.0";
 #[derive(Debug, Drop)]
 pub enum Request {
     /// Print the worst link job of these parameters.
-    Worst { params: Params },
-    /// Draw the run of a link job, which is read from standard input where no file is named.
-    Draw { file: Option<String> },
+    Worst {
+        params: Params,
+    },
+    /// Print a random job of a tree by these options.
+    Random {
+        options: DrawOptions,
+    },
+    /// Draw the run of a job, which is read from standard input where no file is named: as a
+    /// picture, or as text.
+    Draw {
+        svg: bool,
+        file: Option<String>,
+    },
     /// Say what is wrong with a job and where; it is read from standard input where no file is
     /// named.
-    Explain { file: Option<String> },
+    Explain {
+        file: Option<String>,
+    },
+    /// Print the bounds of the nodes of a job, which is read from standard input where no file is
+    /// named.
+    Bounds {
+        file: Option<String>,
+    },
+    /// Say whether a report of a job obeys; where no file is named, that one is on standard input.
+    Check {
+        job: Option<String>,
+        report: Option<String>,
+    },
 }
 
 /// What the words of a command line ask for, the program's name first. Otherwise the text that
@@ -24,14 +50,31 @@ pub fn parse(alloc: Global, words: &[String]) -> Result<Request, Error> {
     let matches = rignolda(alloc)?.try_get_matches_from(words)?;
     match matches.subcommand() {
         Some((word, inner)) if word == "worst" => worst_request(alloc, inner),
+        Some((word, inner)) if word == "random" => random_request(alloc, inner),
         Some((word, inner)) if word == "explain" => Ok(Request::Explain {
             file: file_of(alloc, inner)?,
         }),
+        Some((word, inner)) if word == "bounds" => Ok(Request::Bounds {
+            file: file_of(alloc, inner)?,
+        }),
+        Some((word, inner)) if word == "check" => check_request(alloc, inner),
         Some((_, inner)) => Ok(Request::Draw {
+            svg: inner.get_flag("svg"),
             file: file_of(alloc, inner)?,
         }),
         None => Err(rignolda(alloc)?.error(ErrorKind::MissingSubcommand, "no command is named")?),
     }
+}
+
+/// The check of the two files that are named, of which one at most is standard input.
+fn check_request(alloc: Global, matches: &ArgMatches<'_>) -> Result<Request, Error> {
+    let job = named_file(alloc, matches, "JOB")?;
+    let report = named_file(alloc, matches, "REPORT")?;
+    if job.is_none() && report.is_none() {
+        let text = "JOB and REPORT cannot both be standard input";
+        return Err(rignolda(alloc)?.error(ErrorKind::ValueValidation, text)?);
+    }
+    Ok(Request::Check { job, report })
 }
 
 /// The worst job of the capacity and the labels that are named.
@@ -45,12 +88,17 @@ fn worst_request(alloc: Global, matches: &ArgMatches<'_>) -> Result<Request, Err
 }
 
 /// The mistake that two numbers are no parameters of a link.
-fn mistake_of(alloc: Global, fault: ParamsFault) -> Result<Error, AllocError> {
+pub(crate) fn mistake_of(alloc: Global, fault: ParamsFault) -> Result<Error, AllocError> {
     let text = match fault {
         ParamsFault::CapacityOutOfRange => "the capacity of a link is 1 to 64",
         ParamsFault::LabelsTooFew => "a link has at least twice its capacity and two labels",
         ParamsFault::LabelsTooMany => "a link has at most 1000 labels",
     };
+    mistake(alloc, text)
+}
+
+/// The mistake that a value of an option is refused, for this reason.
+pub(crate) fn mistake(alloc: Global, text: &str) -> Result<Error, AllocError> {
     rignolda(alloc)?.error(ErrorKind::ValueValidation, text)
 }
 
@@ -69,16 +117,28 @@ fn rignolda<'a>(alloc: Global) -> Result<Command<'a>, AllocError> {
         .about("Makes and examines the jobs of stab")
         .subcommand_required(true)
         .arg_required_else_help(true)
+        .subcommand(bounds_line(alloc)?)?
+        .subcommand(check_line(alloc)?)?
         .subcommand(draw(alloc)?)?
         .subcommand(explain(alloc)?)?
+        .subcommand(random(alloc)?)?
         .subcommand(worst(alloc)?)
 }
 
-/// The command `draw [FILE]`.
+/// The command `draw [--svg] [FILE]`.
 fn draw<'a>(alloc: Global) -> Result<Command<'a>, AllocError> {
     Command::new(alloc, "draw")
-        .about("Draws the run of a link job, a line for each event")
+        .about("Draws the run of a link job or of a tree's schedule, a line for each event")
+        .arg(svg(alloc))?
         .arg(Arg::new(alloc, "FILE").help("The job; standard input where it is left out"))
+}
+
+/// The flag `--svg`.
+fn svg<'a>(alloc: Global) -> Arg<'a> {
+    Arg::new(alloc, "svg")
+        .long("svg")
+        .action(ArgAction::SetTrue)
+        .help("Draw a picture instead, as one file of SVG")
 }
 
 /// The command `explain [FILE]`.

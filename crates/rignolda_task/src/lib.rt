@@ -6,9 +6,20 @@
 #![tactic(auto)]
 
 mod answer;
+mod bounds;
+mod check;
 mod command;
+mod draw;
+mod fault;
+mod job;
 mod program;
+mod random;
 
-pub use answer::{act_draw, act_explain, act_worst};
+pub use answer::{act_explain, act_worst};
+pub use bounds::act_bounds;
+pub use check::act_check;
 pub use command::{Request, parse};
+pub use draw::act_draw;
+pub use fault::CheckFault;
 pub use program::run;
+pub use random::{RandomWriteFault, act_random};

@@ -1,13 +1,17 @@
-use crate::answer::{act_draw, act_explain, act_worst};
+use crate::answer::{act_explain, act_worst};
+use crate::bounds::bounds_of;
+use crate::check::check_of;
 use crate::command::{Request, parse};
+use crate::draw::act_draw;
+use crate::random::{RandomWriteFault, act_random};
 use clap::Error;
 use clap::error::ErrorKind;
 use stab_task::{CliFault, words};
 use std::rt::{Env, Files};
 use std::{fs, io};
 
-/// The status of an explanation in which something was found.
-const FOUND: u8 = 1;
+/// The status of an explanation in which something was found, and of a report that is broken.
+pub(crate) const FOUND: u8 = 1;
 
 /// The status of a command line that is refused.
 const REFUSED: u8 = 2;
@@ -16,8 +20,8 @@ const REFUSED: u8 = 2;
 const NO_MEMORY: u8 = 3;
 
 /// Runs the program, prints what it answers, and gives the status to end with: 0, or 1 where a job
-/// or a file is refused or an explanation has a finding, 2 where the command line is refused, and 3
-/// where a start, memory or a write is.
+/// or a file is refused, an explanation has a finding or a report does not obey, 2 where the
+/// command line is refused, and 3 where a start, memory or a write is.
 ///
 /// A fault is one line on the standard error. Where a job is to be typed at a terminal, a line there
 /// says so first.
@@ -60,30 +64,31 @@ fn done<R: Files + Input + Print + Eprint + AllocGlobal>(
         Request::Worst { params } => {
             status_of(rt, act_worst(rt.alloc(), *params, &mut io::writer(rt)))
         }
-        Request::Draw { file: Some(path) } => status_of(rt, draw_file(rt, path)),
-        Request::Draw { file: None } => {
-            say_that_it_reads(rt, is_typed);
-            let drawn = act_draw(rt.alloc(), &mut rt.reader(), &mut io::writer(rt));
-            status_of(rt, drawn)
+        Request::Random { options } => {
+            let acted = act_random(rt.alloc(), options, &mut io::writer(rt));
+            status_random(rt, acted)
         }
+        Request::Draw { svg, file } => status_of(rt, draw(rt, *svg, file, is_typed)),
         Request::Explain { file: Some(path) } => status_found(rt, explain_file(rt, path)),
         Request::Explain { file: None } => {
             say_that_it_reads(rt, is_typed);
             let explained = act_explain(rt.alloc(), &mut rt.reader(), &mut io::writer(rt));
             status_found(rt, explained)
         }
+        Request::Bounds { file } => bounds_of(rt, file, is_typed),
+        Request::Check { job, report } => check_of(rt, job, report, is_typed),
     }
 }
 
 /// Says that a job is to be typed, where standard input is a terminal.
-fn say_that_it_reads<R: Eprint>(rt: &R, is_typed: bool) {
+pub(crate) fn say_that_it_reads<R: Eprint>(rt: &R, is_typed: bool) {
     if is_typed {
         let _ = eprintln!(rt; "rignolda: reading a job from the terminal");
     }
 }
 
 /// The status of what was done; a fault is printed.
-fn status_of<R: Eprint>(rt: &R, acted: Result<(), CliFault>) -> u8 {
+pub(crate) fn status_of<R: Eprint>(rt: &R, acted: Result<(), CliFault>) -> u8 {
     match acted {
         Ok(()) => 0,
         Err(fault) => failed(rt, fault),
@@ -99,10 +104,30 @@ fn status_found<R: Eprint>(rt: &R, explained: Result<bool, CliFault>) -> u8 {
     }
 }
 
-/// Draws the run of the link job in a file.
-fn draw_file<R: Files + Print + AllocGlobal>(rt: &R, path: &String) -> Result<(), CliFault> {
+/// The status of a random job; a fault is printed.
+fn status_random<R: Eprint>(rt: &R, acted: Result<(), RandomWriteFault>) -> u8 {
+    match acted {
+        Ok(()) => 0,
+        Err(fault) => {
+            let _ = eprintln!(rt; "rignolda: {fault}");
+            fault.status()
+        }
+    }
+}
+
+/// Draws the run of a job, which is in a file or on standard input, as a picture or as text.
+fn draw<R: Files + Input + Print + Eprint + AllocGlobal>(
+    rt: &R,
+    svg: bool,
+    file: &Option<String>,
+    is_typed: bool,
+) -> Result<(), CliFault> {
+    let Some(path) = file else {
+        say_that_it_reads(rt, is_typed);
+        return act_draw(rt.alloc(), svg, &mut rt.reader(), &mut io::writer(rt));
+    };
     match fs::open(rt, path) {
-        Ok(mut file) => act_draw(rt.alloc(), &mut file, &mut io::writer(rt)),
+        Ok(mut file) => act_draw(rt.alloc(), svg, &mut file, &mut io::writer(rt)),
         Err(error) => Err(unopened(&error)),
     }
 }
@@ -116,7 +141,7 @@ fn explain_file<R: Files + Print + AllocGlobal>(rt: &R, path: &String) -> Result
 }
 
 /// The fault of a file that cannot be opened.
-fn unopened(error: &io::Error) -> CliFault {
+pub(crate) fn unopened(error: &io::Error) -> CliFault {
     if error.kind() == io::ErrorKind::OutOfMemory {
         CliFault::Memory
     } else {

@@ -1,10 +1,14 @@
 //! Tests of the program `rignolda` by public calls: its command lines, the worst link job,
-//! and a drawn run.
+//! random jobs, drawn runs, bounds, and reports that are checked.
 #![tactic(auto)]
 
+#[cfg(test)]
+mod checked;
 #[cfg(test)]
 mod drawn;
 #[cfg(test)]
 mod lines;
+#[cfg(test)]
+mod random;
 #[cfg(test)]
 mod worst;

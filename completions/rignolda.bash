@@ -1,0 +1,31 @@
+# The completions of rignolda for bash: source this file. Written by tests/completions.py; change nothing here.
+_rignolda() {
+    local word=${COMP_WORDS[COMP_CWORD]} flags='' files=''
+    COMPREPLY=()
+    if [ "$COMP_CWORD" -eq 1 ]; then
+        mapfile -t COMPREPLY < <(compgen -W 'draw explain worst help --help --version' -- "$word")
+        return
+    fi
+    case ${COMP_WORDS[1]} in
+        draw)
+            flags='--help'
+            files=yes
+            ;;
+        explain)
+            flags='--help'
+            files=yes
+            ;;
+        worst)
+            flags='--capacity --labels --help'
+            case ${COMP_WORDS[COMP_CWORD - 1]} in
+                --capacity|--labels) return ;;
+            esac
+            ;;
+        help) flags='draw explain worst help' ;;
+    esac
+    mapfile -t COMPREPLY < <(compgen -W "$flags" -- "$word")
+    if [ -n "$files" ] && [[ $word != -* ]]; then
+        mapfile -t COMPREPLY < <(compgen -f -- "$word")
+    fi
+}
+complete -o filenames -F _rignolda rignolda

@@ -1,0 +1,27 @@
+-- The job of a tree that some bytes are, whose links can begin, and the text of its bounds.
+-- Example: The bytes of a job whose first start has two frames under the capacity 1 are a job that
+-- cannot begin, and the fault is the one of `stab tree`.
+-- Source: this project's own.
+use Rattle.std.specs.Prelude.{◌≡◌, ℕ, List, Ok}
+use Rattle.stab_job.specs.JobValues.{JobValue, network}
+use Rattle.stab_job.specs.Jobs.{job}
+use Rattle.stab_task.specs.Answers.{IsFault}
+use Rattle.stab_task.specs.declared.command.Task.TheVariants.{Tree}
+use Rattle.stab_task.specs.declared.fault.CliFault.{CliFault}
+use Rattle.stab_treecore.specs.Network.{IsNetwork}
+use Rattle.stab_verdict.specs.BoundsTexts.{bounds_text}
+
+-- these bytes are this job, and each of its links can begin
+pub record IsBegun (input : List ℕ) (its_job : JobValue) : Type 0 where
+  pub read : job input ≡ Ok its_job
+  pub network : IsNetwork (network its_job)
+
+-- why these bytes are none: what keeps a job from its answer by `stab tree`
+abbrev pub IsUnbegun : List ℕ → CliFault → Type 0
+IsUnbegun input fault = IsFault Tree input fault
+
+-- the text is that of the bounds of the nodes of the job that these bytes are
+pub record AreBounds (input text : List ℕ) : Type 0 where
+  pub its_job : JobValue
+  pub begun : IsBegun input its_job
+  pub the_text : text ≡ bounds_text (network its_job)

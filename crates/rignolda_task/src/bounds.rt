@@ -1,0 +1,91 @@
+//! The command `bounds`: what the laws allow each node of a job.
+
+ghost use Rattle.std.specs.Prelude.{◌≢◌, ℕ, List, string_bytes, IfErr, IfOk, IfSome, OnOk};
+ghost use Rattle.std.specs.Io.KnownBytes.{Appends, Keeps};
+ghost use Rattle.rignolda_task.specs.Begun.{AreBounds, IsUnbegun};
+
+use crate::answer::write_text;
+use crate::job::begun_job;
+use crate::program::{say_that_it_reads, status_of, unopened};
+use clap::{Arg, Command};
+use stab_task::{CliFault, load};
+use stab_verdict::bounds_text;
+use std::alloc::{AllocError, Global};
+use std::io::{Read, Write};
+use std::rt::Files;
+use std::{fs, io};
+
+/// Reads a job, and writes the bounds of its nodes: the sums of the law. Where there is no such
+/// job, the fault is that of `stab tree`, and nothing is written unless it is `Write`.
+pub fn act_bounds<R: Read, W: Write>(
+    alloc: Global,
+    reader: &mut R,
+    writer: &mut W,
+) -> Result<(), CliFault>
+    ensures written { OnOk result (IfSome (R.remaining reader.old) (λ input.
+        (text : List ℕ) × AreBounds input text
+        × Appends (W.contents writer.old) (W.contents writer.new) text)) }
+    ensures fault { IfErr result (λ fault. fault ≢ CliFault.Write
+        → IfSome (R.remaining reader.old) (λ input. IsUnbegun input fault)) }
+    ensures nothing { IfErr result (λ fault.
+        fault ≢ CliFault.Write → Keeps (W.contents writer.old) (W.contents writer.new)) }
+{
+    let text = bounds_of_input(alloc, reader)?;
+    write_text(writer, &text)?;
+    Ok(())
+}
+
+/// The bounds of the job that the reader gives.
+fn bounds_of_input<R: Read>(alloc: Global, reader: &mut R) -> Result<String, CliFault>
+    ensures bounds { IfOk result (λ text.
+        IfSome (R.remaining reader.old) (λ input. AreBounds input (string_bytes text))) }
+    ensures fault { IfErr result (λ fault.
+        IfSome (R.remaining reader.old) (λ input. IsUnbegun input fault)) }
+    ensures no_write { IfErr result (λ fault. fault ≢ CliFault.Write) }
+{
+    let bytes = load(alloc, reader)?;
+    let text = bounds_of_bytes(alloc, &bytes)?;
+    Ok(text)
+}
+
+/// The bounds of the job that these bytes are.
+fn bounds_of_bytes(alloc: Global, bytes: &[u8]) -> Result<String, CliFault>
+    ensures bounds { IfOk result (λ text. AreBounds bytes.now (string_bytes text)) }
+    ensures fault { IfErr result (IsUnbegun bytes.now) }
+    ensures no_write { IfErr result (λ fault. fault ≢ CliFault.Write) }
+{
+    let job = begun_job(alloc, bytes)?;
+    let text = bounds_text(alloc, &job)?;
+    Ok(text)
+}
+
+/// The command `bounds [FILE]`.
+pub(crate) fn bounds_line<'a>(alloc: Global) -> Result<Command<'a>, AllocError> {
+    Command::new(alloc, "bounds")
+        .about("Says what the laws allow each node of a job: strays, and missing items")
+        .arg(Arg::new(alloc, "FILE").help("The job; standard input where it is left out"))
+}
+
+/// Writes the bounds of the job in a file, or of that on the standard input, and gives the status.
+pub(crate) fn bounds_of<R: Files + Input + Print + Eprint + AllocGlobal>(
+    rt: &R,
+    file: &Option<String>,
+    is_typed: bool,
+) -> u8 {
+    match file {
+        Some(path) => status_of(rt, bounds_of_file(rt, path)),
+        None => {
+            say_that_it_reads(rt, is_typed);
+            let acted = act_bounds(rt.alloc(), &mut rt.reader(), &mut io::writer(rt));
+            status_of(rt, acted)
+        }
+    }
+}
+
+/// Writes the bounds of the job in a file.
+fn bounds_of_file<R: Files + Print + AllocGlobal>(rt: &R, path: &String) -> Result<(), CliFault> {
+    match fs::open(rt, path) {
+        Ok(mut file) => act_bounds(rt.alloc(), &mut file, &mut io::writer(rt)),
+        Err(error) => Err(unopened(&error)),
+    }
+}

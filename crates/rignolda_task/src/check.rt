@@ -1,0 +1,172 @@
+//! The command `check`: whether a report obeys the laws of its job.
+
+ghost use Rattle.std.specs.Prelude.{◌≢◌, ℕ, List, string_bytes, IfErr, IfOk, IfSome};
+ghost use Rattle.std.specs.Io.KnownBytes.{Appends, Keeps};
+ghost use Rattle.rignolda_task.specs.Checked.{IsChecked, IsJudged, IsUnchecked};
+ghost use Rattle.rignolda_task.specs.Begun.{IsBegun};
+
+use crate::answer::write_text;
+use crate::fault::{CheckFault, unread};
+use crate::job::begun_job;
+use crate::program::{FOUND, say_that_it_reads, unopened};
+use clap::{Arg, ArgMatches, Command};
+use stab_job::Job;
+use stab_reports::read_text;
+use stab_task::{CliFault, load};
+use stab_verdict::verdict;
+use std::alloc::{AllocError, Global};
+use std::io::{Read, Write};
+use std::rt::Files;
+use std::{fs, io};
+
+/// Reads a job and then a report, and writes whether the report obeys the laws of the network of the
+/// job, or which part of it is broken first. It answers true exactly where the report obeys. Where
+/// there is no verdict, nothing is written unless the fault is `Write`.
+pub fn act_check<J: Read, R: Read, W: Write>(
+    alloc: Global,
+    job: &mut J,
+    report: &mut R,
+    writer: &mut W,
+) -> Result<bool, CheckFault>
+    ensures verdict { IfOk result (λ obeys. IfSome (J.remaining job.old) (λ input.
+        IfSome (R.remaining report.old) (λ text. (answer : List ℕ)
+        × IsChecked input text obeys answer
+        × Appends (W.contents writer.old) (W.contents writer.new) answer))) }
+    ensures fault { IfErr result (λ fault. fault ≢ CheckFault.Job CliFault.Write
+        → IfSome (J.remaining job.old) (λ input. IsUnchecked input fault)) }
+    ensures nothing { IfErr result (λ fault. fault ≢ CheckFault.Job CliFault.Write
+        → Keeps (W.contents writer.old) (W.contents writer.new)) }
+{
+    let (text, obeys) = check_input(alloc, job, report)?;
+    write_text(writer, &text)?;
+    Ok(obeys)
+}
+
+/// What is said of the report that the second reader gives, and whether it obeys.
+#[tactic(auto, using(crate::proofs::Begin::whatever_is_read))]
+fn check_input<J: Read, R: Read>(
+    alloc: Global,
+    job: &mut J,
+    report: &mut R,
+) -> Result<(String, bool), CheckFault>
+    ensures checked { IfOk result (λ said. IfSome (J.remaining job.old) (λ input.
+        IfSome (R.remaining report.old) (λ text.
+        IsChecked input text said.1 (string_bytes said.0)))) }
+    ensures fault { IfErr result (λ fault.
+        IfSome (J.remaining job.old) (λ input. IsUnchecked input fault)) }
+    ensures no_write { IfErr result (λ fault. fault ≢ CheckFault.Job CliFault.Write) }
+{
+    let input = load(alloc, job)?;
+    let text = match load(alloc, report) {
+        Ok(text) => text,
+        Err(fault) => return Err(CheckFault::Unloaded(fault)),
+    };
+    let said = check_bytes(alloc, &input, &text)?;
+    Ok(said)
+}
+
+/// What is said of the report that this text is, of the job that these bytes are.
+fn check_bytes(alloc: Global, bytes: &[u8], text: &[u8]) -> Result<(String, bool), CheckFault>
+    ensures checked { IfOk result (λ said.
+        IsChecked bytes.now text.now said.1 (string_bytes said.0)) }
+    ensures fault { IfErr result (IsUnchecked bytes.now) }
+    ensures no_write { IfErr result (λ fault. fault ≢ CheckFault.Job CliFault.Write) }
+{
+    let job = begun_job(alloc, bytes)?;
+    let said = check_text(alloc, &job, text)?;
+    Ok(said)
+}
+
+/// What is said of the report that this text is.
+fn check_text(alloc: Global, job: &Job, text: &[u8]) -> Result<(String, bool), CheckFault>
+    ensures checked { IfOk result (λ said. IsJudged job.now text.now said.1 (string_bytes said.0)) }
+    ensures fault { IfErr result (λ fault. (input : List ℕ) → IsBegun input job.now
+        → IsUnchecked input fault) }
+    ensures no_write { IfErr result (λ fault. fault ≢ CheckFault.Job CliFault.Write) }
+{
+    let report = match read_text(alloc, job.tree(), text) {
+        Ok(report) => report,
+        Err(fault) => return Err(unread(fault)),
+    };
+    let said = verdict(alloc, job, &report)?;
+    Ok(said)
+}
+
+/// The command `check JOB REPORT`.
+pub(crate) fn check_line<'a>(alloc: Global) -> Result<Command<'a>, AllocError> {
+    Command::new(alloc, "check")
+        .about("Says whether a report of a job obeys the laws, or which part of it is broken")
+        .arg(
+            Arg::new(alloc, "JOB")
+                .required(true)
+                .help("The job; - is standard input"),
+        )?
+        .arg(
+            Arg::new(alloc, "REPORT")
+                .required(true)
+                .help("The text of stab run or stab tree; - is standard input"),
+        )
+}
+
+/// The file that a value names, and none where it is `-`, standard input.
+pub(crate) fn named_file(
+    alloc: Global,
+    matches: &ArgMatches<'_>,
+    id: &str,
+) -> Result<Option<String>, AllocError> {
+    match matches.get_str(id) {
+        None | Some("-") => Ok(None),
+        Some(path) => Ok(Some(String::from_str(alloc, path)?)),
+    }
+}
+
+/// Checks the report in one file against the job in another, either of which may be the standard
+/// input, and gives the status. A fault is printed.
+pub(crate) fn check_of<R: Files + Input + Print + Eprint + AllocGlobal>(
+    rt: &R,
+    job: &Option<String>,
+    report: &Option<String>,
+    is_typed: bool,
+) -> u8 {
+    if job.is_none() || report.is_none() {
+        say_that_it_reads(rt, is_typed);
+    }
+    match checked(rt, job, report) {
+        Ok(true) => 0,
+        Ok(false) => FOUND,
+        Err(fault) => {
+            let _ = eprintln!(rt; "rignolda: {fault}");
+            fault.status()
+        }
+    }
+}
+
+/// Whether a report obeys, which is printed.
+fn checked<R: Files + Input + Print + AllocGlobal>(
+    rt: &R,
+    job: &Option<String>,
+    report: &Option<String>,
+) -> Result<bool, CheckFault> {
+    let Some(path) = job else {
+        return checked_with(rt, &mut rt.reader(), report);
+    };
+    match fs::open(rt, path) {
+        Ok(mut file) => checked_with(rt, &mut file, report),
+        Err(error) => Err(CheckFault::Job(unopened(&error))),
+    }
+}
+
+/// The same with a job that this reader gives.
+fn checked_with<R: Files + Input + Print + AllocGlobal, J: Read>(
+    rt: &R,
+    job: &mut J,
+    report: &Option<String>,
+) -> Result<bool, CheckFault> {
+    let Some(path) = report else {
+        return act_check(rt.alloc(), job, &mut rt.reader(), &mut io::writer(rt));
+    };
+    match fs::open(rt, path) {
+        Ok(mut file) => act_check(rt.alloc(), job, &mut file, &mut io::writer(rt)),
+        Err(error) => Err(CheckFault::Unloaded(unopened(&error))),
+    }
+}

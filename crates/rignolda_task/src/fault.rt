@@ -1,0 +1,71 @@
+ghost use Rattle.std.specs.Prelude.{◌≢◌, ℕ, List};
+ghost use Rattle.rignolda_task.specs.Begun.{IsBegun};
+ghost use Rattle.rignolda_task.specs.Checked.{IsUnchecked};
+ghost use Rattle.stab_job.specs.JobValues.{JobValue};
+
+use stab_reports::ReportFault;
+use stab_task::CliFault;
+use std::alloc::AllocError;
+use thiserror::Error;
+
+/// The status where a text is no report.
+const NO_REPORT: u8 = 1;
+
+/// Why a report has no verdict. The program prints the prefix `rignolda: ` and then this text.
+#[derive(Clone, Copy, Debug, PartialEq, Eq, Error)]
+pub enum CheckFault {
+    /// The job is refused, or memory, or the output.
+    #[error("{0}")]
+    Job(CliFault),
+    /// The file of the report cannot be opened or read, or is too long.
+    #[error("report {0}")]
+    Unloaded(CliFault),
+    /// The text is no report of the job's tree: it differs in this line, counted from 1.
+    #[error("not a report: line {0} is not as a report of this tree has it")]
+    Line(u64),
+}
+
+impl CheckFault {
+    /// The status that the program ends with.
+    pub fn status(&self) -> u8 {
+        match self {
+            CheckFault::Job(fault) | CheckFault::Unloaded(fault) => fault.status(),
+            CheckFault::Line(_) => NO_REPORT,
+        }
+    }
+}
+
+impl From<CliFault> for CheckFault {
+    ghost use Rattle.std.specs.Prelude.{◌≡◌};
+    ghost use Rattle.rignolda_task.specs.declared.fault.CheckFault.TheVariants.{Job};
+
+    ghost from_gives = { λ refusal fault. fault ≡ Job refusal };
+
+    fn from(refusal: CliFault) -> CheckFault {
+        CheckFault::Job(refusal)
+    }
+}
+
+impl From<AllocError> for CheckFault {
+    ghost use Rattle.std.specs.Prelude.{◌≡◌};
+    ghost use Rattle.rignolda_task.specs.declared.fault.CheckFault.TheVariants.{Job};
+    ghost use Rattle.stab_task.specs.declared.fault.CliFault.TheVariants.{Memory};
+
+    ghost from_gives = { λ _ fault. fault ≡ Job Memory };
+
+    fn from(_refused: AllocError) -> CheckFault {
+        CheckFault::Job(CliFault::Memory)
+    }
+}
+
+/// The fault of a text that is not read as a report.
+pub(crate) fn unread(fault: ReportFault) -> CheckFault
+    ensures fault { (input : List ℕ) (its_job : JobValue) → IsBegun input its_job
+        → IsUnchecked input result }
+    ensures no_write { result ≢ CheckFault.Job CliFault.Write }
+{
+    match fault {
+        ReportFault::Line(line) => CheckFault::Line(line),
+        ReportFault::Memory => CheckFault::Job(CliFault::Memory),
+    }
+}
