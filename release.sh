@@ -154,15 +154,17 @@ pack_artefacts() {
     done
 }
 
-# Puts the pages, the examples and what else is for users into the folder of an archive.
+# Puts the pages, the examples and what else is for users into the folder of an archive: the sources
+# of agents and of the Rust crate too, which take the library from lib/ there.
 pack_pages() {
     local part
-    cp -- "$top/README.md" "$top/CHANGELOG.md" "$1/" &&
-        mkdir -p -- "$1/docs" "$1/examples" && cp -- "$top"/docs/*.md "$1/docs/" &&
+    cp -- "$top/README.md" "$top/CHANGELOG.md" "$1/" && mkdir -p -- "$1/examples" &&
         cp -RL -- "$top/examples/." "$1/examples/" || return
-    for part in LICENSE man include docs/schema page/index.html; do
+    for part in LICENSE docs man completions include agents rust/rignolda page/index.html; do
         [ ! -e "$top/$part" ] || (cd -- "$top" && cp -RL --parents -- "$part" "$1/") || return
     done
+    # (what was built there by hand)
+    rm -rf -- "$1/agents/out" "$1/rust/rignolda/target" "$1"/agents/__pycache__
 }
 
 # Packs the release. Its version is the date at the top of CHANGELOG.md, with the time of the day

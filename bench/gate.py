@@ -32,6 +32,8 @@ TASK_BYTES = 3_000_000_000
 LOOK, TELL = 1.0, 120.0
 KINDS = ("proof", "tests", "edits", "programs")
 COUNT = re.compile(rb"[0-9]{1,9} passed, [0-9]{1,9} failed\n?")
+# What rt ci says at its end of how much it has done itself, where it took the rest from earlier runs.
+SHARE = re.compile(rb"rt: ok; .*; done in this run: (.*); the others are kept from earlier runs")
 TICK = os.sysconf("SC_CLK_TCK")
 PAGE = os.sysconf("SC_PAGE_SIZE")
 
@@ -196,7 +198,7 @@ class Part:
     def __init__(self, words):
         self.words, self.begin = words, time.monotonic()
         self.printing, self.ended = threading.Lock(), threading.Event()
-        self.proved, self.process, self.given_up = 0, None, False
+        self.proved, self.share, self.process, self.given_up = 0, "", None, False
         for it in (signal.SIGTERM, signal.SIGINT, signal.SIGHUP):
             signal.signal(it, self.give_up)
         try:
@@ -243,6 +245,8 @@ class Part:
                 sys.stdout.buffer.write(line[len(last):])
                 sys.stdout.flush()
             self.proved += bool(re.match(rb"rt: \w+(: its tests are)? proved$", line))
+            share = SHARE.match(line)
+            self.share = share[1].decode() if share else self.share
         return last
 
     def run(self, notes):
@@ -258,7 +262,7 @@ class Part:
         note = {"part": " ".join(self.words), "wall": wall, "status": status}
         note.update(processor=used.ru_utime + used.ru_stime, peak=self.watch.peak,
                     own=self.watch.own, largest=self.watch.largest, crates=self.watch.by_crate(),
-                    jobs=os.environ.get("RT_JOBS", ""))
+                    jobs=os.environ.get("RT_JOBS", ""), share=self.share)
         with open(notes, "a") as it:
             it.write(json.dumps(note) + "\n")
         self.say(f"{note['part']} took {clock(wall)}, {minutes(note['processor'])} processor "
@@ -338,7 +342,11 @@ def first_use(crates):
 
 def computed(crates, parts):
     """What the gate would take on other machines, by the model, as a line of the page."""
-    whole = next((it for it in parts if it["part"] == "rt ci"), None)
+    whole = next((it for it in parts if it["part"].startswith("rt ci")), None)
+    if whole and whole.get("share"):
+        return [f"**This was not a run from nothing:** `rt ci` did {whole['share']}, and took "
+                "the others from earlier runs of the same files on this machine. `./gate --anew` "
+                "does all of it.", ""]
     if not crates or not whole or not whole["jobs"].isdigit():
         return []
     here, chain = modelled(crates, int(whole["jobs"]))

@@ -37,12 +37,13 @@ write() {
     chmod +x "$1"
 }
 
-# Runs the gate with these two parts, and notes its status and what it writes.
+# Runs the gate with these two parts, and notes its status and what it writes. Further words are
+# those of the gate.
 run() {
     write "$work/bin/rt" "[ \"\$1\" = ci ] || { echo kit-1; exit; }
         echo \"\$PWD: rt \$*, \${RT_JOBS-none}\"; $1"
     write "$house/tests/refused/check.py" "echo \"\$PWD: check \$*\"; $2"
-    run_gate
+    run_gate "${@:3}"
 }
 
 # Runs the gate as it is.
@@ -132,7 +133,7 @@ given_up() {
 }
 
 # The scripts of tests that the gate runs. The first one counts five cases, and the others none.
-mapfile -t scripts < <(sed -nE 's,^ *run (tests/check_\w+\.\w+)( .*)?$,\1,p' "$top/gate")
+mapfile -t scripts < <(sed -nE '/pages\.py/d; s,^ *run (tests/\w+\.\w+)( .*)?$,\1,p' "$top/gate")
 for script in "${scripts[@]}"; do
     write "$house/$script" "echo \"\$PWD: a script of tests\"; echo '0 passed, 0 failed'"
 done
@@ -174,6 +175,8 @@ holds 'it says how many tasks run at once, and why' grep -qE \
 RT_JOBS=3 run 'echo 300 passed, 0 failed' 'echo 42 passed, 0 failed'
 holds 'which the environment decides, if it does' all_in "$work/out" \
     'gate: 3 tasks at once: as RT_JOBS says' "$house: rt ci, 3"
+run 'echo 300 passed, 0 failed' 'echo 42 passed, 0 failed' --anew
+holds 'with --anew all of it is proved again' grep -qE "^$house: rt ci --anew, [0-9]+$" "$work/out"
 holds 'never more than the processors' bash -c '
     [ "$(taskset -c 0 "$0/bench/gate.py" jobs | cut -d" " -f1)" -eq 1 ]' "$house"
 write "$house/release.sh" "echo '2 passed, 1 failed'; exit 1"
@@ -226,6 +229,18 @@ holds 'what two processors would take is computed' grep -qF \
 holds 'and so is the first proof, without tests and edits' grep -qF \
     '`./stab --prove` would take at most 6.0 on four.' "$work/page"
 holds 'and it is said how' grep -qF 'so what it computes is multiplied by 2.00.' "$work/page"
+sed 's/"jobs"/"share": "2 of the 9 proofs", "jobs"/' "$work/notes_in_a_line" >"$work/notes_of_two"
+PATH=$work/bin:$PATH "$house/bench/gate.py" table "$work/notes_of_two" "$work/page" 420 \
+    "$work/notes" >"$work/out" 2>"$work/err"
+status=$?
+holds 'nothing is computed of a run that took most from earlier ones' bash -c '
+    grep -qF "**This was not a run from nothing:** \`rt ci\` did 2 of the 9 proofs, and" "$0" &&
+        ! grep -qF Computed "$0"' "$work/page"
+said='rt: ok; handles allowed: none; done in this run: 3 of the 9 proofs (of crates and of their tests)'
+run "echo '$said; the others are kept from earlier runs of the same files on this machine'
+    echo 9 passed, 0 failed" 'echo 1 passed, 0 failed'
+holds 'and what rt says of that is kept' grep -qF \
+    '`rt ci` did 3 of the 9 proofs (of crates and of their tests), and took' "$house/out/gate.md"
 
 # The loop of a developer.
 write "$work/program" '[ "$#" -eq 0 ] || { echo "$*; $(cat); $(ls)"; exit 7; }'

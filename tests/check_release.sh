@@ -259,7 +259,8 @@ library_sources='librignolda.a: the manifest names these sources'
 library_beside='librignolda.a: the manifest names the file beside it'
 module='rignolda.wasm: the file is what was just built, byte for byte'
 module_sources='rignolda.wasm: the manifest names these sources'
-mkdir -p "$house"/crates/{stab_c,stab_page}/src "$house"/{page,include,man,docs/schema}
+mkdir -p "$house"/crates/{stab_c,stab_page}/src "$house"/{page,include,man,docs/schema} \
+    "$house"/{agents/out,rust/rignolda/{src,target}}
 echo 'a library' >"$house/crates/stab_c/src/lib.rt"
 echo 'a module' >"$house/crates/stab_page/src/lib.rt"
 printf 'stab_c staticlib: low itoa\nstab_page staticlib: low\n' >>"$house/crates.txt"
@@ -272,7 +273,8 @@ case $1 in
 esac
 END
 chmod +x "$house/page/build.sh"
-touch "$house"/{include/rignolda.h,man/stab.1,docs/schema/job.json}
+touch "$house"/{include/rignolda.h,man/stab.1,docs/schema/job.json} \
+    "$house"/{agents/{agent.c,out/agent},rust/rignolda/{src/lib.rs,target/built}}
 echo 'a module' >"$house/page/index.html"
 printf '## 2026-11-24: of three\n' >"$house/CHANGELOG.md"
 run --check
@@ -365,12 +367,14 @@ holds 'and released' checked '13 passed, 0 failed' ''
 run --archive
 holds 'the archive has all of it' [ "$(tar -tf \
     "$house/out/rignolda-2026-11-24-x86_64-linux.tar.xz" | sed 's,^[^/]*/,,' |
-    grep -vE '/$|^$|^examples|^[A-Z]|\.md$')" = 'docs/schema/job.json
+    grep -vE '/$|^$|^examples|^[A-Z]|\.md$')" = 'agents/agent.c
+docs/schema/job.json
 include/rignolda.h
 lib/librignolda.a
 man/stab.1
 page/index.html
 page/rignolda.wasm
+rust/rignolda/src/lib.rs
 stab' ]
 
 printf '%s passed, %s failed\n' "$passed" "$failed"

@@ -361,6 +361,7 @@ holds 'whose file is then the newest program of out' [ "${newest%-*}" = stab-rel
 run "$house/stab" --prove one
 holds 'with --prove, the program is built, and compared' all gave 'released; one; in' 1 and
     said 'the release is the same program, byte for byte'
+holds 'from nothing, whatever rt has proved before' [ "$(cat "$work/calls")" = 'ci --anew' ]
 run "$house/stab" --prove
 holds 'each time' gave 'released; ; in' 1
 run "$house/stab" one --prove
