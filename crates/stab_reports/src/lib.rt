@@ -13,6 +13,7 @@ mod text;
 mod tree;
 
 pub use fault::ReportFault;
-pub use read::{read_report, read_text, read_tree_text};
+pub use lines::{count_of, cut_line, items_of};
+pub use read::{read_report, read_text, read_tree_text, see_same};
 pub use text::report_text;
 pub use tree::tree_text;

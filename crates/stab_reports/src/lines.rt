@@ -7,7 +7,7 @@ use stab_frames::{Item, Sequence};
 use std::alloc::{AllocError, Global};
 
 /// The first line of a text, without its newline, and what is after it.
-pub(crate) fn cut_line(text: &[u8]) -> (&[u8], &[u8])
+pub fn cut_line(text: &[u8]) -> (&[u8], &[u8])
     ensures { ⊤ }
 {
     match text.iter().position(|byte| *byte == b'\n') {
@@ -20,7 +20,7 @@ pub(crate) fn cut_line(text: &[u8]) -> (&[u8], &[u8])
 }
 
 /// The numbers of a line of items, whatever else is in it.
-pub(crate) fn items_of(alloc: Global, line: &[u8]) -> Result<Sequence<Item>, AllocError>
+pub fn items_of(alloc: Global, line: &[u8]) -> Result<Sequence<Item>, AllocError>
     ensures { ⊤ }
 {
     let mut items = Vec::new(alloc);
@@ -46,7 +46,7 @@ pub(crate) fn items_of(alloc: Global, line: &[u8]) -> Result<Sequence<Item>, All
 
 /// The count that a node's first line ends with, before why its worker ended; none where the last
 /// word is no number.
-pub(crate) fn count_of(counts: &[u8]) -> Option<u64>
+pub fn count_of(counts: &[u8]) -> Option<u64>
     ensures { ⊤ }
 {
     let mut count: Option<u64> = None;

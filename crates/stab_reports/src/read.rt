@@ -102,7 +102,7 @@ fn shown_report(alloc: Global, tree: &Tree, text: &[u8]) -> Result<Report, Alloc
 }
 
 /// Refuses a text that is not the one that was written.
-fn see_same(written: &[u8], text: &[u8]) -> Result<(), ReportFault>
+pub fn see_same(written: &[u8], text: &[u8]) -> Result<(), ReportFault>
     ensures { OnOk result (text.now ≡ written.now) }
 {
     if written != text {
