@@ -116,11 +116,7 @@ fn check_link(alloc: Global, bytes: &[u8], text: &[u8]) -> Result<(String, bool)
 }
 
 /// What is said of the link that this text is.
-fn check_link_text(
-    alloc: Global,
-    job: &LinkJob,
-    text: &[u8],
-) -> Result<(String, bool), CheckFault>
+fn check_link_text(alloc: Global, job: &LinkJob, text: &[u8]) -> Result<(String, bool), CheckFault>
     ensures checked { IfOk result (λ said.
         IsJudgedLink job.now text.now said.1 (string_bytes said.0)) }
     ensures fault { IfErr result (λ fault. (input : List ℕ) → IsBegunLink input job.now

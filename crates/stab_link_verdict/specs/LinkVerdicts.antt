@@ -45,11 +45,14 @@ offered_text offers offered =
     codes "the offered items are not among those that the job offers, in its order\n"
     ++ numbers_line (codes "the job offers:") offers ++ numbers_line (codes "offered:") offered
 
--- the link law of this capacity is broken, with so many items acknowledged
-unfoldable pub law_head : ℕ → ℕ → List ℕ
-law_head capacity acked =
-    codes "the link law of capacity " ++ decimal capacity ++ codes " is broken, with "
-    ++ decimal acked ++ codes " items acknowledged\n"
+-- the link law of this capacity
+unfoldable pub capacity_words : ℕ → List ℕ
+capacity_words capacity = codes "the link law of capacity " ++ decimal capacity
+
+-- it is broken, with so many items acknowledged
+unfoldable pub acked_words : ℕ → List ℕ
+acked_words acked =
+    codes " is broken, with " ++ decimal acked ++ codes " items acknowledged\n"
 
 -- the items of the frames at the start, the offered and the delivered items
 unfoldable pub law_lists : List ℕ → List ℕ → List ℕ → List ℕ
@@ -60,7 +63,7 @@ law_lists frames offered delivered =
 -- the link law is broken, with its lists
 unfoldable pub law_text : ℕ → List ℕ → LinkState → List ℕ
 law_text capacity frames s =
-    law_head capacity s.acked ++ law_lists frames s.offered s.delivered
+    capacity_words capacity ++ acked_words s.acked ++ law_lists frames s.offered s.delivered
 
 -- the text says that the state obeys, or that its offered items do not, or else its lists
 abbrev pub SaysLinkVerdict : LinkJob → LinkState → Bool → List ℕ → Type 0

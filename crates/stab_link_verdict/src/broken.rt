@@ -1,7 +1,8 @@
 //! The part of a link that is broken, as text.
 
 ghost use Rattle.std.specs.Prelude.{◌≡◌, ◌++◌, string_bytes, IfOk, OnOk};
-ghost use Rattle.stab_link_verdict.specs.LinkVerdicts.{law_head, law_lists, law_text, offered_text};
+ghost use Rattle.stab_link_verdict.specs.LinkVerdicts.{acked_words, capacity_words, law_lists};
+ghost use Rattle.stab_link_verdict.specs.LinkVerdicts.{law_text, offered_text};
 
 use crate::report::LinkReport;
 use stab_core::push_items_line;
@@ -37,7 +38,8 @@ pub(crate) fn law_text(
     ensures { IfOk result (λ text. string_bytes text ≡ law_text capacity frames.now report.now) }
 {
     let mut text = String::new(alloc);
-    push_law_head(&mut text, capacity, report.acked)?;
+    push_capacity(&mut text, capacity)?;
+    push_acked(&mut text, report.acked)?;
     push_law_lists(
         &mut text,
         frames,
@@ -47,16 +49,21 @@ pub(crate) fn law_text(
     Ok(text)
 }
 
-/// Adds which law is broken.
-#[tactic(auto, unfolding(crate::specs::LinkVerdicts::law_head))]
-fn push_law_head(text: &mut String, capacity: u16, acked: u64) -> Result<(), AllocError>
+/// Adds which law it is.
+#[tactic(auto, unfolding(crate::specs::LinkVerdicts::capacity_words))]
+fn push_capacity(text: &mut String, capacity: u16) -> Result<(), AllocError>
     ensures { OnOk result
-        (string_bytes text.new ≡ string_bytes text.old ++ law_head capacity acked) }
+        (string_bytes text.new ≡ string_bytes text.old ++ capacity_words capacity) }
 {
-    write!(
-        text,
-        "the link law of capacity {capacity} is broken, with {acked} items acknowledged\n"
-    )
+    write!(text, "the link law of capacity {capacity}")
+}
+
+/// Adds that it is broken, with so many items acknowledged.
+#[tactic(auto, unfolding(crate::specs::LinkVerdicts::acked_words))]
+fn push_acked(text: &mut String, acked: u64) -> Result<(), AllocError>
+    ensures { OnOk result (string_bytes text.new ≡ string_bytes text.old ++ acked_words acked) }
+{
+    write!(text, " is broken, with {acked} items acknowledged\n")
 }
 
 /// Adds the lists of the law.

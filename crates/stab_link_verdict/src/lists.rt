@@ -1,6 +1,6 @@
 //! The lists of a link job that a link is judged by.
 
-ghost use Rattle.std.specs.Prelude.{◌≡◌, ◌++◌, ◌∷◌, [], IfOk, OnOk};
+ghost use Rattle.std.specs.Prelude.{◌≡◌, ◌++◌, IfOk, OnOk};
 ghost use Rattle.stab_core.specs.Replay.{start_items};
 ghost use Rattle.stab_link_verdict.specs.LinkVerdicts.{offer_of, offers_of};
 
@@ -35,14 +35,7 @@ pub(crate) fn start_items(alloc: Global, start: &Start) -> Result<Sequence<Item>
 {
     let mut items = Sequence::new(alloc);
     for frame in start.frames.as_slice() {
-        add_item(&mut items, frame.item)?;
+        items.push(frame.item)?;
     }
     Ok(items)
-}
-
-/// Adds an item.
-fn add_item(items: &mut Sequence<Item>, item: Item) -> Result<(), AllocError>
-    ensures { OnOk result (items.new ≡ items.old ++ item ∷ []) }
-{
-    items.push(item)
 }

@@ -42,7 +42,7 @@ fn shown_link(alloc: Global, text: &[u8]) -> Result<LinkReport, AllocError>
         recv_label: label_of(count_of(recv_label).unwrap_or(0)),
         frames: frames_of(alloc, frames)?,
         acks: labels_of(alloc, acks)?,
-        closed: closed == b"closed: yes",
+        closed: closed == b"closed: yes".as_slice(),
     })
 }
 

@@ -2,7 +2,8 @@
 
 ghost use Rattle.std.specs.Prelude.{◌≡◌, ◌↔◌, string_bytes, IfOk, IsTrue};
 ghost use Rattle.stab_core.specs.Replay.{start_items};
-ghost use Rattle.stab_link_verdict.specs.LinkVerdicts.{ObeysLink, SaysLinkVerdict, offers_of};
+ghost use Rattle.stab_link_verdict.specs.LinkVerdicts.{AreOffered, ObeysLaw, ObeysLink};
+ghost use Rattle.stab_link_verdict.specs.LinkVerdicts.{SaysLinkVerdict, offers_of};
 
 use crate::broken::{law_text, offered_text};
 use crate::lists::{offers_of, start_items};
@@ -43,14 +44,35 @@ fn verdict_over(
     ensures says { IfOk result (λ said.
         SaysLinkVerdict job.now report.now said.1 (string_bytes said.0)) }
 {
-    let offered = report.offered.as_slice();
-    if !is_picked(offered, offers) {
-        return Ok((offered_text(alloc, offers, offered)?, false));
+    if !are_offered(job, offers, report) {
+        let text = offered_text(alloc, offers, report.offered.as_slice())?;
+        return Ok((text, false));
     }
-    let capacity = job.params.capacity();
-    let delivered = report.delivered.as_slice();
-    if !obeys_link_law(capacity, frames, offered, report.acked, delivered) {
-        return Ok((law_text(alloc, capacity, frames, report)?, false));
+    if !obeys_law(job, frames, report) {
+        let text = law_text(alloc, job.params.capacity(), frames, report)?;
+        return Ok((text, false));
     }
     Ok((String::from_str(alloc, "obeys\n")?, true))
+}
+
+/// Whether the offered items are picked from those that the job offers.
+fn are_offered(job: &LinkJob, offers: &[Item], report: &LinkReport) -> bool
+    requires { offers.now ≡ offers_of job.now.events }
+    ensures { IsTrue result ↔ AreOffered job.now report.now }
+{
+    is_picked(report.offered.as_slice(), offers)
+}
+
+/// Whether the link law holds, where these items are in the frames of the start of the job.
+fn obeys_law(job: &LinkJob, frames: &[Item], report: &LinkReport) -> bool
+    requires { frames.now ≡ start_items job.now.start }
+    ensures { IsTrue result ↔ ObeysLaw job.now report.now }
+{
+    obeys_link_law(
+        job.params.capacity(),
+        frames,
+        report.offered.as_slice(),
+        report.acked,
+        report.delivered.as_slice(),
+    )
 }

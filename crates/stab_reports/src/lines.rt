@@ -1,5 +1,5 @@
-//! What the lines of a report's text say. Nothing is checked here: what is read is printed again
-//! and compared.
+//! What the lines of a text say. Nothing is checked here: what is read is printed again and
+//! compared.
 
 ghost use Rattle.std.specs.Prelude.{⊤};
 
@@ -44,8 +44,8 @@ pub fn items_of(alloc: Global, line: &[u8]) -> Result<Sequence<Item>, AllocError
     Ok(Sequence::from_vec(items))
 }
 
-/// The count that a node's first line ends with, before why its worker ended; none where the last
-/// word is no number.
+/// The count that a line ends with, which of a node's first line is before why its worker ended; none
+/// where the last word is no number.
 pub fn count_of(counts: &[u8]) -> Option<u64>
     ensures { ⊤ }
 {

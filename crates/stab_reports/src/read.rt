@@ -1,4 +1,4 @@
-ghost use Rattle.std.specs.Prelude.{◌≡◌, ◌≤◌, ⊤, IfOk, OnOk};
+ghost use Rattle.std.specs.Prelude.{◌≡◌, ◌≢◌, ◌≤◌, ⊤, IfOk, OnErr, OnOk};
 ghost use Rattle.stab_judge.specs.Reports.{OnePerNode};
 ghost use Rattle.stab_reports.specs.Texts.{report_text, tree_text, IsTextOf, IsUnended};
 
@@ -103,7 +103,8 @@ fn shown_report(alloc: Global, tree: &Tree, text: &[u8]) -> Result<Report, Alloc
 
 /// Refuses a text that is not the one that was written.
 pub fn see_same(written: &[u8], text: &[u8]) -> Result<(), ReportFault>
-    ensures { OnOk result (text.now ≡ written.now) }
+    ensures same { OnOk result (text.now ≡ written.now) }
+    ensures differs { OnErr result (text.now ≢ written.now) }
 {
     if written != text {
         return Err(ReportFault::Line(line_of_difference(written, text)));

@@ -61,12 +61,7 @@ delivered: 98 13
 ",
         1,
     ),
-    (
-        " 99 13",
-        "",
-        "obeys\n",
-        0,
-    ),
+    (" 99 13", "", "obeys\n", 0),
     (
         " 99 13\noffered: 10 11 12 13\nacked: 3",
         "\noffered: 10 11 12 13\nacked: 4",
