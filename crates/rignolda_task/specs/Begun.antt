@@ -1,8 +1,8 @@
 -- The job of a tree that some bytes are, whose links can begin, and the text of its bounds; and the
 -- link job that some bytes are, whose link can begin.
 -- Example: The bytes of a job whose first start has two frames under the capacity 1 are a job that
--- cannot begin, and the fault is the one of `stab tree`. Those of a link job of capacity 1 with two
--- frames are one too, and the fault is the one of `stab link`.
+-- cannot begin, and the fault is the one of `stab tree`. A link job of capacity 1 whose start has two
+-- frames cannot begin either, and the fault is the one of `stab link`.
 -- Source: this project's own.
 use Rattle.std.specs.Prelude.{◌≡◌, ℕ, List, Ok}
 use Rattle.stab_core.specs.Replay.{IsLawful}
