@@ -1,10 +1,15 @@
--- The job of a tree that some bytes are, whose links can begin, and the text of its bounds.
+-- The job of a tree that some bytes are, whose links can begin, and the text of its bounds; and the
+-- link job that some bytes are, whose link can begin.
 -- Example: The bytes of a job whose first start has two frames under the capacity 1 are a job that
--- cannot begin, and the fault is the one of `stab tree`.
+-- cannot begin, and the fault is the one of `stab tree`. A link job of capacity 1 whose start has two
+-- frames cannot begin either, and the fault is the one of `stab link`.
 -- Source: this project's own.
 use Rattle.std.specs.Prelude.{◌≡◌, ℕ, List, Ok}
+use Rattle.stab_core.specs.Replay.{IsLawful}
 use Rattle.stab_job.specs.JobValues.{JobValue, network}
 use Rattle.stab_job.specs.Jobs.{job}
+use Rattle.stab_script.specs.declared.link_job.LinkJob.{LinkJob}
+use Rattle.stab_script.specs.LinkJobs.{link_job}
 use Rattle.stab_task.specs.Answers.{IsFault}
 use Rattle.stab_task.specs.declared.command.Task.TheVariants.{Tree}
 use Rattle.stab_task.specs.declared.fault.CliFault.{CliFault}
@@ -16,7 +21,12 @@ pub record IsBegun (input : List ℕ) (its_job : JobValue) : Type 0 where
   pub read : job input ≡ Ok its_job
   pub network : IsNetwork (network its_job)
 
--- why these bytes are none: what keeps a job from its answer by `stab tree`
+-- these bytes are this link job, and its link can begin
+pub record IsBegunLink (input : List ℕ) (its_job : LinkJob) : Type 0 where
+  pub read : link_job input ≡ Ok its_job
+  pub lawful : IsLawful its_job.params its_job.start
+
+-- why these bytes are no job of a tree that can begin: what keeps a job from its answer by `stab tree`
 abbrev pub IsUnbegun : List ℕ → CliFault → Type 0
 IsUnbegun input fault = IsFault Tree input fault
 

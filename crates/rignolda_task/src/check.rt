@@ -1,17 +1,24 @@
-//! The command `check`: whether a report obeys the laws of its job.
+//! The command `check`: whether a report, or the text of a link, obeys the laws of its job.
 
 ghost use Rattle.std.specs.Prelude.{◌≢◌, ℕ, List, string_bytes, IfErr, IfOk, IfSome};
 ghost use Rattle.std.specs.Io.KnownBytes.{Appends, Keeps};
-ghost use Rattle.rignolda_task.specs.Checked.{IsChecked, IsJudged, IsUnchecked};
-ghost use Rattle.rignolda_task.specs.Begun.{IsBegun};
+ghost use Rattle.rignolda_task.specs.Begun.{IsBegun, IsBegunLink};
+ghost use Rattle.rignolda_task.specs.Checked.{IsChecked, IsCheckedAs, IsCheckedLink};
+ghost use Rattle.rignolda_task.specs.Checked.{IsCheckedTree, IsJudged, IsJudgedLink};
+ghost use Rattle.rignolda_task.specs.Checked.{IsUnchecked, IsUncheckedAs, IsUncheckedLink};
+ghost use Rattle.rignolda_task.specs.Checked.{IsUncheckedTree};
 
 use crate::answer::write_text;
-use crate::fault::{CheckFault, unread};
-use crate::job::begun_job;
+use crate::draw::kind_of_bytes;
+use crate::fault::{CheckFault, unread, unread_link};
+use crate::job::{begun_job, begun_link_job};
 use crate::program::{FOUND, say_that_it_reads, unopened};
 use clap::{Arg, ArgMatches, Command};
+use stab_findings::Kind;
 use stab_job::Job;
+use stab_link_verdict::{link_verdict, read_link_report};
 use stab_reports::read_text;
+use stab_script::LinkJob;
 use stab_task::{CliFault, load};
 use stab_verdict::verdict;
 use std::alloc::{AllocError, Global};
@@ -20,8 +27,9 @@ use std::rt::Files;
 use std::{fs, io};
 
 /// Reads a job and then a report, and writes whether the report obeys the laws of the network of the
-/// job, or which part of it is broken first. It answers true exactly where the report obeys. Where
-/// there is no verdict, nothing is written unless the fault is `Write`.
+/// job, or which part of it is broken first. Of a link job it does the same of the text of a link.
+/// It answers true exactly where the report, or the link, obeys. Where there is no verdict, nothing
+/// is written unless the fault is `Write`.
 pub fn act_check<J: Read, R: Read, W: Write>(
     alloc: Global,
     job: &mut J,
@@ -65,11 +73,69 @@ fn check_input<J: Read, R: Read>(
     Ok(said)
 }
 
-/// What is said of the report that this text is, of the job that these bytes are.
+/// What is said of the report or the link that this text is, of the job that these bytes are.
 fn check_bytes(alloc: Global, bytes: &[u8], text: &[u8]) -> Result<(String, bool), CheckFault>
     ensures checked { IfOk result (λ said.
         IsChecked bytes.now text.now said.1 (string_bytes said.0)) }
     ensures fault { IfErr result (IsUnchecked bytes.now) }
+    ensures no_write { IfErr result (λ fault. fault ≢ CheckFault.Job CliFault.Write) }
+{
+    let kind = kind_of_bytes(alloc, bytes)?;
+    let said = check_kind(alloc, kind, bytes, text)?;
+    Ok(said)
+}
+
+/// The same of the job of this kind that these bytes are.
+fn check_kind(
+    alloc: Global,
+    kind: Kind,
+    bytes: &[u8],
+    text: &[u8],
+) -> Result<(String, bool), CheckFault>
+    ensures checked { IfOk result (λ said.
+        IsCheckedAs kind bytes.now text.now said.1 (string_bytes said.0)) }
+    ensures fault { IfErr result (IsUncheckedAs kind bytes.now) }
+    ensures no_write { IfErr result (λ fault. fault ≢ CheckFault.Job CliFault.Write) }
+{
+    match kind {
+        Kind::LinkJob => check_link(alloc, bytes, text),
+        Kind::Job => check_tree(alloc, bytes, text),
+    }
+}
+
+/// What is said of the link that this text is, of the link job that these bytes are.
+fn check_link(alloc: Global, bytes: &[u8], text: &[u8]) -> Result<(String, bool), CheckFault>
+    ensures checked { IfOk result (λ said.
+        IsCheckedLink bytes.now text.now said.1 (string_bytes said.0)) }
+    ensures fault { IfErr result (IsUncheckedLink bytes.now) }
+    ensures no_write { IfErr result (λ fault. fault ≢ CheckFault.Job CliFault.Write) }
+{
+    let job = begun_link_job(alloc, bytes)?;
+    let said = check_link_text(alloc, &job, text)?;
+    Ok(said)
+}
+
+/// What is said of the link that this text is.
+fn check_link_text(alloc: Global, job: &LinkJob, text: &[u8]) -> Result<(String, bool), CheckFault>
+    ensures checked { IfOk result (λ said.
+        IsJudgedLink job.now text.now said.1 (string_bytes said.0)) }
+    ensures fault { IfErr result (λ fault. (input : List ℕ) → IsBegunLink input job.now
+        → IsUncheckedLink input fault) }
+    ensures no_write { IfErr result (λ fault. fault ≢ CheckFault.Job CliFault.Write) }
+{
+    let report = match read_link_report(alloc, text) {
+        Ok(report) => report,
+        Err(fault) => return Err(unread_link(fault)),
+    };
+    let said = link_verdict(alloc, job, &report)?;
+    Ok(said)
+}
+
+/// What is said of the report that this text is, of the job of a tree that these bytes are.
+fn check_tree(alloc: Global, bytes: &[u8], text: &[u8]) -> Result<(String, bool), CheckFault>
+    ensures checked { IfOk result (λ said.
+        IsCheckedTree bytes.now text.now said.1 (string_bytes said.0)) }
+    ensures fault { IfErr result (IsUncheckedTree bytes.now) }
     ensures no_write { IfErr result (λ fault. fault ≢ CheckFault.Job CliFault.Write) }
 {
     let job = begun_job(alloc, bytes)?;
@@ -81,7 +147,7 @@ fn check_bytes(alloc: Global, bytes: &[u8], text: &[u8]) -> Result<(String, bool
 fn check_text(alloc: Global, job: &Job, text: &[u8]) -> Result<(String, bool), CheckFault>
     ensures checked { IfOk result (λ said. IsJudged job.now text.now said.1 (string_bytes said.0)) }
     ensures fault { IfErr result (λ fault. (input : List ℕ) → IsBegun input job.now
-        → IsUnchecked input fault) }
+        → IsUncheckedTree input fault) }
     ensures no_write { IfErr result (λ fault. fault ≢ CheckFault.Job CliFault.Write) }
 {
     let report = match read_text(alloc, job.tree(), text) {
@@ -104,7 +170,7 @@ pub(crate) fn check_line<'a>(alloc: Global) -> Result<Command<'a>, AllocError> {
         .arg(
             Arg::new(alloc, "REPORT")
                 .required(true)
-                .help("The text of stab run or stab tree; - is standard input"),
+                .help("The text of stab run, tree or link; - is standard input"),
         )
 }
 

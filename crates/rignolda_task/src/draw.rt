@@ -91,7 +91,7 @@ fn draw_kind(alloc: Global, kind: Kind, is_picture: bool, bytes: &[u8]) -> Resul
 
 /// What these bytes are read as: an object with a member `tree` is a job of a tree, and everything
 /// else a link job.
-fn kind_of_bytes(alloc: Global, bytes: &[u8]) -> Result<Kind, AllocError>
+pub(crate) fn kind_of_bytes(alloc: Global, bytes: &[u8]) -> Result<Kind, AllocError>
     ensures { IfOk result (λ kind. kind ≡ chosen None (value_of bytes.now)) }
 {
     let value = read_value(alloc, bytes)?;

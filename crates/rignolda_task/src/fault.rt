@@ -1,7 +1,8 @@
 ghost use Rattle.std.specs.Prelude.{◌≢◌, ℕ, List};
-ghost use Rattle.rignolda_task.specs.Begun.{IsBegun};
-ghost use Rattle.rignolda_task.specs.Checked.{IsUnchecked};
+ghost use Rattle.rignolda_task.specs.Begun.{IsBegun, IsBegunLink};
+ghost use Rattle.rignolda_task.specs.Checked.{IsUncheckedLink, IsUncheckedTree};
 ghost use Rattle.stab_job.specs.JobValues.{JobValue};
+ghost use Rattle.stab_script.specs.declared.link_job.LinkJob.{LinkJob};
 
 use stab_reports::ReportFault;
 use stab_task::CliFault;
@@ -23,6 +24,9 @@ pub enum CheckFault {
     /// The text is no report of the job's tree: it differs in this line, counted from 1.
     #[error("not a report: line {0} is not as a report of this tree has it")]
     Line(u64),
+    /// The text is not that of a link: it differs in this line, counted from 1.
+    #[error("not a report: line {0} is not as the text of a link has it")]
+    LinkLine(u64),
 }
 
 impl CheckFault {
@@ -30,7 +34,7 @@ impl CheckFault {
     pub fn status(&self) -> u8 {
         match self {
             CheckFault::Job(fault) | CheckFault::Unloaded(fault) => fault.status(),
-            CheckFault::Line(_) => NO_REPORT,
+            CheckFault::Line(_) | CheckFault::LinkLine(_) => NO_REPORT,
         }
     }
 }
@@ -61,11 +65,23 @@ impl From<AllocError> for CheckFault {
 /// The fault of a text that is not read as a report.
 pub(crate) fn unread(fault: ReportFault) -> CheckFault
     ensures fault { (input : List ℕ) (its_job : JobValue) → IsBegun input its_job
-        → IsUnchecked input result }
+        → IsUncheckedTree input result }
     ensures no_write { result ≢ CheckFault.Job CliFault.Write }
 {
     match fault {
         ReportFault::Line(line) => CheckFault::Line(line),
+        ReportFault::Memory => CheckFault::Job(CliFault::Memory),
+    }
+}
+
+/// The fault of a text that is not read as that of a link.
+pub(crate) fn unread_link(fault: ReportFault) -> CheckFault
+    ensures fault { (input : List ℕ) (its_job : LinkJob) → IsBegunLink input its_job
+        → IsUncheckedLink input result }
+    ensures no_write { result ≢ CheckFault.Job CliFault.Write }
+{
+    match fault {
+        ReportFault::Line(line) => CheckFault::LinkLine(line),
         ReportFault::Memory => CheckFault::Job(CliFault::Memory),
     }
 }

@@ -1,13 +1,17 @@
-//! The job of a tree that a command reads.
+//! The job of a tree, or of a link, that a command reads.
 
-ghost use Rattle.std.specs.Prelude.{◌≢◌, IfErr, IfOk, OnOk};
-ghost use Rattle.rignolda_task.specs.Begun.{IsBegun};
+ghost use Rattle.std.specs.Prelude.{◌≢◌, false, IfErr, IfOk, OnOk};
+ghost use Rattle.rignolda_task.specs.Begun.{IsBegun, IsBegunLink};
+ghost use Rattle.stab_core.specs.Link.{IsReason};
+ghost use Rattle.stab_core.specs.Replay.{IsLawful};
 ghost use Rattle.stab_job.specs.JobValues.{network};
 ghost use Rattle.stab_task.specs.Answers.{IsFault};
 ghost use Rattle.stab_treecore.specs.Network.{IsNetwork};
 ghost use Rattle.stab_treecore.specs.Refusals.{IsScheduleReason};
 
+use stab_core::{Link, StartFault};
 use stab_job::{Job, read_job};
+use stab_script::{LinkJob, read_link_job};
 use stab_task::{CliFault, Task};
 use stab_treecore::{TreeStartFault, run_schedule};
 use std::alloc::Global;
@@ -40,5 +44,26 @@ fn begin(alloc: Global, job: &Job) -> Result<(), TreeStartFault>
         job.openings(),
         &[],
     )?;
+    Ok(())
+}
+
+/// The link job that these bytes are, where its link can begin. Otherwise the fault is that of
+/// `stab link`.
+pub(crate) fn begun_link_job(alloc: Global, bytes: &[u8]) -> Result<LinkJob, CliFault>
+    ensures begun { IfOk result (IsBegunLink bytes.now) }
+    ensures fault { IfErr result (IsFault (Task.Link false) bytes.now) }
+    ensures no_write { IfErr result (λ fault. fault ≢ CliFault.Write) }
+{
+    let job = read_link_job(alloc, bytes)?;
+    begin_link(alloc, &job)?;
+    Ok(job)
+}
+
+/// Sees that the link of a job can begin.
+fn begin_link(alloc: Global, job: &LinkJob) -> Result<(), StartFault>
+    ensures lawful { OnOk result (IsLawful job.now.params job.now.start) }
+    ensures refused { IfErr result (IsReason job.now.params job.now.start) }
+{
+    Link::new(alloc, job.params, &job.start)?;
     Ok(())
 }

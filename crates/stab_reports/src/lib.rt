@@ -3,7 +3,8 @@
 //! [`read_report`] takes the counts and items out of a text, prints the report that they make, and
 //! compares it with the text byte by byte. So what is accepted is exactly the text of the report
 //! that is answered, with the names and depths of the tree. [`read_tree_text`] does the same of the
-//! text of a tree, and [`read_text`] looks which of both a text is.
+//! text of a tree, and [`read_text`] looks which of both a text is. Readers of other texts use the
+//! pieces [`cut_line`], [`items_of`], [`count_of`] and [`see_same`].
 #![tactic(auto)]
 
 mod fault;
@@ -13,6 +14,7 @@ mod text;
 mod tree;
 
 pub use fault::ReportFault;
-pub use read::{read_report, read_text, read_tree_text};
+pub use lines::{count_of, cut_line, items_of};
+pub use read::{read_report, read_text, read_tree_text, see_same};
 pub use text::report_text;
 pub use tree::tree_text;

@@ -1,5 +1,5 @@
-//! What the lines of a report's text say. Nothing is checked here: what is read is printed again
-//! and compared.
+//! What the lines of a text say. Nothing is checked here: what is read is printed again and
+//! compared.
 
 ghost use Rattle.std.specs.Prelude.{⊤};
 
@@ -7,7 +7,7 @@ use stab_frames::{Item, Sequence};
 use std::alloc::{AllocError, Global};
 
 /// The first line of a text, without its newline, and what is after it.
-pub(crate) fn cut_line(text: &[u8]) -> (&[u8], &[u8])
+pub fn cut_line(text: &[u8]) -> (&[u8], &[u8])
     ensures { ⊤ }
 {
     match text.iter().position(|byte| *byte == b'\n') {
@@ -20,7 +20,7 @@ pub(crate) fn cut_line(text: &[u8]) -> (&[u8], &[u8])
 }
 
 /// The numbers of a line of items, whatever else is in it.
-pub(crate) fn items_of(alloc: Global, line: &[u8]) -> Result<Sequence<Item>, AllocError>
+pub fn items_of(alloc: Global, line: &[u8]) -> Result<Sequence<Item>, AllocError>
     ensures { ⊤ }
 {
     let mut items = Vec::new(alloc);
@@ -44,9 +44,9 @@ pub(crate) fn items_of(alloc: Global, line: &[u8]) -> Result<Sequence<Item>, All
     Ok(Sequence::from_vec(items))
 }
 
-/// The count that a node's first line ends with, before why its worker ended; none where the last
-/// word is no number.
-pub(crate) fn count_of(counts: &[u8]) -> Option<u64>
+/// The count that a line ends with, which of a node's first line is before why its worker ended; none
+/// where the last word is no number.
+pub fn count_of(counts: &[u8]) -> Option<u64>
     ensures { ⊤ }
 {
     let mut count: Option<u64> = None;

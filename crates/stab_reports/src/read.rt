@@ -1,4 +1,4 @@
-ghost use Rattle.std.specs.Prelude.{◌≡◌, ◌≤◌, ⊤, IfOk, OnOk};
+ghost use Rattle.std.specs.Prelude.{◌≡◌, ◌≢◌, ◌≤◌, ⊤, IfOk, OnErr, OnOk};
 ghost use Rattle.stab_judge.specs.Reports.{OnePerNode};
 ghost use Rattle.stab_reports.specs.Texts.{report_text, tree_text, IsTextOf, IsUnended};
 
@@ -102,8 +102,9 @@ fn shown_report(alloc: Global, tree: &Tree, text: &[u8]) -> Result<Report, Alloc
 }
 
 /// Refuses a text that is not the one that was written.
-fn see_same(written: &[u8], text: &[u8]) -> Result<(), ReportFault>
-    ensures { OnOk result (text.now ≡ written.now) }
+pub fn see_same(written: &[u8], text: &[u8]) -> Result<(), ReportFault>
+    ensures same { OnOk result (text.now ≡ written.now) }
+    ensures differs { OnErr result (text.now ≢ written.now) }
 {
     if written != text {
         return Err(ReportFault::Line(line_of_difference(written, text)));

@@ -41,7 +41,7 @@ items: 98 14 15 16
 ";
 
 /// A part of a text, what is there in its place, and what is said then, with the status.
-type Row = (&'static str, &'static str, &'static str, u8);
+pub(crate) type Row = (&'static str, &'static str, &'static str, u8);
 
 /// Parts of the report.
 const ROWS: &[Row] = &[
@@ -146,7 +146,7 @@ const JOB_ROWS: &[Row] = &[
 ];
 
 /// A text, the first such part of it replaced.
-fn spoiled(alloc: Global, text: &str, row: &Row) -> Result<String, AllocError> {
+pub(crate) fn spoiled(alloc: Global, text: &str, row: &Row) -> Result<String, AllocError> {
     let mut made = String::new(alloc);
     let (before, after) = text.split_once(row.0).unwrap_or((text, ""));
     made.push_str(before)?;
@@ -156,7 +156,7 @@ fn spoiled(alloc: Global, text: &str, row: &Row) -> Result<String, AllocError> {
 }
 
 /// What is written, or the text of the fault, and the status.
-fn checked(alloc: Global, job: &str, report: &str) -> Result<(String, u8), AllocError> {
+pub(crate) fn checked(alloc: Global, job: &str, report: &str) -> Result<(String, u8), AllocError> {
     let mut written = Vec::new(alloc);
     let ended = act_check(
         alloc,

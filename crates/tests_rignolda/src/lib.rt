@@ -1,5 +1,5 @@
 //! Tests of the program `rignolda` by public calls: its command lines, the worst link job,
-//! random jobs, drawn runs, bounds, and reports that are checked.
+//! random jobs, drawn runs, bounds, and reports and links that are checked.
 #![tactic(auto)]
 
 #[cfg(test)]
@@ -8,6 +8,8 @@ mod checked;
 mod drawn;
 #[cfg(test)]
 mod lines;
+#[cfg(test)]
+mod links;
 #[cfg(test)]
 mod random;
 #[cfg(test)]

@@ -1,0 +1,7 @@
+use Rattle.std.proofs.Common.{◌≡◌, take}
+use Rattle.stab_link_verdict.specs.LinkVerdicts.{offers_of}
+use Rattle.stab_link_verdict.proofs.lists.offers_of.Given as goal
+
+-- what the events so far offer
+abbrev pub invariant-loop-event : goal.invariant-loop-event
+invariant-loop-event l = l.offers ≡ offers_of (take l.event-index l.events)

@@ -1,0 +1,83 @@
+ghost use Rattle.std.specs.Prelude.{◌≡◌, ◌++◌, codes, string_bytes, IfOk, OnOk};
+ghost use Rattle.stab_core.specs.Texts.{closed_line, frame_entry, frames_line, link_text};
+ghost use Rattle.stab_core.specs.Texts.{number_line, numbers_line};
+
+use crate::report::LinkReport;
+use stab_core::{push_items_line, push_number};
+use stab_frames::{Frame, Label};
+use std::alloc::{AllocError, Global};
+
+/// The eight lines of a link, as `stab link` prints them.
+#[tactic(auto, unfolding(stab_core::specs::Texts::link_text))]
+pub fn link_report_text(alloc: Global, report: &LinkReport) -> Result<String, AllocError>
+    ensures { IfOk result (λ text. string_bytes text ≡ link_text report.now) }
+{
+    let mut text = String::new(alloc);
+    push_items_line(&mut text, "delivered:", report.delivered.as_slice())?;
+    push_items_line(&mut text, "offered:", report.offered.as_slice())?;
+    push_number_line(&mut text, "acked:", report.acked)?;
+    push_number_line(&mut text, "send label:", u64::from(report.send_label))?;
+    push_number_line(&mut text, "recv label:", u64::from(report.recv_label))?;
+    push_frames_line(&mut text, report.frames.as_slice())?;
+    push_labels_line(&mut text, report.acks.as_slice())?;
+    push_closed_line(&mut text, report.closed)?;
+    Ok(text)
+}
+
+/// Adds a line: the label, then the number after one space.
+#[tactic(auto, unfolding(stab_core::specs::Texts::number_line))]
+fn push_number_line(text: &mut String, label: &str, number: u64) -> Result<(), AllocError>
+    ensures { OnOk result
+        (string_bytes text.new ≡ string_bytes text.old ++ number_line label.now number) }
+{
+    text.push_str(label)?;
+    push_number(text, number)?;
+    text.push_str("\n")
+}
+
+/// Adds the line of the queued frames.
+#[tactic(auto, unfolding(stab_core::specs::Texts::frames_line))]
+fn push_frames_line(text: &mut String, frames: &[Frame]) -> Result<(), AllocError>
+    ensures { OnOk result
+        (string_bytes text.new ≡ string_bytes text.old ++ frames_line frames.now) }
+{
+    text.push_str("frames:")?;
+    for frame in frames {
+        push_frame(text, *frame)?;
+    }
+    text.push_str("\n")
+}
+
+/// Adds a frame.
+fn push_frame(text: &mut String, frame: Frame) -> Result<(), AllocError>
+    ensures { OnOk result
+        (string_bytes text.new ≡ string_bytes text.old ++ frame_entry frame) }
+{
+    write!(text, " {}={}", frame.label, frame.item)
+}
+
+/// Adds the line of the queued acknowledgements.
+#[tactic(auto, unfolding(stab_core::specs::Texts::numbers_line))]
+fn push_labels_line(text: &mut String, labels: &[Label]) -> Result<(), AllocError>
+    ensures { OnOk result (string_bytes text.new
+        ≡ string_bytes text.old ++ numbers_line (codes "acks:") labels.now) }
+{
+    text.push_str("acks:")?;
+    for label in labels {
+        push_number(text, u64::from(*label))?;
+    }
+    text.push_str("\n")
+}
+
+/// Adds the line that says whether the link is closed.
+#[tactic(auto, unfolding(stab_core::specs::Texts::closed_line))]
+fn push_closed_line(text: &mut String, closed: bool) -> Result<(), AllocError>
+    ensures { OnOk result
+        (string_bytes text.new ≡ string_bytes text.old ++ closed_line closed) }
+{
+    if closed {
+        text.push_str("closed: yes\n")
+    } else {
+        text.push_str("closed: no\n")
+    }
+}
