@@ -9,7 +9,8 @@ swapped with the next, doubled, altered or dropped, or a count or an ending is a
 `rignolda check` has to answer what the plain checker below answers: that the report obeys, or which
 part is broken first, at which node; or that the text is no report, with the line. The checker is
 written from docs/FORMATS.md, tries every number of strays, and shares nothing with the program. Of
-reports of runs it is compared with agents/check_report.py as well.
+reports of runs it is compared with agents/check_report.py as well. One job in five is a link job,
+of which `stab link` prints the text, and in it a line is spoiled in the same way.
 """
 
 import collections
@@ -26,6 +27,7 @@ sys.dont_write_bytecode = True
 sys.path.insert(0, str(ROOT / "agents"))
 import check_report  # noqa: E402
 
+LINK_LINES = ["delivered", "offered", "acked", "send label", "recv label", "frames", "acks", "closed"]
 ACTS = ["offer", "offer", "send_frame", "send_frame", "recv_frame", "recv_frame", "recv_frame_keep",
         "send_ack", "send_ack", "recv_ack", "recv_ack", "recv_ack_keep", "close"]
 SAID = {
@@ -34,6 +36,10 @@ SAID = {
     "no count": "it has no count of acknowledged items",
     "opening": "its items do not begin with its opening",
     "link law": "what it has after its opening is not what the link law allows",
+}
+SAID_OF_LINKS = {
+    "offers": "the offered items are not among those that the job offers, in its order",
+    "law": "the link law of capacity ",
 }
 
 
@@ -79,6 +85,27 @@ def drawn_job(draw, words):
         made["schedule"] = [[names[draw.choice(links)], draw.choice(ACTS[:-1] * 9 + ACTS)]
                             for _ in range(draw.choice([0, 30, 200]))]
     return made
+
+
+def drawn_link_job(draw):
+    """A link job that `stab link` accepts, of which the start often has garbage."""
+    most, top = draw.choice([1, 1, 2, 3]), draw.choice([3, 20, 2 ** 32])
+    labels = 2 * most + 2 + draw.randrange(4)
+
+    def event():
+        act = draw.choice(["offer", "offer", "send_frame", "send_frame", "recv_frame", "recv_frame",
+                           "recv_frame_keep", "send_ack", "send_ack", "recv_ack", "recv_ack",
+                           "recv_ack_keep", "lose_frame", "lose_ack"] * 8 + ["close"])
+        if act == "offer":
+            return [act, draw.randrange(top)]
+        return [act, draw.randrange(most)] if act.startswith("lose") else act
+
+    start = {"frames": [[draw.randrange(labels), draw.randrange(top)]
+                        for _ in range(draw.randrange(most + 1))],
+             "acks": [draw.randrange(labels) for _ in range(draw.randrange(most + 1))],
+             "send": draw.randrange(labels), "recv": draw.randrange(labels)}
+    return {"capacity": most, "labels": labels, "start": start,
+            "events": [event() for _ in range(draw.choice([0, 5, 40, 200, 600]))]}
 
 
 def is_picked(part, whole):
@@ -171,6 +198,75 @@ def judged(job, text):
     return None
 
 
+def read_link(text):
+    """The entries of each line of a link's text, or the first line that is not as it has to be."""
+    lines, found = text.split("\n"), {}
+    number = r"(?:0|[1-9][0-9]*)"
+    forms = {"delivered": f"(?: {number})*", "frames": f"(?: {number}={number})*",
+             "acked": f" {number}", "closed": " (?:yes|no)"}
+    forms.update(offered=forms["delivered"], acks=forms["delivered"])
+    forms.update({"send label": forms["acked"], "recv label": forms["acked"]})
+    most = {"delivered": 2 ** 32, "offered": 2 ** 32, "acked": 2 ** 64}
+    for at, name in enumerate(LINK_LINES):
+        line = lines[at] if at < len(lines) else ""
+        if not re.fullmatch(f"{name}:{forms[name]}", line):
+            return at + 1
+        words = line[len(name) + 1:].split(" ")[1:]
+        if name == "frames":
+            pairs = [word.split("=") for word in words]
+            if any(int(label) >= 2 ** 16 or int(item) >= 2 ** 32 for label, item in pairs):
+                return at + 1
+        elif name != "closed":
+            found[name] = [int(word) for word in words]
+            if max(found[name], default=0) >= most.get(name, 2 ** 16):
+                return at + 1
+    return found if lines[len(LINK_LINES):] == [""] else len(LINK_LINES) + 1
+
+
+def judged_link(job, text):
+    """What is broken of a link's text first: a line, a part, or nothing."""
+    said = read_link(text)
+    if isinstance(said, int):
+        return said
+    offers = [event[1] for event in job["events"] if event[0] == "offer"]
+    offered, acked = said["offered"], said["acked"][0]
+    if not is_picked(offered, offers):
+        return "offers", None
+    frames = [item for _, item in job["start"]["frames"]]
+    if len(offered) > acked + 1 or not link_law(offered, acked, job["capacity"], frames,
+                                                said["delivered"]):
+        return "law", None
+    return None
+
+
+def spoiled_link(draw, text):
+    """The text of a link with one entry of a line altered, or one byte."""
+    lines = text.split("\n")[:-1]
+    way = draw.choice(["swap", "double", "alter", "drop"] * 3 + ["count", "byte", "line"])
+    if way == "byte":
+        at = draw.randrange(len(text))
+        return way, text[:at] + draw.choice(["", " ", "0", "\n", "7"]) + text[at + 1:]
+    if way == "line":
+        return way, text + draw.choice(["origins:\n", "\n", " "])
+    if way == "count":
+        lines[2] = f"acked: {draw.choice([0, 1, 2, 5, 9])}"
+    else:
+        at = draw.choice([0, 0, 0, 1, 1, 1, 5, 6])
+        name, *words = lines[at].split(" ")
+        if words:
+            place = draw.randrange(len(words))
+            if way == "swap":
+                words[place:place + 2] = words[place:place + 2][::-1]
+            elif way == "double":
+                words.insert(place, words[place])
+            elif way == "alter":
+                words[place] = str(draw.randrange(20))
+            else:
+                del words[place]
+        lines[at] = " ".join([name, *words])
+    return way, "\n".join(lines) + "\n"
+
+
 def spoiled(draw, text):
     """The text with one item, count or ending altered. Mostly the number of items is counted again,
     so that the text is still that of a report."""
@@ -212,13 +308,16 @@ def answer_of(program, folder, job, text, swapped):
     return done.returncode, (done.stdout or done.stderr).decode().split("\n")[0]
 
 
-def expected(found):
+def expected(found, is_link):
     """The status and the beginning of the first line for what the plain checker found."""
     if found is None:
         return 0, "obeys"
     if isinstance(found, int):
-        return 1, f"rignolda: not a report: line {found} is not as a report of this tree has it"
+        form = "the text of a link" if is_link else "a report of this tree"
+        return 1, f"rignolda: not a report: line {found} is not as {form} has it"
     part, node = found
+    if is_link:
+        return 1, SAID_OF_LINKS[part]
     return 1, f"{node}: " + SAID.get(part, "")
 
 
@@ -231,8 +330,10 @@ def main():
     with tempfile.TemporaryDirectory() as folder:
         folder = Path(folder)
         for case in range(count):
-            command = draw.choice([["run"], ["run", "--words"], ["run", "--mixed"], ["tree"]])
-            job = drawn_job(draw, "--words" in command)
+            is_link = draw.random() < 0.2
+            command = ["link"] if is_link else draw.choice(
+                [["run"], ["run", "--words"], ["run", "--mixed"], ["tree"]])
+            job = drawn_link_job(draw) if is_link else drawn_job(draw, "--words" in command)
             whole = json.dumps(job)
             done = subprocess.run([ROOT / "stab", *command], input=whole.encode(),
                                   capture_output=True)
@@ -241,17 +342,18 @@ def main():
                 print(f"FAILED {case}: stab {command}: {done.stderr.decode()}{whole}")
                 failed += 1
                 continue
-            way, other = spoiled(draw, text)
+            way, other = (spoiled_link if is_link else spoiled)(draw, text)
             for kind, report in (("true", text), (way, other)):
-                found = judged(job, report)
+                found = (judged_link if is_link else judged)(job, report)
                 status, line = answer_of(program, folder, whole, report, draw.random() < 0.5)
-                wants, begins = expected(found)
+                wants, begins = expected(found, is_link)
                 good = status == wants and line.startswith(begins)
                 if kind == "true":
                     good = good and found is None
                 if isinstance(found, tuple) and found[0] == "handed on":
                     good = good and " ended upstream with " in line
-                if re.search(r" ended [a-z]+\n", report) and not isinstance(found, int):
+                if not is_link and re.search(r" ended [a-z]+\n", report) \
+                        and not isinstance(found, int):
                     good = good and (check_report.fault(job, report) is None) == (found is None)
                 found_parts[kind, "no report" if isinstance(found, int) else
                             found[0] if found else "obeys"] += 1
