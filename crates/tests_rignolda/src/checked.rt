@@ -170,6 +170,16 @@ pub(crate) fn checked(alloc: Global, job: &str, report: &str) -> Result<(String,
     }
 }
 
+/// What is written of the bounds of a job, and the status.
+fn bounded(alloc: Global, job: &str) -> Result<(String, u8), AllocError> {
+    let mut written = Vec::new(alloc);
+    let status = match act_bounds(alloc, &mut job.as_bytes(), &mut written) {
+        Ok(()) => 0,
+        Err(fault) => fault.status(),
+    };
+    Ok((text_of(alloc, &written)?, status))
+}
+
 /// What was written, which is text.
 fn text_of(alloc: Global, written: &[u8]) -> Result<String, AllocError> {
     match str::from_utf8(written) {
@@ -202,20 +212,15 @@ fn refuses_a_job_as_stab_does(rt: HostRuntime) -> Result<(), Fail> {
             said.as_str() == row.2 && status == row.3,
             "{row:?}: {said}"
         );
-        let mut written = Vec::new(rt.alloc());
-        let ended = act_bounds(rt.alloc(), &mut job.as_bytes(), &mut written);
-        let status = ended.err().map_or(0, |fault| fault.status());
-        assert!(rt; status == row.3 && written.is_empty(), "{row:?}");
+        let (bounds, status) = bounded(rt.alloc(), &job)?;
+        assert!(rt; bounds.is_empty() && status == row.3, "{row:?}");
     }
     Ok(())
 }
 
 #[test]
 fn writes_the_bounds_of_each_node(rt: HostRuntime) -> Result<(), Fail> {
-    let mut written = Vec::new(rt.alloc());
-    let ended = act_bounds(rt.alloc(), &mut JOB.as_bytes(), &mut written);
-    assert!(rt; ended.is_ok());
-    let text = text_of(rt.alloc(), &written)?;
-    assert!(rt; text.as_str() == BOUNDS, "{text}");
+    let (bounds, status) = bounded(rt.alloc(), JOB)?;
+    assert!(rt; bounds.as_str() == BOUNDS && status == 0, "{bounds}");
     Ok(())
 }

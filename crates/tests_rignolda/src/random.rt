@@ -26,7 +26,7 @@ fn of_all_sizes(seed: u64) -> DrawOptions {
     DrawOptions {
         nodes: 1 + (seed % 64) as u16,
         items: (seed % 7) as u32,
-        capacity: 1 + (seed * 5 % 64) as u16,
+        capacity: 1 + (seed % 64 * 5 % 64) as u16,
         labels: if seed % 3 == 0 { Some(130) } else { None },
         hold: (seed % 65) as u16,
         ..options(seed)
