@@ -3,17 +3,33 @@ _rignolda() {
     local word=${COMP_WORDS[COMP_CWORD]} flags='' files=''
     COMPREPLY=()
     if [ "$COMP_CWORD" -eq 1 ]; then
-        mapfile -t COMPREPLY < <(compgen -W 'draw explain worst help --help --version' -- "$word")
+        mapfile -t COMPREPLY < <(compgen -W 'bounds check draw explain random worst help --help --version' -- "$word")
         return
     fi
     case ${COMP_WORDS[1]} in
-        draw)
+        bounds)
             flags='--help'
+            files=yes
+            ;;
+        check)
+            flags='--help'
+            files=yes
+            ;;
+        draw)
+            flags='--svg --help'
             files=yes
             ;;
         explain)
             flags='--help'
             files=yes
+            ;;
+        random)
+            flags='--seed --items --turns --schedule --nodes --capacity --loss --repeat --hold'
+            flags+=' --labels --help'
+            case ${COMP_WORDS[COMP_CWORD - 1]} in
+                --seed|--items|--turns|--schedule|--nodes|--capacity|--loss|--repeat) return ;;
+                --hold|--labels) return ;;
+            esac
             ;;
         worst)
             flags='--capacity --labels --help'
@@ -21,7 +37,7 @@ _rignolda() {
                 --capacity|--labels) return ;;
             esac
             ;;
-        help) flags='draw explain worst help' ;;
+        help) flags='bounds check draw explain random worst help' ;;
     esac
     mapfile -t COMPREPLY < <(compgen -W "$flags" -- "$word")
     if [ -n "$files" ] && [[ $word != -* ]]; then
