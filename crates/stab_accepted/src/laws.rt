@@ -3,12 +3,16 @@
 
 ghost use Rattle.std.specs.Prelude.{◌≡◌};
 ghost use Rattle.stab_accepted.specs.AsJudged.{as_judged, run_text, judged_text};
+ghost use Rattle.stab_core.specs.Replay.{IsLawful, opening, replay};
+ghost use Rattle.stab_frames.specs.Parameters.{AreLawful};
 ghost use Rattle.stab_job.specs.JobValues.{JobValue, network};
 ghost use Rattle.stab_judge.specs.Obeys.{Obeys};
 ghost use Rattle.stab_judge.specs.Reports.{OnePerNode};
+ghost use Rattle.stab_link_verdict.specs.LinkVerdicts.{ObeysLink};
 ghost use Rattle.stab_run.specs.Reports.{Reported};
 ghost use Rattle.stab_run.specs.Runs.{IsReport};
 ghost use Rattle.stab_run.specs.declared.links.Links.{Links};
+ghost use Rattle.stab_script.specs.declared.link_job.LinkJob.{LinkJob};
 ghost use Rattle.stab_tree.specs.Nodes.{Nodes};
 
 /// The report of a run obeys, as a judge reads it, and has an entry for each node.
@@ -26,3 +30,12 @@ pub fn texts_of_runs_are_of_judged_reports()
     ensures { (nodes : Nodes) (report : Reported)
         → run_text nodes report ≡ judged_text nodes (as_judged report) }
 {}
+
+/// The link that `stab link` prints obeys, whatever its job does to it: what was offered is picked
+/// from what the job offers, and the link law holds.
+pub fn replays_are_accepted()
+    ensures { (job : LinkJob) → AreLawful job.params → IsLawful job.params job.start
+        → ObeysLink job (replay job.params (opening job.start) job.events) }
+{
+    stab_core::laws::every_replay_obeys_the_link_law();
+}

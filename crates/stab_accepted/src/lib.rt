@@ -1,7 +1,7 @@
-//! What a judge makes of a run: it accepts the report.
+//! What a judge makes of a run: it accepts the report, and the link that `stab link` prints.
 //!
-//! The layer above uses one fact: whatever holds of the report of a run is enough for a judge, so
-//! that no report of a run is refused for what it says ([`laws`]).
+//! The layer above uses one fact: whatever holds of the report of a run, or of a link, is enough for
+//! a judge, so that none is refused for what it says ([`laws`]).
 #![tactic(auto)]
 
 pub mod laws;
