@@ -288,8 +288,16 @@ def lines_of(crate):
     return found
 
 
+def count_edits(crate):
+    """How many planted bugs a crate has."""
+    folder = f"{TOP}/crates/{crate}/must-fail"
+    names = os.listdir(folder) if os.path.isdir(folder) else []
+    return sum(name.endswith(".edit") for name in names)
+
+
 def tasks_of(crates):
-    """The tasks of rt ci, lowest layer first: what each waits for, its seconds, its lines."""
+    """The tasks of rt ci, lowest layer first: what each waits for, its seconds, its lines. Each
+    planted bug is one, and so is the proof that those of a crate begin with; they count alike."""
     uses, below, tasks = listed(), {}, {}
     def all_below(name):
         if name not in below:
@@ -301,14 +309,18 @@ def tasks_of(crates):
         tasks[name, "proof"] = waits, took["proof"] + took["programs"], lines
         tasks[name, "tests"] = waits, took["tests"], lines * bool(took["tests"])
         both = [(name, "proof"), (name, "tests")]
-        tasks[name, "edits"] = both, took["edits"], lines * bool(took["edits"])
+        edits = count_edits(name) + 1
+        tasks[name, "edits", 0] = waits, took["edits"] / edits, 0
+        for number in range(1, edits):
+            tasks[name, "edits", number] = [*both, (name, "edits", 0)], took["edits"] / edits, lines
     return tasks
 
 
 def modelled(crates, lanes):
     """How long tasks with these processor seconds take in so many lanes, and the longest chain of
     them. As rt ci does it, a task starts once those that it waits for have ended, and first the one
-    with the most lines in the longest chain of others behind it. Each has one processor."""
+    with the most lines in the longest chain of others behind it; planted bugs take what the others
+    leave free. Each has one processor."""
     tasks = tasks_of(crates)
     behind = {it: tasks[it][2] for it in tasks}
     chain = {}
@@ -317,7 +329,7 @@ def modelled(crates, lanes):
             behind[below] = max(behind[below], tasks[below][2] + behind[it])
     for it, (waits, seconds, _) in tasks.items():
         chain[it] = seconds + max((chain[below] for below in waits), default=0)
-    left, running, ended, now = sorted(tasks, key=lambda it: -behind[it]), [], set(), 0.0
+    left, running, ended, now = sorted(tasks, key=lambda it: (it[1] == "edits", -behind[it])), [], set(), 0.0
     while left or running:
         for it in [it for it in left if ended.issuperset(tasks[it][0])]:
             if len(running) < lanes:
