@@ -329,7 +329,8 @@ def modelled(crates, lanes):
             behind[below] = max(behind[below], tasks[below][2] + behind[it])
     for it, (waits, seconds, _) in tasks.items():
         chain[it] = seconds + max((chain[below] for below in waits), default=0)
-    left, running, ended, now = sorted(tasks, key=lambda it: (it[1] == "edits", -behind[it])), [], set(), 0.0
+    left = sorted(tasks, key=lambda it: (it[1] == "edits", -behind[it]))
+    running, ended, now = [], set(), 0.0
     while left or running:
         for it in [it for it in left if ended.issuperset(tasks[it][0])]:
             if len(running) < lanes:
