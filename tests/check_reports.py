@@ -141,6 +141,14 @@ def depth_of(node, parents):
     return 0 if parents[node] is None else 1 + depth_of(parents[node], parents)
 
 
+def ended(found, rest, last):
+    """What was found, if the text ends with its last line; or the line that is wrong: the last one,
+    where it has no end, or the one after it."""
+    if rest == [""]:
+        return found
+    return last + 1 if rest else last
+
+
 def read(job, text, with_ends):
     """What a text says of each node, or the first line that is not as it has to be."""
     parents = {node["name"]: node.get("parent") for node in job["tree"]}
@@ -163,7 +171,7 @@ def read(job, text, with_ends):
         if numbers is None or max(numbers, default=0) >= 2 ** 32:
             return at
         found[name] = (numbers, None if form[3] is None else int(form[3]), form[4] == "upstream")
-    return found if lines[at:] == [""] else at + 1
+    return ended(found, lines[at:], at)
 
 
 def judged(job, text):
@@ -220,7 +228,7 @@ def read_link(text):
             found[name] = [int(word) for word in words]
             if max(found[name], default=0) >= most.get(name, 2 ** 16):
                 return at + 1
-    return found if lines[len(LINK_LINES):] == [""] else len(LINK_LINES) + 1
+    return ended(found, lines[len(LINK_LINES):], len(LINK_LINES))
 
 
 def judged_link(job, text):
