@@ -1,11 +1,9 @@
-use crate::answer::{act_explain, act_worst};
 use crate::bounds::bounds_of;
 use crate::check::check_of;
 use crate::command::{Request, parse};
-use crate::draw::act_draw;
-use crate::random::{RandomWriteFault, act_random};
 use clap::Error;
 use clap::error::ErrorKind;
+use rignolda_acts::{RandomWriteFault, act_draw, act_explain, act_random, act_worst};
 use stab_task::{CliFault, words};
 use std::rt::{Env, Files};
 use std::{fs, io};

@@ -1,72 +1,9 @@
-//! The command `random`: its options, and the job that it writes.
+//! The command `random`: its options.
 
-ghost use Rattle.std.specs.Prelude.{◌≡◌, ◌≢◌, ℕ, List, Some, Err};
-ghost use Rattle.std.specs.Prelude.{IfErr, OnOk};
-ghost use Rattle.std.specs.Io.KnownBytes.{Appends, Keeps};
-ghost use Rattle.stab_random.specs.Options.{options_fault};
-ghost use Rattle.stab_random.specs.RandomJobs.{IsRandomText};
-
-use crate::answer::write_text;
 use crate::command::{Request, mistake, mistake_of};
 use clap::{Arg, ArgMatches, Command, Error, value_parser};
-use stab_random::{DrawOptions, OptionsFault, RandomFault, random_text};
+use stab_random::{DrawOptions, OptionsFault};
 use std::alloc::{AllocError, Global};
-use std::io::Write;
-use thiserror::Error;
-
-/// Why no random job is written.
-#[derive(Clone, Copy, Debug, PartialEq, Eq, Error)]
-pub enum RandomWriteFault {
-    /// None is drawn.
-    #[error("{0}")]
-    Draw(RandomFault),
-    /// Writing failed; a part of the text may be written.
-    #[error("output: cannot be written")]
-    Write,
-}
-
-impl From<RandomFault> for RandomWriteFault {
-    ghost use Rattle.std.specs.Prelude.{◌≡◌};
-    ghost use Rattle.rignolda_task.specs.declared.random.RandomWriteFault.TheVariants.{Draw};
-
-    ghost from_gives = { λ refusal fault. fault ≡ Draw refusal };
-
-    fn from(refusal: RandomFault) -> RandomWriteFault {
-        RandomWriteFault::Draw(refusal)
-    }
-}
-
-/// Writes a random job by these options: it is read as a job of as many nodes, items, turns and
-/// steps as they say, which `stab tree` replays to its end.
-pub fn act_random<W: Write>(
-    alloc: Global,
-    options: &DrawOptions,
-    writer: &mut W,
-) -> Result<(), RandomWriteFault>
-    ensures written { OnOk result ((text : List ℕ) × IsRandomText options.now text
-        × Appends (W.contents writer.old) (W.contents writer.new) text) }
-    ensures refused { (fault : OptionsFault)
-        → result ≡ Err (RandomWriteFault.Draw (RandomFault.Options fault))
-        → options_fault options.now ≡ Some fault }
-    ensures nothing { IfErr result (λ fault. fault ≢ RandomWriteFault.Write
-        → Keeps (W.contents writer.old) (W.contents writer.new)) }
-{
-    let text = random_text(alloc, options)?;
-    match write_text(writer, &text) {
-        Ok(()) => Ok(()),
-        Err(_) => Err(RandomWriteFault::Write),
-    }
-}
-
-impl RandomWriteFault {
-    /// The status that the program ends with: 2 where the options are refused, and else 3.
-    pub(crate) fn status(&self) -> u8 {
-        match self {
-            RandomWriteFault::Draw(RandomFault::Options(_)) => 2,
-            RandomWriteFault::Draw(_) | RandomWriteFault::Write => 3,
-        }
-    }
-}
 
 /// The random job of the options that are named, or of their defaults.
 pub(crate) fn random_request(alloc: Global, matches: &ArgMatches<'_>) -> Result<Request, Error> {

@@ -1,7 +1,7 @@
 //! Reports that are checked against a job of a chain of three nodes: one that obeys, and the same
 //! with one part replaced. All is worked out by hand.
 
-use rignolda_task::{act_bounds, act_check};
+use rignolda_acts::{act_bounds, act_check};
 use std::alloc::{AllocError, Global};
 use std::test::Fail;
 

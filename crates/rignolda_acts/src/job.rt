@@ -1,7 +1,7 @@
 //! The job of a tree, or of a link, that a command reads.
 
 ghost use Rattle.std.specs.Prelude.{◌≢◌, false, IfErr, IfOk, OnOk};
-ghost use Rattle.rignolda_task.specs.Begun.{IsBegun, IsBegunLink};
+ghost use Rattle.rignolda_acts.specs.Begun.{IsBegun, IsBegunLink};
 ghost use Rattle.stab_core.specs.Link.{IsReason};
 ghost use Rattle.stab_core.specs.Replay.{IsLawful};
 ghost use Rattle.stab_job.specs.JobValues.{network};

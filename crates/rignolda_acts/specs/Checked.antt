@@ -21,10 +21,10 @@ use Rattle.stab_script.specs.declared.link_job.LinkJob.{LinkJob}
 use Rattle.stab_task.specs.Answers.{IsFault}
 use Rattle.stab_task.specs.declared.fault.CliFault.{CliFault}
 use Rattle.stab_verdict.specs.Verdicts.{SaysVerdict}
-use Rattle.rignolda_task.specs.Begun.{IsBegun, IsBegunLink}
-use Rattle.rignolda_task.specs.Drawn.{task_of}
-use Rattle.rignolda_task.specs.declared.fault.CheckFault.{CheckFault}
-use Rattle.rignolda_task.specs.declared.fault.CheckFault.TheVariants.{Job, Unloaded, Line, LinkLine}
+use Rattle.rignolda_acts.specs.Begun.{IsBegun, IsBegunLink}
+use Rattle.rignolda_acts.specs.Drawn.{task_of}
+use Rattle.rignolda_acts.specs.declared.fault.CheckFault.{CheckFault}
+use Rattle.rignolda_acts.specs.declared.fault.CheckFault.TheVariants.{Job, Unloaded, Line, LinkLine}
 
 -- This text is that of a report of this job. It is answered that it obeys exactly if it obeys the
 -- laws of the job's network, and the answer says so, or which part is broken.

@@ -1,6 +1,6 @@
 ghost use Rattle.std.specs.Prelude.{◌≢◌, ℕ, List};
-ghost use Rattle.rignolda_task.specs.Begun.{IsBegun, IsBegunLink};
-ghost use Rattle.rignolda_task.specs.Checked.{IsUncheckedLink, IsUncheckedTree};
+ghost use Rattle.rignolda_acts.specs.Begun.{IsBegun, IsBegunLink};
+ghost use Rattle.rignolda_acts.specs.Checked.{IsUncheckedLink, IsUncheckedTree};
 ghost use Rattle.stab_job.specs.JobValues.{JobValue};
 ghost use Rattle.stab_script.specs.declared.link_job.LinkJob.{LinkJob};
 
@@ -41,7 +41,7 @@ impl CheckFault {
 
 impl From<CliFault> for CheckFault {
     ghost use Rattle.std.specs.Prelude.{◌≡◌};
-    ghost use Rattle.rignolda_task.specs.declared.fault.CheckFault.TheVariants.{Job};
+    ghost use Rattle.rignolda_acts.specs.declared.fault.CheckFault.TheVariants.{Job};
 
     ghost from_gives = { λ refusal fault. fault ≡ Job refusal };
 
@@ -52,7 +52,7 @@ impl From<CliFault> for CheckFault {
 
 impl From<AllocError> for CheckFault {
     ghost use Rattle.std.specs.Prelude.{◌≡◌};
-    ghost use Rattle.rignolda_task.specs.declared.fault.CheckFault.TheVariants.{Job};
+    ghost use Rattle.rignolda_acts.specs.declared.fault.CheckFault.TheVariants.{Job};
     ghost use Rattle.stab_task.specs.declared.fault.CliFault.TheVariants.{Memory};
 
     ghost from_gives = { λ _ fault. fault ≡ Job Memory };

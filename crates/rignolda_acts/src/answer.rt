@@ -1,7 +1,7 @@
 ghost use Rattle.std.specs.Prelude.{◌≡◌, ◌≢◌, ◌⊎◌, ℕ, List, string_bytes};
 ghost use Rattle.std.specs.Prelude.{IfErr, IfOk, IfSome, OnOk};
 ghost use Rattle.std.specs.Io.KnownBytes.{Appends, Keeps};
-ghost use Rattle.rignolda_task.specs.Explained.{IsReadIfClean};
+ghost use Rattle.rignolda_acts.specs.Explained.{IsReadIfClean};
 ghost use Rattle.stab_write.specs.WorstTexts.{IsWorstText};
 
 use stab_explain::{explain, explanation_text};

@@ -2,8 +2,8 @@ ghost use Rattle.std.specs.Prelude.{◌≡◌, ◌≢◌, ℕ, List, false, Some
 ghost use Rattle.std.specs.Prelude.{All, IfErr, IfOk, IfSome, OnOk};
 ghost use Rattle.std.specs.Io.KnownBytes.{Appends, Keeps};
 ghost use Rattle.serde_json.specs.View.{view};
-ghost use Rattle.rignolda_task.specs.Drawn.{IsDrawn, IsDrawnAs, IsDrawnLink, IsDrawnTree};
-ghost use Rattle.rignolda_task.specs.Drawn.{IsUndrawn, task_of};
+ghost use Rattle.rignolda_acts.specs.Drawn.{IsDrawn, IsDrawnAs, IsDrawnLink, IsDrawnTree};
+ghost use Rattle.rignolda_acts.specs.Drawn.{IsUndrawn, task_of};
 ghost use Rattle.stab_core.specs.Link.{IsReason};
 ghost use Rattle.stab_core.specs.Replay.{IsLawful};
 ghost use Rattle.stab_draw.specs.Runs.{run_text};

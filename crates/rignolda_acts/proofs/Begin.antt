@@ -1,7 +1,7 @@
 -- Why the links of a job cannot begin, and why a report is not read.
 use Rattle.std.proofs.Common.{ℕ, List, [], Option, Some, None, IfSome}
-use Rattle.rignolda_task.specs.Checked.{IsUnchecked}
-use Rattle.rignolda_task.specs.declared.fault.CheckFault.TheVariants.{Unloaded}
+use Rattle.rignolda_acts.specs.Checked.{IsUnchecked}
+use Rattle.rignolda_acts.specs.declared.fault.CheckFault.TheVariants.{Unloaded}
 use Rattle.stab_task.specs.declared.fault.CliFault.{CliFault}
 use Rattle.stab_frames.specs.Parameters.{Parameters}
 use Rattle.stab_core.specs.declared.start.Start.{Start}
