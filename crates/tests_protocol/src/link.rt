@@ -1,4 +1,4 @@
-//! The worked examples of one link: what it is after its events, and how its start is refused.
+//! One link, where no example shows it: losses by place, origins, refused starts, and its two ends.
 
 use stab_core::{
     Effect, Event, Link, LinkAct, Origin, Receiver, Sender, Start, StartFault, link_text,
@@ -13,8 +13,6 @@ const TAKE_FRAME: Event = Event::RecvFrame { keep: false };
 const KEEP_FRAME: Event = Event::RecvFrame { keep: true };
 
 const TAKE_ACK: Event = Event::RecvAck { keep: false };
-
-const KEEP_ACK: Event = Event::RecvAck { keep: true };
 
 /// A start by its parts, of which the helpers make it.
 struct Opening {
@@ -35,22 +33,6 @@ static CLEAN: Opening = Opening {
 /// A frame of nobody's item, and an acknowledgement that no receiver sent.
 static WORST: Opening = Opening {
     frames: &[STRAY],
-    acks: &[0],
-    send_label: 0,
-    recv_label: 1,
-};
-
-/// The frame alone.
-static ONE_FRAME: Opening = Opening {
-    frames: &[STRAY],
-    acks: &[],
-    send_label: 0,
-    recv_label: 1,
-};
-
-/// The acknowledgement alone.
-static ONE_ACK: Opening = Opening {
-    frames: &[],
     acks: &[0],
     send_label: 0,
     recv_label: 1,
@@ -125,7 +107,7 @@ fn assert_text(rt: &(impl Abort + Alloc<A = Global>), link: &Link, want: &str) {
 
 /// Fails the test where these steps of a link of these parameters have not the effects beside them,
 /// or do not lead to this text.
-fn assert_played_with(
+fn assert_played(
     rt: &(impl Abort + Alloc<A = Global>),
     params: Params,
     opening: &Opening,
@@ -137,104 +119,15 @@ fn assert_played_with(
     assert_text(rt, &link, text);
 }
 
-/// The same for the capacity 1 and four labels.
-fn assert_played(
-    rt: &(impl Abort + Alloc<A = Global>),
-    opening: &Opening,
-    steps: &[(Event, Effect)],
-    text: &str,
-) {
-    assert_played_with(rt, narrow(rt), opening, steps, text);
-}
-
 /// The link of the capacity 1 and four labels after these events.
 fn link_after(rt: &(impl Abort + Alloc<A = Global>), opening: &Opening, events: &[Event]) -> Link {
     run_link(rt.alloc(), narrow(rt), &start(rt, opening), events).expect(rt, "a link")
-}
-
-/// Fails the test where these events, for the capacity 1 and four labels, do not lead to this text.
-fn assert_run(
-    rt: &(impl Abort + Alloc<A = Global>),
-    opening: &Opening,
-    events: &[Event],
-    text: &str,
-) {
-    assert_text(rt, &link_after(rt, opening, events), text);
-}
-
-/// The same for an undisturbed round with each of these items.
-fn assert_rounds(
-    rt: &(impl Abort + Alloc<A = Global>),
-    opening: &Opening,
-    items: &[Item],
-    text: &str,
-) {
-    assert_run(rt, opening, &rounds(rt, items), text);
-}
-
-/// What a link is after two undisturbed rounds.
-const TWO_ROUNDS: &str = "\
-delivered: 7 8
-offered: 7 8
-acked: 2
-send label: 2
-recv label: 1
-frames:
-acks:
-closed: no
-";
-
-#[test]
-fn two_clean_rounds(rt: HostRuntime) {
-    assert_rounds(&rt, &CLEAN, &[7, 8], TWO_ROUNDS);
 }
 
 #[test]
 fn idle_after_clean_rounds(rt: HostRuntime) {
     let link = link_after(&rt, &CLEAN, &rounds(&rt, &[7, 8]));
     assert!(rt; link.is_idle());
-}
-
-/// A receiver that remembers the label of the first item already.
-static FIRST_HELD: Opening = Opening {
-    frames: &[],
-    acks: &[],
-    send_label: 0,
-    recv_label: 0,
-};
-
-/// What that link is after a round.
-const FIRST_NOT_DELIVERED: &str = "\
-delivered:
-offered: 7
-acked: 1
-send label: 1
-recv label: 0
-frames:
-acks:
-closed: no
-";
-
-#[test]
-fn first_item_already_held(rt: HostRuntime) {
-    assert_rounds(&rt, &FIRST_HELD, &[7], FIRST_NOT_DELIVERED);
-}
-
-/// What a link is after the worst start and its events.
-const AFTER_THE_WORST_START: &str = "\
-delivered: 99 13
-offered: 10 11 12 13
-acked: 3
-send label: 3
-recv label: 3
-frames:
-acks:
-closed: no
-";
-
-#[test]
-fn worst_start(rt: HostRuntime) {
-    assert_run(&rt, &WORST, &WORST_EVENTS, AFTER_THE_WORST_START);
 }
 
 /// Fails the test where the origins of what these events deliver, for the capacity 1 and four
@@ -259,23 +152,6 @@ fn origins_after_the_worst_start(rt: HostRuntime) {
     assert_origins(&rt, &WORST, &WORST_EVENTS, &want, "origins: s0 i3\n");
 }
 
-/// What a link is at the worst start.
-const AT_THE_WORST_START: &str = "\
-delivered:
-offered:
-acked: 0
-send label: 0
-recv label: 1
-frames: 2=99
-acks: 0
-closed: no
-";
-
-#[test]
-fn no_events(rt: HostRuntime) {
-    assert_run(&rt, &WORST, &[], AT_THE_WORST_START);
-}
-
 /// What a link is that has lost what it began with, or ignored it.
 const NOTHING_LEFT: &str = "\
 delivered:
@@ -287,140 +163,6 @@ frames:
 acks:
 closed: no
 ";
-
-#[test]
-fn idle_sender_ignores(rt: HostRuntime) {
-    assert_played(&rt, &ONE_ACK, &[(TAKE_ACK, Effect::Ignored)], NOTHING_LEFT);
-}
-
-/// A frame that meets a full queue.
-static SEND_TO_A_FULL_QUEUE: [(Event, Effect); 2] = [
-    (Event::Offer(10), Effect::Held),
-    (Event::SendFrame, Effect::Lost),
-];
-
-/// What the link is after it.
-const STRAY_IN_THE_QUEUE: &str = "\
-delivered:
-offered: 10
-acked: 0
-send label: 0
-recv label: 1
-frames: 2=99
-acks:
-closed: no
-";
-
-#[test]
-fn full_queue_loses_the_new_frame(rt: HostRuntime) {
-    assert_played(&rt, &ONE_FRAME, &SEND_TO_A_FULL_QUEUE, STRAY_IN_THE_QUEUE);
-}
-
-/// A frame that is received twice.
-static KEEP_A_FRAME: [(Event, Effect); 2] = [
-    (KEEP_FRAME, Effect::Fresh(99)),
-    (KEEP_FRAME, Effect::Old),
-];
-
-/// What the link is after it.
-const STRAY_DELIVERED_ONCE: &str = "\
-delivered: 99
-offered:
-acked: 0
-send label: 0
-recv label: 2
-frames: 2=99
-acks:
-closed: no
-";
-
-#[test]
-fn kept_frame_delivers_once(rt: HostRuntime) {
-    assert_played(&rt, &ONE_FRAME, &KEEP_A_FRAME, STRAY_DELIVERED_ONCE);
-}
-
-/// An acknowledgement that is received twice.
-static KEEP_AN_ACK: [(Event, Effect); 4] = [
-    (Event::Offer(10), Effect::Held),
-    (KEEP_ACK, Effect::Acked),
-    (Event::Offer(11), Effect::Held),
-    (KEEP_ACK, Effect::Ignored),
-];
-
-/// What the link is after it.
-const ACKNOWLEDGED_ONCE: &str = "\
-delivered:
-offered: 10 11
-acked: 1
-send label: 1
-recv label: 1
-frames:
-acks: 0
-closed: no
-";
-
-#[test]
-fn kept_acknowledgement_counts_once(rt: HostRuntime) {
-    assert_played(&rt, &ONE_ACK, &KEEP_AN_ACK, ACKNOWLEDGED_ONCE);
-}
-
-/// A sender whose label is none of the four.
-static OUT_OF_RANGE: Opening = Opening {
-    frames: &[],
-    acks: &[],
-    send_label: 65535,
-    recv_label: 0,
-};
-
-/// What that link is after a round.
-const BACK_IN_RANGE: &str = "\
-delivered: 5
-offered: 5
-acked: 1
-send label: 0
-recv label: 65535
-frames:
-acks:
-closed: no
-";
-
-#[test]
-fn label_out_of_range(rt: HostRuntime) {
-    assert_rounds(&rt, &OUT_OF_RANGE, &[5], BACK_IN_RANGE);
-}
-
-/// A close amid a round, and all events after it.
-static CLOSE_AMID_A_ROUND: [(Event, Effect); 12] = [
-    (Event::Offer(7), Effect::Held),
-    (Event::SendFrame, Effect::Sent),
-    (TAKE_FRAME, Effect::Fresh(7)),
-    (Event::Close, Effect::Closed),
-    (Event::SendAck, Effect::Nothing),
-    (TAKE_ACK, Effect::Nothing),
-    (Event::Offer(8), Effect::Nothing),
-    (Event::SendFrame, Effect::Nothing),
-    (TAKE_FRAME, Effect::Nothing),
-    (Event::SendAck, Effect::Nothing),
-    (TAKE_ACK, Effect::Nothing),
-    (Event::Close, Effect::Nothing),
-];
-
-/// What the link is after it.
-const CLOSED_AMID_A_ROUND: &str = "\
-delivered: 7
-offered: 7
-acked: 0
-send label: 0
-recv label: 0
-frames:
-acks:
-closed: yes
-";
-
-#[test]
-fn nothing_after_the_close(rt: HostRuntime) {
-    assert_played(&rt, &CLEAN, &CLOSE_AMID_A_ROUND, CLOSED_AMID_A_ROUND);
-}
 
 /// Starts that hold more than the capacity 1, each beside the fault of its refusal.
 static OVERFULL: [(Opening, StartFault); 3] = [
@@ -496,60 +238,7 @@ static LOSSES: [(Event, Effect); 4] = [
 
 #[test]
 fn loss_by_place(rt: HostRuntime) {
-    assert_played(&rt, &WORST, &LOSSES, NOTHING_LEFT);
-}
-
-/// A start whose acknowledgement has the label of the sender, and its frame too.
-static TWO_LABELS: Opening = Opening {
-    frames: &[Frame { label: 0, item: 99 }],
-    acks: &[0],
-    send_label: 0,
-    recv_label: 1,
-};
-
-/// The events that break a link of two labels.
-static TWO_LABELS_EVENTS: [Event; 23] = [
-    Event::Offer(10),
-    TAKE_ACK,
-    Event::SendAck,
-    TAKE_FRAME,
-    Event::Offer(11),
-    Event::SendFrame,
-    TAKE_ACK,
-    Event::SendAck,
-    TAKE_FRAME,
-    Event::Offer(12),
-    Event::SendFrame,
-    TAKE_ACK,
-    Event::SendAck,
-    TAKE_FRAME,
-    Event::Offer(13),
-    Event::SendFrame,
-    TAKE_ACK,
-    Event::SendAck,
-    TAKE_FRAME,
-    Event::Offer(14),
-    Event::SendFrame,
-    Event::LoseFrame(0),
-    TAKE_ACK,
-];
-
-/// What a link of four labels is after them.
-const FOUR_LABELS_SUFFICE: &str = "\
-delivered: 99 11 12
-offered: 10 11 12
-acked: 3
-send label: 3
-recv label: 2
-frames:
-acks:
-closed: no
-";
-
-/// With four labels the events that break a link of two labels do no harm.
-#[test]
-fn why_two_labels_are_too_few(rt: HostRuntime) {
-    assert_run(&rt, &TWO_LABELS, &TWO_LABELS_EVENTS, FOUR_LABELS_SUFFICE);
+    assert_played(&rt, narrow(&rt), &WORST, &LOSSES, NOTHING_LEFT);
 }
 
 /// Two frames on their way.
@@ -581,19 +270,13 @@ closed: no
 #[test]
 fn loss_after_the_front(rt: HostRuntime) {
     let params = Params::new(2, 6).expect(&rt, "parameters");
-    assert_played_with(
+    assert_played(
         &rt,
         params,
         &TWO_FRAMES_QUEUED,
         &LOSE_THE_SECOND,
         FRONT_DELIVERED,
     );
-}
-
-#[test]
-fn equal_items(rt: HostRuntime) {
-    let link = link_after(&rt, &CLEAN, &rounds(&rt, &[7, 7]));
-    assert!(rt; link.delivered() == [7, 7].as_slice());
 }
 
 #[test]

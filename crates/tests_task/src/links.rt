@@ -8,8 +8,16 @@ use stab_task::CliFault;
 use std::alloc::AllocError;
 
 /// The text of the worst start with its trace.
-const WORST_TRACE: &str =
-    "delivered: 99 13\noffered: 10 11 12 13\nacked: 3\nsend label: 3\nrecv label: 3\nframes:\nacks:\nclosed: no\norigins: s0 i3\n";
+const WORST_TRACE: &str = "\
+     delivered: 99 13\n\
+     offered: 10 11 12 13\n\
+     acked: 3\n\
+     send label: 3\n\
+     recv label: 3\n\
+     frames:\n\
+     acks:\n\
+     closed: no\n\
+     origins: s0 i3\n";
 
 #[test]
 fn prints_the_worst_start_and_its_trace(rt: HostRuntime) {
@@ -22,8 +30,19 @@ fn delivers_nothing_after_the_close(rt: HostRuntime) {
     assert_answer(
         &rt,
         TRACED,
-        r#"{"capacity":1,"labels":4,"start":{"send":0,"recv":3},"events":[["offer",7],"send_frame","recv_frame","close","send_ack","recv_ack",["offer",8],"send_frame","recv_frame","send_ack","recv_ack"]}"#,
-        "delivered: 7\noffered: 7\nacked: 0\nsend label: 0\nrecv label: 0\nframes:\nacks:\nclosed: yes\norigins: i0\n",
+        r#"{"capacity":1,"labels":4,"start":{"send":0,"recv":3},"events":[["offer",7],
+          "send_frame","recv_frame","close","send_ack","recv_ack",["offer",8],"send_frame",
+          "recv_frame","send_ack","recv_ack"]}"#,
+        "\
+         delivered: 7\n\
+         offered: 7\n\
+         acked: 0\n\
+         send label: 0\n\
+         recv label: 0\n\
+         frames:\n\
+         acks:\n\
+         closed: yes\n\
+         origins: i0\n",
     );
 }
 
@@ -45,7 +64,8 @@ fn refuses_link_jobs_by_name(rt: HostRuntime) -> Result<(), AllocError> {
     ];
     const STARTS: &[(&str, StartFault, &str)] = &[
         (
-            r#"{"capacity":1,"labels":4,"start":{"frames":[[0,1],[1,2]],"acks":[0,1],"send":0,"recv":1},"events":[]}"#,
+            r#"{"capacity":1,"labels":4,"start":{"frames":[[0,1],[1,2]],"acks":[0,1],"send":0,
+              "recv":1},"events":[]}"#,
             StartFault::TooManyFrames,
             "start: too many frames",
         ),

@@ -18,7 +18,14 @@ use std::thread::Threads;
 
 /// A chain of three nodes, whose second link is wider than the first and begins with two frames.
 const WIDER: &str =
-    r#"{"capacity":1,"labels":4,"links":[null,{"capacity":2,"labels":6}],"tree":[{"name":"r"},{"name":"a","parent":"r"},{"name":"b","parent":"a"}],"items":[7,8],"starts":[{"send":0,"recv":65535},{"frames":[[1,20],[2,21]],"send":0,"recv":0}],"schedule":[["a","offer"],["a","send_frame"],["a","recv_frame"],["a","send_ack"],["a","recv_ack"],["a","offer"],["a","send_frame"],["a","recv_frame"],["a","send_ack"],["a","recv_ack"],["b","recv_frame"],["b","recv_frame"],["b","offer"],["b","send_frame"],["b","recv_frame"],["b","send_ack"],["b","recv_ack"],["b","offer"],["b","send_frame"],["b","recv_frame"],["b","send_ack"],["b","recv_ack"]]}"#;
+    r#"{"capacity":1,"labels":4,"links":[null,{"capacity":2,"labels":6}],"tree":[{"name":"r"},
+      {"name":"a","parent":"r"},{"name":"b","parent":"a"}],"items":[7,8],"starts":[{"send":0,
+      "recv":65535},{"frames":[[1,20],[2,21]],"send":0,"recv":0}],"schedule":[["a","offer"],
+      ["a","send_frame"],["a","recv_frame"],["a","send_ack"],["a","recv_ack"],["a","offer"],
+      ["a","send_frame"],["a","recv_frame"],["a","send_ack"],["a","recv_ack"],["b",
+      "recv_frame"],["b","recv_frame"],["b","offer"],["b","send_frame"],["b","recv_frame"],["b",
+      "send_ack"],["b","recv_ack"],["b","offer"],["b","send_frame"],["b","recv_frame"],["b",
+      "send_ack"],["b","recv_ack"]]}"#;
 
 /// The member that makes the second link wider.
 const LINKS: &str = r#""links":[null,{"capacity":2,"labels":6}]"#;
@@ -57,7 +64,13 @@ fn a_wider_second_link(rt: HostRuntime) -> Result<(), AllocError> {
         &rt,
         Task::Tree,
         WIDER,
-        "r depth 0 received 2 acked -\nitems: 7 8\na depth 1 received 2 acked 2\nitems: 7 8\nb depth 2 received 4 acked 2\nitems: 20 21 7 8\n",
+        "\
+         r depth 0 received 2 acked -\n\
+         items: 7 8\n\
+         a depth 1 received 2 acked 2\n\
+         items: 7 8\n\
+         b depth 2 received 4 acked 2\n\
+         items: 20 21 7 8\n",
     );
     let fault = CliFault::Tree(TreeStartFault::Start(StartFault::TooManyFrames));
     assert_no_links(

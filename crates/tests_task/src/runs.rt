@@ -23,7 +23,8 @@ fn prints_the_report_of_a_lone_root(rt: HostRuntime) {
 #[test]
 fn refuses_a_start_that_is_not_lawful(rt: HostRuntime) -> Result<(), AllocError> {
     let job =
-        r#"{"capacity":1,"labels":4,"tree":[{"name":"r"},{"name":"a","parent":"r"}],"items":[7],"starts":[{"frames":[[0,1],[1,2]],"send":0,"recv":1}]}"#;
+        r#"{"capacity":1,"labels":4,"tree":[{"name":"r"},{"name":"a","parent":"r"}],"items":[7],
+          "starts":[{"frames":[[0,1],[1,2]],"send":0,"recv":1}]}"#;
     let fault = CliFault::Run(RunFault::Start(NodeId::new(1), StartFault::TooManyFrames));
     assert_fault_of(&rt, RUNS, job, &fault, 3, "start: too many frames")
 }
@@ -31,7 +32,8 @@ fn refuses_a_start_that_is_not_lawful(rt: HostRuntime) -> Result<(), AllocError>
 #[test]
 fn words_need_capacity_one(rt: HostRuntime) -> Result<(), AllocError> {
     let job =
-        r#"{"capacity":2,"labels":6,"tree":[{"name":"r"},{"name":"a","parent":"r"}],"items":[7,8]}"#;
+        r#"{"capacity":2,"labels":6,"tree":[{"name":"r"},{"name":"a","parent":"r"}],"items":[7,
+          8]}"#;
     let fault = CliFault::Run(RunFault::CapacityNotOne);
     assert_fault_of(&rt, &[WORDS], job, &fault, 3, "run: capacity is not one")?;
     let no_link = r#"{"capacity":2,"labels":6,"tree":[{"name":"r"}],"items":[7,8]}"#;
@@ -44,7 +46,9 @@ fn words_need_capacity_one(rt: HostRuntime) -> Result<(), AllocError> {
 /// A link that begins with an acknowledgement of the first item, and loses everything that its ends
 /// send. The root looks for an acknowledgement before it offers the item, and once more after it.
 const EARLY_ACKNOWLEDGEMENT: &str =
-    r#"{"capacity":1,"labels":4,"turns":4,"tree":[{"name":"r"},{"name":"a","parent":"r"}],"items":[7],"starts":[{"acks":[0],"send":0,"recv":1}],"scripts":[{"frames_out":"DDDDDDDD","acks_out":"DDDDDDDD"}]}"#;
+    r#"{"capacity":1,"labels":4,"turns":4,"tree":[{"name":"r"},{"name":"a","parent":"r"}],
+      "items":[7],"starts":[{"acks":[0],"send":0,"recv":1}],"scripts":[{"frames_out":"DDDDDDDD",
+      "acks_out":"DDDDDDDD"}]}"#;
 
 /// How the report of that job begins, whatever the threads do, where the first look leaves nothing
 /// behind: over a link with a lock.
@@ -86,7 +90,8 @@ fn each_task_runs_over_its_kind_of_links(rt: HostRuntime) -> Result<(), AllocErr
 #[test]
 fn refuses_a_cycle_beside_the_root(rt: HostRuntime) -> Result<(), AllocError> {
     let job =
-        r#"{"capacity":1,"labels":4,"tree":[{"name":"r"},{"name":"a","parent":"b"},{"name":"b","parent":"a"}],"items":[7]}"#;
+        r#"{"capacity":1,"labels":4,"tree":[{"name":"r"},{"name":"a","parent":"b"},{"name":"b",
+          "parent":"a"}],"items":[7]}"#;
     let fault = CliFault::Job(JobFault::Tree(TreeFault::Cycle));
     assert_fault_of(&rt, RUNS, job, &fault, 1, "tree: cycle")
 }

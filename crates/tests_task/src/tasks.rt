@@ -30,10 +30,19 @@ pub(crate) const MIXED: Task = Task::Run {
 };
 
 pub(crate) const WORST_START: &str =
-    r#"{"capacity":1,"labels":4,"start":{"frames":[[2,99]],"acks":[0],"send":0,"recv":1},"events":[["offer",10],"recv_ack","send_ack",["offer",11],"recv_ack","recv_frame","send_ack",["offer",12],"recv_ack",["offer",13],"send_frame","recv_frame"]}"#;
+    r#"{"capacity":1,"labels":4,"start":{"frames":[[2,99]],"acks":[0],"send":0,"recv":1},
+      "events":[["offer",10],"recv_ack","send_ack",["offer",11],"recv_ack","recv_frame",
+      "send_ack",["offer",12],"recv_ack",["offer",13],"send_frame","recv_frame"]}"#;
 
-pub(crate) const WORST_TEXT: &str =
-    "delivered: 99 13\noffered: 10 11 12 13\nacked: 3\nsend label: 3\nrecv label: 3\nframes:\nacks:\nclosed: no\n";
+pub(crate) const WORST_TEXT: &str = "\
+     delivered: 99 13\n\
+     offered: 10 11 12 13\n\
+     acked: 3\n\
+     send label: 3\n\
+     recv label: 3\n\
+     frames:\n\
+     acks:\n\
+     closed: no\n";
 
 pub(crate) const LONE_ROOT: &str =
     r#"{"capacity":1,"labels":4,"tree":[{"name":"r"}],"items":[7,8]}"#;

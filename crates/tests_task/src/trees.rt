@@ -63,7 +63,9 @@ pub(crate) fn push_round(schedule: &mut String, child: &str) -> Result<(), Alloc
 
 /// A job of two links that both begin at the worst start, up to the acts of its schedule.
 const TWO_WORST_STARTS: &str =
-    r#"{"capacity":1,"labels":4,"tree":[{"name":"r"},{"name":"a","parent":"r"},{"name":"b","parent":"a"}],"items":[10,11,12,13,14,15,16],"starts":[{"frames":[[2,99]],"acks":[0],"send":0,"recv":1},{"frames":[[2,98]],"acks":[0],"send":0,"recv":1}],"schedule":["#;
+    r#"{"capacity":1,"labels":4,"tree":[{"name":"r"},{"name":"a","parent":"r"},{"name":"b",
+      "parent":"a"}],"items":[10,11,12,13,14,15,16],"starts":[{"frames":[[2,99]],"acks":[0],
+      "send":0,"recv":1},{"frames":[[2,98]],"acks":[0],"send":0,"recv":1}],"schedule":["#;
 
 /// Adds the schedule of that job, and its end: on each link one round that meets what its start
 /// holds, and then three rounds more on the first one, and one on the second.
@@ -85,7 +87,13 @@ fn prints_two_links_under_one_schedule(rt: HostRuntime) -> Result<(), AllocError
         &rt,
         Task::Tree,
         &job,
-        "r depth 0 received 7 acked -\nitems: 10 11 12 13 14 15 16\na depth 1 received 5 acked 7\nitems: 99 13 14 15 16\nb depth 2 received 3 acked 5\nitems: 98 15 16\n",
+        "\
+         r depth 0 received 7 acked -\n\
+         items: 10 11 12 13 14 15 16\n\
+         a depth 1 received 5 acked 7\n\
+         items: 99 13 14 15 16\n\
+         b depth 2 received 3 acked 5\n\
+         items: 98 15 16\n",
     );
     Ok(())
 }
@@ -100,8 +108,16 @@ fn offers_nothing_before_an_item_is_received(rt: HostRuntime) {
     assert_answer(
         &rt,
         Task::Tree,
-        r#"{"capacity":1,"labels":4,"tree":[{"name":"r"},{"name":"a","parent":"r"},{"name":"b","parent":"a"}],"items":[7],"schedule":[["b","offer"],["b","send_frame"],["b","recv_frame"]]}"#,
-        "r depth 0 received 1 acked -\nitems: 7\na depth 1 received 0 acked 0\nitems:\nb depth 2 received 0 acked 0\nitems:\n",
+        r#"{"capacity":1,"labels":4,"tree":[{"name":"r"},{"name":"a","parent":"r"},{"name":"b",
+          "parent":"a"}],"items":[7],"schedule":[["b","offer"],["b","send_frame"],["b",
+          "recv_frame"]]}"#,
+        "\
+         r depth 0 received 1 acked -\n\
+         items: 7\n\
+         a depth 1 received 0 acked 0\n\
+         items:\n\
+         b depth 2 received 0 acked 0\n\
+         items:\n",
     );
 }
 
@@ -109,19 +125,23 @@ fn offers_nothing_before_an_item_is_received(rt: HostRuntime) {
 fn refuses_trees_and_schedules_by_name(rt: HostRuntime) -> Result<(), AllocError> {
     let rows = [
         (
-            r#"{"capacity":1,"labels":4,"tree":[{"name":"r"}],"items":[7,8],"schedule":[["r","offer"]]}"#,
+            r#"{"capacity":1,"labels":4,"tree":[{"name":"r"}],"items":[7,8],"schedule":[["r",
+              "offer"]]}"#,
             CliFault::Tree(TreeStartFault::Step(TreeStepFault::NoSuchLink)),
             3,
             "step: no such link",
         ),
         (
-            r#"{"capacity":1,"labels":4,"tree":[{"name":"r"},{"name":"a","parent":"r"},{"name":"b","parent":"a"}],"items":[7],"starts":[{"send":0,"recv":1},{"frames":[[0,1],[1,2]],"send":0,"recv":1}]}"#,
+            r#"{"capacity":1,"labels":4,"tree":[{"name":"r"},{"name":"a","parent":"r"},
+              {"name":"b","parent":"a"}],"items":[7],"starts":[{"send":0,"recv":1},
+              {"frames":[[0,1],[1,2]],"send":0,"recv":1}]}"#,
             CliFault::Tree(TreeStartFault::Start(StartFault::TooManyFrames)),
             3,
             "start: too many frames",
         ),
         (
-            r#"{"capacity":1,"labels":4,"tree":[{"name":"r"},{"name":"a","parent":"b"},{"name":"b","parent":"a"}],"items":[7]}"#,
+            r#"{"capacity":1,"labels":4,"tree":[{"name":"r"},{"name":"a","parent":"b"},
+              {"name":"b","parent":"a"}],"items":[7]}"#,
             CliFault::Job(JobFault::Tree(TreeFault::Cycle)),
             1,
             "tree: cycle",
@@ -133,7 +153,8 @@ fn refuses_trees_and_schedules_by_name(rt: HostRuntime) -> Result<(), AllocError
             "tree: no root",
         ),
         (
-            r#"{"capacity":1,"labels":4,"tree":[{"name":"r"},{"name":"a","parent":"r"}],"items":[7],"scripts":[{"seed":[42,54],"length":1,"loss":1001,"repeat":0}]}"#,
+            r#"{"capacity":1,"labels":4,"tree":[{"name":"r"},{"name":"a","parent":"r"}],
+              "items":[7],"scripts":[{"seed":[42,54],"length":1,"loss":1001,"repeat":0}]}"#,
             CliFault::Job(JobFault::Script(ScriptFault::RateOutOfRange)),
             1,
             "job: rate out of range",
