@@ -3,7 +3,7 @@
 
 ghost use Rattle.std.specs.Prelude.{◌≡◌};
 ghost use Rattle.stab_accepted.specs.AsJudged.{as_judged, run_text, judged_text};
-ghost use Rattle.stab_core.specs.Replay.{IsLawful, opening, replay};
+ghost use Rattle.stab_core.specs.Replay.{IsLawful, initial, replay};
 ghost use Rattle.stab_frames.specs.Parameters.{AreLawful};
 ghost use Rattle.stab_job.specs.JobValues.{JobValue, network};
 ghost use Rattle.stab_judge.specs.Obeys.{Obeys};
@@ -35,7 +35,7 @@ pub fn texts_of_runs_are_of_judged_reports()
 /// from what the job offers, and the link law holds.
 pub fn replays_are_accepted()
     ensures { (job : LinkJob) → AreLawful job.params → IsLawful job.params job.start
-        → ObeysLink job (replay job.params (opening job.start) job.events) }
+        → ObeysLink job (replay job.params (initial job.start) job.events) }
 {
     stab_core::laws::every_replay_obeys_the_link_law();
 }

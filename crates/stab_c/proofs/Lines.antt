@@ -9,7 +9,7 @@ use Rattle.stab_core.specs.declared.event.Event.{Event}
 use Rattle.stab_core.specs.declared.event.Event.TheVariants.{Offer, SendFrame, RecvFrame, SendAck, RecvAck, LoseFrame, LoseAck}
 use Rattle.stab_core.specs.LinkLaw.{LinkLaw}
 use Rattle.stab_core.specs.LinkState.{LinkState, has_room}
-use Rattle.stab_core.specs.Replay.{opening, replay}
+use Rattle.stab_core.specs.Replay.{initial, replay}
 use Rattle.stab_core.specs.Step.{after_front, takes, goes_on}
 use Rattle.stab_core.proofs.Replays.{replay-append}
 use Rattle.stab_core.proofs.LinkLaws.{replay_link_law}
@@ -348,7 +348,7 @@ run_is_replay p f (act ∷ acts) =
 count_is_replay : (p : Parameters) (frames : List Frame) (acks : List ℕ) (label : ℕ) (item : Option ℕ) (shut : Bool)
     (receiver : ReceiverEnd) (acts : List LineAct)
     → let sender : SenderEnd = record { state = record { label = label; item = item }; closed = shut } in
-    IsReplay p (opening (start_of frames acks sender receiver))
+    IsReplay p (initial (start_of frames acks sender receiver))
     (link_of (line_run p (new_count frames acks sender receiver) acts))
 count_is_replay p frames acks label None shut receiver acts =
     run_is_replay p (fields frames acks label (done []) shut receiver.label receiver.closed []) acts
@@ -360,7 +360,7 @@ count_is_replay p frames acks label (Some item) shut receiver acts =
 
 pub line_is_replay : (p : Parameters) (frames : List Frame) (acks : List ℕ) (sender : SenderEnd)
     (receiver : ReceiverEnd) (acts : List LineAct)
-    → IsReplay p (opening (start_of frames acks sender receiver))
+    → IsReplay p (initial (start_of frames acks sender receiver))
     (link_of (line_run p (new_count frames acks sender receiver) acts))
 line_is_replay p frames acks sender receiver acts =
     count_is_replay p frames acks sender.state.label sender.state.item sender.closed receiver acts

@@ -25,14 +25,7 @@ pub data EdgeAct : Type 0 where
 
 abbrev pub is_offer : LineAct → Bool
 is_offer (offer_item item) = true
-is_offer frame_sent = false
-is_offer (frame_comes repeated) = false
-is_offer ack_sent = false
-is_offer (ack_comes repeated) = false
-is_offer (frame_lost place) = false
-is_offer (ack_lost place) = false
-is_offer sender_closes = false
-is_offer receiver_closes = false
+is_offer _ = false
 
 -- the sender is offered the next item, where there is one
 abbrev pub offers_next : Parameters → Edge → Option ℕ → Edge

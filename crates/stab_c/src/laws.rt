@@ -5,7 +5,7 @@ ghost use mathlib.Core.List.{IsPrefix};
 ghost use Rattle.std.specs.Prelude.{◌≡◌, ℕ, ◌+◌, ◌*◌, ◌≤◌, List, ◌∷◌, ◌++◌, length, map};
 ghost use Rattle.std.specs.Prelude.{Bool, true, false, Option, Some, None};
 ghost use Rattle.stab_core.specs.LinkLaw.{LinkLaw};
-ghost use Rattle.stab_core.specs.Replay.{opening};
+ghost use Rattle.stab_core.specs.Replay.{initial};
 ghost use Rattle.stab_c.specs.Ends.{ReceiverEnd, SenderEnd};
 ghost use Rattle.stab_c.specs.Acts.{IsFrameReceived, IsPolled};
 ghost use Rattle.stab_c.specs.Edge.{EdgeAct, edge_run, is_offer, new_edge};
@@ -29,7 +29,7 @@ ghost use Rattle.stab_treecore.specs.TreeLaw.{TreeLaw};
 pub fn two_ends_on_a_line_are_a_link()
     ensures { (p : Parameters) (frames : List Frame) (acks : List ℕ) (sender : SenderEnd)
         (receiver : ReceiverEnd) (acts : List LineAct)
-        → IsReplay p (opening (start_of frames acks sender receiver))
+        → IsReplay p (initial (start_of frames acks sender receiver))
         (link_of (line_run p (new_count frames acks sender receiver) acts)) }
 {}
 

@@ -42,15 +42,8 @@ effect_word Closed = codes " Closed"
 
 -- the item that an effect delivers
 abbrev pub delivered : Effect → Option ℕ
-delivered Nothing = None
-delivered Held = None
-delivered Sent = None
 delivered (Fresh item) = Some item
-delivered Old = None
-delivered Acked = None
-delivered Ignored = None
-delivered Lost = None
-delivered Closed = None
+delivered _ = None
 
 -- a number after a space, or '-'
 unfoldable pub number_word : Option ℕ → List ℕ

@@ -6,7 +6,7 @@ use Rattle.std.proofs.lemmas.List.{length-append}
 use Rattle.std.proofs.lemmas.List.Elements.{Contains-append_right, Contains-get_or}
 use Rattle.stab_core.specs.CounterExamples.{two_labels, two_labels_start, two_labels_events, four_labels, any_ack_step, any_ack_start, any_ack_events, any_frame_step, any_frame_start, any_frame_events}
 use Rattle.stab_core.specs.LinkLaw.{HalfLawAt, HalfLaw, LinkLawWithin, LinkLaw}
-use Rattle.stab_core.specs.Replay.{opening, replay, start_items}
+use Rattle.stab_core.specs.Replay.{initial, replay, start_items}
 use Rattle.stab_core.proofs.ForCallers.{chosen_is_member, few_picked, picked_is_member}
 
 -- what differs from each entry is no member
@@ -55,19 +55,19 @@ module _ (most_strays : ℕ) (start_items offered : List ℕ) (acked : ℕ) (del
       omega (arith, length-append half.strays half.taken)
 
 -- with two labels item 14 is acknowledged and was not delivered
-pub two_labels_break : let s = replay two_labels (opening two_labels_start) two_labels_events in
+pub two_labels_break : let s = replay two_labels (initial two_labels_start) two_labels_events in
     LinkLaw two_labels.capacity (start_items two_labels_start) s.offered s.acked s.delivered → ⊥
 two_labels_break =
     missing_breaks 1 (99 ∷ []) (10 ∷ 11 ∷ 12 ∷ 13 ∷ 14 ∷ []) 5 (99 ∷ 11 ∷ 12 ∷ 13 ∷ []) 3 4 (omega arith) (omega arith)
     (omega arith, (omega arith, (omega arith, (omega arith, tt))))
 
 -- where the sender goes on at any acknowledgement item 13 is acknowledged and was not delivered
-pub any_ack_breaks : let s = fold (any_ack_step four_labels) (opening any_ack_start) any_ack_events in
+pub any_ack_breaks : let s = fold (any_ack_step four_labels) (initial any_ack_start) any_ack_events in
     LinkLaw four_labels.capacity (start_items any_ack_start) s.offered s.acked s.delivered → ⊥
 any_ack_breaks =
     missing_breaks 1 [] (10 ∷ 11 ∷ 12 ∷ 13 ∷ []) 4 [] 3 3 (omega arith) (omega arith) tt
 
 -- where the receiver takes every frame one item is delivered twice
-pub any_frame_breaks : let s = fold (any_frame_step four_labels) (opening any_frame_start) any_frame_events in
+pub any_frame_breaks : let s = fold (any_frame_step four_labels) (initial any_frame_start) any_frame_events in
     HalfLaw four_labels.capacity (start_items any_frame_start) s.offered s.acked s.delivered → ⊥
 any_frame_breaks = too_many_break 1 [] (10 ∷ []) 0 (10 ∷ 10 ∷ []) (omega arith)

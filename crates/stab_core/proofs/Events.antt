@@ -12,7 +12,7 @@ use Rattle.stab_core.specs.declared.origin.Origin.TheVariants.{Sent}
 use Rattle.stab_core.specs.declared.start.Start.{Start}
 use Rattle.stab_core.specs.LinkState.{LinkState, is_idle, is_holding, current_frame, has_room}
 use Rattle.stab_core.specs.Step.{open_step, step, after_front, receives_frame, receives_ack}
-use Rattle.stab_core.specs.Trace.{Traced, traced_opening, traced_step, traced_replay, queued_after, origins_after, taken_origin}
+use Rattle.stab_core.specs.Trace.{Traced, traced_initial, traced_step, traced_replay, queued_after, origins_after, taken_origin}
 use Rattle.stab_core.proofs.InOrder.{in_order_after_front, in_order_without, after_front-nil, after_front-map, without-map}
 use Rattle.stab_core.proofs.Circle.{acks_in_order, answer_in_order}
 use Rattle.stab_core.proofs.Sources.{stray_count, item_at, label_at, frame_at, origin_at, origin_sent, start_places, start_origins}
@@ -274,8 +274,8 @@ module _ (p : Parameters) (start : Start) (from : ℕ) (Followed : ℕ → Type 
   replay_keeps t (e ∷ events) inv = replay_keeps (traced_step p t e) events (step_keeps t e inv)
 
 module _ (p : Parameters) (start : Start) where
-  -- they hold at the opening, of each free item number
-  pub at_opening : Invariant p start 0 (IsFree p start) (traced_opening start)
+  -- they hold of the initial state, of each free item number
+  pub at_opening : Invariant p start 0 (IsFree p start) (traced_initial start)
   at_opening =
       record {
         queued = start_places start;
@@ -288,6 +288,6 @@ module _ (p : Parameters) (start : Start) where
 
   -- so they hold of every replay from the start
   pub every_replay_keeps : (events : List Event)
-      → Invariant p start 0 (IsFree p start) (traced_replay p (traced_opening start) events)
+      → Invariant p start 0 (IsFree p start) (traced_replay p (traced_initial start) events)
   every_replay_keeps events =
-      replay_keeps p start 0 (IsFree p start) (free_is_near p start) (traced_opening start) events at_opening
+      replay_keeps p start 0 (IsFree p start) (free_is_near p start) (traced_initial start) events at_opening

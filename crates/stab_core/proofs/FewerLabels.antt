@@ -14,9 +14,9 @@ use Rattle.stab_core.specs.declared.event.Event.TheVariants.{Offer, SendFrame, R
 use Rattle.stab_core.specs.declared.start.Start.{Start}
 use Rattle.stab_core.specs.LinkState.{LinkState, is_idle, is_holding, current_frame, has_room}
 use Rattle.stab_core.specs.LinkLaw.{LinkLaw}
-use Rattle.stab_core.specs.Replay.{IsLawful, start_items, opening, replay}
+use Rattle.stab_core.specs.Replay.{IsLawful, start_items, initial, replay}
 use Rattle.stab_core.specs.Step.{open_step, step}
-use Rattle.stab_core.specs.Trace.{Traced, traced_opening, traced_step, traced_replay}
+use Rattle.stab_core.specs.Trace.{Traced, traced_initial, traced_step, traced_replay}
 use Rattle.stab_core.proofs.Labels.{item_label, near_labels_differ}
 use Rattle.stab_core.proofs.InOrder.{InOrder, repeat, in_order_same, in_order_behind, Each-in_order}
 use Rattle.stab_core.proofs.Circle.{circle, Absent}
@@ -300,7 +300,7 @@ module _ (p : Parameters) (start : Start) (some_capacity : 1 ≤ p.capacity) (en
   replay_holds t (e ∷ events) holds = replay_holds (traced_step p t e) events (step_holds t e holds)
 
   -- a lawful start fills both queues, or leaves an entry of the circle free
-  full_or_short : IsLawful p start → IsFullOrShort p start (opening start)
+  full_or_short : IsLawful p start → IsFullOrShort p start (initial start)
   full_or_short lawful =
       let few_frames = lawful.frames in
       let few_acks = lawful.acks in
@@ -317,7 +317,7 @@ module _ (p : Parameters) (start : Start) (some_capacity : 1 ≤ p.capacity) (en
       ]
 
   -- nothing is followed at first
-  not_followed : Invariant p start 0 (λ _. ⊥) (traced_opening start)
+  not_followed : Invariant p start 0 (λ _. ⊥) (traced_initial start)
   not_followed =
       let inv = at_opening p start in
       record {
@@ -337,20 +337,20 @@ module _ (p : Parameters) (start : Start) (some_capacity : 1 ≤ p.capacity) (en
         taken_are = inv.taken_are;
       }
 
-  opening_holds : IsLawful p start → Holds (traced_opening start)
+  opening_holds : IsLawful p start → Holds (traced_initial start)
   opening_holds lawful =
       elim (full_or_short lawful) [
         | inl full ↦ inr (full, not_followed)
-        | inr shorter ↦ inl (short_is_followed (traced_opening start) not_followed shorter)
+        | inr shorter ↦ inl (short_is_followed (traced_initial start) not_followed shorter)
       ]
 
   -- so the link law holds of every replay
   pub fewer_labels_link_law : (events : List Event) → IsLawful p start
-      → let s = replay p (opening start) events in LinkLaw p.capacity (start_items start) s.offered s.acked s.delivered
+      → let s = replay p (initial start) events in LinkLaw p.capacity (start_items start) s.offered s.acked s.delivered
   fewer_labels_link_law events lawful =
-      let t : Traced = traced_replay p (traced_opening start) events in
+      let t : Traced = traced_replay p (traced_initial start) events in
       let law : LinkLaw p.capacity (start_items start) t.state.offered t.state.acked t.state.delivered =
-      elim (replay_holds (traced_opening start) events (opening_holds lawful)) [
+      elim (replay_holds (traced_initial start) events (opening_holds lawful)) [
         | inl followed ↦
             followed_link_law p start followed.from (λ i. i ≡ followed.j) t followed.invariant lawful followed.j
             followed.within refl
@@ -359,4 +359,4 @@ module _ (p : Parameters) (start : Start) (some_capacity : 1 ≤ p.capacity) (en
             few_acked_link_law p start 0 (λ _. ⊥) t both.1 lawful (omega arith)
       ] in
       subst (λ (s : LinkState). LinkLaw p.capacity (start_items start) s.offered s.acked s.delivered)
-      (traced_replay_state p (traced_opening start) events) law
+      (traced_replay_state p (traced_initial start) events) law

@@ -98,22 +98,22 @@ map_below f g bound (p ∷ ps) agree below =
 -- ---- members of a list of places
 
 -- an entry of a list, and its place
-pub record StandsAt (xs : List ℕ) (x k : ℕ) : Type 0 where
+pub record IsAt (xs : List ℕ) (x k : ℕ) : Type 0 where
   pub within : k < length xs
   pub is_there : get_or xs k 0 ≡ x
 
 -- each member has a place
-pub member_stands : (xs : List ℕ) (x : ℕ) → Contains xs x → (k : ℕ) × StandsAt xs x k
-member_stands xs x (k, within, is) = (k, record { within = within; is_there = get_or_default xs k 0 x within ∙ is })
+pub member_is_at : (xs : List ℕ) (x : ℕ) → Contains xs x → (k : ℕ) × IsAt xs x k
+member_is_at xs x (k, within, is) = (k, record { within = within; is_there = get_or_default xs k 0 x within ∙ is })
 
 -- what has a place is a member
-pub stands_is_member : (xs : List ℕ) (x k : ℕ) → StandsAt xs x k → Contains xs x
-stands_is_member xs x k here = (k, here.within, get_or_default xs k x 0 here.within ∙ here.is_there)
+pub at_is_member : (xs : List ℕ) (x k : ℕ) → IsAt xs x k → Contains xs x
+at_is_member xs x k here = (k, here.within, get_or_default xs k x 0 here.within ∙ here.is_there)
 
 -- a member of places below a bound is below it
 pub member_is_below : (bound : ℕ) (ps : List ℕ) (p : ℕ) → AllBelow bound ps → Contains ps p → p < bound
 member_is_below bound ps p below member =
-    let (k, here) = member_stands ps p member in
+    let (k, here) = member_is_at ps p member in
     omega (arith, below_bound bound ps k below here.within, here.is_there)
 
 -- ---- places moved up
@@ -138,9 +138,9 @@ raised_below by bound (p ∷ ps) below = (omega (arith, below.0), raised_below b
 pub raised_is_member : (by : ℕ) (low high : List ℕ) (m : ℕ) → Contains high m
     → Contains (low ++ raised by high) (by + m)
 raised_is_member by low high m member =
-    let (k, here) = member_stands high m member in
+    let (k, here) = member_is_at high m member in
     Contains-append_right low (raised by high) (by + m)
-    (stands_is_member (raised by high) (by + m) k (record {
+    (at_is_member (raised by high) (by + m) k (record {
       within = omega (arith, here.within, length-map high (λ place. by + place));
       is_there = get_or-map (λ place. by + place) high k 0 0 here.within ∙ ap (λ place. by + place) here.is_there;
     }))
@@ -152,7 +152,7 @@ member_is_raised by m [] high below (k, within, is) =
     let as_many : k < length high = omega (arith, length-map high (λ place. by + place)) in
     let there : get_or (raised by high) k (by + m) ≡ by + get_or high k 0 =
     get_or-map (λ place. by + place) high k 0 (by + m) as_many in
-    stands_is_member high m k (record { within = as_many; is_there = omega arith })
+    at_is_member high m k (record { within = as_many; is_there = omega arith })
 member_is_raised by m (p ∷ ps) high below (zero, within, is) = absurd (omega (arith, below.0))
 member_is_raised by m (p ∷ ps) high below (suc k, within, is) =
     member_is_raised by m ps high below.1 (k, omega arith, is)
@@ -255,8 +255,8 @@ member_is_chosen ps qs x (k, within, is) =
 -- the place at a member is among the places of places
 pub chosen_is_member : (ps qs : List ℕ) (q : ℕ) → Contains qs q → Contains (at_places ps qs) (get_or ps q 0)
 chosen_is_member ps qs q member =
-    let (k, here) = member_stands qs q member in
-    stands_is_member (at_places ps qs) (get_or ps q 0) k (record {
+    let (k, here) = member_is_at qs q member in
+    at_is_member (at_places ps qs) (get_or ps q 0) k (record {
       within = omega (arith, here.within, length-map qs (λ place. slice_index ps place));
       is_there =
           get_or-map (λ place. slice_index ps place) qs k 0 0 here.within ∙ ap (λ place. get_or ps place 0) here.is_there;
@@ -308,7 +308,7 @@ picked_is_member items places picked x picks member =
     let (k, within, is) =
     member_is_chosen items places x (subst (λ (xs : List ℕ). Contains xs x) picks.the_items member) in
     let in_list : get_or places k 0 < length items = below_bound (length items) places k picks.in_list within in
-    stands_is_member items x (get_or places k 0) (record { within = in_list; is_there = is })
+    at_is_member items x (get_or places k 0) (record { within = in_list; is_there = is })
 
 -- what is picked from a picked list is picked from the whole
 pub picks_chosen : (items ps picked qs chosen : List ℕ) → Picks items ps picked → Picks picked qs chosen

@@ -7,7 +7,7 @@ use Rattle.stab_frames.specs.declared.frame.Frame.{Frame}
 use Rattle.stab_frames.specs.Parameters.{Parameters, next}
 use Rattle.stab_core.specs.declared.start.Start.{Start}
 use Rattle.stab_core.specs.LinkState.{LinkState, is_idle, is_holding, current_frame}
-use Rattle.stab_core.specs.Replay.{opening}
+use Rattle.stab_core.specs.Replay.{initial}
 use Rattle.stab_core.specs.Step.{after_front}
 use Rattle.stab_core.proofs.Labels.{item_label, near_labels_differ}
 use Rattle.stab_core.proofs.InOrder.{InOrder, in_order_same, in_order_after_front, in_order_map, after_front-map}
@@ -45,8 +45,8 @@ module _ (p : Parameters) (start : Start) where
       ap (map (λ (f : Frame). f.label)) (start_frames p start)
       ∙ map-map (λ (f : Frame). f.label) (frame_at p start []) (start_places start)
 
-  -- the opening
-  pub kept_open : Kept p start 0 (IsFree p start) (opening start) (start_places start) [] 0
+  -- the initial state
+  pub kept_open : Kept p start 0 (IsFree p start) (initial start) (start_places start) [] 0
   kept_open =
       record {
         begun = omega arith;

@@ -8,11 +8,11 @@ use Rattle.stab_core.specs.declared.event.Event.{Event}
 use Rattle.stab_core.specs.declared.origin.Origin.TheVariants.{Stray, Sent}
 use Rattle.stab_core.specs.declared.start.Start.{Start}
 use Rattle.stab_core.specs.LinkState.{LinkState}
-use Rattle.stab_core.specs.Replay.{IsLawful, start_items, opening, replay}
+use Rattle.stab_core.specs.Replay.{IsLawful, start_items, initial, replay}
 use Rattle.stab_core.specs.Step.{step}
 use Rattle.stab_core.specs.Picks.{Picks}
 use Rattle.stab_core.specs.LinkLaw.{HalfLaw, HalfLawAt, LinkLaw, NoneMissingFrom, SharperLinkLaw}
-use Rattle.stab_core.specs.Trace.{Traced, traced_opening, traced_step, traced_replay, Explains}
+use Rattle.stab_core.specs.Trace.{Traced, traced_initial, traced_step, traced_replay, Explains}
 use Rattle.stab_core.proofs.ForCallers.{few_rising, below_higher, map_below, member_is_raised, raised, Parted, parted}
 use Rattle.stab_core.proofs.Sources.{stray_count, item_at, origin_at, item_sent, item_stray, origin_sent, origin_stray}
 use Rattle.stab_core.proofs.FreeLabel.{IsFree, free_label}
@@ -176,45 +176,45 @@ module _ (p : Parameters) (start : Start) (from : ℕ) (Followed : ℕ → Type 
 
 -- every replay is explained by its origins
 pub replay_explained : (p : Parameters) (start : Start) (events : List Event)
-    → let s = replay p (opening start) events in
-    Explains (start_items start) s.offered (traced_replay p (traced_opening start) events).origins s.delivered
+    → let s = replay p (initial start) events in
+    Explains (start_items start) s.offered (traced_replay p (traced_initial start) events).origins s.delivered
 replay_explained p start events =
-    let t : Traced = traced_replay p (traced_opening start) events in
+    let t : Traced = traced_replay p (traced_initial start) events in
     subst (λ (s : LinkState). Explains (start_items start) s.offered t.origins s.delivered)
-    (traced_replay_state p (traced_opening start) events) (explained p start 0 (IsFree p start) t (every_replay_keeps p start events))
+    (traced_replay_state p (traced_initial start) events) (explained p start 0 (IsFree p start) t (every_replay_keeps p start events))
 
 -- every replay acknowledged only what was offered, and all of it but at most the last
 pub replay_acked : (p : Parameters) (start : Start) (events : List Event)
-    → let s = replay p (opening start) events in (s.acked ≤ length s.offered) × (length s.offered ≤ s.acked + 1)
+    → let s = replay p (initial start) events in (s.acked ≤ length s.offered) × (length s.offered ≤ s.acked + 1)
 replay_acked p start events =
     let sending = (every_replay_keeps p start events).kept.sending in
     subst (λ (s : LinkState). (s.acked ≤ length s.offered) × (length s.offered ≤ s.acked + 1))
-    (traced_replay_state p (traced_opening start) events) (sending.acked_were_offered, sending.one_waits_at_most)
+    (traced_replay_state p (traced_initial start) events) (sending.acked_were_offered, sending.one_waits_at_most)
 
 -- every replay from a lawful start obeys the half law
 pub replay_half_law : (p : Parameters) (start : Start) (events : List Event) → IsLawful p start
-    → let s = replay p (opening start) events in HalfLaw p.capacity (start_items start) s.offered s.acked s.delivered
+    → let s = replay p (initial start) events in HalfLaw p.capacity (start_items start) s.offered s.acked s.delivered
 replay_half_law p start events lawful =
-    let t : Traced = traced_replay p (traced_opening start) events in
+    let t : Traced = traced_replay p (traced_initial start) events in
     subst (λ (s : LinkState). HalfLaw p.capacity (start_items start) s.offered s.acked s.delivered)
-    (traced_replay_state p (traced_opening start) events)
+    (traced_replay_state p (traced_initial start) events)
     (_, half_law p start 0 (IsFree p start) t (every_replay_keeps p start events) lawful)
 
 -- every replay from a lawful start obeys the link law
 pub replay_link_law : (p : Parameters) (start : Start) (events : List Event) → AreLawful p → IsLawful p start
-    → let s = replay p (opening start) events in LinkLaw p.capacity (start_items start) s.offered s.acked s.delivered
+    → let s = replay p (initial start) events in LinkLaw p.capacity (start_items start) s.offered s.acked s.delivered
 replay_link_law p start events parameters lawful =
-    let t : Traced = traced_replay p (traced_opening start) events in
+    let t : Traced = traced_replay p (traced_initial start) events in
     let (j, within, free) = free_label p start parameters lawful in
     subst (λ (s : LinkState). LinkLaw p.capacity (start_items start) s.offered s.acked s.delivered)
-    (traced_replay_state p (traced_opening start) events)
+    (traced_replay_state p (traced_initial start) events)
     (followed_link_law p start 0 (IsFree p start) t (every_replay_keeps p start events) lawful j within free)
 
 -- and the sharper one
 pub replay_sharper_link_law : (p : Parameters) (start : Start) (events : List Event) → AreLawful p → IsLawful p start
-    → let s = replay p (opening start) events in SharperLinkLaw p.capacity (start_items start) s.offered s.acked s.delivered
+    → let s = replay p (initial start) events in SharperLinkLaw p.capacity (start_items start) s.offered s.acked s.delivered
 replay_sharper_link_law p start events parameters lawful =
-    let t : Traced = traced_replay p (traced_opening start) events in
+    let t : Traced = traced_replay p (traced_initial start) events in
     subst (λ (s : LinkState). SharperLinkLaw p.capacity (start_items start) s.offered s.acked s.delivered)
-    (traced_replay_state p (traced_opening start) events)
+    (traced_replay_state p (traced_initial start) events)
     (answered_link_law p start 0 (IsFree p start) t (every_replay_keeps p start events) parameters.enough_labels lawful)

@@ -6,7 +6,7 @@ use Rattle.stab_core.specs.declared.event.Event.TheVariants.{Close}
 use Rattle.stab_core.specs.LinkState.{LinkState}
 use Rattle.stab_core.specs.Step.{step}
 use Rattle.stab_core.specs.declared.start.Start.{Start}
-use Rattle.stab_core.specs.Replay.{opening, replay}
+use Rattle.stab_core.specs.Replay.{initial, replay}
 use Rattle.stab_core.specs.Reachable.{IsReachable}
 
 -- the replay of two lists is that of the second from where the first one led
@@ -42,4 +42,4 @@ replay_after_close p s (e ∷ es) after = replay_after_close p (step p s e) es a
 pub reach_more : (p : Parameters) (start : Start) (s : LinkState) (more : List Event) → IsReachable p start s
     → IsReachable p start (replay p s more)
 reach_more p start s more (events, reached) =
-    (events ++ more, ap (λ t. replay p t more) reached ∙ sym (replay-append p (opening start) events more))
+    (events ++ more, ap (λ t. replay p t more) reached ∙ sym (replay-append p (initial start) events more))

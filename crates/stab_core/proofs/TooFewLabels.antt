@@ -11,7 +11,7 @@ use Rattle.stab_core.specs.declared.event.Event.TheVariants.{Offer, SendFrame, S
 use Rattle.stab_core.specs.LinkState.{LinkState}
 use Rattle.stab_core.specs.LinkLaw.{LinkLaw}
 use Rattle.stab_core.specs.Step.{step}
-use Rattle.stab_core.specs.Replay.{IsLawful, start_items, opening, replay}
+use Rattle.stab_core.specs.Replay.{IsLawful, start_items, initial, replay}
 use Rattle.stab_core.specs.CounterExamples.{take_frame, take_ack, counted_frames, acked_by_start, acked_by_receiver, too_few_labels, too_few_labels_start, too_few_labels_events}
 use Rattle.stab_core.proofs.CounterExamples.{delivered_at}
 use Rattle.stab_core.proofs.Replays.{replay-append}
@@ -109,7 +109,7 @@ module _ (d first stray : ℕ) where
       ∙ label_acked p first [] [] (n + 1) 0 0 all
 
   -- all events
-  after_all : replay p (opening (too_few_labels_start (suc d) stray)) (too_few_labels_events (suc d) first)
+  after_all : replay p (initial (too_few_labels_start (suc d) stray)) (too_few_labels_events (suc d) first)
       ≡ idle p first [] [] (2 * suc d + 1 + 1) (next p 0) 0 (range_with_len stray (suc d) ++ (first + 1) ∷ [])
   after_all =
       let less : suc d - 1 ≡ d = omega arith in
@@ -134,7 +134,7 @@ too_few_is_lawful c stray some =
 -- where the strays are other items than the offered ones, item 2c + 1 was not delivered, though it is acknowledged
 pub too_few_labels_break : (c item stray : ℕ) → 1 ≤ c → item + 2 * c + 2 ≤ stray
     → let start = too_few_labels_start c stray in
-    let s = replay (too_few_labels c) (opening start) (too_few_labels_events c item) in
+    let s = replay (too_few_labels c) (initial start) (too_few_labels_events c item) in
     LinkLaw c (start_items start) s.offered s.acked s.delivered → ⊥
 too_few_labels_break zero item stray some apart law = absurd (omega arith)
 too_few_labels_break (suc d) item stray some apart law =

@@ -13,9 +13,9 @@ use Rattle.stab_core.specs.LinkState.{LinkState}
 use Rattle.stab_core.specs.LinkLaw.{HalfLawAt, NoneMissingFrom, LinkLawWithin}
 use Rattle.stab_core.specs.Step.{step}
 use Rattle.stab_core.specs.declared.start.Start.{Start}
-use Rattle.stab_core.specs.Replay.{IsLawful, start_items, opening, replay}
+use Rattle.stab_core.specs.Replay.{IsLawful, start_items, initial, replay}
 use Rattle.stab_core.specs.CounterExamples.{take_frame, take_ack, counted_frames, worst_start, acked_by_start, acked_by_receiver, delivered_at_last, worst_events}
-use Rattle.stab_core.proofs.ForCallers.{member_stands}
+use Rattle.stab_core.proofs.ForCallers.{member_is_at}
 use Rattle.stab_core.proofs.CounterExamples.{delivered_at, late_was_offered}
 use Rattle.stab_core.proofs.Replays.{replay-append}
 
@@ -32,7 +32,7 @@ range_push first (suc count) next is =
 -- each of them is no lower than the first, and below the one after the last
 pub range_bounds : (first count x : ℕ) → Contains (range_with_len first count) x → (first ≤ x) × (x < first + count)
 range_bounds first count x member =
-    let (k, here) = member_stands (range_with_len first count) x member in
+    let (k, here) = member_is_at (range_with_len first count) x member in
     let within : k < count = omega (arith, here.within, length-range_with_len first count) in
     let is : first + k ≡ x = sym (get_or-range_with_len first count k 0 within) ∙ here.is_there in
     (omega arith, omega arith)
@@ -186,13 +186,13 @@ module _ (p : Parameters) (first : ℕ) where
   -- all rounds
   after_worst : (stray : ℕ) → 1 ≤ p.capacity → 2 * p.capacity + 2 ≤ p.labels
       → let c = p.capacity in
-      replay p (opening (worst_start c stray)) (worst_events c first)
+      replay p (initial (worst_start c stray)) (worst_events c first)
       ≡ holding [] [] (2 * c + 1) (2 * c + 1) (2 * c + 1) (range_with_len stray c ++ (first + 2 * c + 1) ∷ [])
   after_worst stray room labels =
       let c : ℕ = p.capacity in
       let strays : List ℕ = range_with_len stray c in
       let frames : List Frame = counted_frames (c + 1) stray c in
-      let start : LinkState = opening (worst_start c stray) in
+      let start : LinkState = initial (worst_start c stray) in
       let by_start : List Event = acked_by_start first c in
       let by_receiver : List Event = acked_by_receiver (first + c) c in
       let at_last : List Event = delivered_at_last (first + 2 * c) in
@@ -231,7 +231,7 @@ worst_is_lawful p stray =
 
 -- what the accounts are after the worst events
 pub worst_reached : (p : Parameters) (item stray : ℕ) → AreLawful p → let c = p.capacity in
-    let s = replay p (opening (worst_start c stray)) (worst_events c item) in
+    let s = replay p (initial (worst_start c stray)) (worst_events c item) in
     (s.offered ≡ range_with_len item (2 * c + 2)) × (s.acked ≡ 2 * c + 1)
     × (s.delivered ≡ start_items (worst_start c stray) ++ (item + 2 * c + 1) ∷ [])
 worst_reached p item stray parameters =
@@ -287,7 +287,7 @@ module _ (c item stray most_strays most_missing : ℕ) (apart : item + 2 * c + 2
 -- so bounds that hold of this replay are no smaller
 pub no_smaller : (p : Parameters) (item stray most_strays most_missing : ℕ) → AreLawful p → let c = p.capacity in
     item + 2 * c + 2 ≤ stray
-    → let s = replay p (opening (worst_start c stray)) (worst_events c item) in
+    → let s = replay p (initial (worst_start c stray)) (worst_events c item) in
     LinkLawWithin most_strays most_missing (start_items (worst_start c stray)) s.offered s.acked s.delivered
     → (c ≤ most_strays) × (2 * c + 1 ≤ most_missing)
 no_smaller p item stray most_strays most_missing parameters apart law =
@@ -300,7 +300,7 @@ no_smaller p item stray most_strays most_missing parameters apart law =
 
 -- and neither are bounds that hold of every replay
 pub least_bounds : (p : Parameters) (most_strays most_missing : ℕ) → AreLawful p
-    → ((start : Start) (events : List Event) → IsLawful p start → let s = replay p (opening start) events in
+    → ((start : Start) (events : List Event) → IsLawful p start → let s = replay p (initial start) events in
     LinkLawWithin most_strays most_missing (start_items start) s.offered s.acked s.delivered)
     → (p.capacity ≤ most_strays) × (2 * p.capacity + 1 ≤ most_missing)
 least_bounds p most_strays most_missing parameters law =

@@ -5,8 +5,7 @@ use Rattle.std.specs.Prelude.{◌≡◌, ◌<◌, ◌≤◌, length}
 use Rattle.stab_frames.specs.Parameters.{Parameters}
 use Rattle.stab_core.specs.declared.event.Event.{Event}
 use Rattle.stab_core.specs.declared.event.Effect.{Effect}
-use Rattle.stab_core.specs.declared.event.Effect.TheVariants.{Nothing, Held, Sent, Fresh, Old}
-use Rattle.stab_core.specs.declared.event.Effect.TheVariants.{Acked, Ignored, Lost, Closed}
+use Rattle.stab_core.specs.declared.event.Effect.TheVariants.{Held, Fresh}
 use Rattle.stab_core.specs.declared.start.Start.{Start}
 use Rattle.stab_core.specs.declared.start.StartFault.{StartFault}
 use Rattle.stab_core.specs.declared.start.StartFault.TheVariants.{TooManyFrames, TooManyAcks}
@@ -30,15 +29,9 @@ Steps old e new had =
 
 -- a list grows exactly at these effects: an item is offered, or delivered
 abbrev pub Grows : Effect → Type 0
-Grows Nothing = ⊥
 Grows Held = Unit {0}
-Grows Sent = ⊥
 Grows (Fresh item) = Unit {0}
-Grows Old = ⊥
-Grows Acked = ⊥
-Grows Ignored = ⊥
-Grows Lost = ⊥
-Grows Closed = ⊥
+Grows _ = ⊥
 
 -- why a start is refused: the first check that fails, or memory where none does
 abbrev pub IsReason : Parameters → Start → StartFault → Type 0

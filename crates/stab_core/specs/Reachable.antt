@@ -5,7 +5,7 @@ use Rattle.stab_frames.specs.Parameters.{Parameters}
 use Rattle.stab_core.specs.declared.event.Event.{Event}
 use Rattle.stab_core.specs.declared.start.Start.{Start}
 use Rattle.stab_core.specs.LinkState.{LinkState}
-use Rattle.stab_core.specs.Replay.{opening, replay}
+use Rattle.stab_core.specs.Replay.{initial, replay}
 
 abbrev pub IsReachable : Parameters → Start → LinkState → Type 0
-IsReachable p start s = (events : List Event) × (s ≡ replay p (opening start) events)
+IsReachable p start s = (events : List Event) × (s ≡ replay p (initial start) events)

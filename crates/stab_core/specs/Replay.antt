@@ -1,7 +1,7 @@
--- The opening of a link, and the replay of an event list from a state: its steps, one after the
--- other.
+-- The initial state of a link, and the replay of an event list from a state: its steps, one after
+-- the other.
 -- Example: The worst start has 1 frame and 1 acknowledgement, and both are at most the capacity 1,
--- so it is lawful. Its replay of no events is the opening: nothing is offered, delivered or
+-- so it is lawful. Its replay of no events is the initial state: nothing is offered, delivered or
 -- acknowledged (`examples/links/no_events`).
 -- Source: this project's profile. A start is arbitrary, but for the capacity of its two queues.
 use Rattle.std.specs.Prelude.{ℕ, ◌≤◌, List, [], ◌∷◌, length, map, false}
@@ -30,8 +30,8 @@ abbrev pub start_items : Start → List ℕ
 start_items start = map (λ f. f.item) start.frames
 
 -- the link at its start: nothing offered, acknowledged or delivered, and open
-abbrev pub opening : Start → LinkState
-opening start =
+abbrev pub initial : Start → LinkState
+initial start =
     record {
       frames = start.frames;
       acks = start.acks;

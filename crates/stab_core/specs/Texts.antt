@@ -1,6 +1,6 @@
 -- The lines that are printed: each is its label, its entries with one space before each, and one
 -- newline at the end.
--- Example: The line of the queued frame of the worst start's opening: `frames:`, one space, `2`,
+-- Example: The line of the queued frame of the worst start: `frames:`, one space, `2`,
 -- `=`, `99`, a newline.
 -- Source: this project's own; numbers are in plain decimal, as std prints them.
 use Rattle.std.specs.Prelude.{ℕ, Bool, List, ◌++◌, codes, decimal, if◌then◌else◌}

@@ -8,14 +8,14 @@ use Rattle.stab_frames.specs.declared.frame.Frame.{Frame}
 use Rattle.stab_frames.specs.Parameters.{Parameters}
 use Rattle.stab_frames.specs.Queue.{without}
 use Rattle.stab_core.specs.declared.event.Event.{Event}
-use Rattle.stab_core.specs.declared.event.Event.TheVariants.{Offer, SendFrame, RecvFrame, SendAck}
-use Rattle.stab_core.specs.declared.event.Event.TheVariants.{RecvAck, LoseFrame, LoseAck, Close}
+use Rattle.stab_core.specs.declared.event.Event.TheVariants.{SendFrame, RecvFrame}
+use Rattle.stab_core.specs.declared.event.Event.TheVariants.{LoseFrame}
 use Rattle.stab_core.specs.declared.origin.Origin.{Origin}
 use Rattle.stab_core.specs.declared.origin.Origin.TheVariants.{Stray, Sent}
 use Rattle.stab_core.specs.declared.start.Start.{Start}
 use Rattle.stab_core.specs.LinkState.{LinkState, is_holding, has_room}
 use Rattle.stab_core.specs.Step.{step, after_front}
-use Rattle.stab_core.specs.Replay.{opening}
+use Rattle.stab_core.specs.Replay.{initial}
 use Rattle.stab_core.specs.Picks.{Picks}
 
 -- a link, with the origin of each queued frame, the front first, and of each delivered item
@@ -30,23 +30,19 @@ strays_from place [] = []
 strays_from place (f ∷ fs) = Stray place ∷ strays_from (place + 1) fs
 
 -- each frame of the start is a stray
-abbrev pub traced_opening : Start → Traced
-traced_opening start =
-    record { state = opening start; queued = strays_from 0 start.frames; origins = [] }
+abbrev pub traced_initial : Start → Traced
+traced_initial start =
+    record { state = initial start; queued = strays_from 0 start.frames; origins = [] }
 
 -- the origins of the queued frames after an event on an open link
 abbrev pub queued_after : Parameters → Traced → Event → List Origin
-queued_after p t (Offer item) = t.queued
 queued_after p t SendFrame =
     if is_holding t.state && has_room p t.state.frames
     then t.queued ++ Sent (length t.state.offered - 1) ∷ []
     else t.queued
 queued_after p t (RecvFrame keep) = after_front keep t.queued
-queued_after p t SendAck = t.queued
-queued_after p t (RecvAck keep) = t.queued
 queued_after p t (LoseFrame place) = without place t.queued
-queued_after p t (LoseAck place) = t.queued
-queued_after p t Close = t.queued
+queued_after p t _ = t.queued
 
 -- the origin of the front frame, where the receiver takes that frame
 abbrev pub taken_origin : LinkState → Option Frame → Option Origin → List Origin
@@ -56,15 +52,9 @@ taken_origin s (Some f) (Some o) = if f.label == s.recv_label then [] else o ∷
 
 -- the origins of the delivered items after an event on an open link
 abbrev pub origins_after : Traced → Event → List Origin
-origins_after t (Offer item) = t.origins
-origins_after t SendFrame = t.origins
 origins_after t (RecvFrame keep) =
     t.origins ++ taken_origin t.state (slice_get t.state.frames 0) (slice_get t.queued 0)
-origins_after t SendAck = t.origins
-origins_after t (RecvAck keep) = t.origins
-origins_after t (LoseFrame place) = t.origins
-origins_after t (LoseAck place) = t.origins
-origins_after t Close = t.origins
+origins_after t _ = t.origins
 
 -- the step with origins: a closed link never changes
 abbrev pub traced_step : Parameters → Traced → Event → Traced

@@ -9,7 +9,7 @@ ghost use Rattle.stab_core.specs.LinkActs.{event_of};
 ghost use Rattle.stab_core.specs.LinkState.{LinkState, is_holding, current_frame};
 ghost use Rattle.stab_core.specs.Picks.{Picks};
 ghost use Rattle.stab_core.specs.Step.{step, effect};
-ghost use Rattle.stab_core.specs.Trace.{traced_opening, traced_replay};
+ghost use Rattle.stab_core.specs.Trace.{traced_initial, traced_replay};
 ghost use Rattle.stab_core.specs.declared.act.LinkAct.{LinkAct};
 ghost use Rattle.stab_core.specs.declared.event.Effect.{Effect};
 ghost use Rattle.stab_core.specs.declared.event.Event.{Event};
@@ -61,7 +61,7 @@ pub fn worked_out()
     ensures equal_items { Picks (7 ∷ 7 ∷ []) (0 ∷ 1 ∷ []) (7 ∷ 7 ∷ []) }
     ensures not_twice { ¬ Picks (7 ∷ 7 ∷ []) (0 ∷ 0 ∷ []) (7 ∷ 7 ∷ []) }
     // The worst events deliver the stray of the start and then the offered item number 3.
-    ensures origins { let t = traced_opening (worst_start 1 99) in
+    ensures origins { let t = traced_initial (worst_start 1 99) in
         (traced_replay four_labels t (worst_events 1 10)).origins
         ≡ Origin.Stray 0 ∷ Origin.Sent 3 ∷ [] }
     // Two frames and two acknowledgements at capacity 1: the frames are the reason, and the

@@ -15,9 +15,9 @@ ghost use Rattle.stab_core.specs.CounterExamples.{too_few_labels_events};
 ghost use Rattle.stab_core.specs.LinkLaw.{HalfLaw, LinkLaw, LinkLawWithin, SharperLinkLaw};
 ghost use Rattle.stab_core.specs.LinkState.{LinkState};
 ghost use Rattle.stab_core.specs.Reachable.{IsReachable};
-ghost use Rattle.stab_core.specs.Replay.{IsLawful, opening, replay, start_items};
+ghost use Rattle.stab_core.specs.Replay.{IsLawful, initial, replay, start_items};
 ghost use Rattle.stab_core.specs.Step.{step};
-ghost use Rattle.stab_core.specs.Trace.{Explains, traced_opening, traced_replay};
+ghost use Rattle.stab_core.specs.Trace.{Explains, traced_initial, traced_replay};
 ghost use Rattle.stab_core.specs.declared.event.Event.{Event};
 ghost use Rattle.stab_core.specs.declared.start.Start.{Start};
 ghost use Rattle.stab_frames.specs.Parameters.{AreLawful, Parameters};
@@ -45,7 +45,7 @@ pub fn reachable_steps()
 /// others.
 pub fn acknowledged_were_offered()
     ensures { (p : Parameters) (start : Start) (events : List Event)
-        → let s = replay p (opening start) events in
+        → let s = replay p (initial start) events in
         (s.acked ≤ length s.offered) × (length s.offered ≤ s.acked + 1) }
 {}
 
@@ -54,10 +54,10 @@ pub fn acknowledged_were_offered()
 /// in its order and none twice.
 pub fn every_replay_is_explained()
     ensures same_states { (p : Parameters) (start : Start) (events : List Event)
-        → (traced_replay p (traced_opening start) events).state ≡ replay p (opening start) events }
+        → (traced_replay p (traced_initial start) events).state ≡ replay p (initial start) events }
     ensures explained { (p : Parameters) (start : Start) (events : List Event)
-        → let s = replay p (opening start) events in
-        let traced = traced_replay p (traced_opening start) events in
+        → let s = replay p (initial start) events in
+        let traced = traced_replay p (traced_initial start) events in
         Explains (start_items start) s.offered traced.origins s.delivered }
 {}
 
@@ -66,7 +66,7 @@ pub fn every_replay_is_explained()
 /// acknowledged ones only some among the first `2c + 1` can be missing.
 pub fn every_replay_obeys_the_link_law()
     ensures { (p : Parameters) (start : Start) (events : List Event)
-        → AreLawful p → IsLawful p start → let s = replay p (opening start) events in
+        → AreLawful p → IsLawful p start → let s = replay p (initial start) events in
         LinkLaw p.capacity (start_items start) s.offered s.acked s.delivered }
 {}
 
@@ -74,7 +74,7 @@ pub fn every_replay_obeys_the_link_law()
 /// and among one more for each stray that was delivered. So who has seen no stray misses less.
 pub fn every_replay_obeys_the_sharper_link_law()
     ensures { (p : Parameters) (start : Start) (events : List Event)
-        → AreLawful p → IsLawful p start → let s = replay p (opening start) events in
+        → AreLawful p → IsLawful p start → let s = replay p (initial start) events in
         SharperLinkLaw p.capacity (start_items start) s.offered s.acked s.delivered }
 {}
 
@@ -83,7 +83,7 @@ pub fn every_replay_obeys_the_sharper_link_law()
 pub fn one_label_fewer_is_enough()
     ensures { (p : Parameters) (start : Start) (events : List Event)
         → 1 ≤ p.capacity → 2 * p.capacity + 1 ≤ p.labels
-        → IsLawful p start → let s = replay p (opening start) events in
+        → IsLawful p start → let s = replay p (initial start) events in
         LinkLaw p.capacity (start_items start) s.offered s.acked s.delivered }
 {}
 
@@ -95,7 +95,7 @@ pub fn two_labels_fewer_are_too_few()
         → IsLawful (too_few_labels c) (too_few_labels_start c stray) }
     ensures broken { (c item stray : ℕ) → 1 ≤ c → item + 2 * c + 2 ≤ stray
         → let start = too_few_labels_start c stray in
-        let s = replay (too_few_labels c) (opening start) (too_few_labels_events c item) in
+        let s = replay (too_few_labels c) (initial start) (too_few_labels_events c item) in
         ¬ LinkLaw c (start_items start) s.offered s.acked s.delivered }
 {}
 
@@ -103,7 +103,7 @@ pub fn two_labels_fewer_are_too_few()
 /// not matter.
 pub fn every_replay_obeys_the_half_law()
     ensures { (p : Parameters) (start : Start) (events : List Event)
-        → IsLawful p start → let s = replay p (opening start) events in
+        → IsLawful p start → let s = replay p (initial start) events in
         HalfLaw p.capacity (start_items start) s.offered s.acked s.delivered }
 {}
 
@@ -111,7 +111,7 @@ pub fn every_replay_obeys_the_half_law()
 /// after the first `2c + 1` is acknowledged and was not delivered.
 pub fn two_labels_break_the_link_law()
     ensures lawful { IsLawful two_labels two_labels_start }
-    ensures broken { let s = replay two_labels (opening two_labels_start) two_labels_events in
+    ensures broken { let s = replay two_labels (initial two_labels_start) two_labels_events in
         ¬ LinkLaw two_labels.capacity (start_items two_labels_start) s.offered s.acked s.delivered }
 {}
 
@@ -120,7 +120,7 @@ pub fn two_labels_break_the_link_law()
 pub fn any_acknowledgement_breaks_the_link_law()
     ensures parameters { AreLawful four_labels }
     ensures lawful { IsLawful four_labels any_ack_start }
-    ensures broken { let s = fold (any_ack_step four_labels) (opening any_ack_start) any_ack_events in
+    ensures broken { let s = fold (any_ack_step four_labels) (initial any_ack_start) any_ack_events in
         ¬ LinkLaw four_labels.capacity (start_items any_ack_start) s.offered s.acked s.delivered }
 {}
 
@@ -128,7 +128,7 @@ pub fn any_acknowledgement_breaks_the_link_law()
 pub fn every_frame_breaks_the_half_law()
     ensures parameters { AreLawful four_labels }
     ensures lawful { IsLawful four_labels any_frame_start }
-    ensures broken { let s = fold (any_frame_step four_labels) (opening any_frame_start) any_frame_events in
+    ensures broken { let s = fold (any_frame_step four_labels) (initial any_frame_start) any_frame_events in
         ¬ HalfLaw four_labels.capacity (start_items any_frame_start) s.offered s.acked s.delivered }
 {}
 
@@ -143,19 +143,19 @@ pub fn bounds_are_reached()
     ensures reached { (p : Parameters) (item stray : ℕ)
         → AreLawful p → let c = p.capacity in
         let start = worst_start c stray in
-        let s = replay p (opening start) (worst_events c item) in
+        let s = replay p (initial start) (worst_events c item) in
         (s.offered ≡ range_with_len item (2 * c + 2)) × (s.acked ≡ 2 * c + 1)
         × (s.delivered ≡ start_items start ++ (item + 2 * c + 1) ∷ []) }
     ensures no_smaller { (p : Parameters) (item stray most_strays most_missing : ℕ)
         → AreLawful p → let c = p.capacity in
         item + 2 * c + 2 ≤ stray → let start = worst_start c stray in
-        let s = replay p (opening start) (worst_events c item) in
+        let s = replay p (initial start) (worst_events c item) in
         LinkLawWithin most_strays most_missing (start_items start) s.offered s.acked s.delivered
         → (c ≤ most_strays) × (2 * c + 1 ≤ most_missing) }
     ensures least { (p : Parameters) (most_strays most_missing : ℕ)
         → AreLawful p
         → ((start : Start) (events : List Event)
-        → IsLawful p start → let s = replay p (opening start) events in
+        → IsLawful p start → let s = replay p (initial start) events in
         LinkLawWithin most_strays most_missing (start_items start) s.offered s.acked s.delivered)
         → (p.capacity ≤ most_strays) × (2 * p.capacity + 1 ≤ most_missing) }
 {}

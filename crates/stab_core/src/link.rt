@@ -3,7 +3,7 @@ ghost use Rattle.std.specs.Prelude.{IfOk, IfErr, OnErr};
 ghost use Rattle.stab_frames.specs.Queue.{queue};
 ghost use Rattle.stab_core.specs.LinkState.{LinkState, is_idle};
 ghost use Rattle.stab_core.specs.Step.{step, effect, open_step, open_effect};
-ghost use Rattle.stab_core.specs.Replay.{opening, IsLawful};
+ghost use Rattle.stab_core.specs.Replay.{initial, IsLawful};
 ghost use Rattle.stab_core.specs.Link.{link_at, Steps, Grows, IsReason};
 
 use crate::event::{Effect, Event};
@@ -50,7 +50,7 @@ impl Link {
     /// A start with too many frames is refused, then one with too many acknowledgements. The labels
     /// may be any.
     pub fn new(alloc: Global, params: Params, start: &Start) -> Result<Link, StartFault>
-        ensures opening { IfOk result (λ link. link ≡ link_at params (opening start.now)) }
+        ensures initial { IfOk result (λ link. link ≡ link_at params (initial start.now)) }
         ensures lawful { IfOk result (λ link. IsLawful params start.now) }
         ensures refused { IfErr result (IsReason params start.now) }
     {

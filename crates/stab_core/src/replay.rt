@@ -1,6 +1,6 @@
 ghost use Rattle.std.specs.Prelude.{◌≡◌, IfOk, IfErr};
 ghost use Rattle.stab_core.specs.LinkLaw.{LinkLaw};
-ghost use Rattle.stab_core.specs.Replay.{opening, replay, start_items, IsLawful};
+ghost use Rattle.stab_core.specs.Replay.{initial, replay, start_items, IsLawful};
 ghost use Rattle.stab_core.specs.Link.{link_at, IsReason};
 
 use crate::event::Event;
@@ -23,7 +23,7 @@ pub fn run_link(
     events: &[Event],
 ) -> Result<Link, StartFault>
     ensures replay { IfOk result (λ link.
-        link ≡ link_at params (replay params (opening start.now) events.now)) }
+        link ≡ link_at params (replay params (initial start.now) events.now)) }
     ensures law { IfOk result (λ link. let s = link.state in
         LinkLaw params.capacity (start_items start.now) s.offered s.acked s.delivered) }
     ensures lawful { IfOk result (λ link. IsLawful params start.now) }

@@ -1,6 +1,6 @@
 ghost use Rattle.std.specs.Prelude.{◌≡◌, false, IfOk, IfErr, OnOk};
-ghost use Rattle.stab_core.specs.Replay.{opening, replay, start_items, IsLawful};
-ghost use Rattle.stab_core.specs.Trace.{strays_from, traced_opening, traced_step, traced_replay};
+ghost use Rattle.stab_core.specs.Replay.{initial, replay, start_items, IsLawful};
+ghost use Rattle.stab_core.specs.Trace.{strays_from, traced_initial, traced_step, traced_replay};
 ghost use Rattle.stab_core.specs.Trace.{Explains};
 ghost use Rattle.stab_core.specs.Link.{link_at, IsReason};
 ghost use Rattle.stab_core.specs.Tracer.{tracer_at, LeavesFrames};
@@ -24,9 +24,9 @@ pub fn trace(
     events: &[Event],
 ) -> Result<Vec<Origin>, StartFault>
     ensures replay { IfOk result (λ origins.
-        origins.items ≡ (traced_replay params (traced_opening start.now) events.now).origins) }
+        origins.items ≡ (traced_replay params (traced_initial start.now) events.now).origins) }
     ensures explained { IfOk result (λ origins.
-        let s = replay params (opening start.now) events.now in
+        let s = replay params (initial start.now) events.now in
         Explains (start_items start.now) s.offered origins.items s.delivered) }
     ensures lawful { IfOk result (λ origins. IsLawful params start.now) }
     ensures refused { IfErr result (IsReason params start.now) }
@@ -46,9 +46,9 @@ pub fn run_traced(
     events: &[Event],
 ) -> Result<(Link, Vec<Origin>), StartFault>
     ensures link { IfOk result (λ both.
-        both.0 ≡ link_at params (replay params (opening start.now) events.now)) }
+        both.0 ≡ link_at params (replay params (initial start.now) events.now)) }
     ensures origins { IfOk result (λ both.
-        both.1.items ≡ (traced_replay params (traced_opening start.now) events.now).origins) }
+        both.1.items ≡ (traced_replay params (traced_initial start.now) events.now).origins) }
     ensures lawful { IfOk result (λ both. IsLawful params start.now) }
     ensures refused { IfErr result (IsReason params start.now) }
 {
@@ -84,7 +84,7 @@ impl Tracer {
     /// The tracer at a start: each queued frame is a stray.
     #[tactic(auto, using(crate::proofs::Tracing::length_strays))]
     fn new(alloc: Global, params: Params, start: &Start) -> Result<Tracer, StartFault>
-        ensures opening { IfOk result (λ t. t ≡ tracer_at params (traced_opening start.now)) }
+        ensures initial { IfOk result (λ t. t ≡ tracer_at params (traced_initial start.now)) }
         ensures lawful { IfOk result (λ t. IsLawful params start.now) }
         ensures refused { IfErr result (IsReason params start.now) }
     {

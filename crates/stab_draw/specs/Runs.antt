@@ -8,7 +8,7 @@ use Rattle.std.specs.Prelude.{ℕ, List, [], ◌∷◌, ◌++◌, Option, None, 
 use Rattle.stab_frames.specs.Parameters.{Parameters}
 use Rattle.stab_core.specs.declared.event.Event.{Event}
 use Rattle.stab_core.specs.LinkState.{LinkState}
-use Rattle.stab_core.specs.Replay.{opening}
+use Rattle.stab_core.specs.Replay.{initial}
 use Rattle.stab_core.specs.Step.{effect, step}
 use Rattle.stab_script.specs.declared.link_job.LinkJob.{LinkJob}
 use Rattle.stab_draw.specs.Words.{cell, delivered_by, effect_word, event_word, frame_word}
@@ -43,5 +43,5 @@ start_line s = codes "start               -       " ++ state_cells s None
 
 -- the text of a run
 abbrev pub run_text : LinkJob → List ℕ
-run_text job = head ++ start_line (opening job.start)
-    ++ event_lines job.params (opening job.start) job.events
+run_text job = head ++ start_line (initial job.start)
+    ++ event_lines job.params (initial job.start) job.events

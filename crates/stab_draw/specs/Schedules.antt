@@ -15,7 +15,7 @@ use Rattle.stab_core.specs.Link.{LinkValue}
 use Rattle.stab_tree.specs.Nodes.{Nodes}
 use Rattle.stab_treecore.specs.declared.event.TreeEvent.{TreeEvent}
 use Rattle.stab_treecore.specs.Network.{Network}
-use Rattle.stab_treecore.specs.TreeReplay.{tree_opening}
+use Rattle.stab_treecore.specs.TreeReplay.{initial_tree}
 use Rattle.stab_treecore.specs.TreeStep.{event_on, tree_effect, tree_step}
 use Rattle.stab_treecore.specs.WholeTree.{WholeTree, link_into}
 use Rattle.stab_draw.specs.Runs.{head, start_line, state_cells}
@@ -68,5 +68,5 @@ tree_head = codes "link      " ++ head
 -- the text of a schedule's run
 abbrev pub schedule_run_text : Network → List TreeEvent → List ℕ
 schedule_run_text net events =
-    tree_head ++ start_lines net.tree (tree_opening net)
-    ++ step_lines net.tree (tree_opening net) events
+    tree_head ++ start_lines net.tree (initial_tree net)
+    ++ step_lines net.tree (initial_tree net) events

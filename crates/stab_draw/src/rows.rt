@@ -1,13 +1,13 @@
 ghost use Rattle.std.specs.Prelude.{◌≡◌, ◌++◌, [], ◌∷◌, Some, All, option_map, option_to_list};
 ghost use Rattle.std.specs.Prelude.{slice_get, IfErr, IfOk, OnOk};
 ghost use Rattle.stab_core.specs.Link.{IsReason, link_at};
-ghost use Rattle.stab_core.specs.Replay.{IsLawful, opening};
+ghost use Rattle.stab_core.specs.Replay.{IsLawful, initial};
 ghost use Rattle.stab_core.specs.Step.{effect, step};
 ghost use Rattle.stab_treecore.specs.Network.{IsNetwork, network_of};
 ghost use Rattle.stab_treecore.specs.NodeOpenings.{FitTree};
 ghost use Rattle.stab_treecore.specs.Refusals.{IsScheduleReason, IsStartReason, NamesLink};
 ghost use Rattle.stab_treecore.specs.Refusals.{OnePerLink};
-ghost use Rattle.stab_treecore.specs.TreeReplay.{tree_opening};
+ghost use Rattle.stab_treecore.specs.TreeReplay.{initial_tree};
 ghost use Rattle.stab_treecore.specs.TreeStep.{tree_step};
 ghost use Rattle.stab_treecore.specs.WholeTree.{link_into};
 ghost use Rattle.stab_draw.specs.Rows.{row_of, rows_from, step_row, tree_rows_from};
@@ -25,7 +25,7 @@ use std::alloc::{AllocError, Global};
 /// The rows of a link job's run, one for each event. It refuses a start as `stab link` does.
 pub fn link_rows(alloc: Global, job: &LinkJob) -> Result<Vec<Row>, StartFault>
     ensures rows { IfOk result (λ rows. rows.items
-        ≡ rows_from job.now.params (opening job.now.start) job.now.events) }
+        ≡ rows_from job.now.params (initial job.now.start) job.now.events) }
     ensures lawful { OnOk result (IsLawful job.now.params job.now.start) }
     ensures refused { IfErr result (IsReason job.now.params job.now.start) }
 {
@@ -84,7 +84,7 @@ pub fn schedule_rows(
     events: &[TreeEvent],
 ) -> Result<Vec<Row>, TreeStartFault>
     requires fit { FitTree tree.now.parents openings.now }
-    ensures rows { IfOk result (λ rows. rows.items ≡ tree_rows_from (tree_opening
+    ensures rows { IfOk result (λ rows. rows.items ≡ tree_rows_from (initial_tree
         (network_of params.now tree.now published.now starts.now openings.now)) events.now) }
     ensures params_per_link { OnOk result (OnePerLink tree.now.parents params.now) }
     ensures one_per_link { OnOk result (OnePerLink tree.now.parents starts.now) }
@@ -112,7 +112,7 @@ fn stepped(
     events: &[TreeEvent],
 ) -> Result<Vec<Row>, TreeStartFault>
     requires fit { FitTree tree.now.parents openings.now }
-    ensures rows { IfOk result (λ rows. rows.items ≡ tree_rows_from (tree_opening
+    ensures rows { IfOk result (λ rows. rows.items ≡ tree_rows_from (initial_tree
         (network_of params.now tree.now published.now starts.now openings.now)) events.now) }
     ensures refused { IfErr result (IsStartReason params.now tree.now.parents starts.now) }
 {

@@ -6,6 +6,6 @@ pub mod JobOpenings
 pub mod JobValues
 pub mod LinkParams
 pub mod JobMembers
-pub mod LentMembers
+pub mod BorrowedMembers
 pub mod Jobs
 pub mod ReadParts

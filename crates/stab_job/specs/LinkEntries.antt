@@ -17,8 +17,5 @@ own_numbers d = do
 -- what an entry says; null says that the link has the job's own parameters
 abbrev pub link_entry : Data → Option LinkEntry
 link_entry null = Some OfJob
-link_entry (boolean b) = None
-link_entry (number n) = None
-link_entry (string s) = None
-link_entry (array ds) = None
 link_entry (object ms) = own_numbers (object ms)
+link_entry _ = None

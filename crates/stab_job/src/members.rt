@@ -3,7 +3,7 @@ ghost use Rattle.serde_json.specs.Find.{get};
 ghost use Rattle.serde_json.specs.View.{view, items_view};
 ghost use Rattle.stab_json.specs.Values.{item_number, list_of};
 ghost use Rattle.stab_job.specs.JobMembers.{members, if_there, turns_of, entries_of};
-ghost use Rattle.stab_job.specs.LentMembers.{members_lent};
+ghost use Rattle.stab_job.specs.BorrowedMembers.{borrowed_members};
 ghost use Rattle.stab_job.specs.LinkEntries.{link_entry};
 ghost use Rattle.stab_job.specs.Refusals.{is_of_value};
 ghost use Rattle.stab_script.specs.ScriptEntries.{script_entry};
@@ -26,7 +26,7 @@ const DEFAULT_TURNS: u64 = 100_000;
 /// The members of a job, each of its stated shape. The tree and the schedule are lent by the job's
 /// value and not looked at, and no script is made.
 #[derive(Drop)]
-pub(crate) struct LentMembers<'v> {
+pub(crate) struct BorrowedMembers<'v> {
     pub(crate) capacity: u16,
     pub(crate) labels: u16,
     pub(crate) tree: &'v Value,
@@ -136,9 +136,9 @@ pub(crate) fn read_members<'v>(
     alloc: Global,
     version: Version,
     value: &'v Value,
-) -> Result<LentMembers<'v>, JobFault>
+) -> Result<BorrowedMembers<'v>, JobFault>
     ensures members { MatchResult result
-        (λ lent. members version (view value.now) ≡ Some (members_lent lent))
+        (λ lent. members version (view value.now) ≡ Some (borrowed_members lent))
         (λ fault. fault ≢ JobFault.Memory
         → (fault ≡ JobFault.Shape) × (members version (view value.now) ≡ None)) }
     ensures reported { IfErr result (λ fault. is_of_value fault ≡ true) }
@@ -165,7 +165,7 @@ pub(crate) fn read_members<'v>(
         scripts,
         links,
     } = read_link_lists(alloc, value)?;
-    Ok(LentMembers {
+    Ok(BorrowedMembers {
         capacity,
         labels,
         tree,

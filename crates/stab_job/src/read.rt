@@ -7,7 +7,7 @@ ghost use Rattle.stab_job.specs.JobValues.{IsJob, links};
 ghost use Rattle.stab_job.specs.Jobs.{AreCounted, are_out_of_range};
 ghost use Rattle.stab_job.specs.Jobs.{job, job_of_members, job_on_tree, job_of_scripts};
 ghost use Rattle.stab_job.specs.LinkParams.{link_params};
-ghost use Rattle.stab_job.specs.LentMembers.{members_lent};
+ghost use Rattle.stab_job.specs.BorrowedMembers.{borrowed_members};
 ghost use Rattle.stab_job.specs.ReadParts.{job_read};
 ghost use Rattle.stab_job.specs.Refusals.{is_of_value};
 ghost use Rattle.stab_tree.specs.Nodes.{Nodes};
@@ -16,7 +16,7 @@ use crate::fault::JobFault;
 use crate::job::Job;
 use crate::link_entry::LinkEntry;
 use crate::links::{make_scripts, params_of, starts_of};
-use crate::members::{LentMembers, read_members};
+use crate::members::{BorrowedMembers, read_members};
 use crate::opened::openings_of;
 use crate::schedule::read_schedule;
 use crate::version::version_of;
@@ -98,14 +98,14 @@ fn job_of_value(alloc: Global, value: &Value) -> Result<Job, JobFault>
 #[tactic(auto, using(crate::proofs::Refused::tree_fault_is_of_value))]
 fn read_tree_and_parts(
     alloc: Global,
-    members: &mut LentMembers<'_>,
+    members: &mut BorrowedMembers<'_>,
 ) -> Result<(Tree, ReadParts), JobFault>
     ensures items { members.new.items ≡ members.old.items }
     ensures job { MatchResult result
-        (λ both. job_of_members (members_lent members.old)
+        (λ both. job_of_members (borrowed_members members.old)
         ≡ Ok (job_read both.0 members.old.items both.1))
         (λ fault. fault ≢ JobFault.Memory
-        → job_of_members (members_lent members.old) ≡ Err fault) }
+        → job_of_members (borrowed_members members.old) ≡ Err fault) }
     ensures lawful { IfOk result (λ both. IsJob (job_read both.0 members.old.items both.1)) }
     ensures reported { IfErr result (λ fault. is_of_value fault ≡ true) }
 {
@@ -122,16 +122,16 @@ fn read_parts(
     alloc: Global,
     params: Params,
     tree: &Tree,
-    members: &mut LentMembers<'_>,
+    members: &mut BorrowedMembers<'_>,
 ) -> Result<ReadParts, JobFault>
     requires capacity { params.capacity ≡ members.old.capacity }
     requires labels { params.labels ≡ members.old.labels }
     ensures items { members.new.items ≡ members.old.items }
     ensures job { MatchResult result
-        (λ read. job_on_tree tree.now (members_lent members.old)
+        (λ read. job_on_tree tree.now (borrowed_members members.old)
         ≡ Ok (job_read tree.now members.old.items read))
         (λ fault. fault ≢ JobFault.Memory
-        → job_on_tree tree.now (members_lent members.old) ≡ Err fault) }
+        → job_on_tree tree.now (borrowed_members members.old) ≡ Err fault) }
     ensures lawful { IfOk result (λ read. IsJob (job_read tree.now members.old.items read)) }
     ensures reported { IfErr result (λ fault. is_of_value fault ≡ true) }
 {
@@ -147,19 +147,19 @@ fn parts_with(
     alloc: Global,
     params: Params,
     tree: &Tree,
-    members: &mut LentMembers<'_>,
+    members: &mut BorrowedMembers<'_>,
     scripts: Sequence<Script>,
 ) -> Result<ReadParts, JobFault>
     requires capacity { params.capacity ≡ members.old.capacity }
     requires labels { params.labels ≡ members.old.labels }
-    requires counted { AreCounted (links tree.now) (members_lent members.old) }
+    requires counted { AreCounted (links tree.now) (borrowed_members members.old) }
     requires one_script_each { length scripts ≡ links tree.now }
     ensures items { members.new.items ≡ members.old.items }
     ensures job { MatchResult result
-        (λ read. job_of_scripts tree.now (members_lent members.old) scripts
+        (λ read. job_of_scripts tree.now (borrowed_members members.old) scripts
         ≡ Ok (job_read tree.now members.old.items read))
         (λ fault. fault ≢ JobFault.Memory
-        → job_of_scripts tree.now (members_lent members.old) scripts ≡ Err fault) }
+        → job_of_scripts tree.now (borrowed_members members.old) scripts ≡ Err fault) }
     ensures lawful { IfOk result (λ read. IsJob (job_read tree.now members.old.items read)) }
     ensures reported { IfErr result (λ fault. is_of_value fault ≡ true) }
 {
@@ -213,11 +213,11 @@ fn link_params(
 /// Whether the numbers of entries of these members are right over that many links, or the first
 /// check that they fail.
 #[tactic(auto, using(stab_json::proofs::ForCallers::count_of_values))]
-fn check_counts(link_count: u16, members: &LentMembers<'_>) -> Result<(), JobFault>
+fn check_counts(link_count: u16, members: &BorrowedMembers<'_>) -> Result<(), JobFault>
     ensures counted { MatchResult result
-        (λ _. AreCounted link_count (members_lent members.now))
+        (λ _. AreCounted link_count (borrowed_members members.now))
         (λ fault. (t : Nodes) → links t ≡ link_count
-        → job_on_tree t (members_lent members.now) ≡ Err fault) }
+        → job_on_tree t (borrowed_members members.now) ≡ Err fault) }
     ensures reported { IfErr result (λ fault. is_of_value fault ≡ true) }
 {
     if members.items.len() > MAX_ITEMS {

@@ -5,7 +5,7 @@ use Rattle.stab_core.specs.declared.event.Event.{Event}
 use Rattle.stab_core.specs.declared.start.Start.{Start}
 use Rattle.stab_core.specs.LinkLaw.{LinkLaw}
 use Rattle.stab_core.specs.LinkSetup.{LinkSetup}
-use Rattle.stab_core.specs.Replay.{IsLawful, opening, replay, start_items}
+use Rattle.stab_core.specs.Replay.{IsLawful, initial, replay, start_items}
 use Rattle.stab_frames.specs.Parameters.{AreLawful, Parameters}
 use Rattle.stab_treecore.specs.EdgeLaw.{EdgeInto}
 use Rattle.stab_treecore.specs.Network.{Network}
@@ -18,7 +18,7 @@ use Rattle.stab_judge.specs.Reports.{ReportValue, received_at, acked_at}
 abbrev pub ReplaysObey : Type 0
 ReplaysObey =
     (p : Parameters) (start : Start) (events : List Event) → AreLawful p → IsLawful p start
-    → let s = replay p (opening start) events in LinkLaw p.capacity (start_items start) s.offered s.acked s.delivered
+    → let s = replay p (initial start) events in LinkLaw p.capacity (start_items start) s.offered s.acked s.delivered
 
 pub edge_obeys : ReplaysObey → (net : Network) (r : ReportValue) (child parent : ℕ)
     → (edge : EdgeInto net child (received_at r parent) (received_at r child)) → acked_at r child ≡ Some edge.acked
@@ -26,7 +26,7 @@ pub edge_obeys : ReplaysObey → (net : Network) (r : ReportValue) (child parent
 edge_obeys obey net r child parent edge counted =
     let p = edge.link.params in
     let start = edge.link.start in
-    let s = replay p (opening start) edge.edge.events in
+    let s = replay p (initial start) edge.edge.events in
     let law : LinkLaw p.capacity (start_items start) s.offered s.acked s.delivered =
     obey p start edge.edge.events edge.begins.0 edge.begins.1 in
     let own_capacity : p.capacity ≡ capacity_into net child =

@@ -2,7 +2,7 @@
 use Rattle.std.proofs.Common.{◌≡◌, ℕ, suc, ◌+◌, ◌-◌, ◌<◌, ◌≤◌, inl, inr, List, [], ◌∷◌, ◌++◌, length, take, drop, Contains, refl, sym, ◌∙◌, ap, subst, append_assoc, arith}
 use Rattle.std.proofs.lemmas.List.{length-append, length-map, take-append-drop, length-take-le}
 use Rattle.stab_core.specs.Picks.{RisesFrom, AllBelow, Picks}
-use Rattle.stab_core.proofs.ForCallers.{at_places, raised, raised_rise, rises_above, below_higher, parted, items_parted, items_in_front, member_stands, member_is_below, raised_is_member, member_is_raised, picks_joined, picks_of_prefix}
+use Rattle.stab_core.proofs.ForCallers.{at_places, raised, raised_rise, rises_above, below_higher, parted, items_parted, items_in_front, member_is_at, member_is_below, raised_is_member, member_is_raised, picks_joined, picks_of_prefix}
 use Rattle.stab_treecore.specs.TreeLaw.{HalfTreeLawAt, NoneMissingBefore}
 use Rattle.stab_treecore.proofs.ForCallers.{all_places, all_below, all_items, all_picked, all_there, length_all}
 use Rattle.stab_judge.specs.Judged.{SplitsBefore}
@@ -15,7 +15,7 @@ Closed places = (i q : ℕ) → i < q → Contains places q → Contains places 
 -- no place that was raised is 0
 raised_not_zero : (places : List ℕ) → Contains (raised 1 places) 0 → RisesFrom 0 places → ⊥
 raised_not_zero places member rises =
-    let (k, here) = member_stands (raised 1 places) 0 member in
+    let (k, here) = member_is_at (raised 1 places) 0 member in
     omega (arith, here.is_there, rises_above (1 + 0) (raised 1 places) k (raised_rise 1 0 places rises) here.within)
 
 -- such places are the first ones

@@ -13,7 +13,7 @@ use Rattle.stab_core.specs.declared.start.Start.{Start}
 use Rattle.stab_core.specs.Link.{LinkValue, link_at, Grows}
 use Rattle.stab_core.specs.LinkSetup.{LinkSetup}
 use Rattle.stab_core.specs.LinkState.{LinkState}
-use Rattle.stab_core.specs.Replay.{opening, replay}
+use Rattle.stab_core.specs.Replay.{initial, replay}
 use Rattle.stab_core.specs.Step.{effect}
 use Rattle.stab_history.specs.History.{IsLast, most_events}
 
@@ -32,7 +32,7 @@ book_of p start events = record { params = p; start = start; history = events }
 
 -- the state of its link: the replay of the history from the start
 abbrev pub state_of : Book → LinkState
-state_of b = replay b.params (opening b.start) b.history
+state_of b = replay b.params (initial b.start) b.history
 
 -- its link
 abbrev pub link_of : Book → LinkValue

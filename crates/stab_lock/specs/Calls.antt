@@ -13,7 +13,7 @@ use Rattle.stab_core.specs.declared.event.Event.{Event}
 use Rattle.stab_core.specs.declared.event.Event.TheVariants as event
 use Rattle.stab_core.specs.declared.event.Effect.{Effect}
 use Rattle.stab_core.specs.declared.event.Effect.TheVariants.{Nothing, Held, Sent, Fresh, Old}
-use Rattle.stab_core.specs.declared.event.Effect.TheVariants.{Acked, Ignored, Lost, Closed}
+use Rattle.stab_core.specs.declared.event.Effect.TheVariants.{Lost, Closed}
 use Rattle.stab_core.specs.LinkState.{LinkState, is_idle, is_holding}
 use Rattle.stab_core.specs.Link.{Grows}
 use Rattle.stab_core.specs.Step.{effect, step}
@@ -101,12 +101,8 @@ noted_open sending_ack p s acts =
 
 -- a closed link shows its close to the receiver, and answers all other calls with nothing
 abbrev pub answer_closed : Call → Effect
-answer_closed (offering item) = Nothing
-answer_closed sending = Nothing
-answer_closed polling_ack = Nothing
-answer_closed closing = Nothing
 answer_closed polling_frame = Closed
-answer_closed sending_ack = Nothing
+answer_closed _ = Nothing
 
 -- what a call notes
 abbrev pub noted : Call → Parameters → LinkState → ActsRemaining → Noted
@@ -143,24 +139,12 @@ pub record IsSent (b : Book) (way : Put) : Type 0 where
 
 -- an offer is answered true where the item is held
 abbrev pub is_held : Effect → Bool
-is_held Nothing = false
 is_held Held = true
-is_held Sent = false
-is_held (Fresh item) = false
-is_held Old = false
-is_held Acked = false
-is_held Ignored = false
-is_held Lost = false
-is_held Closed = false
+is_held _ = false
 
 -- what the receiver's end saw, by the answer
 abbrev pub seen_by : Effect → FrameSeen
-seen_by Nothing = seen.Nothing
-seen_by Held = seen.Nothing
-seen_by Sent = seen.Nothing
 seen_by (Fresh item) = seen.Fresh item
 seen_by Old = seen.Old
-seen_by Acked = seen.Nothing
-seen_by Ignored = seen.Nothing
-seen_by Lost = seen.Nothing
 seen_by Closed = seen.Closed
+seen_by _ = seen.Nothing

@@ -2,20 +2,20 @@
 -- remain.
 -- Source: this project's own.
 use Rattle.stab_script.specs.Scripts.{ActsRemaining}
-use Rattle.stab_lock.specs.Accounts.{Sender, Receiver}
+use Rattle.stab_lock.specs.Accounts.{SenderAccount, ReceiverAccount}
 use Rattle.stab_lock.specs.declared.send.LockSend.{LockSend}
 use Rattle.stab_lock.specs.declared.recv.LockRecv.{LockRecv}
 
-pub record SendEnd : Type 0 where
-  pub account : Sender
+pub record LockSendView : Type 0 where
+  pub account : SenderAccount
   pub acts : ActsRemaining
 
-pub record RecvEnd : Type 0 where
-  pub account : Receiver
+pub record LockRecvView : Type 0 where
+  pub account : ReceiverAccount
   pub acts : ActsRemaining
 
-abbrev pub send_end : {R : Type 0} → LockSend R → SendEnd
+abbrev pub send_end : {R : Type 0} → LockSend R → LockSendView
 send_end e = record { account = e.account; acts = e.acts }
 
-abbrev pub recv_end : {R : Type 0} → LockRecv R → RecvEnd
+abbrev pub recv_end : {R : Type 0} → LockRecv R → LockRecvView
 recv_end e = record { account = e.account; acts = e.acts }

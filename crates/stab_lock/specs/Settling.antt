@@ -8,26 +8,26 @@ use Rattle.stab_frames.specs.Parameters.{Parameters}
 use Rattle.stab_core.specs.declared.event.Event.{Event}
 use Rattle.stab_core.specs.declared.start.Start.{Start}
 use Rattle.stab_core.specs.LinkState.{LinkState}
-use Rattle.stab_core.specs.Replay.{opening, replay}
-use Rattle.stab_lock.specs.Accounts.{Sender, Receiver}
+use Rattle.stab_core.specs.Replay.{initial, replay}
+use Rattle.stab_lock.specs.Accounts.{SenderAccount, ReceiverAccount}
 use Rattle.stab_lock.specs.declared.settle.SettleFault.{SettleFault}
 use Rattle.stab_lock.specs.declared.settle.SettleFault.TheVariants.{OfferedDiffer, AckedDiffer}
 use Rattle.stab_lock.specs.declared.settle.SettleFault.TheVariants.{DeliveredDiffer, ClosedDiffer}
 
 -- the sender's closed is the link's, and the receiver's is set only where the link is closed
-pub record ClosesAgree (s : LinkState) (sender : Sender) (receiver : Receiver) : Type 0 where
+pub record ClosesAgree (s : LinkState) (sender : SenderAccount) (receiver : ReceiverAccount) : Type 0 where
   pub by_sender : sender.closed ≡ s.closed
   pub by_receiver : receiver.closed ≡ true → s.closed ≡ true
 
 -- both accounts are what this state says
-pub record Agree (s : LinkState) (sender : Sender) (receiver : Receiver) : Type 0 where
+pub record Agree (s : LinkState) (sender : SenderAccount) (receiver : ReceiverAccount) : Type 0 where
   pub offered : sender.offered ≡ s.offered
   pub acked : sender.acked ≡ s.acked
   pub delivered : receiver.delivered ≡ s.delivered
   pub closed : ClosesAgree s sender receiver
 
 -- this is the first thing in which the accounts differ from the state
-abbrev pub FirstDiffer : LinkState → Sender → Receiver → SettleFault → Type 0
+abbrev pub FirstDiffer : LinkState → SenderAccount → ReceiverAccount → SettleFault → Type 0
 FirstDiffer s sender receiver OfferedDiffer = sender.offered ≢ s.offered
 FirstDiffer s sender receiver AckedDiffer = (sender.offered ≡ s.offered) × (sender.acked ≢ s.acked)
 FirstDiffer s sender receiver DeliveredDiffer =
@@ -39,14 +39,14 @@ FirstDiffer s sender receiver ClosedDiffer =
 -- this is the first thing in which the accounts differ from a replay from this start. OfferedDiffer
 -- is also the answer where the lock kept the book of other parameters or of another start, so there
 -- nothing is said.
-abbrev pub DifferFromReplay : Parameters → Start → Sender → Receiver → SettleFault → Type 0
+abbrev pub DifferFromReplay : Parameters → Start → SenderAccount → ReceiverAccount → SettleFault → Type 0
 DifferFromReplay p start sender receiver OfferedDiffer = Unit {0}
 DifferFromReplay p start sender receiver AckedDiffer =
     (events : List Event)
-    × FirstDiffer (replay p (opening start) events) sender receiver AckedDiffer
+    × FirstDiffer (replay p (initial start) events) sender receiver AckedDiffer
 DifferFromReplay p start sender receiver DeliveredDiffer =
     (events : List Event)
-    × FirstDiffer (replay p (opening start) events) sender receiver DeliveredDiffer
+    × FirstDiffer (replay p (initial start) events) sender receiver DeliveredDiffer
 DifferFromReplay p start sender receiver ClosedDiffer =
     (events : List Event)
-    × FirstDiffer (replay p (opening start) events) sender receiver ClosedDiffer
+    × FirstDiffer (replay p (initial start) events) sender receiver ClosedDiffer

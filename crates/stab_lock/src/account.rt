@@ -1,5 +1,5 @@
 ghost use Rattle.std.specs.Prelude.{◌≡◌, ◌↔◌, ◌+◌, length, IsTrue, [], false};
-ghost use Rattle.stab_lock.specs.Accounts.{Sender, Receiver, new_sender, new_receiver};
+ghost use Rattle.stab_lock.specs.Accounts.{SenderAccount, ReceiverAccount, new_sender, new_receiver};
 
 use stab_frames::Item;
 use std::alloc::Global;
@@ -18,9 +18,9 @@ pub struct SendAccount {
 }
 
 impl Model for SendAccount {
-    ghost use Rattle.stab_lock.specs.Accounts.{Sender};
+    ghost use Rattle.stab_lock.specs.Accounts.{SenderAccount};
 
-    ghost Value = { Sender };
+    ghost Value = { SenderAccount };
 
     ghost view = { λ a. record { offered = a.offered.items; acked = a.acked; closed = a.closed } };
 }
@@ -64,9 +64,9 @@ pub struct RecvAccount {
 }
 
 impl Model for RecvAccount {
-    ghost use Rattle.stab_lock.specs.Accounts.{Receiver};
+    ghost use Rattle.stab_lock.specs.Accounts.{ReceiverAccount};
 
-    ghost Value = { Receiver };
+    ghost Value = { ReceiverAccount };
 
     ghost view = { λ a. record { delivered = a.delivered.items; closed = a.closed } };
 }

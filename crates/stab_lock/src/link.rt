@@ -1,7 +1,7 @@
 ghost use Rattle.std.specs.Prelude.{◌≡◌, [], List, IfOk, IfErr, OnOk};
 ghost use Rattle.stab_core.specs.Link.{IsReason};
 ghost use Rattle.stab_core.specs.LinkLaw.{LinkLaw};
-ghost use Rattle.stab_core.specs.Replay.{IsLawful, opening, replay, start_items};
+ghost use Rattle.stab_core.specs.Replay.{IsLawful, initial, replay, start_items};
 ghost use Rattle.stab_core.specs.declared.event.Event.{Event};
 ghost use Rattle.stab_script.specs.Scripts.{sender_half, receiver_half};
 ghost use Rattle.stab_lock.specs.Accounts.{new_sender, new_receiver};
@@ -97,7 +97,7 @@ impl LockLink {
         ensures send { IfOk result (λ settled. settled.send ≡ send) }
         ensures recv { IfOk result (λ settled. settled.recv ≡ recv) }
         ensures replay { OnOk result ((events : List Event)
-            × Agree (replay self.params (opening self.start) events) send recv) }
+            × Agree (replay self.params (initial self.start) events) send recv) }
         ensures law { OnOk result (LinkLaw self.params.capacity (start_items self.start)
             send.offered send.acked recv.delivered) }
         ensures differ { IfErr result (DifferFromReplay self.params self.start send recv) }

@@ -1,6 +1,6 @@
 ghost use Rattle.std.specs.Prelude.{◌≡◌, true, IfOk, OnErr};
 ghost use Rattle.stab_lock.specs.Ends.{recv_end};
-ghost use Rattle.stab_lock.specs.Accounts.{Receiver, IsOpenFor, new_receiver, after_poll_frame};
+ghost use Rattle.stab_lock.specs.Accounts.{ReceiverAccount, IsOpenFor, new_receiver, after_poll_frame};
 
 use crate::account::RecvAccount;
 use crate::link::LockLink;

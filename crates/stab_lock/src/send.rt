@@ -1,6 +1,6 @@
 ghost use Rattle.std.specs.Prelude.{◌≡◌, true, IfOk, OnErr};
 ghost use Rattle.stab_lock.specs.Ends.{send_end};
-ghost use Rattle.stab_lock.specs.Accounts.{Sender, MayOffer, Waits, new_sender, after_offer};
+ghost use Rattle.stab_lock.specs.Accounts.{SenderAccount, MayOffer, Waits, new_sender, after_offer};
 ghost use Rattle.stab_lock.specs.Accounts.{after_poll_ack, after_close};
 
 use crate::account::SendAccount;

@@ -1,6 +1,6 @@
 ghost use Rattle.std.specs.Prelude.{◌≡◌, List, OnOk, IfErr, MatchResult};
 ghost use Rattle.stab_core.specs.LinkLaw.{LinkLaw};
-ghost use Rattle.stab_core.specs.Replay.{opening, replay, start_items};
+ghost use Rattle.stab_core.specs.Replay.{initial, replay, start_items};
 ghost use Rattle.stab_core.specs.declared.event.Event.{Event};
 ghost use Rattle.stab_lock.specs.Book.{state_of};
 ghost use Rattle.stab_lock.specs.Settling.{Agree, FirstDiffer, DifferFromReplay};
@@ -69,7 +69,7 @@ impl LinkBook {
         recv: &RecvAccount,
     ) -> Result<(), SettleFault>
         ensures replay { OnOk result ((events : List Event)
-            × Agree (replay params (opening start.now) events) send.now recv.now) }
+            × Agree (replay params (initial start.now) events) send.now recv.now) }
         ensures law { OnOk result (LinkLaw params.capacity (start_items start.now)
             send.now.offered send.now.acked recv.now.delivered) }
         ensures differ { IfErr result (DifferFromReplay params start.now send.now recv.now) }

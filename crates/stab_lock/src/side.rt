@@ -2,7 +2,7 @@
 //! exactly as its answer says, and keeps which link the end belongs to.
 
 ghost use Rattle.std.specs.Prelude.{◌≡◌, true, IfOk};
-ghost use Rattle.stab_lock.specs.Accounts.{Sender, Receiver, MayOffer, Waits, IsOpenFor};
+ghost use Rattle.stab_lock.specs.Accounts.{SenderAccount, ReceiverAccount, MayOffer, Waits, IsOpenFor};
 ghost use Rattle.stab_lock.specs.Accounts.{after_offer, after_poll_ack, after_close};
 ghost use Rattle.stab_lock.specs.Accounts.{after_poll_frame};
 
@@ -26,12 +26,12 @@ pub trait SendSide: Drop {
     // The link that the end belongs to, and the account of the end.
     ghost link: { Self → Link };
 
-    ghost sent: { Self → Sender };
+    ghost sent: { Self → SenderAccount };
 
     // The same of a finished end.
     ghost done_link: { Self.Done → Link };
 
-    ghost done_sent: { Self.Done → Sender };
+    ghost done_sent: { Self.Done → SenderAccount };
 
     /// Offers an item: true where it is taken, which an end that is not idle, or is closed, never
     /// does.
@@ -84,12 +84,12 @@ pub trait RecvSide: Drop {
     // The link that the end belongs to, and the account of the end.
     ghost link: { Self → Link };
 
-    ghost received: { Self → Receiver };
+    ghost received: { Self → ReceiverAccount };
 
     // The same of a finished end.
     ghost done_link: { Self.Done → Link };
 
-    ghost done_received: { Self.Done → Receiver };
+    ghost done_received: { Self.Done → ReceiverAccount };
 
     /// Looks for a frame. An end that was shown the close takes nothing more.
     fn poll_frame(&mut self, pass: &Self::Pass) -> Result<FrameSeen, AllocError>

@@ -4,45 +4,31 @@ use Rattle.std.proofs.Common.{take, drop, slice_set, slice_index_or, List, [], �
 use Rattle.std.proofs.Common.{map, slice_get, Some, rules, refl, ap}
 use Rattle.std.proofs.Common.{Result, Ok, Err, Bool, true, false}
 use Rattle.std.specs.declared.alloc.AllocError.{AllocError}
+use Rattle.stab_core.proofs.ForCallers.{prefix_with_next}
 use Rattle.stab_core.specs.declared.event.Effect.{Effect}
 use Rattle.stab_core.specs.declared.event.Effect.TheVariants.{Nothing, Held, Sent, Fresh, Old}
 use Rattle.stab_core.specs.declared.event.Effect.TheVariants.{Acked, Ignored, Lost, Closed}
-use Rattle.stab_lock.specs.Accounts.{Sender, after_offer, after_poll_ack, after_close}
+use Rattle.stab_lock.specs.Accounts.{SenderAccount, after_offer, after_poll_ack, after_close}
 use Rattle.std.proofs.Common.{All, Some}
 use Rattle.std.proofs.Math.Seq.{take-append_seam}
 use Rattle.std.proofs.lemmas.List.{map-set}
 use Rattle.std.specs.List.{AllWithin}
 use Rattle.std.proofs.lemmas.List.Elements.{All-set, All-nil, All-cons, All-head, All-tail, All-map}
 use Rattle.stab_node.specs.Work.{HasAll}
-use Rattle.stab_node.specs.UnderWay.{OffersPrefix, IsThrough, but_for_the_close}
+use Rattle.stab_node.specs.UnderWay.{OffersPrefix, IsAllAcked, but_for_the_close}
 use mathlib.Core.List.{IsPrefix}
 
--- a prefix, and the entry after it, are a prefix
-pub one_more_offered : (offered received : List ℕ) (item : ℕ)
-    → slice_get received (length offered) ≡ Some item
-    → IsPrefix offered received → IsPrefix (offered ++ item ∷ []) received
-one_more_offered [] [] item next prefix = search rules
-one_more_offered [] (x ∷ received) item next prefix =
-    (received, search rules)
-one_more_offered (o ∷ offered) [] item next prefix = search rules
-one_more_offered (o ∷ offered) (x ∷ received) item next prefix =
-    let same : o ≡ x = search rules in
-    let rest : IsPrefix offered received = (prefix.0, search rules) in
-    let more : IsPrefix (offered ++ item ∷ []) received =
-    one_more_offered offered received item (search rules) rest in
-    (more.0, search (rules, same, more.1))
-
 -- an offer of the entry after a prefix leaves a prefix
-pub offers_more : (received : List ℕ) (s : Sender) (item : ℕ) (taken : Result Bool AllocError)
+pub offers_more : (received : List ℕ) (s : SenderAccount) (item : ℕ) (taken : Result Bool AllocError)
     → slice_get received (length s.offered) ≡ Some item
     → OffersPrefix received s → OffersPrefix received (after_offer s item taken)
 offers_more received s item (Ok true) next prefix =
-    record { offered = one_more_offered s.offered received item next prefix.offered }
+    record { offered = prefix_with_next s.offered received item prefix.offered next }
 offers_more received s item (Ok false) next prefix = prefix
 offers_more received s item (Err refused) next prefix = prefix
 
 -- a look for an acknowledgement offers nothing
-pub offers_no_more : (received : List ℕ) (s : Sender) (effect : Result Effect AllocError)
+pub offers_no_more : (received : List ℕ) (s : SenderAccount) (effect : Result Effect AllocError)
     → OffersPrefix received s → OffersPrefix received (after_poll_ack s effect)
 offers_no_more received s (Ok Nothing) prefix = prefix
 offers_no_more received s (Ok Held) prefix = prefix
@@ -56,13 +42,13 @@ offers_no_more received s (Ok Closed) prefix = prefix
 offers_no_more received s (Err refused) prefix = prefix
 
 -- a close changes nothing else
-pub closes_only : (s : Sender) (effect : Result Effect AllocError)
+pub closes_only : (s : SenderAccount) (effect : Result Effect AllocError)
     → but_for_the_close (after_close s effect) ≡ but_for_the_close s
 closes_only s (Ok effect) = refl
 closes_only s (Err refused) = refl
 
 -- a prefix of a list is a prefix of a longer one
-pub prefix_of_more : (received : List ℕ) (item : ℕ) (s : Sender) → OffersPrefix received s
+pub prefix_of_more : (received : List ℕ) (item : ℕ) (s : SenderAccount) → OffersPrefix received s
     → OffersPrefix (received ++ item ∷ []) s
 prefix_of_more received item s prefix =
     let tail = prefix.offered.0 in
@@ -100,16 +86,16 @@ whole_prefix (o ∷ offered) (x ∷ received) prefix long =
     search (rules, same, more)
 
 -- ends that offered prefixes, and are through, have offered everything
-pub through_has_all : (received : List ℕ) (downs : List Sender) → All (OffersPrefix received) downs
-    → All (IsThrough (length received)) downs → All (HasAll received) downs
+pub through_has_all : (received : List ℕ) (downs : List SenderAccount) → All (OffersPrefix received) downs
+    → All (IsAllAcked (length received)) downs → All (HasAll received) downs
 through_has_all received [] prefixes through = All-nil (HasAll received)
 through_has_all received (s ∷ downs) prefixes through =
     let prefix = All-head (OffersPrefix received) s downs prefixes in
-    let is = All-head (IsThrough (length received)) s downs through in
+    let is = All-head (IsAllAcked (length received)) s downs through in
     All-cons (HasAll received) s downs
     (record { offered = whole_prefix s.offered received prefix.offered is.offered; acked = is.acked })
     (through_has_all received downs (All-tail (OffersPrefix received) s downs prefixes)
-    (All-tail (IsThrough (length received)) s downs through))
+    (All-tail (IsAllAcked (length received)) s downs through))
 
 -- what holds of the entries up to the end holds of all
 pub all_within : {A B : Type 0} (P : B → Type 0) (f : A → B) (xs : List A) (end : ℕ) → length xs ≤ end

@@ -2,7 +2,7 @@
 -- Source: this project's own.
 use Rattle.std.specs.Prelude.{◌≡◌, ℕ, Bool, true, false, List, [], ◌∷◌, ◌++◌, length, All}
 use Rattle.std.specs.Prelude.{Option, IfSome}
-use Rattle.stab_lock.specs.Accounts.{Sender, Receiver}
+use Rattle.stab_lock.specs.Accounts.{SenderAccount, ReceiverAccount}
 use Rattle.stab_lock.specs.declared.seen.FrameSeen.{FrameSeen}
 use Rattle.stab_lock.specs.declared.seen.FrameSeen.TheVariants as seen
 use Rattle.stab_node.specs.declared.account.Ended.{Ended}
@@ -11,39 +11,37 @@ use Rattle.stab_node.specs.Work.{IsHandedOn, received_by}
 use mathlib.Core.List.{IsPrefix}
 
 -- what a lower end offered is a prefix of what the node received
-pub record OffersPrefix (received : List ℕ) (down : Sender) : Type 0 where
+pub record OffersPrefix (received : List ℕ) (down : SenderAccount) : Type 0 where
   pub offered : IsPrefix down.offered received
 
 -- an upstream that counts as ended is closed
-pub record EndedIsClosed (ended : Bool) (up : Option Receiver) : Type 0 where
+pub record EndedIsClosed (ended : Bool) (up : Option ReceiverAccount) : Type 0 where
   pub upstream : ended ≡ true → IfSome up (λ r. r.closed ≡ true)
 
 -- what holds between two turns
-pub record IsUnderWay (first received : List ℕ) (ended : Bool) (up : Option Receiver)
-    (downs : List Sender) : Type 0 where
-  pub received_is : received ≡ received_by up first
+pub record IsUnderWay (initial received : List ℕ) (ended : Bool) (up : Option ReceiverAccount)
+    (downs : List SenderAccount) : Type 0 where
+  pub received_is : received ≡ received_by up initial
   pub upstream : EndedIsClosed ended up
   pub lower : All (OffersPrefix received) downs
 
 -- a lower end has offered this many items, and all of them are acknowledged
-pub record IsThrough (count : ℕ) (down : Sender) : Type 0 where
+pub record IsAllAcked (count : ℕ) (down : SenderAccount) : Type 0 where
   pub offered : length down.offered ≡ count
   pub acked : down.acked ≡ count
 
 -- an account but for its close
-abbrev pub but_for_the_close : Sender → Sender
+abbrev pub but_for_the_close : SenderAccount → SenderAccount
 but_for_the_close s = record s { closed = false }
 
 -- what holds once no further turn is made, and before the lower ends are closed
-pub record IsOut (first received : List ℕ) (up : Option Receiver) (downs : List Sender)
+pub record HasEnded (initial received : List ℕ) (up : Option ReceiverAccount) (downs : List SenderAccount)
     (ended : Ended) : Type 0 where
-  pub received_is : received ≡ received_by up first
+  pub received_is : received ≡ received_by up initial
   pub lower : All (OffersPrefix received) downs
   pub handed_on : ended ≡ Upstream → IsHandedOn received up downs
 
 -- a list, and what was seen where it is a fresh item
 abbrev pub with_seen : List ℕ → FrameSeen → List ℕ
-with_seen received seen.Nothing = received
-with_seen received seen.Old = received
 with_seen received (seen.Fresh item) = received ++ item ∷ []
-with_seen received seen.Closed = received
+with_seen received _ = received

@@ -3,7 +3,7 @@
 ghost use Rattle.std.specs.Prelude.{◌≡◌, ◌≤◌, [], true, Some, IsTrue, IfSome, OnOk, All, map};
 ghost use Rattle.std.specs.Prelude.{length};
 ghost use Rattle.std.specs.Prelude.{slice_get, vec_capacity};
-ghost use Rattle.stab_node.specs.UnderWay.{IsThrough, OffersPrefix, but_for_the_close};
+ghost use Rattle.stab_node.specs.UnderWay.{IsAllAcked, OffersPrefix, but_for_the_close};
 
 use stab_frames::Item;
 use stab_lock::{SendAccount, SendSide};
@@ -75,7 +75,7 @@ pub(crate) fn serve_downs<D: SendSide>(
 
 /// Whether each lower end has offered all that the node received, and all of it is acknowledged.
 pub(crate) fn all_served<D: SendSide>(downs: &[D], received: &[Item]) -> bool
-    ensures { IsTrue result → All (IsThrough (length received.now)) (map D.sent downs.now) }
+    ensures { IsTrue result → All (IsAllAcked (length received.now)) (map D.sent downs.now) }
 {
     'each: for down in downs {
         let account = down.account();

@@ -2,7 +2,7 @@
 
 ghost use Rattle.std.specs.Prelude.{◌≡◌, ◌<◌, ℕ, List, ◌++◌, true, IfOk, option_map, vec_len};
 ghost use Rattle.std.specs.Prelude.{vec_capacity};
-ghost use Rattle.stab_lock.specs.Accounts.{Sender};
+ghost use Rattle.stab_lock.specs.Accounts.{SenderAccount};
 ghost use Rattle.stab_node.specs.Work.{received_by};
 ghost use Rattle.stab_node.specs.UnderWay.{EndedIsClosed, IsUnderWay, OffersPrefix};
 ghost use Rattle.stab_node.specs.UnderWay.{with_seen};
@@ -20,9 +20,9 @@ pub(crate) fn serve_upstream<U: RecvSide>(
     ended: &mut bool,
     received: &mut Vec<Item>,
 ) -> Result<(), AllocError>
-    ensures under_way { (first : List ℕ) (downs : List Sender)
-        → IsUnderWay first received.old.items ended.old (option_map U.received up.old) downs
-        → IsUnderWay first received.new.items ended.new (option_map U.received up.new) downs }
+    ensures under_way { (initial : List ℕ) (downs : List SenderAccount)
+        → IsUnderWay initial received.old.items ended.old (option_map U.received up.old) downs
+        → IsUnderWay initial received.new.items ended.new (option_map U.received up.new) downs }
     ensures link { option_map U.link up.new ≡ option_map U.link up.old }
 {
     if !*ended {
@@ -37,10 +37,10 @@ fn take_from<U: RecvSide>(
     up: &mut Option<U>,
     received: &mut Vec<Item>,
 ) -> Result<bool, AllocError>
-    ensures received { (first : List ℕ)
-        → received.old.items ≡ received_by (option_map U.received up.old) first
-        → received.new.items ≡ received_by (option_map U.received up.new) first }
-    ensures prefixes { (down : Sender)
+    ensures received { (initial : List ℕ)
+        → received.old.items ≡ received_by (option_map U.received up.old) initial
+        → received.new.items ≡ received_by (option_map U.received up.new) initial }
+    ensures prefixes { (down : SenderAccount)
         → OffersPrefix received.old.items down → OffersPrefix received.new.items down }
     ensures ended { IfOk result (λ ended. EndedIsClosed ended (option_map U.received up.new)) }
     ensures link { option_map U.link up.new ≡ option_map U.link up.old }
@@ -61,10 +61,10 @@ fn look<U: RecvSide>(
     up: &mut U,
     received: &mut Vec<Item>,
 ) -> Result<bool, AllocError>
-    ensures received { (first : List ℕ)
-        → received.old.items ≡ first ++ (U.received up.old).delivered
-        → received.new.items ≡ first ++ (U.received up.new).delivered }
-    ensures prefixes { (down : Sender)
+    ensures received { (initial : List ℕ)
+        → received.old.items ≡ initial ++ (U.received up.old).delivered
+        → received.new.items ≡ initial ++ (U.received up.new).delivered }
+    ensures prefixes { (down : SenderAccount)
         → OffersPrefix received.old.items down → OffersPrefix received.new.items down }
     ensures ended { IfOk result (λ ended. ended ≡ true → (U.received up.new).closed ≡ true) }
     ensures link { U.link up.new ≡ U.link up.old }

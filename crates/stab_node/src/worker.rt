@@ -2,7 +2,7 @@ ghost use Rattle.std.specs.Prelude.{◌≡◌, ◌≤◌, ℕ, List, [], true, f
 ghost use Rattle.std.specs.Prelude.{map};
 ghost use Rattle.std.specs.Prelude.{length, option_map, vec_capacity};
 ghost use Rattle.stab_node.specs.Work.{AreNew, IsWork};
-ghost use Rattle.stab_node.specs.UnderWay.{IsUnderWay, IsOut, IsThrough};
+ghost use Rattle.stab_node.specs.UnderWay.{IsUnderWay, HasEnded, IsAllAcked};
 ghost use Rattle.stab_node.specs.Turns.{IsOver, IsRefused};
 
 use crate::account::{Ended, NodeAccount};
@@ -39,7 +39,7 @@ pub fn work<P, U, D, G>(
     node: u16,
     up: Option<U>,
     downs: Vec<D>,
-    first: &[Item],
+    initial: &[Item],
     turns: u32,
     gate: &G,
 ) -> Result<NodeAccount<U::Done, D::Done>, NodeFault>
@@ -53,7 +53,7 @@ where
     // prefix of that, and is closed. Ended as Upstream, the upper end was shown the close, and each
     // lower end offered all of it and has all of it acknowledged.
     ensures work { IfOk result (λ a. AreNew (option_map U.received up) (map D.sent downs.items)
-        → IsWork first.now a.received.items
+        → IsWork initial.now a.received.items
         (option_map U.done_received a.up) (map D.done_sent a.downs.items) a.ended) }
     // There is a finished upper end where one was given, of the same link, and the finished lower
     // ends are of the links of those that were given, in their order.
@@ -72,7 +72,7 @@ where
 {
     let mut up = up;
     let mut downs = downs;
-    let served = serve(pass, alloc, node, &mut up, &mut downs, first, turns, gate);
+    let served = serve(pass, alloc, node, &mut up, &mut downs, initial, turns, gate);
     gate.done(node);
     let served = served?;
     Ok(NodeAccount {
@@ -99,7 +99,7 @@ fn serve<P, U, D, G>(
     node: u16,
     up: &mut Option<U>,
     downs: &mut [D],
-    first: &[Item],
+    initial: &[Item],
     turns: u32,
     gate: &G,
 ) -> Result<Served<D::Done>, NodeFault>
@@ -110,7 +110,7 @@ where
     requires turns { 1 ≤ turns }
     ensures work { IfOk result (λ served.
         AreNew (option_map U.received up.old) (map D.sent downs.old)
-        → IsWork first.now served.received.items
+        → IsWork initial.now served.received.items
         (option_map U.received up.new) (map D.sent downs.new) served.ended) }
     ensures upper_link { option_map U.link up.new ≡ option_map U.link up.old }
     ensures lower_links { map D.link downs.new ≡ map D.link downs.old }
@@ -121,7 +121,7 @@ where
         → IsRefused (G.has_passed gate.now node) (G.may_refuse gate.now node) turns) }
 {
     let room = Vec::with_capacity(alloc, downs.len())?;
-    let mut received = Vec::from_slice(alloc, first)?;
+    let mut received = Vec::from_slice(alloc, initial)?;
     let ended = take_turns(pass, node, up, downs, &mut received, turns, gate)?;
     close_all(pass, downs)?;
     Ok(Served {
@@ -146,11 +146,11 @@ where
     D: SendSide<Pass = P>,
     G: Gate,
     requires turns { 1 ≤ turns }
-    ensures under_way { (first : List ℕ)
-        → IsUnderWay first received.old.items false (option_map U.received up.old)
+    ensures under_way { (initial : List ℕ)
+        → IsUnderWay initial received.old.items false (option_map U.received up.old)
         (map D.sent downs.old)
         → IfOk result (λ ended.
-        IsOut first received.new.items (option_map U.received up.new)
+        HasEnded initial received.new.items (option_map U.received up.new)
         (map D.sent downs.new) ended) }
     ensures upper_link { option_map U.link up.new ≡ option_map U.link up.old }
     ensures lower_links { map D.link downs.new ≡ map D.link downs.old }
@@ -181,13 +181,13 @@ fn make_turn<P, U, D>(
 where
     U: RecvSide<Pass = P>,
     D: SendSide<Pass = P>,
-    ensures under_way { (first : List ℕ)
-        → IsUnderWay first received.old.items upstream_ended.old (option_map U.received up.old)
+    ensures under_way { (initial : List ℕ)
+        → IsUnderWay initial received.old.items upstream_ended.old (option_map U.received up.old)
         (map D.sent downs.old)
-        → IsUnderWay first received.new.items upstream_ended.new (option_map U.received up.new)
+        → IsUnderWay initial received.new.items upstream_ended.new (option_map U.received up.new)
         (map D.sent downs.new) }
     ensures handed_on { IfOk result (λ all. all ≡ true → (upstream_ended.new ≡ true)
-        × All (IsThrough (length received.new.items)) (map D.sent downs.new)) }
+        × All (IsAllAcked (length received.new.items)) (map D.sent downs.new)) }
     ensures upper_link { option_map U.link up.new ≡ option_map U.link up.old }
     ensures lower_links { map D.link downs.new ≡ map D.link downs.old }
 {

@@ -3,6 +3,7 @@ use Rattle.std.proofs.Common.{◌≡◌, ℕ, zero, suc, List, [], ◌∷◌, �
 use Rattle.std.specs.Option.{option_map_or}
 use Rattle.std.proofs.lemmas.Grind.{common_steps}
 use Rattle.std.proofs.lemmas.List.{map-set}
+use mathlib.Core.List.{map-map}
 use Rattle.stab_frames.specs.Parameters.{Parameters}
 use Rattle.stab_core.specs.declared.event.Event.{Event}
 use Rattle.stab_core.specs.Link.{LinkValue}
@@ -18,11 +19,11 @@ use Rattle.stab_treecore.specs.ByChild.{by_child}
 use Rattle.stab_treecore.specs.Network.{Network}
 use Rattle.stab_treecore.specs.NodeLaws.{TreeLawAtNodes, most_missing, most_strays, path_garbage}
 use Rattle.stab_treecore.specs.TreeLaw.{TreeLaw}
-use Rattle.stab_treecore.specs.TreeReplay.{tree_opening, tree_replay}
+use Rattle.stab_treecore.specs.TreeReplay.{initial_tree, tree_replay}
 use Rattle.stab_treecore.specs.TreeStep.{event_on, link_after, next_item, tree_step}
 use Rattle.stab_treecore.specs.WholeTree.{link_into, received, source}
 use Rattle.stab_page.specs.TracedTree.{TracedTree, event_at, list_above, list_at, next_at, no_openings, page_network}
-use Rattle.stab_page.specs.TracedTree.{traced_after, traced_into, traced_link, traced_tree_opening, traced_tree_replay}
+use Rattle.stab_page.specs.TracedTree.{traced_after, traced_into, traced_link, traced_initial_tree, traced_tree_replay}
 use Rattle.stab_page.specs.TracedTree.{traced_tree_step, untraced, whole}
 
 -- reading a mapped list
@@ -36,11 +37,6 @@ all_empty : (n i : ℕ) → get_or {A = List ℕ} (replicate n []) i [] ≡ []
 all_empty zero i = refl
 all_empty (suc n) zero = refl
 all_empty (suc n) (suc i) = all_empty n i
-
--- a map after a map
-map_twice : {A B C : Type 0} (g : B → C) (f : A → B) (xs : List A) → map g (map f xs) ≡ map (λ x. g (f x)) xs
-map_twice g f [] = refl
-map_twice g f (x ∷ xs) = ap (λ rest. g (f x) ∷ rest) (map_twice g f xs)
 
 -- the link into a node, without its origins
 link_there : (t : TracedTree) (node : ℕ) → link_into (whole t) node ≡ option_map untraced (traced_into t node)
@@ -113,10 +109,10 @@ same_replay t (e ∷ events) =
     same_replay (traced_tree_step t e) events ∙ ap (λ now. tree_replay now events) (same_step t e)
 
 pub same_opening : (tree : Nodes) (links : List LinkSetup) (published : List ℕ)
-    → whole (traced_tree_opening tree.parents links published) ≡ tree_opening (page_network tree links published)
+    → whole (traced_initial_tree tree.parents links published) ≡ initial_tree (page_network tree links published)
 same_opening tree links published =
     ap (λ (ls : List (Option LinkValue)). record { published = published; openings = no_openings tree.parents; parents = tree.parents; links = ls })
-    (map-by_child untraced tree.parents (map traced_link links) ∙ ap (by_child tree.parents) (map_twice untraced traced_link links))
+    (map-by_child untraced tree.parents (map traced_link links) ∙ ap (by_child tree.parents) (map-map untraced traced_link links))
 
 -- the law of all nodes speaks of their lists alone
 pub law_of_lists : (net : Network) (mine others : ℕ → List ℕ) → ((node : ℕ) → others node ≡ mine node) → TreeLawAtNodes net others

@@ -12,7 +12,7 @@ use Rattle.stab_core.specs.Link.{LinkValue, link_at}
 use Rattle.stab_core.specs.LinkActs.{event_of}
 use Rattle.stab_core.specs.LinkSetup.{LinkSetup}
 use Rattle.stab_core.specs.Step.{effect}
-use Rattle.stab_core.specs.Trace.{traced_opening, traced_step}
+use Rattle.stab_core.specs.Trace.{traced_initial, traced_step}
 use Rattle.stab_core.specs.Tracer.{TracerValue, tracer_at}
 use Rattle.stab_tree.specs.Nodes.{Nodes, parent_at}
 use Rattle.stab_treecore.specs.declared.event.TreeEvent.{TreeEvent}
@@ -58,11 +58,11 @@ page_network tree links published =
 
 -- a link at its start
 abbrev pub traced_link : LinkSetup → TracerValue
-traced_link link = tracer_at link.params (traced_opening link.start)
+traced_link link = tracer_at link.params (traced_initial link.start)
 
 -- the whole tree with each link at its start
-abbrev pub traced_tree_opening : List (Option ℕ) → List LinkSetup → List ℕ → TracedTree
-traced_tree_opening parents links published =
+abbrev pub traced_initial_tree : List (Option ℕ) → List LinkSetup → List ℕ → TracedTree
+traced_initial_tree parents links published =
     record {
       published = published;
       parents = parents;

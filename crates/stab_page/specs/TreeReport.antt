@@ -11,7 +11,7 @@ use Rattle.stab_core.specs.declared.origin.Origin.{Origin}
 use Rattle.stab_treecore.specs.declared.event.TreeEvent.{TreeEvent}
 use Rattle.stab_page_link.specs.Report.{effect_number, origin_numbers, report}
 use Rattle.stab_page_link.specs.Standing.{strays_in}
-use Rattle.stab_page.specs.TracedTree.{TracedTree, traced_into, traced_tree_opening}
+use Rattle.stab_page.specs.TracedTree.{TracedTree, traced_into, traced_initial_tree}
 use Rattle.stab_page.specs.TracedTree.{traced_tree_replay, tree_effects}
 use Rattle.stab_page.specs.TreeCodes.{fits, setup_of}
 use Rattle.stab_page.specs.TreeStanding.{node_origins, passed_over, strays_at_most}
@@ -54,7 +54,7 @@ tree_is_accepted parents links published events room =
 -- the report of the state after these events, or nothing where they are not accepted
 abbrev pub tree_answer : List (Option ℕ) → List LinkCode → List ℕ → List TreeEvent → ℕ → List ℕ
 tree_answer parents links published events room =
-    let opening : TracedTree = traced_tree_opening parents (map setup_of links) published in
+    let initial : TracedTree = traced_initial_tree parents (map setup_of links) published in
     if tree_is_accepted parents links published events room
-    then tree_report (traced_tree_replay opening events) (tree_effects opening events)
+    then tree_report (traced_tree_replay initial events) (tree_effects initial events)
     else []

@@ -4,7 +4,7 @@ ghost use Rattle.std.specs.Prelude.{◌≡◌, ◌≤◌, length, map, take};
 ghost use Rattle.stab_frames.specs.Parameters.{AreLawful};
 ghost use Rattle.stab_core.specs.LinkLaw.{LinkLaw};
 ghost use Rattle.stab_core.specs.Replay.{IsLawful, start_items};
-ghost use Rattle.stab_core.specs.Trace.{traced_opening, traced_replay};
+ghost use Rattle.stab_core.specs.Trace.{traced_initial, traced_replay};
 ghost use Rattle.stab_page_link.specs.Codes.{event_of, start_of};
 ghost use Rattle.stab_page_link.specs.Effects.{effects};
 ghost use Rattle.stab_page_link.specs.PageLink.{parameters};
@@ -44,12 +44,12 @@ pub extern "C" fn stab_page_report(
         (map event_of events.now) (length numbers.old) }
     ensures law { let p = parameters capacity labels in
         let start = start_of frames.now acks.now send_label recv_label in
-        let s = (traced_replay p (traced_opening start) (map event_of events.now)).state in
+        let s = (traced_replay p (traced_initial start) (map event_of events.now)).state in
         AreLawful p → IsLawful p start
         → LinkLaw capacity (start_items start) s.offered s.acked s.delivered }
     ensures few_strays { let p = parameters capacity labels in
         let start = start_of frames.now acks.now send_label recv_label in
-        let origins = (traced_replay p (traced_opening start) (map event_of events.now)).origins in
+        let origins = (traced_replay p (traced_initial start) (map event_of events.now)).origins in
         strays_in origins ≤ length start.frames }
 {
     laws::every_state_obeys_the_link_law();
@@ -104,8 +104,8 @@ fn report_of(
     ensures { let p = parameters capacity labels in
         let start = start_of frames.now acks.now send_label recv_label in
         let events = map event_of events.now in
-        result.items ≡ report (traced_replay p (traced_opening start) events)
-        (effects p (traced_opening start) events) }
+        result.items ≡ report (traced_replay p (traced_initial start) events)
+        (effects p (traced_initial start) events) }
 {
     let mut link = PageLink::new(capacity, labels, frames, acks, send_label, recv_label);
     let had = run(&mut link, events);

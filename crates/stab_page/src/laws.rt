@@ -4,7 +4,7 @@ ghost use Rattle.std.specs.Prelude.{◌≡◌, ℕ, ◌≤◌, List, length};
 ghost use Rattle.stab_frames.specs.Parameters.{AreLawful, Parameters};
 ghost use Rattle.stab_core.specs.LinkLaw.{LinkLaw};
 ghost use Rattle.stab_core.specs.Replay.{IsLawful, start_items};
-ghost use Rattle.stab_core.specs.Trace.{traced_opening, traced_replay};
+ghost use Rattle.stab_core.specs.Trace.{traced_initial, traced_replay};
 ghost use Rattle.stab_core.specs.declared.event.Event.{Event};
 ghost use Rattle.stab_core.specs.declared.start.Start.{Start};
 ghost use Rattle.stab_core.specs.LinkSetup.{LinkSetup};
@@ -12,9 +12,9 @@ ghost use Rattle.stab_tree.specs.Nodes.{Nodes};
 ghost use Rattle.stab_treecore.specs.declared.event.TreeEvent.{TreeEvent};
 ghost use Rattle.stab_treecore.specs.Network.{IsNetwork};
 ghost use Rattle.stab_treecore.specs.NodeLaws.{TreeLawAtNodes, most_missing, strays_bound};
-ghost use Rattle.stab_treecore.specs.TreeReplay.{tree_opening, tree_replay};
+ghost use Rattle.stab_treecore.specs.TreeReplay.{initial_tree, tree_replay};
 ghost use Rattle.stab_page_link.specs.Standing.{strays_in};
-ghost use Rattle.stab_page.specs.TracedTree.{list_at, page_network, traced_tree_opening};
+ghost use Rattle.stab_page.specs.TracedTree.{list_at, page_network, traced_initial_tree};
 ghost use Rattle.stab_page.specs.TracedTree.{traced_tree_replay, whole};
 ghost use Rattle.stab_page.specs.TreeStanding.{missing_at_most, strays_at_most};
 
@@ -25,10 +25,10 @@ use stab_core::laws;
 pub fn every_state_obeys_the_link_law()
     ensures law { (p : Parameters) (start : Start) (events : List Event)
         → AreLawful p → IsLawful p start
-        → let s = (traced_replay p (traced_opening start) events).state in
+        → let s = (traced_replay p (traced_initial start) events).state in
         LinkLaw p.capacity (start_items start) s.offered s.acked s.delivered }
     ensures few_strays { (p : Parameters) (start : Start) (events : List Event)
-        → strays_in (traced_replay p (traced_opening start) events).origins ≤ length start.frames }
+        → strays_in (traced_replay p (traced_initial start) events).origins ≤ length start.frames }
 {
     laws::every_replay_obeys_the_link_law();
     laws::every_replay_is_explained();
@@ -40,20 +40,20 @@ pub fn every_state_obeys_the_link_law()
 pub fn every_tree_obeys_the_tree_law()
     ensures states { (tree : Nodes) (links : List LinkSetup) (published : List ℕ)
         (events : List TreeEvent)
-        → whole (traced_tree_replay (traced_tree_opening tree.parents links published) events)
-        ≡ tree_replay (tree_opening (page_network tree links published)) events }
+        → whole (traced_tree_replay (traced_initial_tree tree.parents links published) events)
+        ≡ tree_replay (initial_tree (page_network tree links published)) events }
     ensures law { (tree : Nodes) (links : List LinkSetup) (published : List ℕ)
         (events : List TreeEvent)
         → IsNetwork (page_network tree links published)
         → TreeLawAtNodes (page_network tree links published)
-        (list_at (traced_tree_replay (traced_tree_opening tree.parents links published) events)) }
+        (list_at (traced_tree_replay (traced_initial_tree tree.parents links published) events)) }
     ensures strays_bound { (tree : Nodes) (links : List LinkSetup) (published : List ℕ)
         (events : List TreeEvent) (node : ℕ)
-        → strays_at_most (traced_tree_replay (traced_tree_opening tree.parents links published)
+        → strays_at_most (traced_tree_replay (traced_initial_tree tree.parents links published)
         events) node ≡ strays_bound (page_network tree links published) node }
     ensures missing_bound { (tree : Nodes) (links : List LinkSetup) (published : List ℕ)
         (events : List TreeEvent) (node : ℕ)
-        → missing_at_most (traced_tree_replay (traced_tree_opening tree.parents links published)
+        → missing_at_most (traced_tree_replay (traced_initial_tree tree.parents links published)
         events) node ≡ most_missing (page_network tree links published) node }
 {
     stab_treecore::laws::every_schedule_obeys_the_tree_law();

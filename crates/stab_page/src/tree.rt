@@ -8,7 +8,7 @@ ghost use Rattle.stab_tree.specs.Nodes.{parent_at};
 ghost use Rattle.stab_treecore.specs.ByChild.{by_child};
 ghost use Rattle.stab_page.specs.TracedTree.{HasAtMost, effect_after, list_above, list_at, next_at};
 ghost use Rattle.stab_page.specs.TracedTree.{traced_after, traced_into, traced_link};
-ghost use Rattle.stab_page.specs.TracedTree.{traced_tree_effect, traced_tree_opening};
+ghost use Rattle.stab_page.specs.TracedTree.{traced_tree_effect, traced_initial_tree};
 ghost use Rattle.stab_page.specs.TracedTree.{traced_tree_step};
 ghost use Rattle.stab_page.specs.TreeCodes.{fits, parent_of, setup_of};
 
@@ -59,7 +59,7 @@ impl<'a> PageTree<'a> {
     pub fn new(parents: &[u16], links: &[LinkCode], published: &'a [Item]) -> PageTree<'a>
         requires few { length parents.now ≤ MAX_NODES }
         requires fit { IsTrue (list_all fits links.now) }
-        ensures { result ≡ traced_tree_opening (map parent_of parents.now)
+        ensures { result ≡ traced_initial_tree (map parent_of parents.now)
             (map setup_of links.now) published.now }
     {
         let parents = parents_of(parents);

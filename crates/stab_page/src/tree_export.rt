@@ -5,8 +5,8 @@ ghost use Rattle.std.specs.Prelude.{◌≡◌, ◌≤◌, IsTrue, length, map, t
 ghost use Rattle.stab_tree.specs.Nodes.{Nodes};
 ghost use Rattle.stab_treecore.specs.Network.{IsNetwork};
 ghost use Rattle.stab_treecore.specs.NodeLaws.{TreeLawAtNodes};
-ghost use Rattle.stab_treecore.specs.TreeReplay.{tree_opening, tree_replay};
-ghost use Rattle.stab_page.specs.TracedTree.{list_at, page_network, traced_tree_opening};
+ghost use Rattle.stab_treecore.specs.TreeReplay.{initial_tree, tree_replay};
+ghost use Rattle.stab_page.specs.TracedTree.{list_at, page_network, traced_initial_tree};
 ghost use Rattle.stab_page.specs.TracedTree.{traced_tree_replay, tree_effects, whole};
 ghost use Rattle.stab_page.specs.TreeCodes.{fits, parent_of, setup_of, tree_event_of};
 ghost use Rattle.stab_page.specs.TreeReport.{tree_answer, tree_is_accepted, tree_report};
@@ -39,14 +39,14 @@ pub extern "C" fn stab_page_tree_report(
     ensures numbers { take result numbers.new ≡ tree_answer (map parent_of parents.now) links.now
         published.now (map tree_event_of events.now) (length numbers.old) }
     ensures states { (tree : Nodes) → tree.parents ≡ map parent_of parents.now
-        → whole (traced_tree_replay (traced_tree_opening tree.parents (map setup_of links.now)
+        → whole (traced_tree_replay (traced_initial_tree tree.parents (map setup_of links.now)
         published.now) (map tree_event_of events.now))
-        ≡ tree_replay (tree_opening (page_network tree (map setup_of links.now) published.now))
+        ≡ tree_replay (initial_tree (page_network tree (map setup_of links.now) published.now))
         (map tree_event_of events.now) }
     ensures law { (tree : Nodes) → tree.parents ≡ map parent_of parents.now
         → let net = page_network tree (map setup_of links.now) published.now in
         IsNetwork net → TreeLawAtNodes net
-        (list_at (traced_tree_replay (traced_tree_opening tree.parents (map setup_of links.now)
+        (list_at (traced_tree_replay (traced_initial_tree tree.parents (map setup_of links.now)
         published.now) (map tree_event_of events.now))) }
 {
     laws::every_tree_obeys_the_tree_law();
@@ -101,11 +101,11 @@ fn report_of(
     requires links { IsTrue (list_all fits links.now) }
     requires published { length published.now ≤ MAX_STEPS }
     requires events { length events.now ≤ MAX_STEPS }
-    ensures { let opening = traced_tree_opening (map parent_of parents.now)
+    ensures { let initial = traced_initial_tree (map parent_of parents.now)
         (map setup_of links.now) published.now in
         let events = map tree_event_of events.now in
-        result.items ≡ tree_report (traced_tree_replay opening events)
-        (tree_effects opening events) }
+        result.items ≡ tree_report (traced_tree_replay initial events)
+        (tree_effects initial events) }
 {
     let mut tree = PageTree::new(parents, links, published);
     let had = run_tree(&mut tree, events);

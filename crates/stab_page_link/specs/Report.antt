@@ -13,7 +13,7 @@ use Rattle.stab_core.specs.declared.event.Effect.TheVariants.{Acked, Ignored, Lo
 use Rattle.stab_core.specs.declared.origin.Origin.{Origin}
 use Rattle.stab_core.specs.declared.origin.Origin.TheVariants.{Stray, Sent as SentItem}
 use Rattle.stab_core.specs.declared.start.Start.{Start}
-use Rattle.stab_core.specs.Trace.{Traced, traced_opening, traced_replay}
+use Rattle.stab_core.specs.Trace.{Traced, traced_initial, traced_replay}
 use Rattle.stab_page_link.specs.Effects.{effects}
 use Rattle.stab_page_link.specs.PageLink.{parameters}
 use Rattle.stab_page_link.specs.Standing.{strays_in, missing_of}
@@ -84,5 +84,5 @@ abbrev pub answer : ℕ → ℕ → Start → List Event → ℕ → List ℕ
 answer capacity labels start events room =
     let p : Parameters = parameters capacity labels in
     if is_accepted capacity labels start events room
-    then report (traced_replay p (traced_opening start) events) (effects p (traced_opening start) events)
+    then report (traced_replay p (traced_initial start) events) (effects p (traced_initial start) events)
     else []

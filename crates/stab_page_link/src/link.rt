@@ -1,5 +1,5 @@
 ghost use Rattle.std.specs.Prelude.{◌≡◌, ◌≤◌, [], length, map};
-ghost use Rattle.stab_core.specs.Trace.{strays_from, traced_opening};
+ghost use Rattle.stab_core.specs.Trace.{strays_from, traced_initial};
 ghost use Rattle.stab_core.specs.Tracer.{tracer_at};
 ghost use Rattle.stab_page_link.specs.Codes.{frame_of, start_of};
 ghost use Rattle.stab_page_link.specs.PageLink.{parameters};
@@ -65,7 +65,7 @@ impl PageLink {
         requires frames { length frames.now ≤ capacity }
         requires acks { length acks.now ≤ capacity }
         ensures { result ≡ tracer_at (parameters capacity labels)
-            (traced_opening (start_of frames.now acks.now send_label recv_label)) }
+            (traced_initial (start_of frames.now acks.now send_label recv_label)) }
     {
         let (frames, queued) = strays(frames);
         PageLink {

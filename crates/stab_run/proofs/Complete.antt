@@ -8,7 +8,7 @@ use Rattle.stab_core.specs.declared.event.Event.{Event}
 use Rattle.stab_core.specs.declared.start.Start.{Start}
 use Rattle.stab_core.specs.LinkLaw.{LinkLaw}
 use Rattle.stab_core.specs.LinkSetup.{LinkSetup}
-use Rattle.stab_core.specs.Replay.{IsLawful, opening, replay, start_items}
+use Rattle.stab_core.specs.Replay.{IsLawful, initial, replay, start_items}
 use Rattle.stab_frames.specs.Parameters.{AreLawful, Parameters}
 use Rattle.stab_tree.specs.IsTree.{IsTree}
 use Rattle.stab_tree.specs.Nodes.{parent_at, root_of}
@@ -30,7 +30,7 @@ use Rattle.stab_run.specs.Runs.{AllAboveEnded, AreExplained, CompleteBelowEnded,
 abbrev pub ReplaysObey : Type 0
 ReplaysObey =
     (p : Parameters) (start : Start) (events : List Event) → AreLawful p → IsLawful p start
-    → let s = replay p (opening start) events in LinkLaw p.capacity (start_items start) s.offered s.acked s.delivered
+    → let s = replay p (initial start) events in LinkLaw p.capacity (start_items start) s.offered s.acked s.delivered
 
 abbrev pub RootIsComplete : Type 0
 RootIsComplete = (published : List ℕ) → CompleteLaw 0 0 [] published published
@@ -92,7 +92,7 @@ module _ (obey : ReplaysObey) (at_root : RootIsComplete) (at_child : ChildIsComp
   joined child parent most_strays most_missing above edge all_acked at_parent =
       let p = edge.link.params in
       let start = edge.link.start in
-      let s = replay p (opening start) edge.edge.events in
+      let s = replay p (initial start) edge.edge.events in
       let law : LinkLaw p.capacity (start_items start) s.offered s.acked s.delivered =
       obey p start edge.edge.events edge.begins.0 edge.begins.1 in
       let below : CompleteLaw (most_strays + p.capacity) (most_missing + (2 * p.capacity + 1)) (start_items start ++ above) net.published s.delivered =

@@ -3,7 +3,7 @@ use Rattle.std.proofs.Common.{◌≡◌, ℕ, zero, suc, List, [], ◌∷◌, le
 use Rattle.std.proofs.lemmas.Option.{none-some}
 use mathlib.Core.List.{IsPrefix}
 use Rattle.stab_core.specs.LinkSetup.{CanBegin, LinkSetup}
-use Rattle.stab_lock.specs.Accounts.{Sender, Receiver}
+use Rattle.stab_lock.specs.Accounts.{SenderAccount, ReceiverAccount}
 use Rattle.stab_node.specs.declared.account.Ended.{Ended}
 use Rattle.stab_tree.specs.Links.{links_from, links_of}
 use Rattle.stab_tree.specs.Nodes.{parent_at, root_of}
@@ -16,13 +16,13 @@ use Rattle.stab_run.specs.LinkKinds.{LinkKind}
 use Rattle.stab_run.specs.LinkRuns.{AreSettled, IsRun, IsSettled, acked_of}
 use Rattle.stab_run.specs.Reports.{OnePerNode, Reported}
 use Rattle.stab_run.specs.Runs.{AreExplained, HandsOn, RootHas}
-use Rattle.stab_run.proofs.Settlements.{no_link_into}
+use Rattle.stab_treecore.proofs.ForCallers.{no_link_into}
 
 -- what is settled of the link into a child
-pub record SettledInto (parents : List (Option ℕ)) (links : List LinkSetup) (sends : List Sender) (recvs : List Receiver) (child : ℕ) : Type 0 where
+pub record SettledInto (parents : List (Option ℕ)) (links : List LinkSetup) (sends : List SenderAccount) (recvs : List ReceiverAccount) (child : ℕ) : Type 0 where
   pub link : LinkSetup
-  pub send : Sender
-  pub recv : Receiver
+  pub send : SenderAccount
+  pub recv : ReceiverAccount
   pub leads : get_or (by_child parents links) child None ≡ Some link
   pub sent : get_or (by_child parents sends) child None ≡ Some send
   pub delivered : get_or (by_child parents recvs) child None ≡ Some recv
@@ -30,7 +30,7 @@ pub record SettledInto (parents : List (Option ℕ)) (links : List LinkSetup) (s
   pub settled : IsSettled link send recv
 
 -- the link into each child is settled
-settled_into : (w : ℕ) (parents : List (Option ℕ)) (links : List LinkSetup) (sends : List Sender) (recvs : List Receiver)
+settled_into : (w : ℕ) (parents : List (Option ℕ)) (links : List LinkSetup) (sends : List SenderAccount) (recvs : List ReceiverAccount)
     → length links ≡ length (links_from w parents) → AreSettled links sends recvs
     → (child parent : ℕ) → parent_at parents child ≡ Some parent → SettledInto parents links sends recvs child
 settled_into w [] links sends recvs counted all child parent is_child = absurd (none-some parent is_child)
@@ -75,11 +75,11 @@ settled_into w (Some q ∷ parents) (link ∷ links) (send ∷ sends) (recv ∷ 
     }
 
 -- the report of what the workers left
-abbrev pub report_of : List (Option ℕ) → List (List ℕ) → List Ended → List Sender → List LinkKind → Reported
+abbrev pub report_of : List (Option ℕ) → List (List ℕ) → List Ended → List SenderAccount → List LinkKind → Reported
 report_of parents received ended sends kinds =
     record { received = received; acked = by_child parents (map acked_of sends); ended = ended; kinds = kinds }
 
-module _ (net : Network) (received : List (List ℕ)) (ended : List Ended) (sends : List Sender) (recvs : List Receiver)
+module _ (net : Network) (received : List (List ℕ)) (ended : List Ended) (sends : List SenderAccount) (recvs : List ReceiverAccount)
     (kinds : List LinkKind) (run : IsRun net received ended sends recvs) where
   abbrev parents : List (Option ℕ)
   parents = net.tree.parents

@@ -51,20 +51,6 @@ module _ {A B : Type 0} (R : A → B → Type 0) where
       subst (λ zs. AllZip R (take (place + 1) xs) zs) (sym (take_more ys place y in_ys))
       (one_more_paired xs (take place ys) place x (get_or ys place y) in_xs read_x so_far (subst (λ b. R x b) read_y next))
 
-  -- what is paired is paired at the link into each node
-  pub paired_by_child : (parents : List (Option ℕ)) (xs : List A) (ys : List B) (node : ℕ) (x : A) (y : B) → AllZip R xs ys
-      → entry_into parents xs node ≡ Some x → entry_into parents ys node ≡ Some y → R x y
-  paired_by_child [] xs ys node x y all is_x is_y = absurd (none-some x is_x)
-  paired_by_child (None ∷ parents) xs ys zero x y all is_x is_y = absurd (none-some x is_x)
-  paired_by_child (None ∷ parents) xs ys (suc node) x y all is_x is_y = paired_by_child parents xs ys node x y all is_x is_y
-  paired_by_child (Some q ∷ parents) [] ys zero x y all is_x is_y = absurd (none-some x is_x)
-  paired_by_child (Some q ∷ parents) [] [] (suc node) x y all is_x is_y = paired_by_child parents [] [] node x y all is_x is_y
-  paired_by_child (Some q ∷ parents) [] (w ∷ ws) (suc node) x y all is_x is_y = absurd all
-  paired_by_child (Some q ∷ parents) (v ∷ vs) [] node x y all is_x is_y = absurd all
-  paired_by_child (Some q ∷ parents) (v ∷ vs) (w ∷ ws) zero x y all is_x is_y =
-      subst (λ a. R a y) (same_Some v x is_x) (subst (λ b. R v b) (same_Some w y is_y) all.0)
-  paired_by_child (Some q ∷ parents) (v ∷ vs) (w ∷ ws) (suc node) x y all is_x is_y = paired_by_child parents vs ws node x y all.1 is_x is_y
-
   -- there are as many
   pub as_many_paired : (xs : List A) (ys : List B) → AllZip R xs ys → length ys ≡ length xs
   as_many_paired [] [] all = refl

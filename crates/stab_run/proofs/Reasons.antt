@@ -1,7 +1,7 @@
 -- Why a part of a run failed, as a reason of the whole run.
 use Rattle.std.proofs.Common.{◌≡◌, ◌≢◌, ℕ, List, Result, Ok, Err, IfErr, length, ap, refl, subst}
 use Rattle.stab_job.specs.JobValues.{JobValue, network}
-use Rattle.stab_lock.specs.Accounts.{Receiver, Sender}
+use Rattle.stab_lock.specs.Accounts.{ReceiverAccount, SenderAccount}
 use Rattle.stab_lock.specs.declared.settle.SettleFault.{SettleFault}
 use Rattle.stab_node.specs.declared.account.Ended.{Ended}
 use Rattle.stab_node.specs.declared.fault.NodeFault.{NodeFault}
@@ -50,7 +50,7 @@ module _ (job : JobValue) (has_passed may_refuse : ℕ → ℕ → Type 0) (is_d
     workers_gave_up (run.Settle child reason) can_start why = absurd why
     workers_gave_up run.Memory can_start why = (can_start, why)
 
-    pub settling_refused : (sends : List Sender) (recvs : List Receiver) (ended : List Ended) (fault : RunFault) → CanStart links job
+    pub settling_refused : (sends : List SenderAccount) (recvs : List ReceiverAccount) (ended : List Ended) (fault : RunFault) → CanStart links job
         → HaveAsked has_passed is_done (length job.tree.parents) job.turns ended
         → IsSettlingReason links job.tree.parents (network job).links sends recvs fault
         → IsRunReason links job has_passed may_refuse is_done fault

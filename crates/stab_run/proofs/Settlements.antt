@@ -4,29 +4,15 @@ use Rattle.std.proofs.lemmas.Bool.{cases_lt}
 use Rattle.std.proofs.lemmas.List.{append-nil, drop_more, drop_all}
 use Rattle.std.proofs.lemmas.Option.{none-some, same_Some}
 use Rattle.stab_core.specs.LinkSetup.{LinkSetup}
-use Rattle.stab_lock.specs.Accounts.{Sender, Receiver}
+use Rattle.stab_lock.specs.Accounts.{SenderAccount, ReceiverAccount}
 use Rattle.stab_lock.specs.declared.settle.SettleFault.{SettleFault}
+use Rattle.stab_tree.proofs.ForCallers.{links_counted_anywhere}
 use Rattle.stab_tree.specs.Links.{links_from, links_of}
 use Rattle.stab_tree.specs.Nodes.{parent_at}
+use Rattle.stab_treecore.proofs.ForCallers.{no_link_into}
 use Rattle.stab_treecore.specs.ByChild.{by_child}
 use Rattle.stab_workers.specs.ByNode.{entry_into}
 use Rattle.stab_run.specs.LinkRuns.{AreSettled, HoldsOfFirst, IsFirstRefused, IsSettled, SettledBefore, acked_of}
-
--- there is no link into a node without a parent
-pub no_link_into : {A : Type 0} (parents : List (Option ℕ)) (xs : List A) (node : ℕ) → parent_at parents node ≡ None
-    → get_or (by_child parents xs) node None ≡ None
-no_link_into [] xs node none = refl
-no_link_into (None ∷ parents) xs zero none = refl
-no_link_into (None ∷ parents) xs (suc node) none = no_link_into parents xs node none
-no_link_into (Some q ∷ parents) xs zero none = absurd (none-some q (sym none))
-no_link_into (Some q ∷ parents) [] (suc node) none = no_link_into parents [] node none
-no_link_into (Some q ∷ parents) (x ∷ xs) (suc node) none = no_link_into parents xs node none
-
--- how many links there are does not depend on the number of the first node
-same_number : (v w : ℕ) (parents : List (Option ℕ)) → length (links_from v parents) ≡ length (links_from w parents)
-same_number v w [] = refl
-same_number v w (None ∷ parents) = same_number (suc v) (suc w) parents
-same_number v w (Some p ∷ parents) = ap suc (same_number (suc v) (suc w) parents)
 
 -- what is left of one list with an entry for each link is what it has from this node on
 pub record IsLeftOf {A : Type 0} (parents : List (Option ℕ)) (all left : List A) (node : ℕ) : Type 0 where
@@ -77,8 +63,8 @@ first_left parents all node parent x left within is before =
 
 -- The counts so far, and then those of the nodes that are left, are all counts; where the links that are left are settled, all are;
 -- and there is what is needed for each link that is left.
-pub record SettledSoFar (parents : List (Option ℕ)) (links : List LinkSetup) (sends : List Sender) (recvs : List Receiver)
-    (acked : List (Option ℕ)) (links_left : List LinkSetup) (sends_left : List Sender) (recvs_left : List Receiver) (node : ℕ) : Type 0 where
+pub record SettledSoFar (parents : List (Option ℕ)) (links : List LinkSetup) (sends : List SenderAccount) (recvs : List ReceiverAccount)
+    (acked : List (Option ℕ)) (links_left : List LinkSetup) (sends_left : List SenderAccount) (recvs_left : List ReceiverAccount) (node : ℕ) : Type 0 where
   pub counts : acked ++ by_child (drop node parents) (map acked_of sends_left) ≡ by_child parents (map acked_of sends)
   pub settled : AreSettled links_left sends_left recvs_left → AreSettled links sends recvs
   pub links_enough : length links_left ≡ length (links_of (drop node parents))
@@ -90,7 +76,7 @@ pub record SettledSoFar (parents : List (Option ℕ)) (links : List LinkSetup) (
   pub recvs_from_here : IsLeftOf parents recvs recvs_left node
 
 -- before the first node nothing is settled
-pub none_settled : (parents : List (Option ℕ)) (links : List LinkSetup) (sends : List Sender) (recvs : List Receiver)
+pub none_settled : (parents : List (Option ℕ)) (links : List LinkSetup) (sends : List SenderAccount) (recvs : List ReceiverAccount)
     → length links ≡ length (links_of parents) → length sends ≡ length (links_of parents) → length recvs ≡ length (links_of parents)
     → SettledSoFar parents links sends recvs [] links sends recvs 0
 none_settled parents links sends recvs counted_links counted_sends counted_recvs = record {
@@ -105,8 +91,8 @@ none_settled parents links sends recvs counted_links counted_sends counted_recvs
   recvs_from_here = record { at = λ i. let place : 0 + i ≡ i = omega arith in ap (λ k. entry_into parents recvs k) place };
 }
 
-module _ (parents : List (Option ℕ)) (links : List LinkSetup) (sends : List Sender) (recvs : List Receiver) (acked : List (Option ℕ))
-    (links_left : List LinkSetup) (sends_left : List Sender) (recvs_left : List Receiver) (node : ℕ)
+module _ (parents : List (Option ℕ)) (links : List LinkSetup) (sends : List SenderAccount) (recvs : List ReceiverAccount) (acked : List (Option ℕ))
+    (links_left : List LinkSetup) (sends_left : List SenderAccount) (recvs_left : List ReceiverAccount) (node : ℕ)
     (so_far : SettledSoFar parents links sends recvs acked links_left sends_left recvs_left node) where
   -- the next node and those after it
   rest : (o : Option ℕ) → node < length parents → parent_at parents node ≡ o → drop node parents ≡ o ∷ drop (node + 1) parents
@@ -119,7 +105,7 @@ module _ (parents : List (Option ℕ)) (links : List LinkSetup) (sends : List Se
       let left = rest None within is in
       let after = drop (node + 1) parents in
       let same : length (links_of (drop node parents)) ≡ length (links_of after) =
-      ap (λ ps. length (links_of ps)) left ∙ same_number 1 0 after in
+      ap (λ ps. length (links_of ps)) left ∙ links_counted_anywhere after 1 0 in
       record {
         counts =
             append_assoc acked (None ∷ []) (by_child after (map acked_of sends_left))
@@ -158,8 +144,8 @@ module _ (parents : List (Option ℕ)) (links : List LinkSetup) (sends : List Se
       sym (append-nil acked) ∙ (ap (λ ps. acked ++ by_child ps (map acked_of sends_left)) (sym none) ∙ so_far.counts)
 
 -- what holds of the first link that is left, of its accounts and of the reason, holds of the link into this child
-pub first_refused : (P : LinkSetup → Sender → Receiver → SettleFault → Type 0) (parents : List (Option ℕ)) (links : List LinkSetup) (sends : List Sender)
-    (recvs : List Receiver) (acked : List (Option ℕ)) (links_left : List LinkSetup) (sends_left : List Sender) (recvs_left : List Receiver)
+pub first_refused : (P : LinkSetup → SenderAccount → ReceiverAccount → SettleFault → Type 0) (parents : List (Option ℕ)) (links : List LinkSetup) (sends : List SenderAccount)
+    (recvs : List ReceiverAccount) (acked : List (Option ℕ)) (links_left : List LinkSetup) (sends_left : List SenderAccount) (recvs_left : List ReceiverAccount)
     (node parent : ℕ) (why : SettleFault)
     → SettledSoFar parents links sends recvs acked links_left sends_left recvs_left node → node < length parents
     → parent_at parents node ≡ Some parent → HoldsOfFirst P links_left sends_left recvs_left why
@@ -180,15 +166,15 @@ first_refused P parents links sends recvs acked (l ∷ ls) (s ∷ ss) (r ∷ rs)
     }
 
 -- no link, and no account, is settled
-nothing_left : (links : List LinkSetup) (sends : List Sender) (recvs : List Receiver) → length links ≡ 0 → length sends ≡ 0 → length recvs ≡ 0
+nothing_left : (links : List LinkSetup) (sends : List SenderAccount) (recvs : List ReceiverAccount) → length links ≡ 0 → length sends ≡ 0 → length recvs ≡ 0
     → AreSettled links sends recvs
 nothing_left [] [] [] no_link no_send no_recv = tt
 nothing_left [] [] (r ∷ rs) no_link no_send no_recv = absurd (omega arith)
 nothing_left [] (s ∷ ss) rs no_link no_send no_recv = absurd (omega arith)
 nothing_left (l ∷ ls) ss rs no_link no_send no_recv = absurd (omega arith)
 
-pub all_settled : (parents : List (Option ℕ)) (links : List LinkSetup) (sends : List Sender) (recvs : List Receiver) (acked : List (Option ℕ))
-    (links_left : List LinkSetup) (sends_left : List Sender) (recvs_left : List Receiver) (node : ℕ)
+pub all_settled : (parents : List (Option ℕ)) (links : List LinkSetup) (sends : List SenderAccount) (recvs : List ReceiverAccount) (acked : List (Option ℕ))
+    (links_left : List LinkSetup) (sends_left : List SenderAccount) (recvs_left : List ReceiverAccount) (node : ℕ)
     → SettledSoFar parents links sends recvs acked links_left sends_left recvs_left node
     → length parents ≡ node → AreSettled links sends recvs
 all_settled parents links sends recvs acked links_left sends_left recvs_left node so_far over =
@@ -197,9 +183,9 @@ all_settled parents links sends recvs acked links_left sends_left recvs_left nod
     (nothing_left links_left sends_left recvs_left (so_far.links_enough ∙ none) (so_far.sends_enough ∙ none) (so_far.recvs_enough ∙ none))
 
 -- one more link is settled
-pub child_settled : (parents : List (Option ℕ)) (links : List LinkSetup) (sends : List Sender) (recvs : List Receiver) (acked : List (Option ℕ))
-    (node parent : ℕ) (link : LinkSetup) (send : Sender) (recv : Receiver) (links_before links_left : List LinkSetup) (sends_before sends_left : List Sender)
-    (recvs_before recvs_left : List Receiver)
+pub child_settled : (parents : List (Option ℕ)) (links : List LinkSetup) (sends : List SenderAccount) (recvs : List ReceiverAccount) (acked : List (Option ℕ))
+    (node parent : ℕ) (link : LinkSetup) (send : SenderAccount) (recv : ReceiverAccount) (links_before links_left : List LinkSetup) (sends_before sends_left : List SenderAccount)
+    (recvs_before recvs_left : List ReceiverAccount)
     → SettledSoFar parents links sends recvs acked links_before sends_before recvs_before node
     → node < length parents → parent_at parents node ≡ Some parent → IsSettled link send recv
     → links_before ≡ link ∷ links_left → sends_before ≡ send ∷ sends_left → recvs_before ≡ recv ∷ recvs_left
@@ -209,7 +195,7 @@ child_settled parents links sends recvs acked node parent link send recv links_b
     let after = drop (node + 1) parents in
     let left : drop node parents ≡ Some parent ∷ after = drop_more parents node None within ∙ ap (λ x. x ∷ after) is in
     let number : length (links_of (drop node parents)) ≡ suc (length (links_of after)) =
-    ap (λ ps. length (links_of ps)) left ∙ ap suc (same_number 1 0 after) in
+    ap (λ ps. length (links_of ps)) left ∙ ap suc (links_counted_anywhere after 1 0) in
     let counts : acked ++ by_child (drop node parents) (map acked_of sends_before) ≡ by_child parents (map acked_of sends) = before.counts in
     let settled : AreSettled links_before sends_before recvs_before → AreSettled links sends recvs = before.settled in
     record {

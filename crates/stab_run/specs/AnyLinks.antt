@@ -3,7 +3,7 @@
 -- Source: this project's own.
 use Rattle.std.specs.Prelude.{◌≡◌, List, [], map}
 use Rattle.stab_core.specs.LinkSetup.{LinkSetup}
-use Rattle.stab_lock.specs.Accounts.{Sender, Receiver}
+use Rattle.stab_lock.specs.Accounts.{SenderAccount, ReceiverAccount}
 use Rattle.stab_lock.specs.Settling.{DifferFromReplay}
 use Rattle.stab_lock.specs.declared.settle.SettleFault.{SettleFault}
 use Rattle.stab_word.specs.AnyEnds.{AnyLinkId, any_recv_end, any_recv_finished, any_send_end}
@@ -62,15 +62,15 @@ abbrev pub HasReceived : AnyLink → AnyRecvDone → Type 0
 HasReceived link done = (any_recv_finished done).link ≡ name_of link
 
 -- the account of a finished end
-abbrev pub sent_by : AnySendDone → Sender
+abbrev pub sent_by : AnySendDone → SenderAccount
 sent_by done = (any_send_finished done).account
 
-abbrev pub received_by : AnyRecvDone → Receiver
+abbrev pub received_by : AnyRecvDone → ReceiverAccount
 received_by done = (any_recv_finished done).account
 
 -- what is known where a link of this setup is called different in a run over these links: it has
 -- a lock, and its history differs from these accounts in this way
-abbrev pub MayDiffer : Links → LinkSetup → Sender → Receiver → SettleFault → Type 0
+abbrev pub MayDiffer : Links → LinkSetup → SenderAccount → ReceiverAccount → SettleFault → Type 0
 MayDiffer links link send recv why =
     IsLocked links link × DifferFromReplay link.params link.start send recv why
 

@@ -3,8 +3,8 @@
 use Rattle.std.specs.Prelude.{◌≡◌, ◌<◌, ℕ, List, [], ◌∷◌, ◌++◌, length, Option, Some}
 use Rattle.stab_core.specs.declared.event.Event.{Event}
 use Rattle.stab_core.specs.LinkSetup.{LinkSetup}
-use Rattle.stab_core.specs.Replay.{opening, replay}
-use Rattle.stab_lock.specs.Accounts.{Sender, Receiver}
+use Rattle.stab_core.specs.Replay.{initial, replay}
+use Rattle.stab_lock.specs.Accounts.{SenderAccount, ReceiverAccount}
 use Rattle.stab_lock.specs.Settling.{Agree}
 use Rattle.stab_lock.specs.declared.settle.SettleFault.{SettleFault}
 use Rattle.stab_node.specs.declared.account.Ended.{Ended}
@@ -17,19 +17,16 @@ use Rattle.stab_treecore.specs.NodeOpenings.{opening_at}
 use Rattle.stab_workers.specs.ByNode.{ended_at, entry_into, received_at}
 
 -- one list of events explains the accounts of both ends of a link
-pub record IsSettled (link : LinkSetup) (send : Sender) (recv : Receiver) : Type 0 where
+pub record IsSettled (link : LinkSetup) (send : SenderAccount) (recv : ReceiverAccount) : Type 0 where
   pub events : List Event
-  pub agree : Agree (replay link.params (opening link.start) events) send recv
+  pub agree : Agree (replay link.params (initial link.start) events) send recv
 
 -- the accounts of each link, in the order of the links
-abbrev pub AreSettled : List LinkSetup → List Sender → List Receiver → Type 0
+abbrev pub AreSettled : List LinkSetup → List SenderAccount → List ReceiverAccount → Type 0
 AreSettled [] [] [] = Unit {0}
-AreSettled [] [] (recv ∷ recvs) = ⊥
-AreSettled [] (send ∷ sends) recvs = ⊥
-AreSettled (link ∷ links) [] recvs = ⊥
-AreSettled (link ∷ links) (send ∷ sends) [] = ⊥
 AreSettled (link ∷ links) (send ∷ sends) (recv ∷ recvs) =
     IsSettled link send recv × AreSettled links sends recvs
+AreSettled _ _ _ = ⊥
 
 -- A link leads into this node, and this holds of its setup.
 pub record HoldsInto (P : LinkSetup → Type 0) (parents : List (Option ℕ)) (links : List LinkSetup)
@@ -39,26 +36,26 @@ pub record HoldsInto (P : LinkSetup → Type 0) (parents : List (Option ℕ)) (l
   pub holds : P link
 
 -- this holds of the first of these links, with the first account of each side and this reason
-abbrev pub HoldsOfFirst : (LinkSetup → Sender → Receiver → SettleFault → Type 0) → List LinkSetup
-    → List Sender → List Receiver → SettleFault → Type 0
+abbrev pub HoldsOfFirst : (LinkSetup → SenderAccount → ReceiverAccount → SettleFault → Type 0) → List LinkSetup
+    → List SenderAccount → List ReceiverAccount → SettleFault → Type 0
 HoldsOfFirst P (link ∷ links) (send ∷ sends) (recv ∷ recvs) why = P link send recv why
 HoldsOfFirst P links sends recvs why = ⊥
 
 -- the accounts of the links into the nodes before this one are settled
-abbrev pub SettledBefore : List (Option ℕ) → List LinkSetup → List Sender → List Receiver → ℕ → Type 0
+abbrev pub SettledBefore : List (Option ℕ) → List LinkSetup → List SenderAccount → List ReceiverAccount → ℕ → Type 0
 SettledBefore parents links sends recvs node =
-    (earlier : ℕ) (link : LinkSetup) (send : Sender) (recv : Receiver) → earlier < node
+    (earlier : ℕ) (link : LinkSetup) (send : SenderAccount) (recv : ReceiverAccount) → earlier < node
     → entry_into parents links earlier ≡ Some link → entry_into parents sends earlier ≡ Some send
     → entry_into parents recvs earlier ≡ Some recv → IsSettled link send recv
 
 -- The link into this child is the first in file order that is not settled with its two accounts:
 -- this holds of it, of both accounts and of this reason.
-pub record IsFirstRefused (P : LinkSetup → Sender → Receiver → SettleFault → Type 0)
-    (parents : List (Option ℕ)) (links : List LinkSetup) (sends : List Sender) (recvs : List Receiver)
+pub record IsFirstRefused (P : LinkSetup → SenderAccount → ReceiverAccount → SettleFault → Type 0)
+    (parents : List (Option ℕ)) (links : List LinkSetup) (sends : List SenderAccount) (recvs : List ReceiverAccount)
     (child : ℕ) (why : SettleFault) : Type 0 where
   pub link : LinkSetup
-  pub send : Sender
-  pub recv : Receiver
+  pub send : SenderAccount
+  pub recv : ReceiverAccount
   pub leads : entry_into parents links child ≡ Some link
   pub sent : entry_into parents sends child ≡ Some send
   pub received : entry_into parents recvs child ≡ Some recv
@@ -66,38 +63,38 @@ pub record IsFirstRefused (P : LinkSetup → Sender → Receiver → SettleFault
   pub before : SettledBefore parents links sends recvs child
 
 -- How many items are acknowledged on each link.
-abbrev pub acked_of : Sender → ℕ
+abbrev pub acked_of : SenderAccount → ℕ
 acked_of send = send.acked
 
 -- what the workers leave: the items of each node, why each made no further turn, and the accounts
 -- of the two ends of each link
 pub record IsRun (net : Network) (received : List (List ℕ)) (ended : List Ended)
-    (sends : List Sender) (recvs : List Receiver) : Type 0 where
+    (sends : List SenderAccount) (recvs : List ReceiverAccount) : Type 0 where
   pub all_received : length received ≡ length net.tree.parents
   pub all_ended : length ended ≡ length net.tree.parents
   pub all_sent : length sends ≡ length (links_of net.tree.parents)
   pub all_delivered : length recvs ≡ length (links_of net.tree.parents)
   pub at_root : received_at received (root_of net.tree.parents) ≡ net.published
-  pub delivered : (child : ℕ) (recv : Receiver)
+  pub delivered : (child : ℕ) (recv : ReceiverAccount)
       → entry_into net.tree.parents recvs child ≡ Some recv
       → received_at received child ≡ opening_at net.openings.lists child ++ recv.delivered
-  pub served : (child parent : ℕ) (send : Sender)
+  pub served : (child parent : ℕ) (send : SenderAccount)
       → parent_at net.tree.parents child ≡ Some parent
       → entry_into net.tree.parents sends child ≡ Some send
       → IsServed (received_at received parent) send
-  pub handed_on : (child parent : ℕ) (send : Sender)
+  pub handed_on : (child parent : ℕ) (send : SenderAccount)
       → parent_at net.tree.parents child ≡ Some parent
       → entry_into net.tree.parents sends child ≡ Some send → ended_at ended parent ≡ Upstream
       → HasAll (received_at received parent) send
 
 -- The first of these links is settled with the first account of each side, and so many items are
 -- acknowledged on it; the others are left.
-pub record IsFirstSettled (acked : ℕ) (links : List LinkSetup) (sends : List Sender)
-    (recvs : List Receiver) (links_left : List LinkSetup) (sends_left : List Sender)
-    (recvs_left : List Receiver) : Type 0 where
+pub record IsFirstSettled (acked : ℕ) (links : List LinkSetup) (sends : List SenderAccount)
+    (recvs : List ReceiverAccount) (links_left : List LinkSetup) (sends_left : List SenderAccount)
+    (recvs_left : List ReceiverAccount) : Type 0 where
   pub link : LinkSetup
-  pub send : Sender
-  pub recv : Receiver
+  pub send : SenderAccount
+  pub recv : ReceiverAccount
   pub the_link : links ≡ link ∷ links_left
   pub the_send : sends ≡ send ∷ sends_left
   pub the_recv : recvs ≡ recv ∷ recvs_left

@@ -7,7 +7,7 @@
 use Rattle.std.specs.Prelude.{◌≡◌, ◌<◌, ℕ, List, length, All, Option}
 use Rattle.stab_core.specs.LinkSetup.{CanBegin, LinkSetup}
 use Rattle.stab_job.specs.JobValues.{JobValue, network}
-use Rattle.stab_lock.specs.Accounts.{Sender, Receiver}
+use Rattle.stab_lock.specs.Accounts.{SenderAccount, ReceiverAccount}
 use Rattle.stab_node.specs.declared.account.Ended.{Ended}
 use Rattle.stab_node.specs.declared.fault.NodeFault.TheVariants.{Gate}
 use Rattle.stab_node.specs.Turns.{IsOver, IsRefused}
@@ -55,8 +55,8 @@ IsWorkersReason job has_passed may_refuse is_done run.Memory = Unit {0}
 IsWorkersReason job has_passed may_refuse is_done fault = ⊥
 
 -- the links are not all settled with these accounts: this is the first that is called different
-abbrev pub IsSettlingReason : Links → List (Option ℕ) → List LinkSetup → List Sender
-    → List Receiver → RunFault → Type 0
+abbrev pub IsSettlingReason : Links → List (Option ℕ) → List LinkSetup → List SenderAccount
+    → List ReceiverAccount → RunFault → Type 0
 IsSettlingReason links parents setups sends recvs (run.Settle child why) =
     IsFirstRefused (MayDiffer links) parents setups sends recvs child why
 IsSettlingReason links parents setups sends recvs run.Memory = Unit {0}

@@ -44,10 +44,7 @@ numbered_event word item_or_place =
 
 -- an event: a word alone, or a list of a word and a number
 abbrev pub event : Data → Option Event
-event null = None
-event (boolean b) = None
-event (number n) = None
 event (string word) = plain_act word >>= event_without_item
 event (array ds) =
     pair (array ds) >>= (λ parts. as_str parts.0 >>= (λ word. numbered_event word parts.1))
-event (object ms) = None
+event _ = None

@@ -81,17 +81,10 @@ draw_or_lists None d = lists d
 -- what an entry says; null has no acts
 abbrev pub script_entry : Data → Option ScriptEntry
 script_entry null = Some (Lists [] [] [] [])
-script_entry (boolean b) = None
-script_entry (number n) = None
-script_entry (string s) = None
-script_entry (array ds) = None
 script_entry (object ms) = draw_or_lists (get (codes "seed") (object ms)) (object ms)
+script_entry _ = None
 
 -- an object: any other value takes no memory as a script entry
 abbrev pub is_object : Data → Bool
-is_object null = false
-is_object (boolean b) = false
-is_object (number n) = false
-is_object (string s) = false
-is_object (array ds) = false
 is_object (object ms) = true
+is_object _ = false

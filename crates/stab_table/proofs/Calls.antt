@@ -5,7 +5,7 @@ use Rattle.atomic_table.specs.Table.{Allows, Splits, Joins}
 use Rattle.stab_frames.specs.declared.frame.Frame.{Frame}
 use Rattle.stab_lock.specs.Accounts.{MayOffer, Waits}
 use Rattle.stab_lock.specs.Book.{Given}
-use Rattle.stab_table.specs.Plays.{Sitter}
+use Rattle.stab_table.specs.Plays.{SeatView}
 use Rattle.stab_table.specs.Rule.{Keeps}
 use Rattle.stab_table.specs.Seats.{LinkId, SeatedSender, SeatedReceiver, link_of_sender, link_of_receiver}
 use Rattle.stab_table.specs.Views.{current_frame, sender_of, receiver_of, given_of, sender_part, receiver_part, joined, offered_to, stored_by, answered_by, after_ack, closed_by, after_frame, after_look}
@@ -21,20 +21,20 @@ use Rattle.stab_table.proofs.Seating.{SendTurn, RecvTurn, sender_allows, receive
 use Rattle.stab_table.proofs.Turns as turns
 
 -- what a load or a store asks: the seat is of this table, the word is in it, and the rule allows the step
-abbrev pub Asks : TableId → TableId → Given → ℕ → Sitter → ℕ → (ℕ → ℕ) → (ℕ → Sitter → Type 0) → Type 0
+abbrev pub Asks : TableId → TableId → Given → ℕ → SeatView → ℕ → (ℕ → ℕ) → (ℕ → SeatView → Type 0) → Type 0
 Asks t z g id me word f told = (t ≡ z) × (word < z.words) × Allows (Keeps g) z.slots id me word f told
 
 abbrev pub link_id : TableId → Given → LinkId
 link_id z g = record { table = z; given = g }
 
-abbrev pub seated_sender : TableId → Sitter → SeatedSender
+abbrev pub seated_sender : TableId → SeatView → SeatedSender
 seated_sender t me = record { table = t; view = sender_of me.0 }
 
-abbrev pub seated_receiver : TableId → Sitter → SeatedReceiver
+abbrev pub seated_receiver : TableId → SeatView → SeatedReceiver
 seated_receiver t me = record { table = t; view = receiver_of me.0 }
 
 -- the sender's seat, with the table t and the view me, is of the link of the table z
-pub record SenderAt (link : LinkId) (seat : SeatedSender) (z t : TableId) (g : Given) (me : Sitter) : Type 0 where
+pub record SenderAt (link : LinkId) (seat : SeatedSender) (z t : TableId) (g : Given) (me : SeatView) : Type 0 where
   pub link_is : link_id z g ≡ link
   pub two_words : z.words ≡ 2
   pub seat_is : seated_sender t me ≡ seat
@@ -42,7 +42,7 @@ pub record SenderAt (link : LinkId) (seat : SeatedSender) (z t : TableId) (g : G
   pub own : link_of_sender seat ≡ link
 
 -- the same of the receiver's seat
-pub record ReceiverAt (link : LinkId) (seat : SeatedReceiver) (z t : TableId) (g : Given) (me : Sitter) : Type 0 where
+pub record ReceiverAt (link : LinkId) (seat : SeatedReceiver) (z t : TableId) (g : Given) (me : SeatView) : Type 0 where
   pub link_is : link_id z g ≡ link
   pub two_words : z.words ≡ 2
   pub seat_is : seated_receiver t me ≡ seat
@@ -51,7 +51,7 @@ pub record ReceiverAt (link : LinkId) (seat : SeatedReceiver) (z t : TableId) (g
 
 -- ---- the sender's steps
 
-module _ {link : LinkId} {seat : SeatedSender} {z t : TableId} {g : Given} {me : Sitter}
+module _ {link : LinkId} {seat : SeatedSender} {z t : TableId} {g : Given} {me : SeatView}
     (at : SenderAt link seat z t g me) where
   sender_view : sender_of me.0 ≡ seat.view
   sender_view = ap (λ (s : SeatedSender). s.view) at.seat_is
@@ -63,14 +63,14 @@ module _ {link : LinkId} {seat : SeatedSender} {z t : TableId} {g : Given} {me :
       ∙ (ap (λ (l : LinkId). l.table) at.own ∙ sym (ap (λ (l : LinkId). l.table) at.link_is))
 
   -- a turn of the sender is what a call asks
-  sender_asks : (id word : ℕ) (f : ℕ → ℕ) (then : ℕ → SendView → Type 0) (told : Sitter → ℕ → Sitter → Type 0)
+  sender_asks : (id word : ℕ) (f : ℕ → ℕ) (then : ℕ → SendView → Type 0) (told : SeatView → ℕ → SeatView → Type 0)
       → word < 2
       → ((n : ℕ) (after : SendView) → then n after → told (Sending (sender_of me.0), []) n (Sending after, []))
       → SendTurn g (sender_of me.0) word f then → Asks t z g id me word f (told me)
   sender_asks id word f then told within tells turn = (
     sender_table,
     subst (λ n. word < n) (sym at.two_words) within,
-    subst (λ (m : Sitter). Allows (Keeps g) z.slots id m word f (told m)) (sym at.sends)
+    subst (λ (m : SeatView). Allows (Keeps g) z.slots id m word f (told m)) (sym at.sends)
         (sender_allows g z.slots id (sender_of me.0) word f then (told (Sending (sender_of me.0), [])) tells turn),
   )
 
@@ -103,7 +103,7 @@ module _ {link : LinkId} {seat : SeatedSender} {z t : TableId} {g : Given} {me :
       (turns.frame_store g (sender_of me.0) f n code (current ∙ sym (ap current_frame sender_view))
       (subst (λ (v : SendView). Waits v.account) (sym sender_view) waits))
 
-  pub close_store_asks : (id n : ℕ) → IsFrameCode n frame.Shut → seat.view.account.closed ≡ false
+  pub close_store_asks : (id n : ℕ) → IsFrameCode n frame.Closed → seat.view.account.closed ≡ false
       → Asks t z g id me 0 (λ _. n) (λ _ after. after ≡ (Sending (closed_by (sender_of me.0)), []))
   close_store_asks id n code is_open =
       sender_asks id 0 (λ _. n) (λ _ after. after ≡ closed_by (sender_of me.0))
@@ -113,7 +113,7 @@ module _ {link : LinkId} {seat : SeatedSender} {z t : TableId} {g : Given} {me :
 
 -- ---- the receiver's steps
 
-module _ {link : LinkId} {seat : SeatedReceiver} {z t : TableId} {g : Given} {me : Sitter}
+module _ {link : LinkId} {seat : SeatedReceiver} {z t : TableId} {g : Given} {me : SeatView}
     (at : ReceiverAt link seat z t g me) where
   receiver_view : receiver_of me.0 ≡ seat.view
   receiver_view = ap (λ (s : SeatedReceiver). s.view) at.seat_is
@@ -125,14 +125,14 @@ module _ {link : LinkId} {seat : SeatedReceiver} {z t : TableId} {g : Given} {me
       ∙ (ap (λ (l : LinkId). l.table) at.own ∙ sym (ap (λ (l : LinkId). l.table) at.link_is))
 
   -- a turn of the receiver is what a call asks
-  receiver_asks : (id word : ℕ) (f : ℕ → ℕ) (then : ℕ → RecvView → Type 0) (told : Sitter → ℕ → Sitter → Type 0)
+  receiver_asks : (id word : ℕ) (f : ℕ → ℕ) (then : ℕ → RecvView → Type 0) (told : SeatView → ℕ → SeatView → Type 0)
       → word < 2
       → ((n : ℕ) (after : RecvView) → then n after → told (Receiving (receiver_of me.0), []) n (Receiving after, []))
       → RecvTurn g (receiver_of me.0) word f then → Asks t z g id me word f (told me)
   receiver_asks id word f then told within tells turn = (
     receiver_table,
     subst (λ n. word < n) (sym at.two_words) within,
-    subst (λ (m : Sitter). Allows (Keeps g) z.slots id m word f (told m)) (sym at.receives)
+    subst (λ (m : SeatView). Allows (Keeps g) z.slots id m word f (told m)) (sym at.receives)
         (receiver_allows g z.slots id (receiver_of me.0) word f then (told (Receiving (receiver_of me.0), []))
         tells turn),
   )
@@ -170,28 +170,28 @@ module _ {link : LinkId} {seat : SeatedReceiver} {z t : TableId} {g : Given} {me
 
 -- ---- the split of a seat
 
-pub seat_split_asks : {link seat : LinkId} {z t : TableId} {g : Given} {me : Sitter} → link_id z g ≡ link → z.words ≡ 2
+pub seat_split_asks : {link seat : LinkId} {z t : TableId} {g : Given} {me : SeatView} → link_id z g ≡ link → z.words ≡ 2
     → link_id t (given_of me.0) ≡ seat → me ≡ (Opening (given_of me.0), []) → seat ≡ link → (id : ℕ)
     → (t ≡ z) × (0 < z.words) × Splits (Keeps g) id me.0 (sender_part me.0) (receiver_part me.0)
 seat_split_asks {link} {seat} {z} {t} {g} {me} link_is two_words seat_is opens own id = (
   ap (λ (l : LinkId). l.table) (seat_is ∙ (own ∙ sym link_is)),
   subst (λ n. 0 < n) (sym two_words) (omega arith),
-  subst (λ (m : Sitter). Splits (Keeps g) id m.0 (sender_part m.0) (receiver_part m.0)) (sym opens)
+  subst (λ (m : SeatView). Splits (Keeps g) id m.0 (sender_part m.0) (receiver_part m.0)) (sym opens)
       (turns.seat_split g (given_of me.0) id),
 )
 
 -- ---- the join of a seat
 
 pub seat_join_asks : {link : LinkId} {sender : SeatedSender} {receiver : SeatedReceiver} {z t u : TableId} {g : Given}
-    {me you : Sitter} → SenderAt link sender z t g me → ReceiverAt link receiver z u g you → (id other : ℕ)
+    {me you : SeatView} → SenderAt link sender z t g me → ReceiverAt link receiver z u g you → (id other : ℕ)
     → (t ≡ z) × (u ≡ z) × (you.1 ≡ []) × (0 < z.words)
     × Joins (Keeps g) id me.0 other you.0 (joined me.0 you.0) Spent
 seat_join_asks {link} {sender} {receiver} {z} {t} {u} {g} {me} {you} from into id other =
     let allowed = turns.seat_join g (sender_of me.0) (receiver_of you.0) id other in (
       sender_table from,
       receiver_table into,
-      ap (λ (m : Sitter). m.1) into.receives,
+      ap (λ (m : SeatView). m.1) into.receives,
       subst (λ n. 0 < n) (sym from.two_words) (omega arith),
-      subst (λ (ends : Sitter × Sitter). Joins (Keeps g) id ends.0.0 other ends.1.0 (joined ends.0.0 ends.1.0) Spent)
+      subst (λ (ends : SeatView × SeatView). Joins (Keeps g) id ends.0.0 other ends.1.0 (joined ends.0.0 ends.1.0) Spent)
           (λ i. (sym from.sends i, sym into.receives i)) allowed,
     )

@@ -3,7 +3,7 @@ use Rattle.std.proofs.Common.{◌≡◌, List, [], ◌∷◌, ◌++◌, refl, sy
 use Rattle.stab_frames.specs.Parameters.{Parameters}
 use Rattle.stab_core.specs.declared.event.Event.{Event}
 use Rattle.stab_core.specs.LinkState.{LinkState}
-use Rattle.stab_core.specs.Replay.{opening, replay}
+use Rattle.stab_core.specs.Replay.{initial, replay}
 use Rattle.stab_core.proofs.Replays.{replay-append}
 use Rattle.stab_lock.specs.Book.{Given}
 use Rattle.stab_table.specs.Interleaving.{LinkStep, of_sender, of_receiver, sender_steps, receiver_steps, events_of, all_events, FitsState, AllFit, Interleaved}
@@ -50,12 +50,12 @@ sender_same (of_receiver s ∷ steps) last = sender_same steps last
 
 -- where the steps led, one more leads on
 leads_on : (g : Given) (s t : LinkState) (steps : List LinkStep) (last : LinkStep)
-    → s ≡ replay g.params (opening g.start) (all_events steps) → replay g.params s (events_of last) ≡ t
-    → t ≡ replay g.params (opening g.start) (all_events (steps ++ last ∷ []))
+    → s ≡ replay g.params (initial g.start) (all_events steps) → replay g.params s (events_of last) ≡ t
+    → t ≡ replay g.params (initial g.start) (all_events (steps ++ last ∷ []))
 leads_on g s t steps last leads is =
     sym is ∙ (ap (λ u. replay g.params u (events_of last)) leads
-    ∙ (sym (replay-append g.params (opening g.start) (all_events steps) (events_of last))
-    ∙ ap (λ es. replay g.params (opening g.start) es) (sym (events_more steps last))))
+    ∙ (sym (replay-append g.params (initial g.start) (all_events steps) (events_of last))
+    ∙ ap (λ es. replay g.params (initial g.start) es) (sym (events_more steps last))))
 
 -- a step at the end fits where it fits the state to which the steps before it lead
 fits_more : (p : Parameters) (s : LinkState) (steps : List LinkStep) (last : LinkStep) → AllFit p s steps
@@ -77,7 +77,7 @@ sender_step g xs ys s t last fits is before =
       by_sender = sender_more before.steps last ∙ ap (λ ss. ss ++ last ∷ []) before.by_sender;
       by_receiver = receiver_same before.steps last ∙ before.by_receiver;
       fit =
-          fits_more g.params (opening g.start) before.steps (of_sender last) before.fit
+          fits_more g.params (initial g.start) before.steps (of_sender last) before.fit
           (subst (λ (u : LinkState). FitsState u (of_sender last)) before.leads fits);
       leads = leads_on g s t before.steps (of_sender last) before.leads is;
     }
@@ -91,7 +91,7 @@ receiver_step g xs ys s t last fits is before =
       by_sender = sender_same before.steps last ∙ before.by_sender;
       by_receiver = receiver_more before.steps last ∙ ap (λ ss. ss ++ last ∷ []) before.by_receiver;
       fit =
-          fits_more g.params (opening g.start) before.steps (of_receiver last) before.fit
+          fits_more g.params (initial g.start) before.steps (of_receiver last) before.fit
           (subst (λ (u : LinkState). FitsState u (of_receiver last)) before.leads fits);
       leads = leads_on g s t before.steps (of_receiver last) before.leads is;
     }

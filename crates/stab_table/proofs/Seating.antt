@@ -4,9 +4,9 @@ use mathlib.Core.Option.{some}
 use lib.ListN.{get_elem?}
 use Rattle.atomic_table.specs.Table.{Me, Allows, keeps}
 use Rattle.stab_core.specs.LinkState.{LinkState}
-use Rattle.stab_core.specs.Replay.{opening}
+use Rattle.stab_core.specs.Replay.{initial}
 use Rattle.stab_lock.specs.Book.{Given}
-use Rattle.stab_table.specs.Rule.{Shows, Stands, Keeps}
+use Rattle.stab_table.specs.Rule.{Shows, RuleHolds, Keeps}
 use Rattle.stab_table.specs.Words.{WordsShow}
 use Rattle.stab_table.specs.declared.view.SendView.{SendView}
 use Rattle.stab_table.specs.declared.view.RecvView.{RecvView}
@@ -29,7 +29,7 @@ RecvTurn g y word f then =
 
 -- the seat with the sender's view is the first of two
 pub sender_sits : (g : Given) (words : List ℕ) (views : List View) (id : ℕ) (x : SendView)
-    → Stands g words views → get_elem? views id ≡ some (Sending x)
+    → RuleHolds g words views → get_elem? views id ≡ some (Sending x)
     → (y : RecvView) × (s : LinkState) × (id ≡ 0) × (views ≡ Sending x ∷ Receiving y ∷ []) × Shows g words x y s
 sender_sits g words (Opening h ∷ []) zero x stands at = absurd (cc)
 sender_sits g words (Opening h ∷ []) (suc id) x stands at = absurd (cc)
@@ -45,7 +45,7 @@ sender_sits g words views id x stands at = absurd stands
 
 -- the seat with the receiver's view is the second of two
 receiver_sits : (g : Given) (words : List ℕ) (views : List View) (id : ℕ) (y : RecvView)
-    → Stands g words views → get_elem? views id ≡ some (Receiving y)
+    → RuleHolds g words views → get_elem? views id ≡ some (Receiving y)
     → (x : SendView) × (s : LinkState) × (id ≡ 1) × (views ≡ Sending x ∷ Receiving y ∷ []) × Shows g words x y s
 receiver_sits g words (Opening h ∷ []) zero y stands at = absurd (cc)
 receiver_sits g words (Opening h ∷ []) (suc id) y stands at = absurd (cc)
@@ -61,8 +61,8 @@ receiver_sits g words views id y stands at = absurd stands
 
 -- the opening seat is alone
 pub opener_sits : (g : Given) (words : List ℕ) (views : List View) (id : ℕ) (h : Given)
-    → Stands g words views → get_elem? views id ≡ some (Opening h)
-    → (h ≡ g) × (id ≡ 0) × (views ≡ Opening h ∷ []) × (g.params.capacity ≡ 1) × WordsShow words (opening g.start)
+    → RuleHolds g words views → get_elem? views id ≡ some (Opening h)
+    → (h ≡ g) × (id ≡ 0) × (views ≡ Opening h ∷ []) × (g.params.capacity ≡ 1) × WordsShow words (initial g.start)
 opener_sits g words (Opening v ∷ []) zero h (is, one, shows) at =
     let same : v ≡ h = cc in
     (sym same ∙ is, refl, rw same, one, shows)
@@ -106,7 +106,7 @@ sender_allows g slots id x word f then told tells turn table stands homes at sma
     let (after, t, shows', then') = turn table.words y s shows in
     let words' : List ℕ = slice_set table.words word (f (slice_index table.words word)) in
     let replaced = first_replaced table.views id (Sending x) (Receiving y) (Sending after) first are in
-    (Sending after, keeps, tt, subst (Stands g words') (sym replaced) (t, shows'), tells _ after then')
+    (Sending after, keeps, tt, subst (RuleHolds g words') (sym replaced) (t, shows'), tells _ after then')
 
 -- a turn of the receiver is a step that the table allows
 pub receiver_allows : (g : Given) (slots id : ℕ) (y : RecvView) (word : ℕ) (f : ℕ → ℕ) (then : ℕ → RecvView → Type 0)
@@ -118,4 +118,4 @@ receiver_allows g slots id y word f then told tells turn table stands homes at s
     let (after, t, shows', then') = turn table.words x s shows in
     let words' : List ℕ = slice_set table.words word (f (slice_index table.words word)) in
     let replaced = second_replaced table.views id (Sending x) (Receiving y) (Receiving after) second are in
-    (Receiving after, keeps, tt, subst (Stands g words') (sym replaced) (t, shows'), tells _ after then')
+    (Receiving after, keeps, tt, subst (RuleHolds g words') (sym replaced) (t, shows'), tells _ after then')

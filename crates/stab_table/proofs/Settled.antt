@@ -4,9 +4,9 @@ use Rattle.stab_core.specs.declared.event.Event.{Event}
 use Rattle.stab_core.specs.declared.start.Start.{Start}
 use Rattle.stab_core.specs.LinkLaw.{LinkLaw}
 use Rattle.stab_core.specs.LinkState.{LinkState}
-use Rattle.stab_core.specs.Replay.{IsLawful, opening, replay, start_items}
+use Rattle.stab_core.specs.Replay.{IsLawful, initial, replay, start_items}
 use Rattle.stab_frames.specs.Parameters.{AreLawful, Parameters}
-use Rattle.stab_lock.specs.Accounts.{Sender, Receiver}
+use Rattle.stab_lock.specs.Accounts.{SenderAccount, ReceiverAccount}
 use Rattle.stab_lock.specs.Book.{Given}
 use Rattle.stab_lock.specs.Settling.{Agree}
 use Rattle.stab_table.specs.Interleaving.{all_events, AnInterleavingExplains}
@@ -14,9 +14,9 @@ use Rattle.stab_table.specs.declared.view.SendStep.{SendStep}
 use Rattle.stab_table.specs.declared.view.RecvStep.{RecvStep}
 
 -- the events of its steps explain the accounts
-pub explained : (g : Given) (xs : List SendStep) (sender : Sender) (ys : List RecvStep) (receiver : Receiver)
+pub explained : (g : Given) (xs : List SendStep) (sender : SenderAccount) (ys : List RecvStep) (receiver : ReceiverAccount)
     → AnInterleavingExplains g xs sender ys receiver
-    → (events : List Event) × Agree (replay g.params (opening g.start) events) sender receiver
+    → (events : List Event) × Agree (replay g.params (initial g.start) events) sender receiver
 explained g xs sender ys receiver (s, interleaved, agree) = (
   all_events interleaved.steps,
   subst (λ (t : LinkState). Agree t sender receiver) interleaved.leads agree,
@@ -26,13 +26,13 @@ explained g xs sender ys receiver (s, interleaved, agree) = (
 abbrev pub EveryReplayObeys : Type 0
 EveryReplayObeys =
     (p : Parameters) (start : Start) (events : List Event) → AreLawful p → IsLawful p start
-    → LinkLaw p.capacity (start_items start) (replay p (opening start) events).offered
-    (replay p (opening start) events).acked (replay p (opening start) events).delivered
+    → LinkLaw p.capacity (start_items start) (replay p (initial start) events).offered
+    (replay p (initial start) events).acked (replay p (initial start) events).delivered
 
 -- so the link law holds between them
-pub law_between : (g : Given) (sender : Sender) (receiver : Receiver) → EveryReplayObeys → g.params.capacity ≡ 1
+pub law_between : (g : Given) (sender : SenderAccount) (receiver : ReceiverAccount) → EveryReplayObeys → g.params.capacity ≡ 1
     → AreLawful g.params → IsLawful g.params g.start
-    → (events : List Event) × Agree (replay g.params (opening g.start) events) sender receiver
+    → (events : List Event) × Agree (replay g.params (initial g.start) events) sender receiver
     → LinkLaw 1 (start_items g.start) sender.offered sender.acked receiver.delivered
 law_between g sender receiver obeys one params start (events, agree) =
     subst (λ (v : ℕ × List ℕ × ℕ × List ℕ). LinkLaw v.0 (start_items g.start) v.1 v.2 v.3)

@@ -11,7 +11,7 @@ use Rattle.stab_table.specs.Rule.{Shows}
 use Rattle.stab_table.specs.Interleaving.{Interleaved}
 use Rattle.stab_table.specs.Views as views
 use Rattle.stab_table.specs.Views.{is_waiting, offered_to, acknowledged, after_ack, closed_by, taken_by, close_seen_by, after_frame, after_look, sender_makes, receiver_makes, first_sender, first_receiver, sender_part, receiver_part}
-use Rattle.stab_table.specs.Words.{frames_of, is_shut, acks_of}
+use Rattle.stab_table.specs.Words.{frames_of, is_closed_word, acks_of}
 use Rattle.stab_table.specs.declared.words.FrameWord.{FrameWord}
 use Rattle.stab_table.specs.declared.words.FrameWord.TheVariants as frame
 use Rattle.stab_table.specs.declared.words.AckWord.{AckWord}
@@ -180,7 +180,7 @@ module _ (g : Given) (words : List ℕ) (x : SendView) (y : RecvView) (s : LinkS
             (states.ack_load g x.steps y.steps s shows.interleaved label still shown)),
       )
 
-  pub frame_seen : (word : FrameWord) → s.frames ≡ frames_of word → s.closed ≡ is_shut word
+  pub frame_seen : (word : FrameWord) → s.frames ≡ frames_of word → s.closed ≡ is_closed_word word
       → (t : LinkState) × Shows g words x (after_frame y word) t
   frame_seen frame.Empty shown closed =
       (s, receiver_made (recv_step.FrameLoad frame.Empty) (states.frame_unseen g x.steps y.steps s shows.interleaved shown closed))
@@ -193,14 +193,14 @@ module _ (g : Given) (words : List ℕ) (x : SendView) (y : RecvView) (s : LinkS
             (frame_counts step f (f.label == s.recv_label)
             (states.frame_load g x.steps y.steps s shows.interleaved f closed shown)),
       )
-  frame_seen frame.Shut shown closed =
-      (s, close_seen (recv_step.FrameLoad frame.Shut) closed (states.close_seen g x.steps y.steps s shows.interleaved shown closed))
+  frame_seen frame.Closed shown closed =
+      (s, close_seen (recv_step.FrameLoad frame.Closed) closed (states.close_seen g x.steps y.steps s shows.interleaved shown closed))
 
-  pub frame_looked_at : (word : FrameWord) → s.frames ≡ frames_of word → s.closed ≡ is_shut word
+  pub frame_looked_at : (word : FrameWord) → s.frames ≡ frames_of word → s.closed ≡ is_closed_word word
       → Shows g words x (after_look y word) s
   frame_looked_at frame.Empty shown closed =
       receiver_made (recv_step.FrameLook frame.Empty) (states.frame_look g x.steps y.steps s shows.interleaved frame.Empty shown closed)
   frame_looked_at (frame.Full f) shown closed =
       receiver_made (recv_step.FrameLook (frame.Full f)) (states.frame_look g x.steps y.steps s shows.interleaved (frame.Full f) shown closed)
-  frame_looked_at frame.Shut shown closed =
-      close_seen (recv_step.FrameLook frame.Shut) closed (states.frame_look g x.steps y.steps s shows.interleaved frame.Shut shown closed)
+  frame_looked_at frame.Closed shown closed =
+      close_seen (recv_step.FrameLook frame.Closed) closed (states.frame_look g x.steps y.steps s shows.interleaved frame.Closed shown closed)

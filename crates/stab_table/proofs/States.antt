@@ -6,12 +6,12 @@ use Rattle.stab_frames.specs.Queue.{without}
 use Rattle.stab_core.specs.declared.event.Event.{Event}
 use Rattle.stab_core.specs.declared.event.Event.TheVariants.{Offer, SendFrame, RecvFrame, SendAck, RecvAck, LoseFrame, LoseAck, Close}
 use Rattle.stab_core.specs.LinkState.{LinkState, is_idle, is_holding, current_frame}
-use Rattle.stab_core.specs.Replay.{opening, replay}
+use Rattle.stab_core.specs.Replay.{initial, replay}
 use Rattle.stab_core.specs.Step.{step, open_step, receives_ack, receives_frame, sees_ack, sees_frame}
 use Rattle.stab_core.proofs.Replays.{replay_closed}
 use Rattle.stab_lock.specs.Book.{Given}
 use Rattle.stab_table.specs.Interleaving.{Interleaved}
-use Rattle.stab_table.specs.Words.{frames_of, is_shut}
+use Rattle.stab_table.specs.Words.{frames_of, is_closed_word}
 use Rattle.stab_table.specs.declared.words.FrameWord.{FrameWord}
 use Rattle.stab_table.specs.declared.words.FrameWord.TheVariants as frame
 use Rattle.stab_table.specs.declared.words.AckWord.TheVariants as ack
@@ -86,10 +86,10 @@ module _ (g : Given) (xs : List SendStep) (ys : List RecvStep) (s : LinkState) (
   pub frame_unseen : s.frames ≡ [] → s.closed ≡ false → Interleaved g xs (ys ++ recv_step.FrameLoad frame.Empty ∷ []) s
   frame_unseen none still = receiver_step g xs ys s s (recv_step.FrameLoad frame.Empty) (none, still) refl interleaved
 
-  pub close_seen : s.frames ≡ [] → s.closed ≡ true → Interleaved g xs (ys ++ recv_step.FrameLoad frame.Shut ∷ []) s
-  close_seen none closed = receiver_step g xs ys s s (recv_step.FrameLoad frame.Shut) (none, closed) refl interleaved
+  pub close_seen : s.frames ≡ [] → s.closed ≡ true → Interleaved g xs (ys ++ recv_step.FrameLoad frame.Closed ∷ []) s
+  close_seen none closed = receiver_step g xs ys s s (recv_step.FrameLoad frame.Closed) (none, closed) refl interleaved
 
-  pub frame_look : (word : FrameWord) → s.frames ≡ frames_of word → s.closed ≡ is_shut word
+  pub frame_look : (word : FrameWord) → s.frames ≡ frames_of word → s.closed ≡ is_closed_word word
       → Interleaved g xs (ys ++ recv_step.FrameLook word ∷ []) s
   frame_look word shown closed = receiver_step g xs ys s s (recv_step.FrameLook word) (shown, closed) refl interleaved
 
@@ -117,5 +117,5 @@ module _ (g : Given) (xs : List SendStep) (ys : List RecvStep) (s : LinkState) (
       (replay_closed g.params s (LoseAck 0 ∷ SendAck ∷ []) closed) interleaved
 
 -- the split of a seat: no step was made
-pub seat_split : (g : Given) → Interleaved g [] [] (opening g.start)
+pub seat_split : (g : Given) → Interleaved g [] [] (initial g.start)
 seat_split g = record { steps = []; by_sender = refl; by_receiver = refl; fit = tt; leads = refl }

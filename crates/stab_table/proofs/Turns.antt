@@ -6,10 +6,10 @@ use Rattle.atomic_table.specs.Table.{Splits, Joins}
 use Rattle.stab_frames.specs.declared.frame.Frame.{Frame}
 use Rattle.stab_frames.specs.Queue.{without}
 use Rattle.stab_core.specs.LinkState.{LinkState, current_frame}
-use Rattle.stab_core.specs.Replay.{opening}
+use Rattle.stab_core.specs.Replay.{initial}
 use Rattle.stab_lock.specs.Accounts.{MayOffer, Waits}
 use Rattle.stab_lock.specs.Book.{Given}
-use Rattle.stab_table.specs.Rule.{Shows, Stands, Keeps}
+use Rattle.stab_table.specs.Rule.{Shows, RuleHolds, Keeps}
 use Rattle.stab_table.specs.Views as views
 use Rattle.stab_table.specs.Views.{offered_to, stored_by, after_ack, closed_by, after_frame, after_look, answered_by, first_sender, first_receiver, sender_part, receiver_part}
 use Rattle.stab_table.specs.Interleaving.{Interleaved}
@@ -38,7 +38,7 @@ kept_words (n ∷ words) (suc word) = ap (λ rest. n ∷ rest) (kept_words words
 lone_frame : (word : FrameWord) → without 0 (frames_of word) ≡ []
 lone_frame frame.Empty = refl
 lone_frame (frame.Full f) = refl
-lone_frame frame.Shut = refl
+lone_frame frame.Closed = refl
 
 lone_ack : (word : AckWord) → without 0 (acks_of word) ≡ []
 lone_ack ack.Empty = refl
@@ -146,7 +146,7 @@ frame_store g x f n code current waits words y s shows =
     )
 
 -- the close store
-pub close_store : (g : Given) (x : SendView) (n : ℕ) → IsFrameCode n frame.Shut → x.account.closed ≡ false
+pub close_store : (g : Given) (x : SendView) (n : ℕ) → IsFrameCode n frame.Closed → x.account.closed ≡ false
     → SendTurn g x 0 (λ _. n) (λ _ after. after ≡ closed_by x)
 close_store g x n code is_open words y s shows =
     let (frame_word, ack_word, are, frames, acks) = shows.in_words in
@@ -162,7 +162,7 @@ close_store g x n code is_open words y s shows =
           n,
           ack_word,
           rw are,
-          (frame.Shut, code, refl, refl),
+          (frame.Closed, code, refl, refl),
           (acks.0, acks.1, λ now_open. absurd (true≢false now_open)),
         );
         sender_given = shows.sender_given;
@@ -214,9 +214,9 @@ ack_store g y label n code current words x s shows = by_state s.closed refl
 
 -- ---- the split of a seat
 
--- both first views show the opening
-begun : (g : Given) (words : List ℕ) → g.params.capacity ≡ 1 → WordsShow words (opening g.start)
-    → Shows g words (first_sender g) (first_receiver g) (opening g.start)
+-- both first views show the initial state
+begun : (g : Given) (words : List ℕ) → g.params.capacity ≡ 1 → WordsShow words (initial g.start)
+    → Shows g words (first_sender g) (first_receiver g) (initial g.start)
 begun g words one in_words =
     record {
       one_place = one;
@@ -239,9 +239,9 @@ pub seat_split : (g h : Given) (id : ℕ)
 seat_split g h id table stands at =
     let (is, first, are, one, in_words) = opener_sits g table.words table.views id h stands at in
     let two = parted table.views id (Opening h) (Sending (first_sender h)) (Receiving (first_receiver h)) first are in
-    subst (Stands g table.words) (sym two) (
-      opening g.start,
-      subst (λ (k : Given). Shows g table.words (first_sender k) (first_receiver k) (opening g.start)) (sym is)
+    subst (RuleHolds g table.words) (sym two) (
+      initial g.start,
+      subst (λ (k : Given). Shows g table.words (first_sender k) (first_receiver k) (initial g.start)) (sym is)
           (begun g table.words one in_words),
     )
 
@@ -256,7 +256,7 @@ seat_join g x y id other table stands at apart there =
     other_sits x y v other (subst (λ (views : List View). get_elem? views other ≡ some (Receiving y)) taken_in there) in
     let with_joined = slice_set table.views id (Joined x y) in
     let spent = second_replaced with_joined other (Joined x y) (Receiving v) Spent second taken_in in
-    subst (Stands g table.words) (sym spent) (
+    subst (RuleHolds g table.words) (sym spent) (
       s,
       subst (λ (u : RecvView). Shows g table.words x u s) same
           shows,

@@ -14,11 +14,11 @@ use Rattle.stab_core.specs.declared.event.Event.{Event}
 use Rattle.stab_core.specs.declared.event.Event.TheVariants.{Offer, SendFrame, RecvFrame, SendAck}
 use Rattle.stab_core.specs.declared.event.Event.TheVariants.{RecvAck, LoseFrame, LoseAck, Close}
 use Rattle.stab_core.specs.LinkState.{LinkState, current_frame}
-use Rattle.stab_core.specs.Replay.{opening, replay}
-use Rattle.stab_lock.specs.Accounts.{Sender, Receiver}
+use Rattle.stab_core.specs.Replay.{initial, replay}
+use Rattle.stab_lock.specs.Accounts.{SenderAccount, ReceiverAccount}
 use Rattle.stab_lock.specs.Book.{Given}
 use Rattle.stab_lock.specs.Settling.{Agree}
-use Rattle.stab_table.specs.Words.{frames_of, is_shut, acks_of}
+use Rattle.stab_table.specs.Words.{frames_of, is_closed_word, acks_of}
 use Rattle.stab_table.specs.declared.words.FrameWord.TheVariants as frame
 use Rattle.stab_table.specs.declared.words.AckWord.TheVariants as ack
 use Rattle.stab_table.specs.declared.view.SendStep.{SendStep}
@@ -51,7 +51,7 @@ events_of (of_sender (send_step.AckLoad (ack.Full label))) = RecvAck true ∷ []
 events_of (of_sender send_step.CloseStore) = LoseFrame 0 ∷ Close ∷ []
 events_of (of_receiver (recv_step.FrameLoad frame.Empty)) = []
 events_of (of_receiver (recv_step.FrameLoad (frame.Full f))) = RecvFrame true ∷ []
-events_of (of_receiver (recv_step.FrameLoad frame.Shut)) = []
+events_of (of_receiver (recv_step.FrameLoad frame.Closed)) = []
 events_of (of_receiver (recv_step.FrameLook word)) = []
 events_of (of_receiver (recv_step.AckStore label)) = LoseAck 0 ∷ SendAck ∷ []
 
@@ -66,9 +66,9 @@ abbrev pub FitsState : LinkState → LinkStep → Type 0
 FitsState s (of_sender (send_step.FrameStore f)) = f ≡ current_frame s
 FitsState s (of_sender (send_step.AckLoad word)) = s.acks ≡ acks_of word
 FitsState s (of_receiver (recv_step.FrameLoad word)) =
-    (s.frames ≡ frames_of word) × (s.closed ≡ is_shut word)
+    (s.frames ≡ frames_of word) × (s.closed ≡ is_closed_word word)
 FitsState s (of_receiver (recv_step.FrameLook word)) =
-    (s.frames ≡ frames_of word) × (s.closed ≡ is_shut word)
+    (s.frames ≡ frames_of word) × (s.closed ≡ is_closed_word word)
 FitsState s (of_receiver (recv_step.AckStore label)) = label ≡ s.recv_label
 FitsState s step = Unit {0}
 
@@ -83,11 +83,11 @@ pub record Interleaved (g : Given) (sent : List SendStep) (received : List RecvS
   pub steps : List LinkStep
   pub by_sender : sender_steps steps ≡ sent
   pub by_receiver : receiver_steps steps ≡ received
-  pub fit : AllFit g.params (opening g.start) steps
-  pub leads : s ≡ replay g.params (opening g.start) (all_events steps)
+  pub fit : AllFit g.params (initial g.start) steps
+  pub leads : s ≡ replay g.params (initial g.start) (all_events steps)
 
 -- an interleaving of these steps leads to a state with which the accounts of both ends agree
-abbrev pub AnInterleavingExplains : Given → List SendStep → Sender → List RecvStep → Receiver
+abbrev pub AnInterleavingExplains : Given → List SendStep → SenderAccount → List RecvStep → ReceiverAccount
     → Type 0
 AnInterleavingExplains g sent sender received receiver =
     (s : LinkState) × Interleaved g sent received s × Agree s sender receiver

@@ -12,38 +12,38 @@ use Rattle.stab_table.specs.declared.view.View.{View}
 use Rattle.stab_table.specs.declared.view.View.TheVariants.{Sending, Receiving}
 
 -- a seat of a link of two words, which holds no slot
-abbrev pub Sitter : Type 0
-Sitter = Me (Unit {0}) View
+abbrev pub SeatView : Type 0
+SeatView = Me (Unit {0}) View
 
 -- the sender takes the item
-abbrev pub OfferLoad : ℕ → Step (Unit {0}) → Sitter → ℕ → Sitter → Type 0
+abbrev pub OfferLoad : ℕ → Step (Unit {0}) → SeatView → ℕ → SeatView → Type 0
 OfferLoad item st me n after = after ≡ (Sending (offered_to (sender_of me.0) item), [])
 
 -- the sender stores its frame
-abbrev pub FrameStore : Step (Unit {0}) → Sitter → ℕ → Sitter → Type 0
+abbrev pub FrameStore : Step (Unit {0}) → SeatView → ℕ → SeatView → Type 0
 FrameStore st me n after = after ≡ (Sending (stored_by (sender_of me.0)), [])
 
 -- the receiver stores the acknowledgement of its label
-abbrev pub AckStore : Step (Unit {0}) → Sitter → ℕ → Sitter → Type 0
+abbrev pub AckStore : Step (Unit {0}) → SeatView → ℕ → SeatView → Type 0
 AckStore st me n after = after ≡ (Receiving (answered_by (receiver_of me.0)), [])
 
 -- the sender sees the acknowledgement word
-abbrev pub AckLoad : Step (Unit {0}) → Sitter → ℕ → Sitter → Type 0
+abbrev pub AckLoad : Step (Unit {0}) → SeatView → ℕ → SeatView → Type 0
 AckLoad st me n after =
     (word : AckWord) × IsAckCode n word × (after ≡ (Sending (after_ack (sender_of me.0) word), []))
 
 -- the receiver sees the frame word
-abbrev pub FrameLoad : Step (Unit {0}) → Sitter → ℕ → Sitter → Type 0
+abbrev pub FrameLoad : Step (Unit {0}) → SeatView → ℕ → SeatView → Type 0
 FrameLoad st me n after =
     (word : FrameWord) × IsFrameCode n word
     × (after ≡ (Receiving (after_frame (receiver_of me.0) word), []))
 
 -- the receiver looks at the frame word, and takes no frame
-abbrev pub FrameLook : Step (Unit {0}) → Sitter → ℕ → Sitter → Type 0
+abbrev pub FrameLook : Step (Unit {0}) → SeatView → ℕ → SeatView → Type 0
 FrameLook st me n after =
     (word : FrameWord) × IsFrameCode n word
     × (after ≡ (Receiving (after_look (receiver_of me.0) word), []))
 
 -- the sender closes the link
-abbrev pub CloseStore : Step (Unit {0}) → Sitter → ℕ → Sitter → Type 0
+abbrev pub CloseStore : Step (Unit {0}) → SeatView → ℕ → SeatView → Type 0
 CloseStore st me n after = after ≡ (Sending (closed_by (sender_of me.0)), [])

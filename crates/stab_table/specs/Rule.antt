@@ -11,7 +11,7 @@
 use Rattle.std.specs.Prelude.{◌≡◌, ℕ, List, [], ◌∷◌}
 use Rattle.atomic_table.specs.Table.{State}
 use Rattle.stab_core.specs.LinkState.{LinkState}
-use Rattle.stab_core.specs.Replay.{opening}
+use Rattle.stab_core.specs.Replay.{initial}
 use Rattle.stab_lock.specs.Book.{Given}
 use Rattle.stab_lock.specs.Settling.{Agree}
 use Rattle.stab_table.specs.Interleaving.{Interleaved}
@@ -40,13 +40,13 @@ pub record Shows (g : Given) (words : List ℕ) (x : SendView) (y : RecvView)
 
 -- the words and the views of all seats keep the rule: before the split the words code the start,
 -- and the view that a join has spent says nothing
-abbrev pub Stands : Given → List ℕ → List View → Type 0
-Stands g words (Opening h ∷ []) =
-    (h ≡ g) × (g.params.capacity ≡ 1) × WordsShow words (opening g.start)
-Stands g words (Sending x ∷ Receiving y ∷ []) = (s : LinkState) × Shows g words x y s
-Stands g words (Joined x y ∷ Spent ∷ []) = (s : LinkState) × Shows g words x y s
-Stands g words views = ⊥
+abbrev pub RuleHolds : Given → List ℕ → List View → Type 0
+RuleHolds g words (Opening h ∷ []) =
+    (h ≡ g) × (g.params.capacity ≡ 1) × WordsShow words (initial g.start)
+RuleHolds g words (Sending x ∷ Receiving y ∷ []) = (s : LinkState) × Shows g words x y s
+RuleHolds g words (Joined x y ∷ Spent ∷ []) = (s : LinkState) × Shows g words x y s
+RuleHolds g words views = ⊥
 
 -- the rule, over the whole of a table without slots
 abbrev pub Keeps : Given → State (Unit {0}) View → Type 0
-Keeps g table = Stands g table.words table.views
+Keeps g table = RuleHolds g table.words table.views

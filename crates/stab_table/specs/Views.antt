@@ -9,7 +9,7 @@ use Rattle.std.specs.Prelude.{ℕ, ◌+◌, ◌==◌, ◌&&◌, Bool, true, [], 
 use Rattle.std.specs.Prelude.{slice_index, if◌then◌else◌}
 use Rattle.stab_frames.specs.declared.frame.Frame.{Frame}
 use Rattle.stab_frames.specs.Parameters.{next}
-use Rattle.stab_lock.specs.Accounts.{Sender, new_sender, new_receiver}
+use Rattle.stab_lock.specs.Accounts.{SenderAccount, new_sender, new_receiver}
 use Rattle.stab_lock.specs.Book.{Given}
 use Rattle.stab_table.specs.declared.words.FrameWord.{FrameWord}
 use Rattle.stab_table.specs.declared.words.FrameWord.TheVariants as frame
@@ -39,11 +39,11 @@ first_receiver g =
 -- ---- how a sender's view changes
 
 -- the last item that was taken waits for its acknowledgement
-abbrev pub is_waiting : Sender → Bool
+abbrev pub is_waiting : SenderAccount → Bool
 is_waiting account = length account.offered == account.acked + 1
 
 -- the frame of the item that waits, under this label of the sender
-abbrev pub waiting_frame : ℕ → Sender → Frame
+abbrev pub waiting_frame : ℕ → SenderAccount → Frame
 waiting_frame label account =
     record { label = label; item = slice_index account.offered account.acked }
 
@@ -119,7 +119,7 @@ close_seen_by v = record v { account = record v.account { closed = true } }
 abbrev pub taken_from : RecvView → FrameWord → RecvView
 taken_from v frame.Empty = v
 taken_from v (frame.Full f) = if f.label == v.label then v else taken_by v f
-taken_from v frame.Shut = close_seen_by v
+taken_from v frame.Closed = close_seen_by v
 
 -- it sees the frame word, with a place for an item
 abbrev pub after_frame : RecvView → FrameWord → RecvView
@@ -129,7 +129,7 @@ after_frame v word = taken_from (receiver_makes v (recv_step.FrameLoad word)) wo
 abbrev pub looked_at : RecvView → FrameWord → RecvView
 looked_at v frame.Empty = v
 looked_at v (frame.Full f) = v
-looked_at v frame.Shut = close_seen_by v
+looked_at v frame.Closed = close_seen_by v
 
 -- it looks at the frame word, with no place for an item
 abbrev pub after_look : RecvView → FrameWord → RecvView
@@ -153,7 +153,7 @@ given_of (Receiving v) = v.given
 given_of (Joined v w) = v.given
 given_of Spent = no_link
 
--- the sender's part of a view: of the opening the first one
+-- the sender's part of a view: before the split the first one
 abbrev pub sender_of : View → SendView
 sender_of (Opening g) = first_sender g
 sender_of (Sending v) = v
@@ -161,7 +161,7 @@ sender_of (Receiving v) = first_sender v.given
 sender_of (Joined v w) = v
 sender_of Spent = first_sender no_link
 
--- the receiver's part of a view: of the opening the first one
+-- the receiver's part of a view: before the split the first one
 abbrev pub receiver_of : View → RecvView
 receiver_of (Opening g) = first_receiver g
 receiver_of (Sending v) = first_receiver v.given

@@ -1,7 +1,7 @@
 -- What the two words of a link of capacity one show, and the numbers that code it.
 -- Example: The frame with label 2 and item 99 has the number 2^48 + 2 * 2^32 + 99 =
 -- 281483566645347. The words of the worst start are this number and 2^16 + 0 = 65536, and they show
--- its opening. Frames have numbers from 2^48 on, and the largest, of label 65535 and item
+-- its initial state. Frames have numbers from 2^48 on, and the largest, of label 65535 and item
 -- 4294967295, is 2^49 - 1; so none is the number of the close.
 -- Source: this project's own.
 use Rattle.std.specs.Prelude.{◌≡◌, ℕ, ◌+◌, ◌*◌, ◌^◌, ◌<◌, Bool, true, false, List, [], ◌∷◌}
@@ -16,7 +16,7 @@ use Rattle.stab_table.specs.declared.words.AckWord.TheVariants as ack
 abbrev pub frame_code : FrameWord → ℕ
 frame_code frame.Empty = 0
 frame_code (frame.Full f) = 2 ^ 48 + f.label * 2 ^ 32 + f.item
-frame_code frame.Shut = 2 ^ 49
+frame_code frame.Closed = 2 ^ 49
 
 -- the number of each acknowledgement word
 abbrev pub ack_code : AckWord → ℕ
@@ -27,7 +27,7 @@ ack_code (ack.Full label) = 2 ^ 16 + label
 abbrev pub FrameFits : FrameWord → Type 0
 FrameFits frame.Empty = Unit {0}
 FrameFits (frame.Full f) = (f.label < 2 ^ 16) × (f.item < 2 ^ 32)
-FrameFits frame.Shut = Unit {0}
+FrameFits frame.Closed = Unit {0}
 
 abbrev pub AckFits : AckWord → Type 0
 AckFits ack.Empty = Unit {0}
@@ -44,12 +44,12 @@ IsAckCode n word = AckFits word × (n ≡ ack_code word)
 abbrev pub frames_of : FrameWord → List Frame
 frames_of frame.Empty = []
 frames_of (frame.Full f) = f ∷ []
-frames_of frame.Shut = []
+frames_of frame.Closed = []
 
-abbrev pub is_shut : FrameWord → Bool
-is_shut frame.Empty = false
-is_shut (frame.Full f) = false
-is_shut frame.Shut = true
+abbrev pub is_closed_word : FrameWord → Bool
+is_closed_word frame.Empty = false
+is_closed_word (frame.Full f) = false
+is_closed_word frame.Closed = true
 
 -- the acknowledgements that an acknowledgement word shows
 abbrev pub acks_of : AckWord → List ℕ
@@ -60,7 +60,7 @@ acks_of (ack.Full label) = label ∷ []
 abbrev pub ShowsFrames : ℕ → LinkState → Type 0
 ShowsFrames n s =
     (word : FrameWord) × IsFrameCode n word
-    × (s.frames ≡ frames_of word) × (s.closed ≡ is_shut word)
+    × (s.frames ≡ frames_of word) × (s.closed ≡ is_closed_word word)
 
 -- the acknowledgement word shows the acknowledgements of this state while it is open; after the
 -- close it may be any code

@@ -94,9 +94,9 @@ impl Play<(), View> for Closes {
 }
 
 /// The split of the opening seat into the sender's and the receiver's.
-pub(crate) struct Parts;
+pub(crate) struct SplitEnds;
 
-impl Split<View> for Parts {
+impl Split<View> for SplitEnds {
     ghost use Rattle.stab_table.specs.Views.{sender_part, receiver_part};
 
     ghost left = { sender_part };
@@ -105,9 +105,9 @@ impl Split<View> for Parts {
 }
 
 /// The join of the sender's and the receiver's seat.
-pub(crate) struct Meets;
+pub(crate) struct JoinEnds;
 
-impl Join<View> for Meets {
+impl Join<View> for JoinEnds {
     ghost use Rattle.stab_table.specs.Views.{joined};
     ghost use Rattle.stab_table.specs.declared.view.View.TheVariants.{Spent};
 

@@ -4,7 +4,7 @@
 
 ghost use Rattle.std.specs.Prelude.{◌≡◌, ◌≤◌, List, length, vec_len, vec_capacity, false, IfOk};
 ghost use Rattle.stab_core.specs.LinkLaw.{LinkLaw};
-ghost use Rattle.stab_core.specs.Replay.{IsLawful, opening, replay, start_items};
+ghost use Rattle.stab_core.specs.Replay.{IsLawful, initial, replay, start_items};
 ghost use Rattle.stab_core.specs.declared.event.Event.{Event};
 ghost use Rattle.stab_frames.specs.Parameters.{AreLawful};
 ghost use Rattle.stab_lock.specs.Accounts.{MayOffer, Waits};
@@ -14,11 +14,11 @@ ghost use Rattle.stab_table.specs.Views.{first_sender, first_receiver, current_f
 ghost use Rattle.stab_table.specs.Views.{offered_to, stored_by, after_ack, closed_by};
 ghost use Rattle.stab_table.specs.Views.{after_frame, after_look, answered_by};
 ghost use Rattle.stab_table.specs.Interleaving.{AnInterleavingExplains};
-ghost use Rattle.stab_table.specs.Words.{frames_of, acks_of, is_shut};
+ghost use Rattle.stab_table.specs.Words.{frames_of, acks_of, is_closed_word};
 
 use crate::rule::{
-    Closes, Looks, Meets, Offering, Offers, Parts, SeesAck, SeesFrame, StoresAck, StoresFrame,
-    WordRule,
+    Closes, JoinEnds, Looks, Offering, Offers, SeesAck, SeesFrame, SplitEnds, StoresAck,
+    StoresFrame, WordRule,
 };
 use crate::seats::{OpeningSeat, RecvSeat, SendSeat};
 use crate::view::{Setting, View};
@@ -62,7 +62,7 @@ impl Model for WordTable {
 fn frame_word(frames: &[Frame]) -> FrameWord
     requires { length frames.now ≤ 1 }
     ensures shows { frames.now ≡ frames_of result }
-    ensures open { is_shut result ≡ false }
+    ensures open { is_closed_word result ≡ false }
 {
     match frames.first() {
         Some(frame) => FrameWord::Full(*frame),
@@ -112,7 +112,7 @@ impl WordTable {
             ≡ record { table = self.now.table; view = first_receiver self.now.given } }
     {
         let OpeningSeat { mut seat } = opening;
-        let other = self.table.shared.split_seat::<Parts>(&mut seat);
+        let other = self.table.shared.split_seat::<SplitEnds>(&mut seat);
         (SendSeat { seat }, RecvSeat { seat: other })
     }
 
@@ -168,7 +168,7 @@ impl WordTable {
         requires open { seat.old.view.account.closed ≡ false }
         ensures { seat.new ≡ record seat.old { view = closed_by seat.old.view } }
     {
-        let word = FrameWord::Shut.code();
+        let word = FrameWord::Closed.code();
         self.table
             .shared
             .store::<Closes>(&mut seat.seat, FRAMES, word);
@@ -217,7 +217,7 @@ impl WordTable {
         ensures interleaved { AnInterleavingExplains self.given sender.view.steps
             sender.view.account receiver.view.steps receiver.view.account }
         ensures replay { (events : List Event) × Agree
-            (replay self.given.params (opening self.given.start) events)
+            (replay self.given.params (initial self.given.start) events)
             sender.view.account receiver.view.account }
         ensures law { LinkLaw 1 (start_items self.given.start) sender.view.account.offered
             sender.view.account.acked receiver.view.account.delivered }
@@ -239,7 +239,7 @@ impl WordTable {
         let WordTable { table } = self;
         let SendSeat { mut seat } = sender;
         let RecvSeat { seat: other } = receiver;
-        table.shared.join_seat::<Meets>(&mut seat, other);
+        table.shared.join_seat::<JoinEnds>(&mut seat, other);
         table.close_with(seat).free();
     }
 }

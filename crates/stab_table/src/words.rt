@@ -8,7 +8,7 @@ ghost use Rattle.stab_table.specs.Words.{ack_code, AckFits, IsAckCode};
 use stab_frames::{Frame, Label};
 
 /// The code of the frame word that shows the close.
-const SHUT: u64 = 0x2_0000_0000_0000;
+const CLOSED: u64 = 0x2_0000_0000_0000;
 
 /// The code of the frame with label 0 and item 0.
 const FIRST_FRAME: u64 = 0x1_0000_0000_0000;
@@ -27,7 +27,7 @@ pub enum FrameWord {
     /// This frame is on its way.
     Full(Frame),
     /// The link is closed.
-    Shut,
+    Closed,
 }
 
 /// What the acknowledgement word shows.
@@ -50,7 +50,7 @@ impl FrameWord {
             FrameWord::Full(frame) => {
                 FIRST_FRAME + u64::from(frame.label) * ITEMS + u64::from(frame.item)
             }
-            FrameWord::Shut => SHUT,
+            FrameWord::Closed => CLOSED,
         }
     }
 
@@ -61,8 +61,8 @@ impl FrameWord {
         if code == 0 {
             return FrameWord::Empty;
         }
-        if code == SHUT {
-            return FrameWord::Shut;
+        if code == CLOSED {
+            return FrameWord::Closed;
         }
         FrameWord::Full(Frame {
             label: (code / ITEMS % LABELS) as u16,

@@ -9,8 +9,8 @@
 -- Source: this project's own.
 use Rattle.std.specs.Prelude.{◌≡◌, ◌≢◌, ℕ, ◌<◌, Bool, List, [], ◌++◌, length, All}
 use Rattle.std.specs.Prelude.{if◌then◌else◌, Ok, Err}
-use Rattle.stab_core.specs.Replay.{opening, replay, IsLawful}
-use Rattle.stab_core.specs.Trace.{traced_opening, traced_replay}
+use Rattle.stab_core.specs.Replay.{initial, replay, IsLawful}
+use Rattle.stab_core.specs.Trace.{traced_initial, traced_replay}
 use Rattle.stab_core.specs.Link.{IsReason}
 use Rattle.stab_core.specs.Texts.{link_text, origins_text}
 use Rattle.stab_script.specs.declared.link_job.LinkJob.{LinkJob as OneLink}
@@ -30,7 +30,7 @@ use Rattle.stab_run.specs.declared.run_fault.RunFault.{RunFault}
 use Rattle.stab_treecore.specs.Network.{IsNetwork}
 use Rattle.stab_treecore.specs.Refusals.{NamesLink, IsScheduleReason}
 use Rattle.stab_treecore.specs.Texts.{schedule_text}
-use Rattle.stab_treecore.specs.TreeReplay.{tree_opening, tree_replay}
+use Rattle.stab_treecore.specs.TreeReplay.{initial_tree, tree_replay}
 use Rattle.stab_script.specs.LinkJobs.{link_job}
 use Rattle.stab_task.specs.declared.command.Task.{Task}
 use Rattle.stab_task.specs.declared.command.Task.TheVariants.{Link, Tree as WholeTreeTask, Run as RunTask}
@@ -43,9 +43,9 @@ use Rattle.stab_task.specs.Loading.{most_bytes}
 -- the text of a link job: the link after its replay, and with a trace the origins of what it
 -- delivered
 abbrev pub link_answer : Bool → OneLink → List ℕ
-link_answer trace job = link_text (replay job.params (opening job.start) job.events)
+link_answer trace job = link_text (replay job.params (initial job.start) job.events)
     ++ (if trace
-    then origins_text (traced_replay job.params (traced_opening job.start) job.events).origins
+    then origins_text (traced_replay job.params (traced_initial job.start) job.events).origins
     else [])
 
 -- these bytes are a link job with a lawful start, and this is its text
@@ -58,7 +58,7 @@ pub record IsLinkAnswer (trace : Bool) (input text : List ℕ) : Type 0 where
 -- the text of a whole tree: its nodes after the replay of its schedule
 abbrev pub tree_answer : JobValue → List ℕ
 tree_answer job = schedule_text job.tree
-    (tree_replay (tree_opening (network job)) job.schedule)
+    (tree_replay (initial_tree (network job)) job.schedule)
 
 -- these bytes are a job, whose starts are lawful and whose schedule names links alone, and this is
 -- its text

@@ -2,12 +2,12 @@ ghost use Rattle.std.specs.Prelude.{◌≡◌, ◌≢◌, ◌++◌, List, ℕ, t
 ghost use Rattle.std.specs.Prelude.{All, IfSome, IfOk, IfErr, OnOk};
 ghost use Rattle.std.specs.Io.KnownBytes.{Appends, Keeps};
 ghost use Rattle.stab_core.specs.Link.{IsReason, link_at};
-ghost use Rattle.stab_core.specs.Replay.{IsLawful, opening, replay};
+ghost use Rattle.stab_core.specs.Replay.{IsLawful, initial, replay};
 ghost use Rattle.stab_job.specs.JobValues.{network};
 ghost use Rattle.stab_run.specs.Runs.{IsReport};
 ghost use Rattle.stab_treecore.specs.Network.{IsNetwork};
 ghost use Rattle.stab_treecore.specs.Refusals.{IsScheduleReason, NamesLink};
-ghost use Rattle.stab_treecore.specs.TreeReplay.{tree_opening, tree_replay};
+ghost use Rattle.stab_treecore.specs.TreeReplay.{initial_tree, tree_replay};
 ghost use Rattle.stab_task.specs.Answers.{IsLinkAnswer, IsTreeAnswer, IsRunAnswer};
 ghost use Rattle.stab_task.specs.Answers.{IsAnswer, IsFault, IsFreeRunReason, IsRunText};
 ghost use Rattle.stab_task.specs.Answers.{link_answer, tree_answer};
@@ -130,7 +130,7 @@ fn traced_text(alloc: Global, job: &LinkJob) -> Result<String, StartFault>
 /// The link of a job after its events.
 fn replay_link(alloc: Global, job: &LinkJob) -> Result<Link, StartFault>
     ensures replay { IfOk result (λ link. link ≡ link_at job.now.params
-        (replay job.now.params (opening job.now.start) job.now.events)) }
+        (replay job.now.params (initial job.now.start) job.now.events)) }
     ensures lawful { OnOk result (IsLawful job.now.params job.now.start) }
     ensures refused { IfErr result (IsReason job.now.params job.now.start) }
 {
@@ -163,7 +163,7 @@ fn tree_text(alloc: Global, job: &Job) -> Result<String, TreeStartFault>
 /// The whole tree of a job after its schedule.
 fn replay_tree(alloc: Global, job: &Job) -> Result<TreeState, TreeStartFault>
     ensures replay { IfOk result (λ state.
-        state ≡ tree_replay (tree_opening (network job.now)) job.now.schedule) }
+        state ≡ tree_replay (initial_tree (network job.now)) job.now.schedule) }
     ensures same_tree { IfOk result (λ state. state.parents ≡ job.now.tree.parents) }
     ensures network { OnOk result (IsNetwork (network job.now)) }
     ensures named { OnOk result (All (NamesLink job.now.tree.parents) job.now.schedule) }

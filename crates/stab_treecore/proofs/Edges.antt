@@ -5,7 +5,7 @@ use Rattle.stab_frames.specs.Parameters.{Parameters, AreLawful}
 use Rattle.stab_core.specs.declared.start.Start.{Start}
 use Rattle.stab_core.specs.LinkLaw.{LinkLaw, SharperLinkLaw}
 use Rattle.stab_core.specs.LinkSetup.{LinkSetup}
-use Rattle.stab_core.specs.Replay.{IsLawful, opening, replay, start_items}
+use Rattle.stab_core.specs.Replay.{IsLawful, initial, replay, start_items}
 use Rattle.stab_tree.specs.IsTree.{IsTree}
 use Rattle.stab_tree.specs.Nodes.{parent_at, root_of}
 use Rattle.stab_treecore.specs.EdgeLaw.{EdgeLaw, EdgeInto}
@@ -22,7 +22,7 @@ module _ (Law : ℕ → List ℕ → List ℕ → ℕ → List ℕ → Type 0) (
   pub edge_obeys : (p : Parameters) (start : Start) (above : List ℕ) (acked : ℕ) (delivered : List ℕ) → AreLawful p → IsLawful p start
       → EdgeLaw p start above acked delivered → LawBetween Law p.capacity (start_items start) above delivered
   edge_obeys p start above acked delivered lawful_params lawful edge =
-      let s = replay p (opening start) edge.events in (
+      let s = replay p (initial start) edge.events in (
         s.offered,
         s.acked,
         edge.offers,

@@ -1,7 +1,8 @@
--- For the crates above: facts on what there is one of per link, dealt out by child, and dealt out to
+-- For the crates above: facts on what there is one of per link, scattered by child, and scattered to
 -- the children of each node; on texts that have one part per node; and on all places of a list.
 pub use Rattle.stab_treecore.proofs.Fitting.{AreOpenings, openings_fit}
 pub use Rattle.stab_treecore.proofs.Lines.{next_place}
+pub use Rattle.stab_treecore.proofs.Opened.{linked_nodes}
 pub use Rattle.stab_treecore.proofs.Root.{all_places, all_below, all_items, all_picked, all_there, length_all}
 use Rattle.std.specs.List.{AllZip}
 use Rattle.std.proofs.Common.{◌≡◌, ◌==◌, ◌<◌, ℕ, zero, suc, Bool, true, false, if◌then◌else◌, List, [], ◌∷◌, length, map, get_or, Option, Some, None, option_map, All, refl, ap, sym, ◌∙◌, subst, eq-eqb, arith}
@@ -36,6 +37,16 @@ nothing_by_child (Some parent ∷ parents) (suc node) = nothing_by_child parents
 pub not_of_nothing : {A : Type 0} (P : Type 0) (parents : List (Option ℕ)) (node : ℕ) (x : A) → get_or (by_child parents []) node None ≡ Some x → P
 not_of_nothing P parents node x is = absurd (none-some x (sym (nothing_by_child parents node) ∙ is))
 
+-- there is no link into a node without a parent
+pub no_link_into : {A : Type 0} (parents : List (Option ℕ)) (xs : List A) (node : ℕ) → parent_at parents node ≡ None
+    → get_or (by_child parents xs) node None ≡ None
+no_link_into [] xs node none = refl
+no_link_into (None ∷ parents) xs zero none = refl
+no_link_into (None ∷ parents) xs (suc node) none = no_link_into parents xs node none
+no_link_into (Some q ∷ parents) xs zero none = absurd (none-some q (sym none))
+no_link_into (Some q ∷ parents) [] (suc node) none = no_link_into parents [] node none
+no_link_into (Some q ∷ parents) (x ∷ xs) (suc node) none = no_link_into parents xs node none
+
 -- what holds of the entries of two lists, place by place, holds of the two that belong to the link into a node
 pub holds_by_child_of_both : {A B : Type 0} (R : A → B → Type 0) (parents : List (Option ℕ)) (xs : List A) (ys : List B) (node : ℕ) (x : A) (y : B)
     → AllZip R xs ys → get_or (by_child parents xs) node None ≡ Some x → get_or (by_child parents ys) node None ≡ Some y → R x y
@@ -69,7 +80,7 @@ length-by_child (None ∷ parents) xs = ap suc (length-by_child parents xs)
 length-by_child (Some parent ∷ parents) [] = ap suc (length-by_child parents [])
 length-by_child (Some parent ∷ parents) (x ∷ xs) = ap suc (length-by_child parents xs)
 
--- to deal out and then to map is to map and then to deal out
+-- to scatter and then to map is to map and then to scatter
 pub map-by_child : {A B : Type 0} (f : A → B) (parents : List (Option ℕ)) (xs : List A)
     → map (option_map f) (by_child parents xs) ≡ by_child parents (map f xs)
 map-by_child f [] xs = refl
@@ -126,23 +137,23 @@ same_rest : {A : Type 0} (b : Bool) (x y : A) (xs ys : List A) → (if b then x 
 same_rest true x y xs ys same = cc
 same_rest false x y xs ys same = same
 
--- lists with one entry for each link that are dealt out alike to the children of each node are one list
-pub dealt_alike : {A : Type 0} (nodes w : ℕ) (parents : List (Option ℕ)) (xs ys : List A)
+-- lists with one entry for each link that are scattered alike to the children of each node are one list
+pub scattered_alike : {A : Type 0} (nodes w : ℕ) (parents : List (Option ℕ)) (xs ys : List A)
     → ((child parent : ℕ) → parent_at parents child ≡ Some parent → parent < nodes)
     → length xs ≡ length (links_from w parents) → length ys ≡ length (links_from w parents)
     → ((node : ℕ) → node < nodes → to_children node parents xs ≡ to_children node parents ys)
     → xs ≡ ys
-dealt_alike nodes w [] [] [] known first second alike = refl
-dealt_alike nodes w [] [] (y ∷ ys) known first second alike = absurd (omega arith)
-dealt_alike nodes w [] (x ∷ xs) ys known first second alike = absurd (omega arith)
-dealt_alike nodes w (None ∷ parents) xs ys known first second alike =
-    dealt_alike nodes (suc w) parents xs ys (λ child parent is_child. known (suc child) parent is_child) first second alike
-dealt_alike nodes w (Some q ∷ parents) [] ys known first second alike = absurd (omega arith)
-dealt_alike nodes w (Some q ∷ parents) (x ∷ xs) [] known first second alike = absurd (omega arith)
-dealt_alike nodes w (Some q ∷ parents) (x ∷ xs) (y ∷ ys) known first second alike =
+scattered_alike nodes w [] [] [] known first second alike = refl
+scattered_alike nodes w [] [] (y ∷ ys) known first second alike = absurd (omega arith)
+scattered_alike nodes w [] (x ∷ xs) ys known first second alike = absurd (omega arith)
+scattered_alike nodes w (None ∷ parents) xs ys known first second alike =
+    scattered_alike nodes (suc w) parents xs ys (λ child parent is_child. known (suc child) parent is_child) first second alike
+scattered_alike nodes w (Some q ∷ parents) [] ys known first second alike = absurd (omega arith)
+scattered_alike nodes w (Some q ∷ parents) (x ∷ xs) [] known first second alike = absurd (omega arith)
+scattered_alike nodes w (Some q ∷ parents) (x ∷ xs) (y ∷ ys) known first second alike =
     let begins : x ≡ y =
     same_first (q == q) x y (to_children q parents xs) (to_children q parents ys) (eq-eqb q q refl) (alike q (known 0 q refl)) in
     let goes_on : xs ≡ ys =
-    dealt_alike nodes (suc w) parents xs ys (λ child parent is_child. known (suc child) parent is_child) (omega arith) (omega arith)
+    scattered_alike nodes (suc w) parents xs ys (λ child parent is_child. known (suc child) parent is_child) (omega arith) (omega arith)
     (λ node is_node. same_rest (q == node) x y (to_children node parents xs) (to_children node parents ys) (alike node is_node)) in
     cc

@@ -12,7 +12,7 @@ use Rattle.stab_core.specs.LinkLaw.{LinkLaw, SharperLinkLaw}
 use Rattle.stab_core.specs.LinkSetup.{CanBegin, LinkSetup}
 use Rattle.stab_core.specs.LinkState.{LinkState}
 use Rattle.stab_core.specs.Reachable.{IsReachable}
-use Rattle.stab_core.specs.Replay.{IsLawful, opening, replay, start_items}
+use Rattle.stab_core.specs.Replay.{IsLawful, initial, replay, start_items}
 use Rattle.stab_core.specs.Step.{step}
 use Rattle.stab_tree.specs.Links.{links_of}
 use Rattle.stab_tree.specs.Nodes.{parent_at, root_of}
@@ -23,7 +23,7 @@ use Rattle.stab_treecore.specs.NodeLaws.{capacity_into, garbage_into, LawInto, T
 use Rattle.stab_treecore.specs.SharperLaw.{SharperTreeLawAtNodes}
 use Rattle.stab_treecore.specs.NodeOpenings.{opening_at}
 use mathlib.Core.List.{IsPrefix}
-use Rattle.stab_treecore.specs.TreeReplay.{opened, tree_opening, tree_replay}
+use Rattle.stab_treecore.specs.TreeReplay.{opened, initial_tree, tree_replay}
 use Rattle.stab_treecore.specs.TreeStep.{next_item, event_on, link_after, tree_step}
 use Rattle.stab_treecore.specs.WholeTree.{WholeTree, link_into, received, source}
 use Rattle.stab_treecore.proofs.AtNodes.{nodes_obey}
@@ -188,7 +188,7 @@ replay_keeps steps net t [] run = run
 replay_keeps steps net t (e ∷ es) run =
     replay_keeps steps net (tree_step t e) es (step_keeps steps net t e run)
 
--- the link into a node that has one, at its opening: it begins with a setup of its own
+-- the link into a node that has one, at its start: it begins with a setup of its own
 pub record IsOpenedAt (net : Network) (node : ℕ) (link : LinkValue) : Type 0 where
   pub setup : LinkSetup
   pub leads : setup_into net node ≡ Some setup
@@ -217,10 +217,10 @@ opened_listed net first node link is =
     let found = opened_into net node link is in
     sym (ap (λ l. first ++ l.state.delivered) found.at_start ∙ append-nil first)
 
--- at its opening a whole tree is of this kind
-pub opening_is_run : (net : Network) → length net.links ≡ length (links_of net.tree.parents) → IsRun net (tree_opening net)
+-- at its start a whole tree is of this kind
+pub opening_is_run : (net : Network) → length net.links ≡ length (links_of net.tree.parents) → IsRun net (initial_tree net)
 opening_is_run net one_per_link =
-    let t = tree_opening net in
+    let t = initial_tree net in
     record {
       published_stay = refl;
       openings_stay = refl;
@@ -244,7 +244,7 @@ opening_is_run net one_per_link =
 abbrev pub ReplaysObey : (ℕ → List ℕ → List ℕ → ℕ → List ℕ → Type 0) → Type 0
 ReplaysObey Law =
     (p : Parameters) (start : Start) (events : List Event) → AreLawful p → IsLawful p start
-    → let s = replay p (opening start) events in Law p.capacity (start_items start) s.offered s.acked s.delivered
+    → let s = replay p (initial start) events in Law p.capacity (start_items start) s.offered s.acked s.delivered
 
 -- so between a parent and its child there is a link that obeys the law, and the child's opening comes before what it delivered
 pub run_links : (Law : ℕ → List ℕ → List ℕ → ℕ → List ℕ → Type 0) → ReplaysObey Law → (net : Network) (t : WholeTree) → IsRun net t → All CanBegin net.links
@@ -293,18 +293,18 @@ run_root net t run node root =
 
 -- each node obeys the tree law after each schedule
 pub schedule_obeys : StepsReach → ReplaysObey LinkLaw → (net : Network) (events : List TreeEvent) → IsNetwork net
-    → TreeLawAtNodes net (received (tree_replay (tree_opening net) events))
+    → TreeLawAtNodes net (received (tree_replay (initial_tree net) events))
 schedule_obeys steps obey net events is =
-    let t = tree_replay (tree_opening net) events in
-    let run : IsRun net t = replay_keeps steps net (tree_opening net) events (opening_is_run net is.one_per_link) in
+    let t = tree_replay (initial_tree net) events in
+    let run : IsRun net t = replay_keeps steps net (initial_tree net) events (opening_is_run net is.one_per_link) in
     nodes_obey net is.tree (received t) (run_root net t run (root_of net.tree.parents) is.tree.root_has_none) is.openings_fit
     (run_links LinkLaw obey net t run is.can_begin)
 
 -- and the sharper one
 pub schedule_obeys_sharper : StepsReach → ReplaysObey SharperLinkLaw → (net : Network) (events : List TreeEvent) → IsNetwork net
-    → SharperTreeLawAtNodes net (received (tree_replay (tree_opening net) events))
+    → SharperTreeLawAtNodes net (received (tree_replay (initial_tree net) events))
 schedule_obeys_sharper steps obey net events is =
-    let t = tree_replay (tree_opening net) events in
-    let run : IsRun net t = replay_keeps steps net (tree_opening net) events (opening_is_run net is.one_per_link) in
+    let t = tree_replay (initial_tree net) events in
+    let run : IsRun net t = replay_keeps steps net (initial_tree net) events (opening_is_run net is.one_per_link) in
     sharper_nodes net is.tree (received t) (run_root net t run (root_of net.tree.parents) is.tree.root_has_none) is.openings_fit
     (run_links SharperLinkLaw obey net t run is.can_begin)

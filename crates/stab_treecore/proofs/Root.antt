@@ -3,7 +3,7 @@ use Rattle.std.proofs.Common.{◌≡◌, ℕ, zero, suc, ◌+◌, ◌<◌, List,
 use Rattle.std.specs.Prelude.{Contains}
 use Rattle.std.proofs.lemmas.List.{get_or-map, length-map}
 use Rattle.stab_core.specs.Picks.{RisesFrom, AllBelow, Picks}
-use Rattle.stab_core.proofs.ForCallers.{rises_from_lower, below_higher, at_places, raised, raised_rise, raised_below, items_after, member_stands, stands_is_member}
+use Rattle.stab_core.proofs.ForCallers.{rises_from_lower, below_higher, at_places, raised, raised_rise, raised_below, items_after, member_is_at, at_is_member}
 
 -- every place of a list
 abbrev pub all_places : List ℕ → List ℕ
@@ -47,12 +47,12 @@ all_picked items = record { rising = all_rise items; in_list = all_below items; 
 -- every place of a list is there
 pub all_there : (items : List ℕ) (i : ℕ) → i < length items → Contains (all_places items) i
 all_there items i within =
-    stands_is_member (all_places items) i i (record { within = omega (arith, length_all items); is_there = all_at items i within })
+    at_is_member (all_places items) i i (record { within = omega (arith, length_all items); is_there = all_at items i within })
 
 -- below a place of a list, every place is a place of it
 pub all_lower : (items : List ℕ) (i q : ℕ) → i < q → Contains (all_places items) q → Contains (all_places items) i
 all_lower items i q before last =
-    let (k, here) = member_stands (all_places items) q last in
+    let (k, here) = member_is_at (all_places items) q last in
     let in_list : k < length items = omega (arith, here.within, length_all items) in
     let high : k ≡ q = omega (arith, here.is_there, all_at items k in_list) in
-    stands_is_member (all_places items) i i (record { within = omega (arith, length_all items); is_there = all_at items i (omega arith) })
+    at_is_member (all_places items) i i (record { within = omega (arith, length_all items); is_there = all_at items i (omega arith) })

@@ -8,7 +8,7 @@ use Rattle.std.proofs.lemmas.List.{length-append, length-map, get_or-map}
 use Rattle.std.proofs.lemmas.List.Elements.{Contains-get_or, Contains-append_cases}
 use Rattle.stab_core.specs.Picks.{AllBelow, Picks}
 use Rattle.stab_core.specs.LinkLaw.{HalfLawAt, NoneMissing, NoneMissingFrom, HalfLaw, LinkLaw, SharperLinkLaw}
-use Rattle.stab_core.proofs.ForCallers.{below_bound, few_picked, at_places, picks_chosen, picks_of_prefix, length_picked, raised, picks_joined, Parted, parted, items_parted, member_stands, stands_is_member, lower_is_earlier, member_is_raised, member_is_chosen, chosen_is_member, raised_is_member, member_is_below, StandsAt}
+use Rattle.stab_core.proofs.ForCallers.{below_bound, few_picked, at_places, picks_chosen, picks_of_prefix, length_picked, raised, picks_joined, Parted, parted, items_parted, member_is_at, at_is_member, lower_is_earlier, member_is_raised, member_is_chosen, chosen_is_member, raised_is_member, member_is_below, IsAt}
 use Rattle.stab_treecore.specs.SharperLaw.{SharperTreeLaw}
 use Rattle.stab_treecore.specs.TreeLaw.{HalfTreeLawAt, NoneMissingBefore, HalfTreeLaw, TreeLaw, CompleteLaw}
 use Rattle.stab_treecore.proofs.Members.{enough_before, enough_up_to}
@@ -20,7 +20,7 @@ member_is_low by v low high below member =
     elim (Contains-append_cases low (raised by high) v member) [
       | inl there ↦ there
       | inr among ↦
-          let (k, here) = member_stands (raised by high) v among in
+          let (k, here) = member_is_at (raised by high) v among in
           let within : k < length high = omega (arith, here.within, length-map high (λ (place : ℕ). by + place)) in
           let is : get_or (raised by high) k 0 ≡ by + get_or high k 0 = get_or-map (λ (place : ℕ). by + place) high k 0 0 within in
           absurd (omega (arith, here.is_there))
@@ -87,12 +87,12 @@ module _ (capacity most_strays acked : ℕ) (start_items garbage published recei
         let (k, in_high, k_is) = member_is_chosen above parts.high q has in
         let as_many : length up.taken ≡ length above = length_picked published above up.taken up.taken_picked in
         let in_taken : get_or parts.high k 0 < length up.taken = below_bound (length up.taken) parts.high k parts.high_below in_high in
-        stands_is_member above q (get_or parts.high k 0) (record { within = omega arith; is_there = k_is })
+        at_is_member above q (get_or parts.high k 0) (record { within = omega arith; is_there = k_is })
 
     -- Where the child has a later item, and none is missing on the link from this place on, it has an earlier item whose place in
     -- the parent's list is there.
     child_has : (first i q m : ℕ) → NoneMissingFrom first acked places → i < q → Contains (at_places above parts.high) q
-        → StandsAt above i m → first ≤ length up.strays + m → Contains (at_places above parts.high) i
+        → IsAt above i m → first ≤ length up.strays + m → Contains (at_places above parts.high) i
     child_has first i q m on_link before last there enough =
         let low = parts.low in
         let high = parts.high in
@@ -114,7 +114,7 @@ module _ (capacity most_strays acked : ℕ) (start_items garbage published recei
         → NoneMissingBefore (most_missing + (2 * capacity + 1)) (at_places above parts.high)
     child_misses_none most_missing at_parent on_link i q enough before last =
         let last_above : Contains above q = had_above q last in
-        let (m, there) = member_stands above i (at_parent i q (omega arith) before last_above) in
+        let (m, there) = member_is_at above i (at_parent i q (omega arith) before last_above) in
         let far_enough : 2 * capacity + 1 ≤ m =
         enough_before most_missing (2 * capacity + 1) i q m above at_parent up.taken_picked.rising last_above enough before there in
         child_has (2 * capacity + 1) i q m on_link before last there (omega arith)
@@ -133,7 +133,7 @@ module _ (capacity most_strays acked : ℕ) (start_items garbage published recei
               let kept : NoneMissingFrom first strays low =
               λ v from below. member_is_low strays v low parts.high below
               (subst (λ ps. Contains ps v) parts.both (on_link v from (omega arith))) in
-              let (m, there) = member_stands low (strays - 1) (kept (strays - 1) (omega arith) (omega arith)) in
+              let (m, there) = member_is_at low (strays - 1) (kept (strays - 1) (omega arith) (omega arith)) in
               let enough : strays - 1 - first ≤ m =
               enough_up_to first (strays - 1 - first) strays (strays - 1) m low kept parts.low_rise (omega arith) (omega arith) there in
               omega (arith, there.within)
@@ -142,7 +142,7 @@ module _ (capacity most_strays acked : ℕ) (start_items garbage published recei
 
     -- how far an item is in the parent's list that comes so much after those that strays were in the place of
     far_enough : (without first i q m : ℕ) → NoneMissingBefore (without + length up.strays) above → Contains above q
-        → without + first ≤ i → i < q → StandsAt above i m → first ≤ length up.strays + m
+        → without + first ≤ i → i < q → IsAt above i m → first ≤ length up.strays + m
     far_enough without first i q m at_parent last_above enough before there =
         let strays = length up.strays in
         elim (cases_lt strays first) [
@@ -164,7 +164,7 @@ module _ (capacity most_strays acked : ℕ) (start_items garbage published recei
         length-append link.strays (at_places up.strays parts.low)
         ∙ ap (λ n. length link.strays + n) (length-map parts.low (slice_index up.strays)) in
         let kept = strays_kept first q on_link last in
-        let (m, there) = member_stands above i (at_parent i q (omega arith) before last_above) in
+        let (m, there) = member_is_at above i (at_parent i q (omega arith) before last_above) in
         child_has first i q m on_link before last there
         (far_enough without first i q m at_parent last_above (omega arith) before there)
 
@@ -178,7 +178,7 @@ module _ (capacity most_strays acked : ℕ) (start_items garbage published recei
         let more = le-max_left most_missing (without + (2 * capacity + 1)) in
         let later = le-max_right most_missing (without + (2 * capacity + 1)) in
         let last_above : Contains above q = had_above q last in
-        let (m, there) = member_stands above i (at_most i q (omega arith) before last_above) in
+        let (m, there) = member_is_at above i (at_most i q (omega arith) before last_above) in
         child_has first i q m on_link before last there
         (far_enough without first i q m at_parent last_above (omega arith) before there)
 
@@ -191,7 +191,7 @@ module _ (capacity most_strays acked : ℕ) (start_items garbage published recei
         let low = parts.low in
         let high = parts.high in
         let strays = length up.strays in
-        let (m, there) = member_stands above i (at_parent i (omega arith) before) in
+        let (m, there) = member_is_at above i (at_parent i (omega arith) before) in
         let far_enough : 2 * capacity + 1 ≤ m =
         enough_up_to most_missing (2 * capacity + 1) (length published) i m above at_parent up.taken_picked.rising enough before there in
         let as_many : length up.taken ≡ length above = length_picked published above up.taken up.taken_picked in

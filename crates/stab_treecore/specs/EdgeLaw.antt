@@ -13,7 +13,7 @@ use Rattle.stab_frames.specs.Parameters.{Parameters}
 use Rattle.stab_core.specs.declared.event.Event.{Event}
 use Rattle.stab_core.specs.declared.start.Start.{Start}
 use Rattle.stab_core.specs.LinkSetup.{CanBegin, LinkSetup}
-use Rattle.stab_core.specs.Replay.{opening, replay}
+use Rattle.stab_core.specs.Replay.{initial, replay}
 use Rattle.stab_treecore.specs.Network.{Network, setup_into}
 use Rattle.stab_treecore.specs.NodeOpenings.{opening_at}
 
@@ -22,10 +22,10 @@ use Rattle.stab_treecore.specs.NodeOpenings.{opening_at}
 pub record EdgeLaw (p : Parameters) (start : Start) (above : List ℕ) (acked : ℕ)
     (delivered : List ℕ) : Type 0 where
   pub events : List Event
-  pub closed : IsTrue (replay p (opening start) events).closed
-  pub delivers : (replay p (opening start) events).delivered ≡ delivered
-  pub counts : (replay p (opening start) events).acked ≡ acked
-  pub offers : IsPrefix (replay p (opening start) events).offered above
+  pub closed : IsTrue (replay p (initial start) events).closed
+  pub delivers : (replay p (initial start) events).delivered ≡ delivered
+  pub counts : (replay p (initial start) events).acked ≡ acked
+  pub offers : IsPrefix (replay p (initial start) events).offered above
 
 -- the link into a node can begin, and the edge law holds of it; the node has its opening, and then
 -- what the link delivered

@@ -24,7 +24,7 @@ use Rattle.stab_treecore.specs.declared.fault.TreeStepFault.{TreeStepFault}
 use Rattle.stab_treecore.specs.declared.fault.TreeStepFault.TheVariants.{NoSuchLink}
 use Rattle.stab_treecore.specs.declared.fault.TreeStepFault.TheVariants.{Memory as StepMemory}
 use Rattle.stab_treecore.specs.Network.{Network}
-use Rattle.stab_treecore.specs.TreeReplay.{tree_opening}
+use Rattle.stab_treecore.specs.TreeReplay.{initial_tree}
 use Rattle.stab_treecore.specs.TreeStep.{tree_step, tree_effect}
 use Rattle.stab_treecore.specs.WholeTree.{WholeTree}
 
@@ -83,4 +83,4 @@ IsScheduleReason params starts net events (StartRefused fault) =
 IsScheduleReason params starts net events (Step fault) =
     OnePerLink net.tree.parents params × OnePerLink net.tree.parents starts
     × All CanBegin net.links
-    × IsStepReason (tree_opening net) events fault
+    × IsStepReason (initial_tree net) events fault

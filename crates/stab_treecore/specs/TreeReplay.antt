@@ -1,10 +1,10 @@
--- The opening of a whole tree, and the replay of a schedule: its steps, one after the other.
+-- The initial state of a whole tree, and the replay of a schedule: its steps, one after the other.
 -- Source: this project's profile. The starts are arbitrary, but for the capacity of their queues,
 -- and so are the openings, but for their number of items.
 use Rattle.std.specs.Prelude.{List, [], ◌∷◌, map}
 use Rattle.stab_core.specs.Link.{LinkValue, link_at}
 use Rattle.stab_core.specs.LinkSetup.{LinkSetup}
-use Rattle.stab_core.specs.Replay.{opening}
+use Rattle.stab_core.specs.Replay.{initial}
 use Rattle.stab_treecore.specs.declared.event.TreeEvent.{TreeEvent}
 use Rattle.stab_treecore.specs.ByChild.{by_child}
 use Rattle.stab_treecore.specs.Network.{Network}
@@ -13,11 +13,11 @@ use Rattle.stab_treecore.specs.WholeTree.{WholeTree}
 
 -- a link at its start
 abbrev pub opened : LinkSetup → LinkValue
-opened link = link_at link.params (opening link.start)
+opened link = link_at link.params (initial link.start)
 
 -- the whole tree with each link at its start, and each node with its opening
-abbrev pub tree_opening : Network → WholeTree
-tree_opening net =
+abbrev pub initial_tree : Network → WholeTree
+initial_tree net =
     record {
       published = net.published;
       openings = net.openings.lists;

@@ -24,7 +24,7 @@ ghost use Rattle.stab_treecore.specs.SharperLaw.{SharperTreeLaw, SharperTreeLawA
 ghost use Rattle.stab_treecore.specs.SharperLaw.{fewest_missing, missing_without_strays};
 ghost use Rattle.stab_treecore.specs.Refusals.{OnePerLink};
 ghost use Rattle.stab_treecore.specs.TreeLaw.{HalfTreeLaw, TreeLaw, CompleteLaw};
-ghost use Rattle.stab_treecore.specs.TreeReplay.{tree_opening, tree_replay};
+ghost use Rattle.stab_treecore.specs.TreeReplay.{initial_tree, tree_replay};
 ghost use Rattle.stab_treecore.specs.WholeTree.{received};
 
 /// The root has each published item and no stray.
@@ -174,7 +174,7 @@ pub fn sharper_tree_law_of_edges()
 pub fn every_schedule_obeys_the_sharper_tree_law()
     ensures { (net : Network) (events : List TreeEvent)
         → IsNetwork net
-        → SharperTreeLawAtNodes net (received (tree_replay (tree_opening net) events)) }
+        → SharperTreeLawAtNodes net (received (tree_replay (initial_tree net) events)) }
 {
     stab_core::laws::reachable_steps();
     stab_core::laws::every_replay_obeys_the_sharper_link_law();
@@ -244,7 +244,7 @@ pub fn half_tree_law_at_every_node()
 pub fn every_schedule_obeys_the_tree_law()
     ensures { (net : Network) (events : List TreeEvent)
         → IsNetwork net
-        → TreeLawAtNodes net (received (tree_replay (tree_opening net) events)) }
+        → TreeLawAtNodes net (received (tree_replay (initial_tree net) events)) }
 {
     stab_core::laws::reachable_steps();
     stab_core::laws::every_replay_obeys_the_link_law();

@@ -4,7 +4,7 @@ ghost use Rattle.stab_treecore.specs.Network.{IsNetwork, network_of};
 ghost use Rattle.stab_treecore.specs.NodeLaws.{HalfTreeLawAtNodes, TreeLawAtNodes};
 ghost use Rattle.stab_treecore.specs.NodeOpenings.{FitTree};
 ghost use Rattle.stab_treecore.specs.Refusals.{OnePerLink, NamesLink, IsScheduleReason};
-ghost use Rattle.stab_treecore.specs.TreeReplay.{tree_opening, tree_replay};
+ghost use Rattle.stab_treecore.specs.TreeReplay.{initial_tree, tree_replay};
 ghost use Rattle.stab_treecore.specs.WholeTree.{received};
 
 use crate::event::TreeEvent;
@@ -36,7 +36,7 @@ pub fn run_schedule(
 ) -> Result<TreeState, TreeStartFault>
     requires fit { FitTree tree.now.parents openings.now }
     ensures replay { IfOk result (λ state.
-        state ≡ tree_replay (tree_opening
+        state ≡ tree_replay (initial_tree
         (network_of params.now tree.now published.now starts.now openings.now)) events.now) }
     ensures same_tree { IfOk result (λ state. state.parents ≡ tree.now.parents) }
     ensures params_per_link { OnOk result (OnePerLink tree.now.parents params.now) }
@@ -76,7 +76,7 @@ fn replayed(
 ) -> Result<TreeState, TreeStartFault>
     requires fit { FitTree tree.now.parents openings.now }
     ensures replay { IfOk result (λ state.
-        state ≡ tree_replay (tree_opening
+        state ≡ tree_replay (initial_tree
         (network_of params.now tree.now published.now starts.now openings.now)) events.now) }
     ensures same_tree { IfOk result (λ state. state.parents ≡ tree.now.parents) }
     ensures params_per_link { OnOk result (OnePerLink tree.now.parents params.now) }

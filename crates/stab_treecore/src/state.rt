@@ -10,7 +10,7 @@ ghost use Rattle.stab_treecore.specs.Fresh.{fresh_item};
 ghost use Rattle.stab_treecore.specs.Network.{network_of};
 ghost use Rattle.stab_treecore.specs.NodeOpenings.{FitTree};
 ghost use Rattle.stab_treecore.specs.Refusals.{OnePerLink, IsStartReason, NamesLink, NamesNoLink};
-ghost use Rattle.stab_treecore.specs.TreeReplay.{tree_opening};
+ghost use Rattle.stab_treecore.specs.TreeReplay.{initial_tree};
 ghost use Rattle.stab_treecore.specs.TreeStep.{next_item, link_after, effect_on, tree_step};
 ghost use Rattle.stab_treecore.specs.TreeStep.{tree_effect};
 
@@ -62,7 +62,7 @@ impl Model for TreeState {
 }
 
 impl TreeState {
-    /// The whole tree at its opening. The parameters and the starts are in the file order of the
+    /// The whole tree at its start. The parameters and the starts are in the file order of the
     /// links' children.
     ///
     /// Lists that have not one entry for each link are refused, and then the first start that its
@@ -76,8 +76,8 @@ impl TreeState {
         openings: &Openings,
     ) -> Result<TreeState, TreeStartFault>
         requires fit { FitTree tree.now.parents openings.now }
-        ensures opening { IfOk result (λ state.
-            state ≡ tree_opening
+        ensures initial { IfOk result (λ state.
+            state ≡ initial_tree
             (network_of params.now tree.now published.now starts.now openings.now)) }
         ensures params_per_link { OnOk result (OnePerLink tree.now.parents params.now) }
         ensures one_per_link { OnOk result (OnePerLink tree.now.parents starts.now) }

@@ -5,10 +5,10 @@
 use Rattle.std.specs.Prelude.{ℕ, ◌+◌, ◌==◌, ◌&&◌, not, Bool, List, [], ◌∷◌, length}
 use Rattle.std.specs.Prelude.{if◌then◌else◌}
 use Rattle.stab_core.specs.declared.event.Effect.{Effect}
-use Rattle.stab_core.specs.declared.event.Effect.TheVariants.{Nothing, Held, Sent, Fresh, Old}
-use Rattle.stab_core.specs.declared.event.Effect.TheVariants.{Acked, Ignored, Lost, Closed}
+use Rattle.stab_core.specs.declared.event.Effect.TheVariants.{Nothing, Sent}
+use Rattle.stab_core.specs.declared.event.Effect.TheVariants.{Acked, Ignored, Lost}
 use Rattle.stab_frames.specs.Parameters.{Parameters, next}
-use Rattle.stab_lock.specs.Accounts.{Sender}
+use Rattle.stab_lock.specs.Accounts.{SenderAccount}
 use Rattle.stab_lock.specs.declared.seen.FrameSeen.{FrameSeen}
 use Rattle.stab_lock.specs.declared.seen.FrameSeen.TheVariants as seen
 use Rattle.stab_script.specs.declared.act.OutAct.{OutAct}
@@ -38,36 +38,22 @@ abbrev pub steps_where : {S : Type 0} → Bool → ActsRemaining → S → List 
 steps_where test acts store = if test then steps_under (out_act acts.outs) store else []
 
 -- the end did not close the link, and its last item waits for an acknowledgement
-abbrev pub has_frame : Sender → Bool
+abbrev pub has_frame : SenderAccount → Bool
 has_frame s = not s.closed && (length s.offered == s.acked + 1)
 
 -- the sender goes on to the next label where its item is acknowledged
 abbrev pub label_after_effect : Parameters → ℕ → Effect → ℕ
-label_after_effect p label Nothing = label
-label_after_effect p label Held = label
-label_after_effect p label Sent = label
-label_after_effect p label (Fresh item) = label
-label_after_effect p label Old = label
 label_after_effect p label Acked = next p label
-label_after_effect p label Ignored = label
-label_after_effect p label Lost = label
-label_after_effect p label Closed = label
+label_after_effect p label _ = label
 
 -- an acknowledgement that is shown takes an act; an empty word takes none
 abbrev pub acts_after_effect : ActsRemaining → Effect → ActsRemaining
-acts_after_effect acts Nothing = acts
-acts_after_effect acts Held = acts
-acts_after_effect acts Sent = acts
-acts_after_effect acts (Fresh item) = acts
-acts_after_effect acts Old = acts
 acts_after_effect acts Acked = after_in acts
 acts_after_effect acts Ignored = after_in acts
-acts_after_effect acts Lost = acts
-acts_after_effect acts Closed = acts
+acts_after_effect acts _ = acts
 
 -- a frame that is shown takes an act; an empty word and the close take none
 abbrev pub acts_after_seen : ActsRemaining → FrameSeen → ActsRemaining
-acts_after_seen acts seen.Nothing = acts
 acts_after_seen acts seen.Old = after_in acts
 acts_after_seen acts (seen.Fresh item) = after_in acts
-acts_after_seen acts seen.Closed = acts
+acts_after_seen acts _ = acts

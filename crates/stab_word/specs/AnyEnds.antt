@@ -6,9 +6,9 @@
 -- with a lock.
 -- Source: this project's own.
 use Rattle.std.specs.Prelude.{◌≡◌}
-use Rattle.stab_lock.specs.Accounts.{Sender, Receiver}
+use Rattle.stab_lock.specs.Accounts.{SenderAccount, ReceiverAccount}
 use Rattle.stab_script.specs.Scripts.{ActsRemaining}
-use Rattle.stab_word.specs.Ends.{SendEnd, RecvEnd}
+use Rattle.stab_word.specs.Ends.{WordSendView, WordRecvView}
 use Rattle.stab_table.specs.Seats.{LinkId}
 use Rattle.stab_word.specs.declared.any_send.AnySend.{AnySend}
 use Rattle.stab_word.specs.declared.any_send.AnySend.TheVariants as send
@@ -27,23 +27,23 @@ pub data AnyLinkId : Type 0 where
 -- the sender's end: its link, its account, and the acts that remain
 pub record AnySendEnd : Type 0 where
   pub link : AnyLinkId
-  pub account : Sender
+  pub account : SenderAccount
   pub acts : ActsRemaining
 
 -- the receiver's end: its link, its account, and the acts that remain
 pub record AnyRecvEnd : Type 0 where
   pub link : AnyLinkId
-  pub account : Receiver
+  pub account : ReceiverAccount
   pub acts : ActsRemaining
 
 -- a finished end: its link and its account
 pub record AnySendFinished : Type 0 where
   pub link : AnyLinkId
-  pub account : Sender
+  pub account : SenderAccount
 
 pub record AnyRecvFinished : Type 0 where
   pub link : AnyLinkId
-  pub account : Receiver
+  pub account : ReceiverAccount
 
 abbrev pub any_send_end : {R : Type 0} → AnySend R → AnySendEnd
 any_send_end (send.Lock end) = record { link = locked; account = end.account; acts = end.acts }
@@ -66,14 +66,14 @@ any_recv_finished (recv_done.Word done) =
     record { link = of_words done.link; account = done.received }
 
 -- over two words a call is this call of the end inside; over a lock this says nothing
-abbrev pub OfWordSend : {R : Type 0} → (SendEnd → SendEnd → Type 0) → AnySend R → AnySend R
+abbrev pub OfWordSend : {R : Type 0} → (WordSendView → WordSendView → Type 0) → AnySend R → AnySend R
     → Type 0
 OfWordSend IsCall (send.Lock old) (send.Lock new) = Unit {0}
 OfWordSend IsCall (send.Lock old) (send.Word new) = ⊥
 OfWordSend IsCall (send.Word old) (send.Lock new) = ⊥
 OfWordSend IsCall (send.Word old) (send.Word new) = IsCall old new
 
-abbrev pub OfWordRecv : {R : Type 0} → (RecvEnd → RecvEnd → Type 0) → AnyRecv R → AnyRecv R
+abbrev pub OfWordRecv : {R : Type 0} → (WordRecvView → WordRecvView → Type 0) → AnyRecv R → AnyRecv R
     → Type 0
 OfWordRecv IsCall (recv.Lock old) (recv.Lock new) = Unit {0}
 OfWordRecv IsCall (recv.Lock old) (recv.Word new) = ⊥

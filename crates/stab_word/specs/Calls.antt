@@ -18,7 +18,7 @@ use Rattle.stab_lock.specs.declared.seen.FrameSeen.{FrameSeen}
 use Rattle.stab_lock.specs.declared.seen.FrameSeen.TheVariants as seen
 use Rattle.stab_word.specs.Answers.{put_where, acts_put_where, steps_where, has_frame}
 use Rattle.stab_word.specs.Answers.{label_after_effect, acts_after_effect, acts_after_seen}
-use Rattle.stab_word.specs.Ends.{SendEnd, RecvEnd}
+use Rattle.stab_word.specs.Ends.{WordSendView, WordRecvView}
 use Rattle.stab_table.specs.Views.{is_waiting, waiting_frame}
 use Rattle.stab_table.specs.declared.words.FrameWord.{FrameWord}
 use Rattle.stab_table.specs.declared.words.FrameWord.TheVariants as frame
@@ -38,7 +38,7 @@ offer_steps item (Ok false) = []
 offer_steps item (Err refused) = []
 
 -- an offer changes the account and the steps alone
-pub record OfferCall (item : ℕ) (r : Result Bool AllocError) (old new : SendEnd) : Type 0 where
+pub record OfferCall (item : ℕ) (r : Result Bool AllocError) (old new : WordSendView) : Type 0 where
   -- an end does not take an item where it is closed, or where its last item waits
   pub not_taken : IfOk r (λ taken. taken ≡ false
       → (old.sent.closed ≡ true) ⊎ (length old.sent.offered ≡ old.sent.acked + 1))
@@ -48,7 +48,7 @@ pub record OfferCall (item : ℕ) (r : Result Bool AllocError) (old new : SendEn
   pub rest : new ≡ record old { sent = new.sent; steps = new.steps }
 
 -- a frame that waits is stored, or dropped, by the next act
-pub record SendCall (r : Result Effect AllocError) (old new : SendEnd) : Type 0 where
+pub record SendCall (r : Result Effect AllocError) (old new : WordSendView) : Type 0 where
   pub answer : r ≡ Ok (put_where (has_frame old.sent) old.acts)
   pub acts : new.acts ≡ acts_put_where (has_frame old.sent) old.acts
   pub steps : new.steps ≡ old.steps ++ steps_where (has_frame old.sent) old.acts
@@ -56,14 +56,14 @@ pub record SendCall (r : Result Effect AllocError) (old new : SendEnd) : Type 0 
   pub label : new.label ≡ old.label
 
 -- the answer where a load shows this acknowledgement word
-abbrev pub ack_answer : SendEnd → AckWord → Effect
+abbrev pub ack_answer : WordSendView → AckWord → Effect
 ack_answer e ack.Empty = Nothing
 ack_answer e (ack.Full label) =
     if is_waiting e.sent && (label == e.label) then Acked else Ignored
 
 -- a look for an acknowledgement is one load on an open link, and no step once the end closed it; it
 -- takes no memory
-pub record PollAckCall (r : Result Effect AllocError) (old new : SendEnd) : Type 0 where
+pub record PollAckCall (r : Result Effect AllocError) (old new : WordSendView) : Type 0 where
   pub always : IsOk r
   pub closed : old.sent.closed ≡ true → (r ≡ Ok Nothing) × (new ≡ old)
   pub still_open : old.sent.closed ≡ false → (word : AckWord)
@@ -73,7 +73,7 @@ pub record PollAckCall (r : Result Effect AllocError) (old new : SendEnd) : Type
   pub acts : IfOk r (λ effect. new.acts ≡ acts_after_effect old.acts effect)
 
 -- the first close is one store
-pub record CloseCall (r : Result Effect AllocError) (old new : SendEnd) : Type 0 where
+pub record CloseCall (r : Result Effect AllocError) (old new : WordSendView) : Type 0 where
   pub answer : r ≡ Ok (if old.sent.closed then Nothing else Closed)
   pub steps : new.steps
       ≡ old.steps ++ (if old.sent.closed then [] else send_step.CloseStore ∷ [])
@@ -85,12 +85,12 @@ pub record CloseCall (r : Result Effect AllocError) (old new : SendEnd) : Type 0
 abbrev pub frame_answer : ℕ → FrameWord → FrameSeen
 frame_answer label frame.Empty = seen.Nothing
 frame_answer label (frame.Full f) = if f.label == label then seen.Old else seen.Fresh f.item
-frame_answer label frame.Shut = seen.Closed
+frame_answer label frame.Closed = seen.Closed
 
 abbrev pub label_after : ℕ → FrameWord → ℕ
 label_after label frame.Empty = label
 label_after label (frame.Full f) = f.label
-label_after label frame.Shut = label
+label_after label frame.Closed = label
 
 -- the answer where a look shows this frame word, and no load follows it: memory is refused only
 -- where the word shows a frame with another label
@@ -98,7 +98,7 @@ abbrev pub LookAnswer : ℕ → FrameWord → Result FrameSeen AllocError → Ty
 LookAnswer label frame.Empty r = r ≡ Ok seen.Nothing
 LookAnswer label (frame.Full f) r =
     ((f.label ≡ label) × (r ≡ Ok seen.Old)) ⊎ ((f.label ≢ label) × IsErr r)
-LookAnswer label frame.Shut r = r ≡ Ok seen.Closed
+LookAnswer label frame.Closed r = r ≡ Ok seen.Closed
 
 -- from one label to the next, by the steps of one call on a link whose close was not seen: one
 -- load; or a look; or a look that shows a frame with another label, and then one load
@@ -111,7 +111,7 @@ FrameSteps old new (recv_step.FrameLook (frame.Full f) ∷ recv_step.FrameLoad w
 FrameSteps old new steps r = ⊥
 
 -- a look for a frame makes no step once the close was seen; refused, it changes the steps alone
-pub record PollFrameCall (r : Result FrameSeen AllocError) (old new : RecvEnd) : Type 0 where
+pub record PollFrameCall (r : Result FrameSeen AllocError) (old new : WordRecvView) : Type 0 where
   pub unchanged : OnErr r (new ≡ record old { steps = new.steps })
   pub closed : old.received.closed ≡ true → (r ≡ Ok seen.Closed) × (new ≡ old)
   pub still_open : old.received.closed ≡ false → (steps : List RecvStep)
@@ -119,7 +119,7 @@ pub record PollFrameCall (r : Result FrameSeen AllocError) (old new : RecvEnd) :
   pub acts : IfOk r (λ answer. new.acts ≡ acts_after_seen old.acts answer)
 
 -- the label is stored, or dropped, by the next act, until the close is seen
-pub record SendAckCall (r : Result Effect AllocError) (old new : RecvEnd) : Type 0 where
+pub record SendAckCall (r : Result Effect AllocError) (old new : WordRecvView) : Type 0 where
   pub answer : r ≡ Ok (put_where (not old.received.closed) old.acts)
   pub acts : new.acts ≡ acts_put_where (not old.received.closed) old.acts
   pub steps : new.steps ≡ old.steps ++ steps_where (not old.received.closed) old.acts

@@ -2,7 +2,7 @@
 -- of an end that is finished.
 -- Source: this project's own.
 use Rattle.std.specs.Prelude.{ℕ, List, []}
-use Rattle.stab_lock.specs.Accounts.{Sender, Receiver, new_sender, new_receiver}
+use Rattle.stab_lock.specs.Accounts.{SenderAccount, ReceiverAccount, new_sender, new_receiver}
 use Rattle.stab_script.specs.Scripts.{ActsRemaining}
 use Rattle.stab_table.specs.Seats.{LinkId, SeatedSender, SeatedReceiver}
 use Rattle.stab_table.specs.declared.view.SendStep.{SendStep}
@@ -10,18 +10,18 @@ use Rattle.stab_table.specs.declared.view.RecvStep.{RecvStep}
 
 -- the sender's end: its link, its account, its label, the acts that remain, and the steps that it
 -- made
-pub record SendEnd : Type 0 where
+pub record WordSendView : Type 0 where
   pub link : LinkId
-  pub sent : Sender
+  pub sent : SenderAccount
   pub label : ℕ
   pub acts : ActsRemaining
   pub steps : List SendStep
 
 -- the receiver's end: its link, its account, the label that it took last, the acts that remain,
 -- and the steps that it made
-pub record RecvEnd : Type 0 where
+pub record WordRecvView : Type 0 where
   pub link : LinkId
-  pub received : Receiver
+  pub received : ReceiverAccount
   pub label : ℕ
   pub acts : ActsRemaining
   pub steps : List RecvStep
@@ -29,16 +29,16 @@ pub record RecvEnd : Type 0 where
 -- a finished end: its link, its account, and the steps that it made
 pub record SendFinished : Type 0 where
   pub link : LinkId
-  pub sent : Sender
+  pub sent : SenderAccount
   pub steps : List SendStep
 
 pub record RecvFinished : Type 0 where
   pub link : LinkId
-  pub received : Receiver
+  pub received : ReceiverAccount
   pub steps : List RecvStep
 
 -- the ends that have made no call: empty accounts, the start's labels, these acts, and no step
-abbrev pub new_send_end : LinkId → ActsRemaining → SendEnd
+abbrev pub new_send_end : LinkId → ActsRemaining → WordSendView
 new_send_end link acts =
     record {
       link = link;
@@ -48,7 +48,7 @@ new_send_end link acts =
       steps = [];
     }
 
-abbrev pub new_recv_end : LinkId → ActsRemaining → RecvEnd
+abbrev pub new_recv_end : LinkId → ActsRemaining → WordRecvView
 new_recv_end link acts =
     record {
       link = link;
@@ -59,14 +59,14 @@ new_recv_end link acts =
     }
 
 -- the seats of ends with this label, this account and these steps: a seat knows what its end keeps
-abbrev pub sender_seat : LinkId → ℕ → Sender → List SendStep → SeatedSender
+abbrev pub sender_seat : LinkId → ℕ → SenderAccount → List SendStep → SeatedSender
 sender_seat link label account steps =
     record {
       table = link.table;
       view = record { given = link.given; label = label; account = account; steps = steps };
     }
 
-abbrev pub receiver_seat : LinkId → ℕ → Receiver → List RecvStep → SeatedReceiver
+abbrev pub receiver_seat : LinkId → ℕ → ReceiverAccount → List RecvStep → SeatedReceiver
 receiver_seat link label account steps =
     record {
       table = link.table;

@@ -1,6 +1,6 @@
 ghost use Rattle.std.specs.Prelude.{◌≡◌, List, IfOk, IfErr, OnOk};
 ghost use Rattle.stab_core.specs.LinkLaw.{LinkLaw};
-ghost use Rattle.stab_core.specs.Replay.{IsLawful, opening, replay, start_items};
+ghost use Rattle.stab_core.specs.Replay.{IsLawful, initial, replay, start_items};
 ghost use Rattle.stab_core.specs.declared.event.Event.{Event};
 ghost use Rattle.stab_lock.specs.Settling.{Agree};
 ghost use Rattle.stab_script.specs.Scripts.{sender_half, receiver_half};
@@ -133,7 +133,7 @@ impl WordLink {
         ensures send { result.send ≡ send.sent }
         ensures recv { result.recv ≡ recv.received }
         ensures replay { (events : List Event)
-            × Agree (replay self.given.params (opening self.given.start) events)
+            × Agree (replay self.given.params (initial self.given.start) events)
             send.sent recv.received }
         ensures interleaved { AnInterleavingExplains self.given send.steps send.sent recv.steps
             recv.received }

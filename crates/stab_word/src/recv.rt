@@ -27,9 +27,9 @@ pub struct WordRecv<'a> {
 
 impl<'a> Model for WordRecv<'a> {
     ghost use Rattle.std.specs.Prelude.{◌≡◌};
-    ghost use Rattle.stab_word.specs.Ends.{RecvEnd, receiver_seat};
+    ghost use Rattle.stab_word.specs.Ends.{WordRecvView, receiver_seat};
 
-    ghost Value = { RecvEnd };
+    ghost Value = { WordRecvView };
 
     ghost view = { λ e. record {
       link = e.table.now;
@@ -144,7 +144,7 @@ impl<'a> RecvSide for WordRecv<'a> {
                 .frame_look(&mut self.seat, &self.account.delivered)
             {
                 FrameWord::Empty => return Ok(FrameSeen::Nothing),
-                FrameWord::Shut => {
+                FrameWord::Closed => {
                     self.account.closed = true;
                     return Ok(FrameSeen::Closed);
                 }
@@ -159,7 +159,7 @@ impl<'a> RecvSide for WordRecv<'a> {
         }
         match self.table.frame_load(&mut self.seat) {
             FrameWord::Empty => Ok(FrameSeen::Nothing),
-            FrameWord::Shut => {
+            FrameWord::Closed => {
                 self.account.closed = true;
                 Ok(FrameSeen::Closed)
             }

@@ -44,9 +44,9 @@ pub struct WordSend<'a> {
 
 impl<'a> Model for WordSend<'a> {
     ghost use Rattle.std.specs.Prelude.{◌≡◌, ◌≤◌, ◌+◌, length};
-    ghost use Rattle.stab_word.specs.Ends.{SendEnd, sender_seat};
+    ghost use Rattle.stab_word.specs.Ends.{WordSendView, sender_seat};
 
-    ghost Value = { SendEnd };
+    ghost Value = { WordSendView };
 
     ghost view = { λ e. record {
       link = e.table.now;

@@ -7,7 +7,7 @@ use Rattle.std.specs.List.{range_with_len}
 use Rattle.stab_tree.specs.Nodes.{parent_at}
 use Rattle.stab_treecore.proofs.ForCallers.{openings_fit}
 use Rattle.stab_treecore.specs.NodeOpenings.{FitTree, OpeningsValue, opening_at}
-use Rattle.stab_workers.specs.FirstItems.{first_at}
+use Rattle.stab_workers.specs.InitialItems.{initial_at}
 
 -- numbers that are counted up stay below where they end
 all_below : (start n end : ℕ) → start + n ≤ end → All (λ node. node < end) (range_with_len start n)
@@ -33,12 +33,12 @@ known_first end nodes node rest are all =
 
 module _ (root : ℕ) (published : List ℕ) (openings : List (List ℕ)) where
   -- the root begins with the published items
-  pub first_at_root : first_at root published openings root ≡ published
+  pub first_at_root : initial_at root published openings root ≡ published
   first_at_root = ap (λ b. if b then published else opening_at openings root) (eq-eqb root root refl)
 
   -- a child begins with its opening
-  pub first_at_child : (parents : List (Option ℕ)) (child parent : ℕ) → parent_at parents root ≡ None
-      → parent_at parents child ≡ Some parent → first_at root published openings child ≡ opening_at openings child
-  first_at_child parents child parent none is_child =
+  pub initial_at_child : (parents : List (Option ℕ)) (child parent : ℕ) → parent_at parents root ≡ None
+      → parent_at parents child ≡ Some parent → initial_at root published openings child ≡ opening_at openings child
+  initial_at_child parents child parent none is_child =
       ap (λ b. if b then published else opening_at openings child)
       (ne_eqb child root (λ same. none-some parent (sym none ∙ (ap (λ node. parent_at parents node) (sym same) ∙ is_child))))

@@ -1,18 +1,19 @@
--- For callers of dealing out and gathering: what is one per link, beside the nodes, and back.
-pub use Rattle.stab_treecore.proofs.ForCallers.{holds_by_child, map-by_child, map-to_children, dealt_alike, holds_at_child}
-pub use Rattle.stab_workers.proofs.Seated.{length-by_child, length-by_parent}
+-- For callers of scattering and gathering: what is one per link, beside the nodes, and back.
+pub use Rattle.stab_treecore.proofs.ForCallers.{holds_by_child, length-by_child, map-by_child, map-to_children, scattered_alike, holds_at_child}
+pub use Rattle.stab_workers.proofs.Taken.{length-by_parent}
 pub use Rattle.stab_workers.proofs.Gathering.{by_parent_at, as_many_to_children}
 pub use Rattle.stab_workers.proofs.Worked.{at_error}
 use Rattle.std.proofs.Common.{◌≡◌, ◌<◌, ℕ, zero, suc, true, false, List, [], ◌∷◌, length, map, get_or, drop, is_some, Option, Some, None, option_map, All, refl, ap, sym, ◌∙◌, subst, arith}
 use Rattle.std.proofs.lemmas.List.{length-map}
 use Rattle.std.proofs.lemmas.Option.{none-some, same_Some}
 use Rattle.std.specs.List.{AllZip, range_with_len}
+use mathlib.Core.List.{map-map}
 use Rattle.stab_tree.specs.Links.{links_from, links_of}
 use Rattle.stab_tree.specs.Nodes.{parent_at}
 use Rattle.stab_treecore.specs.ByChild.{by_child, to_children}
-use Rattle.stab_treecore.proofs.ForCallers.{map-by_child, map-to_children, dealt_alike, holds_at_child}
+use Rattle.stab_treecore.proofs.ForCallers.{linked_nodes, map-by_child, map-to_children, scattered_alike, holds_at_child}
 use Rattle.stab_workers.proofs.Gathering.{by_parent_at, as_many_to_children}
-use Rattle.stab_workers.specs.Dealing.{by_parent, child_counts}
+use Rattle.stab_workers.specs.Scattering.{by_parent, child_counts}
 
 -- ---- by parent
 
@@ -21,34 +22,29 @@ same_maps : {A B : Type 0} (f g : A → B) (xs : List A) → ((x : A) → f x �
 same_maps f g [] same = refl
 same_maps f g (x ∷ xs) same = let first = same x in let rest = same_maps f g xs same in cc
 
--- to map after another map is to map both at once
-map_twice : {A B C : Type 0} (f : B → C) (g : A → B) (xs : List A) → map f (map g xs) ≡ map (λ x. f (g x)) xs
-map_twice f g [] = refl
-map_twice f g (x ∷ xs) = ap (λ rest. f (g x) ∷ rest) (map_twice f g xs)
-
--- to deal out and then to map is to map and then to deal out
+-- to scatter and then to map is to map and then to scatter
 pub map-by_parent : {A B : Type 0} (f : A → B) (parents : List (Option ℕ)) (xs : List A)
     → map (λ row. map f row) (by_parent parents xs) ≡ by_parent parents (map f xs)
 map-by_parent f parents xs =
-    map_twice (λ row. map f row) (λ node. to_children node parents xs) (range_with_len 0 (length parents))
+    map-map (λ row. map f row) (λ node. to_children node parents xs) (range_with_len 0 (length parents))
     ∙ same_maps (λ node. map f (to_children node parents xs)) (λ node. to_children node parents (map f xs)) (range_with_len 0 (length parents))
     (λ node. map-to_children f node parents xs)
 
--- what is one per link, dealt out, gives each node one for each of its children
+-- what is one per link, scattered, gives each node one for each of its children
 pub counts_by_parent : {A : Type 0} (parents : List (Option ℕ)) (xs : List A) → length xs ≡ length (links_of parents)
     → map (λ row. length row) (by_parent parents xs) ≡ child_counts parents
 counts_by_parent parents xs counted =
-    map_twice (λ row. length row) (λ node. to_children node parents xs) (range_with_len 0 (length parents))
+    map-map (λ row. length row) (λ node. to_children node parents xs) (range_with_len 0 (length parents))
     ∙ (same_maps (λ node. length (to_children node parents xs)) (λ node. length (to_children node parents (links_of parents)))
     (range_with_len 0 (length parents)) (λ node. as_many_to_children node parents xs (links_of parents) counted)
-    ∙ sym (map_twice (λ row. length row) (λ node. to_children node parents (links_of parents)) (range_with_len 0 (length parents))))
+    ∙ sym (map-map (λ row. length row) (λ node. to_children node parents (links_of parents)) (range_with_len 0 (length parents))))
 
--- lists with one entry for each link that are dealt out alike by parent are one list
+-- lists with one entry for each link that are scattered alike by parent are one list
 pub same_by_parent : {A : Type 0} (parents : List (Option ℕ)) (xs ys : List A)
     → ((child parent : ℕ) → parent_at parents child ≡ Some parent → parent < length parents)
     → length xs ≡ length (links_of parents) → length ys ≡ length (links_of parents) → by_parent parents xs ≡ by_parent parents ys → xs ≡ ys
 same_by_parent parents xs ys known first second same =
-    dealt_alike (length parents) 0 parents xs ys known first second
+    scattered_alike (length parents) 0 parents xs ys known first second
     (λ node within.
     sym (by_parent_at parents xs node within) ∙ (ap (λ rows. get_or rows node []) same ∙ by_parent_at parents ys node within))
 
@@ -57,32 +53,14 @@ pub holds_of_child : {A : Type 0} (P : ℕ → A → Type 0) (parents : List (Op
     → ((node : ℕ) → node < length parents → All (P node) (get_or rows node []))
     → (child parent : ℕ) (x : A) → parent_at parents child ≡ Some parent → parent < length parents
     → get_or (by_child parents xs) child None ≡ Some x → P parent x
-holds_of_child P parents xs rows dealt all child parent x is_child known is =
+holds_of_child P parents xs rows scattered all child parent x is_child known is =
     let row : get_or rows parent [] ≡ to_children parent parents xs =
-    ap (λ rows. get_or rows parent []) (sym dealt) ∙ by_parent_at parents xs parent known in
+    ap (λ rows. get_or rows parent []) (sym scattered) ∙ by_parent_at parents xs parent known in
     holds_at_child (P parent) parents xs child parent x (subst (All (P parent)) row (all parent known)) is_child is
 
 -- ---- by child
 
--- what is one per link, dealt out, gives each child one and the root none
-pub some_by_child : {A : Type 0} (w : ℕ) (parents : List (Option ℕ)) (xs : List A) → length xs ≡ length (links_from w parents)
-    → map is_some (by_child parents xs) ≡ map is_some parents
-some_by_child w [] xs counted = refl
-some_by_child w (None ∷ parents) xs counted = ap (λ rest. false ∷ rest) (some_by_child (suc w) parents xs counted)
-some_by_child w (Some p ∷ parents) [] counted = absurd (omega arith)
-some_by_child w (Some p ∷ parents) (x ∷ xs) counted = ap (λ rest. true ∷ rest) (some_by_child (suc w) parents xs (omega arith))
-
--- where there is one for each link, there is one for the link into each child
-pub child_has_entry : {A : Type 0} (w : ℕ) (parents : List (Option ℕ)) (xs : List A) (child parent : ℕ) → length xs ≡ length (links_from w parents)
-    → parent_at parents child ≡ Some parent → (x : A) × (get_or (by_child parents xs) child None ≡ Some x)
-child_has_entry w [] xs child parent counted is_child = absurd (none-some parent is_child)
-child_has_entry w (None ∷ parents) xs zero parent counted is_child = absurd (none-some parent is_child)
-child_has_entry w (None ∷ parents) xs (suc child) parent counted is_child = child_has_entry (suc w) parents xs child parent counted is_child
-child_has_entry w (Some q ∷ parents) [] child parent counted is_child = absurd (omega arith)
-child_has_entry w (Some q ∷ parents) (x ∷ xs) zero parent counted is_child = (x, refl)
-child_has_entry w (Some q ∷ parents) (x ∷ xs) (suc child) parent counted is_child = child_has_entry (suc w) parents xs child parent (omega arith) is_child
-
--- lists with one entry for each link that are dealt out alike by child are one list
+-- lists with one entry for each link that are scattered alike by child are one list
 pub same_by_child : {A : Type 0} (w : ℕ) (parents : List (Option ℕ)) (xs ys : List A) → length xs ≡ length (links_from w parents)
     → length ys ≡ length (links_from w parents) → by_child parents xs ≡ by_child parents ys → xs ≡ ys
 same_by_child w [] [] [] first second same = refl
@@ -111,9 +89,9 @@ counts_of_alike : {A B C : Type 0} (f : A → C) (g : B → C) (xss : List (List
     → map (λ row. map f row) xss ≡ map (λ row. map g row) yss → map (λ row. length row) xss ≡ map (λ row. length row) yss
 counts_of_alike f g xss yss alike =
     sym (same_maps (λ row. length (map f row)) (λ row. length row) xss (λ row. length-map row f))
-    ∙ (sym (map_twice (λ row. length row) (λ row. map f row) xss)
+    ∙ (sym (map-map (λ row. length row) (λ row. map f row) xss)
     ∙ (ap (λ rows. map (λ row. length row) rows) alike
-    ∙ (map_twice (λ row. length row) (λ row. map g row) yss ∙ same_maps (λ row. length (map g row)) (λ row. length row) yss (λ row. length-map row g))))
+    ∙ (map-map (λ row. length row) (λ row. map g row) yss ∙ same_maps (λ row. length (map g row)) (λ row. length row) yss (λ row. length-map row g))))
 
 -- what is read of an entry is there where the entry is
 some_mapped : {A B : Type 0} (f : A → B) (x : Option A) → is_some (option_map f x) ≡ is_some x
@@ -125,17 +103,17 @@ some_of_alike : {A B C : Type 0} (f : A → C) (g : B → C) (xs : List (Option 
     → map (option_map f) xs ≡ map (option_map g) ys → map is_some xs ≡ map is_some ys
 some_of_alike f g xs ys alike =
     sym (same_maps (λ x. is_some (option_map f x)) is_some xs (some_mapped f))
-    ∙ (sym (map_twice is_some (option_map f) xs)
+    ∙ (sym (map-map is_some (option_map f) xs)
     ∙ (ap (λ column. map is_some column) alike
-    ∙ (map_twice is_some (option_map g) ys ∙ same_maps (λ y. is_some (option_map g y)) is_some ys (some_mapped g))))
+    ∙ (map-map is_some (option_map g) ys ∙ same_maps (λ y. is_some (option_map g y)) is_some ys (some_mapped g))))
 
 module _ {A B C : Type 0} (f : A → C) (g : B → C) (parents : List (Option ℕ)) (xs : List B) (counted : length xs ≡ length (links_of parents)) where
-  -- rows that are read as what was dealt out by parent can be gathered
+  -- rows that are read as what was scattered by parent can be gathered
   pub rows_can_be_gathered : (rows : List (List A)) → map (λ row. map f row) rows ≡ map (λ row. map g row) (by_parent parents xs)
       → map (λ row. length row) rows ≡ child_counts parents
   rows_can_be_gathered rows alike = counts_of_alike f g rows (by_parent parents xs) alike ∙ counts_by_parent parents xs counted
 
-  -- and what is gathered from them is read, link by link, as what was dealt out
+  -- and what is gathered from them is read, link by link, as what was scattered
   pub rows_gathered_alike : ((child parent : ℕ) → parent_at parents child ≡ Some parent → parent < length parents)
       → (rows : List (List A)) (ys : List A) → map (λ row. map f row) rows ≡ map (λ row. map g row) (by_parent parents xs)
       → length ys ≡ length (links_of parents) → by_parent parents ys ≡ rows → map f ys ≡ map g xs
@@ -143,12 +121,12 @@ module _ {A B C : Type 0} (f : A → C) (g : B → C) (parents : List (Option �
       same_by_parent parents (map f ys) (map g xs) known (length-map ys f ∙ gathered) (length-map xs g ∙ counted)
       (sym (map-by_parent f parents ys) ∙ (ap (λ all. map (λ row. map f row) all) same ∙ (alike ∙ map-by_parent g parents xs)))
 
-  -- a column that is read as what was dealt out by child can be gathered
+  -- a column that is read as what was scattered by child can be gathered
   pub column_can_be_gathered : (column : List (Option A)) → map (option_map f) column ≡ map (option_map g) (by_child parents xs)
       → map is_some column ≡ map is_some parents
-  column_can_be_gathered column alike = some_of_alike f g column (by_child parents xs) alike ∙ some_by_child 0 parents xs counted
+  column_can_be_gathered column alike = some_of_alike f g column (by_child parents xs) alike ∙ linked_nodes parents xs 0 counted
 
-  -- and what is gathered from it is read, link by link, as what was dealt out
+  -- and what is gathered from it is read, link by link, as what was scattered
   pub column_gathered_alike : (column : List (Option A)) (ys : List A) → map (option_map f) column ≡ map (option_map g) (by_child parents xs)
       → length ys ≡ length (links_of parents) → by_child parents ys ≡ column → map f ys ≡ map g xs
   column_gathered_alike column ys alike gathered same =

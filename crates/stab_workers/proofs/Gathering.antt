@@ -6,46 +6,46 @@ use Rattle.std.proofs.lemmas.List.FromFn.{fill_by_all, get_or-map-range_with_len
 use Rattle.stab_tree.proofs.ForCallers.{links_counted_anywhere}
 use Rattle.stab_tree.specs.Links.{links_from, links_of}
 use Rattle.stab_treecore.specs.ByChild.{by_child, to_children}
-use Rattle.stab_workers.proofs.Dealt.{next_parent}
-use Rattle.stab_workers.proofs.Seated.{length-by_parent}
-use Rattle.stab_workers.specs.Dealing.{by_parent, child_counts}
+use Rattle.stab_workers.proofs.Scattered.{next_parent}
+use Rattle.stab_workers.proofs.Taken.{length-by_parent}
+use Rattle.stab_workers.specs.Scattering.{by_parent, child_counts}
 
 -- ---- by child
 
 -- what there is in these, in their order
 abbrev pub present : {A : Type 0} → List (Option A) → List A
 present [] = []
-present (None ∷ dealt) = present dealt
-present (Some x ∷ dealt) = x ∷ present dealt
+present (None ∷ scattered) = present scattered
+present (Some x ∷ scattered) = x ∷ present scattered
 
--- where each child has an entry and the root has none, the entries are dealt out as they were
-pub present_by_child : {A : Type 0} (parents : List (Option ℕ)) (dealt : List (Option A)) → map is_some dealt ≡ map is_some parents
-    → by_child parents (present dealt) ≡ dealt
+-- where each child has an entry and the root has none, the entries are scattered as they were
+pub present_by_child : {A : Type 0} (parents : List (Option ℕ)) (scattered : List (Option A)) → map is_some scattered ≡ map is_some parents
+    → by_child parents (present scattered) ≡ scattered
 present_by_child [] [] same = refl
-present_by_child [] (x ∷ dealt) same = absurd (omega (arith, ap length same))
+present_by_child [] (x ∷ scattered) same = absurd (omega (arith, ap length same))
 present_by_child (p ∷ parents) [] same = absurd (omega (arith, ap length same))
-present_by_child (None ∷ parents) (None ∷ dealt) same = ap (λ rest. None ∷ rest) (present_by_child parents dealt (ap (λ flags. drop 1 flags) same))
-present_by_child (None ∷ parents) (Some x ∷ dealt) same = cc
-present_by_child (Some p ∷ parents) (None ∷ dealt) same = cc
-present_by_child (Some p ∷ parents) (Some x ∷ dealt) same = ap (λ rest. Some x ∷ rest) (present_by_child parents dealt (ap (λ flags. drop 1 flags) same))
+present_by_child (None ∷ parents) (None ∷ scattered) same = ap (λ rest. None ∷ rest) (present_by_child parents scattered (ap (λ flags. drop 1 flags) same))
+present_by_child (None ∷ parents) (Some x ∷ scattered) same = cc
+present_by_child (Some p ∷ parents) (None ∷ scattered) same = cc
+present_by_child (Some p ∷ parents) (Some x ∷ scattered) same = ap (λ rest. Some x ∷ rest) (present_by_child parents scattered (ap (λ flags. drop 1 flags) same))
 
 -- and there is one for each link
-pub present_counted : {A : Type 0} (w : ℕ) (parents : List (Option ℕ)) (dealt : List (Option A)) → map is_some dealt ≡ map is_some parents
-    → length (present dealt) ≡ length (links_from w parents)
+pub present_counted : {A : Type 0} (w : ℕ) (parents : List (Option ℕ)) (scattered : List (Option A)) → map is_some scattered ≡ map is_some parents
+    → length (present scattered) ≡ length (links_from w parents)
 present_counted w [] [] same = refl
-present_counted w [] (x ∷ dealt) same = absurd (omega (arith, ap length same))
+present_counted w [] (x ∷ scattered) same = absurd (omega (arith, ap length same))
 present_counted w (p ∷ parents) [] same = absurd (omega (arith, ap length same))
-present_counted w (None ∷ parents) (None ∷ dealt) same = present_counted (suc w) parents dealt (ap (λ flags. drop 1 flags) same)
-present_counted w (None ∷ parents) (Some x ∷ dealt) same = cc
-present_counted w (Some p ∷ parents) (None ∷ dealt) same = cc
-present_counted w (Some p ∷ parents) (Some x ∷ dealt) same = ap (λ n. suc n) (present_counted (suc w) parents dealt (ap (λ flags. drop 1 flags) same))
+present_counted w (None ∷ parents) (None ∷ scattered) same = present_counted (suc w) parents scattered (ap (λ flags. drop 1 flags) same)
+present_counted w (None ∷ parents) (Some x ∷ scattered) same = cc
+present_counted w (Some p ∷ parents) (None ∷ scattered) same = cc
+present_counted w (Some p ∷ parents) (Some x ∷ scattered) same = ap (λ n. suc n) (present_counted (suc w) parents scattered (ap (λ flags. drop 1 flags) same))
 
--- after the last node the entries are dealt out as they were, one for each link
-pub all_present : {A : Type 0} (parents : List (Option ℕ)) (dealt left : List (Option A)) (entries : List A) → map is_some dealt ≡ map is_some parents
-    → entries ++ present left ≡ present dealt → left ≡ [] → (length entries ≡ length (links_of parents)) × (by_child parents entries ≡ dealt)
-all_present parents dealt left entries same so_far none =
-    let all : entries ≡ present dealt = sym (append-nil entries) ∙ (ap (λ rest. entries ++ present rest) (sym none) ∙ so_far) in
-    (ap length all ∙ present_counted 0 parents dealt same, ap (λ xs. by_child parents xs) all ∙ present_by_child parents dealt same)
+-- after the last node the entries are scattered as they were, one for each link
+pub all_present : {A : Type 0} (parents : List (Option ℕ)) (scattered left : List (Option A)) (entries : List A) → map is_some scattered ≡ map is_some parents
+    → entries ++ present left ≡ present scattered → left ≡ [] → (length entries ≡ length (links_of parents)) × (by_child parents entries ≡ scattered)
+all_present parents scattered left entries same so_far none =
+    let all : entries ≡ present scattered = sym (append-nil entries) ∙ (ap (λ rest. entries ++ present rest) (sym none) ∙ so_far) in
+    (ap length all ∙ present_counted 0 parents scattered same, ap (λ xs. by_child parents xs) all ∙ present_by_child parents scattered same)
 
 -- ---- by parent
 
@@ -78,12 +78,12 @@ as_many_to_children node (Some q ∷ parents) (x ∷ xs) (y ∷ ys) same =
     let rest = as_many_to_children node parents xs ys (omega arith) in
     longer_alike (q == node) x y (to_children node parents xs) (to_children node parents ys) rest
 
--- beside each node in the dealing by parent is what belongs to the links to its children
+-- beside each node as scattered by parent is what belongs to the links to its children
 pub by_parent_at : {A : Type 0} (parents : List (Option ℕ)) (xs : List A) (node : ℕ) → node < length parents
     → get_or (by_parent parents xs) node [] ≡ to_children node parents xs
 by_parent_at parents xs node within = get_or-map-range_with_len (λ k. to_children k parents xs) 0 (length parents) node node [] within (omega arith)
 
--- The rows hold what the other nodes are still to take from them, and the entries so far, with those, are dealt out as all rows were.
+-- The rows hold what the other nodes are still to take from them, and the entries so far, with those, are scattered as all rows were.
 pub record GatheredSoFar {A : Type 0} (parents : List (Option ℕ)) (all rows : List (List A)) (entries : List A) (i : ℕ) : Type 0 where
   pub all_number : length all ≡ length parents
   pub number : length rows ≡ length parents

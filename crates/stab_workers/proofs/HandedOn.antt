@@ -3,39 +3,30 @@ use Rattle.std.proofs.Common.{◌≡◌, ◌<◌, ◌≤◌, ◌+◌, ℕ, zero,
 use Rattle.std.proofs.lemmas.List.{length-map}
 use Rattle.std.proofs.lemmas.List.Elements.{All-nil}
 use Rattle.std.proofs.lemmas.Option.{none-some}
-use Rattle.stab_lock.specs.Accounts.{Receiver, Sender}
+use Rattle.stab_lock.specs.Accounts.{ReceiverAccount, SenderAccount}
 use Rattle.stab_node.specs.declared.account.Ended.{Ended}
 use Rattle.stab_node.specs.declared.account.Ended.TheVariants.{Turns, Upstream}
 use Rattle.stab_node.specs.Work.{HasAll, IsServed, IsWork, received_by}
 use Rattle.stab_tree.specs.Nodes.{parent_at, root_of}
 use Rattle.std.specs.List.{AllZip, range_with_len}
 use Rattle.stab_treecore.specs.ByChild.{by_child}
-use Rattle.stab_workers.proofs.ForCallers.{holds_of_child, length-by_child}
+use Rattle.stab_treecore.proofs.ForCallers.{length-by_child, no_link_into}
+use Rattle.stab_workers.proofs.ForCallers.{holds_of_child}
 use Rattle.stab_workers.proofs.Worked.{all_of_map}
 use Rattle.stab_treecore.specs.NodeOpenings.{opening_at}
-use Rattle.stab_workers.proofs.Firsts.{first_at_child}
-use Rattle.stab_workers.specs.FirstItems.{first_at}
+use Rattle.stab_workers.proofs.Firsts.{initial_at_child}
+use Rattle.stab_workers.specs.InitialItems.{initial_at}
 use Rattle.stab_workers.specs.ByNode.{ended_at, entry_into, received_at}
-use Rattle.stab_workers.specs.Dealing.{by_parent}
-
--- a node without a parent is dealt nothing by child
-none_by_child : {A : Type 0} (parents : List (Option ℕ)) (xs : List A) (node : ℕ) → parent_at parents node ≡ None
-    → get_or (by_child parents xs) node None ≡ None
-none_by_child [] xs node none = refl
-none_by_child (None ∷ parents) xs zero none = refl
-none_by_child (None ∷ parents) xs (suc node) none = none_by_child parents xs node none
-none_by_child (Some p ∷ parents) xs zero none = absurd (none-some p (sym none))
-none_by_child (Some p ∷ parents) [] (suc node) none = none_by_child parents [] node none
-none_by_child (Some p ∷ parents) (x ∷ xs) (suc node) none = none_by_child parents xs node none
+use Rattle.stab_workers.specs.Scattering.{by_parent}
 
 -- a node that a link leads into begins with its opening
 pub first_below : {A : Type 0} (root : ℕ) (published : List ℕ) (openings : List (List ℕ)) (parents : List (Option ℕ)) (xs : List A) (child : ℕ) (x : A)
     (above : Option ℕ) → parent_at parents root ≡ None → parent_at parents child ≡ above → entry_into parents xs child ≡ Some x
-    → first_at root published openings child ≡ opening_at openings child
+    → initial_at root published openings child ≡ opening_at openings child
 first_below root published openings parents xs child x None none is_child is =
-    absurd (none-some x (sym (none_by_child parents xs child is_child) ∙ is))
+    absurd (none-some x (sym (no_link_into parents xs child is_child) ∙ is))
 first_below root published openings parents xs child x (Some parent) none is_child is =
-    first_at_child root published openings parents child parent none is_child
+    initial_at_child root published openings parents child parent none is_child
 
 -- what each account gives holds of the parts of the account at each place
 module _ {A X Y : Type 0} (P : ℕ → A → Type 0) (received : A → List ℕ) (up : A → Option X) (downs : A → List Y) (ended : A → Ended)
@@ -54,7 +45,7 @@ module _ {A X Y : Type 0} (P : ℕ → A → Type 0) (received : A → List ℕ)
   at_place start (suc n) (a ∷ accounts) (suc k) node is outside all =
       at_place (start + 1) n accounts k node (omega (arith, is)) (λ past. outside (omega (arith, past))) all.1
 
-module _ {A X Y : Type 0} (first : ℕ → List ℕ) (parents : List (Option ℕ)) (done_received : X → Receiver) (done_sent : Y → Sender)
+module _ {A X Y : Type 0} (first : ℕ → List ℕ) (parents : List (Option ℕ)) (done_received : X → ReceiverAccount) (done_sent : Y → SenderAccount)
     (received_of : A → List ℕ) (up_of : A → Option X) (downs_of : A → List Y) (ended_of : A → Ended) (accounts : List A)
     (received : List (List ℕ)) (ended : List Ended) (recvs : List X) (sends : List Y)
     (received_is : received ≡ map received_of accounts) (ended_is : ended ≡ map ended_of accounts)
@@ -119,7 +110,7 @@ module _ {A X Y : Type 0} (first : ℕ → List ℕ) (parents : List (Option ℕ
       at_node (λ node r u ds e. u ≡ None → r ≡ first node) (root_of parents)
       (λ node a worked is. worked.received_is ∙ ap (λ u. received_by (option_map done_received u) (first node)) is)
       (λ past. absurd (omega (arith, past, within, length-map accounts up_of, ap length recvs_are, length-by_child parents recvs)))
-      (none_by_child parents recvs (root_of parents) none)
+      (no_link_into parents recvs (root_of parents) none)
 
   -- there is a list for each node, and a reason
   pub length_received : length received ≡ length parents

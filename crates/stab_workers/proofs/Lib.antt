@@ -1,5 +1,5 @@
-pub mod Dealt
-pub mod Seated
+pub mod Scattered
+pub mod Taken
 pub mod Firsts
 pub mod Gathering
 pub mod ForCallers

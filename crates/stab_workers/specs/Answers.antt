@@ -1,20 +1,20 @@
 -- What a worker answers, by what its node began with.
 -- Source: this project's profile.
 use Rattle.std.specs.Prelude.{◌≡◌, ℕ, List, Option, map, option_map}
-use Rattle.stab_lock.specs.Accounts.{Sender, Receiver}
+use Rattle.stab_lock.specs.Accounts.{SenderAccount, ReceiverAccount}
 use Rattle.stab_node.specs.declared.account.Ended.{Ended}
 use Rattle.stab_node.specs.Turns.{IsOver}
 use Rattle.stab_node.specs.Work.{AreNew, IsWork}
 
 -- the ends of a node: the account of each, and its link
 pub record NodeEnds (L M : Type 0) : Type 0 where
-  pub up : Option Receiver
+  pub up : Option ReceiverAccount
   pub up_link : Option L
-  pub downs : List Sender
+  pub downs : List SenderAccount
   pub down_links : List M
 
 -- ends, by what their account and their link are
-abbrev pub node_ends : {U D L M : Type 0} → (U → Receiver) → (U → L) → (D → Sender) → (D → M)
+abbrev pub node_ends : {U D L M : Type 0} → (U → ReceiverAccount) → (U → L) → (D → SenderAccount) → (D → M)
     → Option U → List D → NodeEnds L M
 node_ends received link_above sent link_below up downs = record {
   up = option_map received up;

@@ -1,5 +1,5 @@
 pub mod Answers
 pub mod ByNode
-pub mod Dealing
+pub mod Scattering
 pub mod FirstFault
-pub mod FirstItems
+pub mod InitialItems

@@ -1,6 +1,6 @@
 ghost use Rattle.std.specs.Prelude.{◌≡◌, [], ◌∷◌, ◌++◌, IfOk, OnOk, map};
 
-use crate::row::Row;
+use crate::queue::Queue;
 use stab_frames::{Item, Sequence};
 use stab_node::{Ended, NodeAccount};
 use std::alloc::{AllocError, Global};
@@ -11,7 +11,7 @@ pub(crate) struct Columns<A: Drop, B: Drop> {
     pub(crate) received: Vec<Sequence<Item>>,
     pub(crate) ended: Vec<Ended>,
     pub(crate) ups: Vec<Option<A>>,
-    pub(crate) downs: Vec<Row<B>>,
+    pub(crate) downs: Vec<Queue<B>>,
 }
 
 impl<A: Drop, B: Drop> Columns<A, B> {
@@ -50,7 +50,7 @@ impl<A: Drop, B: Drop> Columns<A, B> {
         self.received.push(Sequence::from_vec(received))?;
         self.ended.push(ended)?;
         self.ups.push(up)?;
-        self.downs.push(Row::from_vec(downs))?;
+        self.downs.push(Queue::from_vec(downs))?;
         Ok(())
     }
 }

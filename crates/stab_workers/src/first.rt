@@ -1,5 +1,5 @@
 ghost use Rattle.std.specs.Prelude.{◌≡◌, ◌<◌, length};
-ghost use Rattle.stab_workers.specs.FirstItems.{first_at};
+ghost use Rattle.stab_workers.specs.InitialItems.{initial_at};
 
 use stab_frames::Item;
 use stab_tree::NodeId;
@@ -13,7 +13,7 @@ pub(crate) fn first_items<'e>(
     node: u16,
 ) -> &'e [Item]
     requires { node < length openings.now.lists }
-    ensures { result.now ≡ first_at root published.now openings.now.lists node }
+    ensures { result.now ≡ initial_at root published.now openings.now.lists node }
 {
     if node == root {
         published

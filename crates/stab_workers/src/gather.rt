@@ -2,9 +2,9 @@ ghost use Rattle.std.specs.Prelude.{◌≡◌, ◌<◌, ◌∷◌, [], drop, len
 ghost use Rattle.std.specs.Prelude.{IfOk, slice_index_or, slice_set};
 ghost use Rattle.stab_tree.specs.Links.{links_of};
 ghost use Rattle.stab_treecore.specs.ByChild.{by_child};
-ghost use Rattle.stab_workers.specs.Dealing.{by_parent, child_counts};
+ghost use Rattle.stab_workers.specs.Scattering.{by_parent, child_counts};
 
-use crate::row::Row;
+use crate::queue::Queue;
 use stab_tree::{NodeId, Tree};
 use std::alloc::{AllocError, Global};
 
@@ -12,16 +12,16 @@ use std::alloc::{AllocError, Global};
 pub(crate) fn gather_by_child<T: Drop>(
     alloc: Global,
     tree: &Tree,
-    dealt: Vec<Option<T>>,
+    scattered: Vec<Option<T>>,
 ) -> Result<Vec<T>, AllocError>
-    requires { map is_some dealt.items ≡ map is_some tree.now.parents }
+    requires { map is_some scattered.items ≡ map is_some tree.now.parents }
     ensures links { IfOk result (λ entries.
         length entries.items ≡ length (links_of tree.now.parents)) }
     ensures entries { IfOk result (λ entries.
-        by_child tree.now.parents entries.items ≡ dealt.items) }
+        by_child tree.now.parents entries.items ≡ scattered.items) }
 {
     let mut entries = Vec::with_capacity(alloc, usize::from(tree.link_count()))?;
-    for entry in dealt {
+    for entry in scattered {
         match entry {
             None => {}
             Some(entry) => entries.push_reserved(entry),
@@ -31,7 +31,7 @@ pub(crate) fn gather_by_child<T: Drop>(
 }
 
 /// Takes the first entry of the row of a node.
-fn take_from<T: Drop>(rows: &mut Vec<Row<T>>, node: NodeId) -> T
+fn take_from<T: Drop>(rows: &mut Vec<Queue<T>>, node: NodeId) -> T
     requires { 0 < length (slice_index_or rows.old.items node []) }
     ensures entry { slice_index_or rows.old.items node []
         ≡ result ∷ slice_index_or rows.new.items node [] }
@@ -45,19 +45,19 @@ fn take_from<T: Drop>(rows: &mut Vec<Row<T>>, node: NodeId) -> T
 pub(crate) fn gather_by_parent<T: Drop>(
     alloc: Global,
     tree: &Tree,
-    mut dealt: Vec<Row<T>>,
+    mut scattered: Vec<Queue<T>>,
 ) -> Result<Vec<T>, AllocError>
-    requires { map length dealt.items ≡ child_counts tree.now.parents }
+    requires { map length scattered.items ≡ child_counts tree.now.parents }
     ensures links { IfOk result (λ entries.
         length entries.items ≡ length (links_of tree.now.parents)) }
     ensures entries { IfOk result (λ entries.
-        by_parent tree.now.parents entries.items ≡ dealt.items) }
+        by_parent tree.now.parents entries.items ≡ scattered.items) }
 {
     let mut entries = Vec::with_capacity(alloc, usize::from(tree.link_count()))?;
     'nodes: for node in 0..tree.len() {
         match tree.parent(NodeId::new(node)) {
             None => {}
-            Some(parent) => entries.push_reserved(take_from(&mut dealt, parent)),
+            Some(parent) => entries.push_reserved(take_from(&mut scattered, parent)),
         }
     }
     Ok(entries)

@@ -1,7 +1,7 @@
 ghost use Rattle.std.specs.Prelude.{◌≡◌, IfOk, is_some, length, map};
 ghost use Rattle.stab_tree.specs.Links.{links_of};
 ghost use Rattle.stab_treecore.specs.ByChild.{by_child};
-ghost use Rattle.stab_workers.specs.Dealing.{by_parent, child_counts};
+ghost use Rattle.stab_workers.specs.Scattering.{by_parent, child_counts};
 
 use crate::columns::{Columns, take_apart};
 use crate::gather::{gather_by_child, gather_by_parent};

@@ -1,6 +1,6 @@
 //! One worker per node of a tree.
 //!
-//! [`run_workers`] is a whole run: what there is one of per link is dealt out to the nodes, each
+//! [`run_workers`] is a whole run: what there is one of per link is scattered to the nodes, each
 //! node's worker, which is `stab_node::work`, runs on a thread of its own, and what the workers
 //! leave is gathered by link again. It is proved once over any ends of links and any gate. The
 //! layer above uses one fact: from each parent to its child, the sender's end of the link was
@@ -14,15 +14,15 @@
 
 mod accounts;
 mod columns;
-mod deal;
 mod fault;
 mod first;
 mod gather;
 mod gathered;
 mod nodes;
-mod row;
+mod queue;
 mod run;
-mod seat;
+mod scatter;
+mod worker_ends;
 mod workers;
 
 pub use fault::WorkersFault;

@@ -8,14 +8,14 @@ ghost use Rattle.stab_tree.specs.Nodes.{root_of};
 ghost use Rattle.stab_treecore.specs.ByChild.{by_child};
 ghost use Rattle.stab_treecore.specs.NodeOpenings.{FitTree};
 ghost use Rattle.stab_workers.specs.ByNode.{ended_at};
-ghost use Rattle.stab_workers.specs.Dealing.{by_parent};
+ghost use Rattle.stab_workers.specs.Scattering.{by_parent};
 ghost use Rattle.stab_workers.specs.FirstFault.{IsFirstToGiveUp, IsFirstUnstarted};
-ghost use Rattle.stab_workers.specs.FirstItems.{first_at};
+ghost use Rattle.stab_workers.specs.InitialItems.{initial_at};
 
 use crate::accounts::take_accounts;
-use crate::deal::deal;
 use crate::fault::WorkersFault;
-use crate::workers::run_seats;
+use crate::scatter::scatter;
+use crate::workers::run_each;
 use stab_frames::Item;
 use stab_lock::{RecvSide, SendSide};
 use stab_node::{Gate, NodeAccount, NodeFault};
@@ -56,7 +56,7 @@ where
         map (map D.done_link) (map (λ a. a.downs.items) accounts.items)
         ≡ map (map D.link) (by_parent tree.now.parents sends.items)) }
     ensures work { IfOk result (λ accounts. AllZip (λ node a. IsWork
-        (first_at (root_of tree.now.parents) published.now openings.now.lists node)
+        (initial_at (root_of tree.now.parents) published.now openings.now.lists node)
         a.received.items (option_map U.done_received a.up) (map D.done_sent a.downs.items) a.ended)
         (range_with_len 0 (length tree.now.parents)) accounts.items) }
     ensures turns { IfOk result (λ accounts. (node : ℕ) → node < length tree.now.parents
@@ -76,15 +76,15 @@ where
 {
     let _count = tree.len();
     let root = tree.root().place();
-    let seats = deal(alloc, tree, sends, recvs)?;
-    let room = Vec::with_capacity(alloc, seats.len())?;
-    let room_for_answers = VecDeque::with_capacity(alloc, seats.len())?;
-    let seats = VecDeque::from(seats);
-    let answers = match run_seats(
+    let workers = scatter(alloc, tree, sends, recvs)?;
+    let room = Vec::with_capacity(alloc, workers.len())?;
+    let room_for_answers = VecDeque::with_capacity(alloc, workers.len())?;
+    let workers = VecDeque::from(workers);
+    let answers = match run_each(
         rt,
         pass,
         alloc,
-        seats,
+        workers,
         root,
         published,
         openings,

@@ -6,10 +6,10 @@ ghost use Rattle.std.specs.VecDeque.{deque_capacity, deque_len};
 ghost use Rattle.stab_node.specs.Turns.{IsRefused};
 ghost use Rattle.stab_workers.specs.Answers.{HasWorked, node_ends};
 ghost use Rattle.stab_workers.specs.FirstFault.{StopsAt};
-ghost use Rattle.stab_workers.specs.FirstItems.{first_at};
+ghost use Rattle.stab_workers.specs.InitialItems.{initial_at};
 
 use crate::first::first_items;
-use crate::seat::Seat;
+use crate::worker_ends::WorkerEnds;
 use stab_frames::Item;
 use stab_lock::{RecvSide, SendSide};
 use stab_node::{Gate, NodeAccount, NodeFault, work};
@@ -27,10 +27,10 @@ pub(crate) type Answer<U, D> = Result<
     NodeFault,
 >;
 
-/// The promise of a worker: it answers for the seat that it took what `work` answers.
+/// The promise of a worker: it answers for the ends that it took what `work` answers.
 #[derive(Drop)]
 struct WorkPromise<'e, U: RecvSide, D: SendSide, G: Gate> {
-    seat: Snapshot<Seat<U, D>>,
+    ends: Snapshot<WorkerEnds<U, D>>,
     first: &'e [Item],
     turns: u32,
     gate: &'e G,
@@ -45,22 +45,22 @@ impl<'e, U: RecvSide, D: SendSide, G: Gate> Promise<
     ghost use Rattle.stab_workers.specs.Answers.{HasWorked, node_ends};
 
     ghost kept_by = { λ p r. MatchResult r
-        (λ a. HasWorked (G.has_passed p.gate.now p.seat.value.node) p.turns p.first.now
-        (node_ends U.received U.link D.sent D.link p.seat.value.up p.seat.value.downs.items)
+        (λ a. HasWorked (G.has_passed p.gate.now p.ends.value.node) p.turns p.first.now
+        (node_ends U.received U.link D.sent D.link p.ends.value.up p.ends.value.downs.items)
         (node_ends U.done_received U.done_link D.done_sent D.done_link a.up a.downs.items)
         a.received.items a.ended)
-        (λ fault. fault ≡ Refused → IsRefused (G.has_passed p.gate.now p.seat.value.node)
-        (G.may_refuse p.gate.now p.seat.value.node) p.turns)
-        × G.is_done p.gate.now p.seat.value.node };
+        (λ fault. fault ≡ Refused → IsRefused (G.has_passed p.gate.now p.ends.value.node)
+        (G.may_refuse p.gate.now p.ends.value.node) p.turns)
+        × G.is_done p.gate.now p.ends.value.node };
 }
 
-/// Starts a worker for each seat, in their order, and waits for all. An error is the node whose
-/// worker could not be started; those of the seats after it are not started.
-pub(crate) fn run_seats<'e, R: Threads + Wait + Sync, P: Sync, U, D, G>(
+/// Starts a worker for each of these, in their order, and waits for all. An error is the node whose
+/// worker could not be started; those after it are not started.
+pub(crate) fn run_each<'e, R: Threads + Wait + Sync, P: Sync, U, D, G>(
     rt: &'e R,
     pass: &'e P,
     alloc: Global,
-    mut seats: VecDeque<Seat<U, D>>,
+    mut workers: VecDeque<WorkerEnds<U, D>>,
     root: u16,
     published: &'e [Item],
     openings: &'e Openings,
@@ -76,26 +76,26 @@ where
     D::Done: Send,
     requires turns { 1 ≤ turns }
     requires known { All (λ node. node < length openings.now.lists)
-        (map (λ s. s.node) seats.items) }
+        (map (λ s. s.node) workers.items) }
     requires none { answers.items ≡ [] }
-    requires room { deque_len seats ≤ deque_capacity answers }
+    requires room { deque_len workers ≤ deque_capacity answers }
     requires kinds { IsSync R.row × IsSync P.row × IsSend U.row × IsSend D.row × IsSync G.row
         × IsSend U.Done.row × IsSend D.Done.row }
     ensures answers { IfOk result (λ answers. AllZip (λ s r. MatchResult r
         (λ a. HasWorked (G.has_passed gate.now s.node) turns
-        (first_at root published.now openings.now.lists s.node)
+        (initial_at root published.now openings.now.lists s.node)
         (node_ends U.received U.link D.sent D.link s.up s.downs.items)
         (node_ends U.done_received U.done_link D.done_sent D.done_link a.up a.downs.items)
         a.received.items a.ended)
         (λ fault. fault ≡ NodeFault.Gate → IsRefused (G.has_passed gate.now s.node)
         (G.may_refuse gate.now s.node) turns)
-        × G.is_done gate.now s.node) seats.items answers.items) }
-    ensures len { IfOk result (λ answers. deque_len answers ≡ deque_len seats) }
+        × G.is_done gate.now s.node) workers.items answers.items) }
+    ensures len { IfOk result (λ answers. deque_len answers ≡ deque_len workers) }
     ensures room { IfOk result (λ new. deque_capacity new ≡ deque_capacity answers) }
     ensures unstarted { IfErr result
-        (StopsAt (G.is_done gate.now) (map (λ s. s.node) seats.items)) }
+        (StopsAt (G.is_done gate.now) (map (λ s. s.node) workers.items)) }
 {
-    let Some(seat) = seats.pop_front() else {
+    let Some(ends) = workers.pop_front() else {
         return Ok(answers);
     };
     thread::scope(
@@ -103,16 +103,16 @@ where
         rt,
         move |scope| -> Result<VecDeque<Answer<U, D>>, u16>
             requires turns { 1 ≤ turns }
-            requires node { seat.node < length openings.now.lists }
+            requires node { ends.node < length openings.now.lists }
             requires known { All (λ node. node < length openings.now.lists)
-                (map (λ s. s.node) seats.items) }
+                (map (λ s. s.node) workers.items) }
             requires none { answers.items ≡ [] }
-            requires room { deque_len seats + 1 ≤ deque_capacity answers }
+            requires room { deque_len workers + 1 ≤ deque_capacity answers }
             requires kinds { IsSync R.row × IsSync P.row × IsSend U.row × IsSend D.row
                 × IsSync G.row × IsSend U.Done.row × IsSend D.Done.row }
             ensures answers { IfOk result (λ answers. AllZip (λ s r. MatchResult r
                 (λ a. HasWorked (G.has_passed gate.entry.now s.node) turns
-                (first_at root published.entry.now openings.entry.now.lists s.node)
+                (initial_at root published.entry.now openings.entry.now.lists s.node)
                 (node_ends U.received U.link D.sent D.link s.up s.downs.items)
                 (node_ends U.done_received U.done_link D.done_sent D.done_link
                 a.up a.downs.items)
@@ -120,16 +120,16 @@ where
                 (λ fault. fault ≡ NodeFault.Gate
                 → IsRefused (G.has_passed gate.entry.now s.node)
                 (G.may_refuse gate.entry.now s.node) turns)
-                × G.is_done gate.entry.now s.node) (seat ∷ seats.items) answers.items) }
-            ensures len { IfOk result (λ answers. deque_len answers ≡ deque_len seats + 1) }
+                × G.is_done gate.entry.now s.node) (ends ∷ workers.items) answers.items) }
+            ensures len { IfOk result (λ answers. deque_len answers ≡ deque_len workers + 1) }
             ensures room { IfOk result (λ new. deque_capacity new ≡ deque_capacity answers) }
             ensures unstarted { IfErr result (StopsAt (G.is_done gate.entry.now)
-                (seat.node ∷ map (λ s. s.node) seats.items)) }
+                (ends.node ∷ map (λ s. s.node) workers.items)) }
         {
-            let node = seat.node;
+            let node = ends.node;
             let first = first_items(root, published, openings, node);
             let promise = WorkPromise {
-                seat: Snapshot::of(&seat),
+                ends: Snapshot::of(&ends),
                 first,
                 turns,
                 gate,
@@ -139,26 +139,26 @@ where
                 move || -> Answer<U, D>
                     requires turns { 1 ≤ turns }
                     ensures work { MatchResult result
-                        (λ a. HasWorked (G.has_passed gate.entry.now seat.node) turns
+                        (λ a. HasWorked (G.has_passed gate.entry.now ends.node) turns
                         first.entry.now
-                        (node_ends U.received U.link D.sent D.link seat.up seat.downs.items)
+                        (node_ends U.received U.link D.sent D.link ends.up ends.downs.items)
                         (node_ends U.done_received U.done_link D.done_sent D.done_link
                         a.up a.downs.items)
                         a.received.items a.ended)
                         (λ fault. fault ≡ NodeFault.Gate
-                        → IsRefused (G.has_passed gate.entry.now seat.node)
-                        (G.may_refuse gate.entry.now seat.node) turns) }
-                    ensures done { G.is_done gate.entry.now seat.node }
+                        → IsRefused (G.has_passed gate.entry.now ends.node)
+                        (G.may_refuse gate.entry.now ends.node) turns) }
+                    ensures done { G.is_done gate.entry.now ends.node }
                 {
-                    let Seat { node, up, downs } = seat;
+                    let WorkerEnds { node, up, downs } = ends;
                     work(pass, alloc, node, up, downs, first, turns, gate)
                 },
             ) {
                 Ok(worker) => worker,
                 Err(_) => return Err(node),
             };
-            let rest = run_seats(
-                rt, pass, alloc, seats, root, published, openings, turns, gate, answers,
+            let rest = run_each(
+                rt, pass, alloc, workers, root, published, openings, turns, gate, answers,
             );
             let answer = worker.join(rt);
             let mut answers = rest?;

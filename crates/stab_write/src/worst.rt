@@ -5,7 +5,7 @@ ghost use Rattle.stab_core.specs.CounterExamples.{acked_by_receiver, acked_by_st
 ghost use Rattle.stab_core.specs.CounterExamples.{counted_frames, delivered_at_last};
 ghost use Rattle.stab_core.specs.CounterExamples.{worst_events, worst_start};
 ghost use Rattle.stab_core.specs.LinkLaw.{LinkLawWithin};
-ghost use Rattle.stab_core.specs.Replay.{IsLawful, opening, replay, start_items};
+ghost use Rattle.stab_core.specs.Replay.{IsLawful, initial, replay, start_items};
 ghost use Rattle.stab_script.specs.LinkJobs.{most_events};
 ghost use Rattle.stab_write.specs.WorstTexts.{IsWorstText};
 
@@ -43,12 +43,12 @@ pub fn worst_job(alloc: Global, params: Params) -> Result<LinkJob, AllocError>
     ensures lawful { IfOk result (λ job. IsLawful params job.start) }
     ensures strays { IfOk result (λ job. length (start_items job.start) ≡ params.capacity) }
     ensures reached { IfOk result (λ job. let c = params.capacity in
-        let s = replay params (opening job.start) job.events in
+        let s = replay params (initial job.start) job.events in
         (s.offered ≡ range_with_len FIRST_ITEM (2 * c + 2)) × (s.acked ≡ 2 * c + 1)
         × (s.delivered ≡ start_items job.start ++ (FIRST_ITEM + 2 * c + 1) ∷ [])) }
     ensures no_smaller { IfOk result (λ job.
         (most_strays most_missing : ℕ) → let c = params.capacity in
-        let s = replay params (opening job.start) job.events in
+        let s = replay params (initial job.start) job.events in
         LinkLawWithin most_strays most_missing (start_items job.start) s.offered s.acked s.delivered
         → (c ≤ most_strays) × (2 * c + 1 ≤ most_missing)) }
 {

@@ -1,6 +1,6 @@
 use Rattle.std.proofs.Common.{◌≡◌, ℕ, List, [], sym, subst}
 use Rattle.stab_core.specs.LinkState.{LinkState}
-use Rattle.stab_core.specs.Replay.{opening, replay}
+use Rattle.stab_core.specs.Replay.{initial, replay}
 use Rattle.stab_judge.specs.Judged.{IsPicked}
 use Rattle.stab_link_verdict.specs.LinkVerdicts.{offers_of}
 use Rattle.stab_accepted.proofs.Offers.{OffersMore, replay_offers}
@@ -12,7 +12,7 @@ all_picked offers s (more, is, picked) = subst (λ (xs : List ℕ). IsPicked xs 
 
 pub returns : goal.returns
 returns c job params start = record {
-  offered = all_picked (offers_of job.events) (replay job.params (opening job.start) job.events)
-      (replay_offers job.params (opening job.start) job.events);
+  offered = all_picked (offers_of job.events) (replay job.params (initial job.start) job.events)
+      (replay_offers job.params (initial job.start) job.events);
   law = c.every_replay_obeys_the_link_law.ensures job.params job.start job.events params start;
 }

@@ -4,35 +4,35 @@ use Rattle.stab_node.proofs.UnderWay.{lower_served}
 use Rattle.stab_node.proofs.worker.make_turn.Goals as goal
 
 pub returns-in_err-serve_upstream-clause-under_way : goal.returns-in_err-serve_upstream-clause-under_way
-returns-in_err-serve_upstream-clause-under_way g c = λ first way.
-    c.serve_upstream.ensures.under_way first (map g.D.SendSide.sent c.args.downs.now) way
+returns-in_err-serve_upstream-clause-under_way g c = λ initial way.
+    c.serve_upstream.ensures.under_way initial (map g.D.SendSide.sent c.args.downs.now) way
 
 pub returns-in_err-serve_downs-clause-under_way : goal.returns-in_err-serve_downs-clause-under_way
-returns-in_err-serve_downs-clause-under_way g c = λ first way.
-    lower_served first c.serve_upstream.new.received.items c.serve_upstream.new.ended
+returns-in_err-serve_downs-clause-under_way g c = λ initial way.
+    lower_served initial c.serve_upstream.new.received.items c.serve_upstream.new.ended
     (option_map g.U.RecvSide.received c.serve_upstream.new.up)
     (map g.D.SendSide.sent c.args.downs.now) (map g.D.SendSide.sent c.serve_downs.new.downs)
     (subst (λ r. All (OffersPrefix r) (map g.D.SendSide.sent c.args.downs.now)
     → All (OffersPrefix r) (map g.D.SendSide.sent c.serve_downs.new.downs))
     c.deref.ensures.value c.serve_downs.ensures.offered)
-    (c.serve_upstream.ensures.under_way first (map g.D.SendSide.sent c.args.downs.now) way)
+    (c.serve_upstream.ensures.under_way initial (map g.D.SendSide.sent c.args.downs.now) way)
 
 pub returns-then-upstream_ended-clause-under_way : goal.returns-then-upstream_ended-clause-under_way
-returns-then-upstream_ended-clause-under_way g c = λ first way.
-    lower_served first c.serve_upstream.new.received.items c.serve_upstream.new.ended
+returns-then-upstream_ended-clause-under_way g c = λ initial way.
+    lower_served initial c.serve_upstream.new.received.items c.serve_upstream.new.ended
     (option_map g.U.RecvSide.received c.serve_upstream.new.up)
     (map g.D.SendSide.sent c.args.downs.now) (map g.D.SendSide.sent c.serve_downs.new.downs)
     (subst (λ r. All (OffersPrefix r) (map g.D.SendSide.sent c.args.downs.now)
     → All (OffersPrefix r) (map g.D.SendSide.sent c.serve_downs.new.downs))
     c.deref.ensures.value c.serve_downs.ensures.offered)
-    (c.serve_upstream.ensures.under_way first (map g.D.SendSide.sent c.args.downs.now) way)
+    (c.serve_upstream.ensures.under_way initial (map g.D.SendSide.sent c.args.downs.now) way)
 
 pub returns-else-upstream_ended-clause-under_way : goal.returns-else-upstream_ended-clause-under_way
-returns-else-upstream_ended-clause-under_way g c = λ first way.
-    lower_served first c.serve_upstream.new.received.items c.serve_upstream.new.ended
+returns-else-upstream_ended-clause-under_way g c = λ initial way.
+    lower_served initial c.serve_upstream.new.received.items c.serve_upstream.new.ended
     (option_map g.U.RecvSide.received c.serve_upstream.new.up)
     (map g.D.SendSide.sent c.args.downs.now) (map g.D.SendSide.sent c.serve_downs.new.downs)
     (subst (λ r. All (OffersPrefix r) (map g.D.SendSide.sent c.args.downs.now)
     → All (OffersPrefix r) (map g.D.SendSide.sent c.serve_downs.new.downs))
     c.deref.ensures.value c.serve_downs.ensures.offered)
-    (c.serve_upstream.ensures.under_way first (map g.D.SendSide.sent c.args.downs.now) way)
+    (c.serve_upstream.ensures.under_way initial (map g.D.SendSide.sent c.args.downs.now) way)

@@ -6,17 +6,17 @@ use Rattle.stab_node.proofs.worker.serve.Goals as goal
 
 pub returns-clause-work : goal.returns-clause-work
 returns-clause-work g c = λ new.
-    let first = c.args.first.now in
+    let initial = c.args.initial.now in
     let up = option_map g.U.RecvSide.received c.args.up.now in
     let downs = map g.D.SendSide.sent c.args.downs.now in
-    let begun : IsUnderWay first c.in_ok-received.received.items false up downs =
-    subst (λ r. IsUnderWay first r false up downs)
-    (sym c.in_ok-received.ensures.items) (begins first up downs new) in
-    worked first c.take_turns.new.received.items (option_map g.U.RecvSide.received c.take_turns.new.up)
+    let begun : IsUnderWay initial c.in_ok-received.received.items false up downs =
+    subst (λ r. IsUnderWay initial r false up downs)
+    (sym c.in_ok-received.ensures.items) (begins initial up downs new) in
+    worked initial c.take_turns.new.received.items (option_map g.U.RecvSide.received c.take_turns.new.up)
     (map g.D.SendSide.sent c.take_turns.new.downs) (map g.D.SendSide.sent c.close_all.new.downs)
     c.in_ok-ended.ended
     (map-map but_for_the_close g.D.SendSide.sent c.close_all.new.downs
     ∙ (c.close_all.ensures.accounts
     ∙ sym (map-map but_for_the_close g.D.SendSide.sent c.take_turns.new.downs)))
     c.in_ok-close_all.ensures.closed
-    (c.in_ok-ended.ensures.under_way first begun)
+    (c.in_ok-ended.ensures.under_way initial begun)

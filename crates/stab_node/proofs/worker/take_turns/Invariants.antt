@@ -6,10 +6,10 @@ use Rattle.stab_node.proofs.worker.take_turns.Given as goal
 -- the work goes on as it began, over the same links, and the turns so far were let begin
 abbrev pub invariant-turns : goal.invariant-turns
 invariant-turns g l =
-    ((first : List ℕ)
-    → IsUnderWay first l.fn.received.items false
+    ((initial : List ℕ)
+    → IsUnderWay initial l.fn.received.items false
     (option_map g.U.RecvSide.received l.fn.up) (map g.D.SendSide.sent l.fn.downs)
-    → IsUnderWay first l.received.items l.upstream_ended
+    → IsUnderWay initial l.received.items l.upstream_ended
     (option_map g.U.RecvSide.received l.up) (map g.D.SendSide.sent l.downs))
     × (option_map g.U.RecvSide.link l.up ≡ option_map g.U.RecvSide.link l.fn.up)
     × (map g.D.SendSide.link l.downs ≡ map g.D.SendSide.link l.fn.downs)

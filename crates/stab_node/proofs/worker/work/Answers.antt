@@ -5,7 +5,7 @@ use Rattle.stab_node.proofs.worker.work.Goals as goal
 
 pub returns-clause-work : goal.returns-clause-work
 returns-clause-work g c = λ new.
-    let first = c.args.first.now in
+    let initial = c.args.initial.now in
     let received = c.in_ok-served.served.received.items in
     let ended = c.in_ok-served.served.ended in
     let up = option_map g.U.RecvSide.received c.args.up in
@@ -16,9 +16,9 @@ returns-clause-work g c = λ new.
     ∙ ap (map g.D.SendSide.sent)
     (written_back c.serve-served.new.downs c.args.downs.items c.args.downs.len
     (search (rules, c.serve-served.auto.downs, c.deref_mut.ensures.len))) in
-    let work : IsWork first received upper lower ended =
+    let work : IsWork initial received upper lower ended =
     c.in_ok-served.ensures.work
     (subst (λ xs. AreNew up (map g.D.SendSide.sent xs)) (sym c.deref_mut.ensures.value) new) in
-    subst (λ u. IsWork first received u (map g.D.SendSide.done_sent c.finish_all.result.items) ended)
+    subst (λ u. IsWork initial received u (map g.D.SendSide.done_sent c.finish_all.result.items) ended)
     (sym c.finish_upper.ensures.account)
-    (subst (λ d. IsWork first received upper d ended) (sym closed) work)
+    (subst (λ d. IsWork initial received upper d ended) (sym closed) work)

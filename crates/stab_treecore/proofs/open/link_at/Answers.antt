@@ -16,7 +16,7 @@ returns-clause-link c =
     (λ l. l ≡ slice_index_or (map opened (setups c.args.params.now c.args.starts.now)) c.args.place l)
     (λ l is. rw is (opened_at c.args.params.now c.args.starts.now c.args.place c.index-params-place.result c.index-starts-place.result
     c.requires.in_params c.requires.in_starts c.index-params-place.is c.index-starts-place.is))
-    c.new.ensures.opening
+    c.new.ensures.initial
 
 pub returns-clause-refused : goal.returns-clause-refused
 returns-clause-refused c =

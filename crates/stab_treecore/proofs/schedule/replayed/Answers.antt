@@ -4,7 +4,7 @@ use Rattle.std.proofs.lemmas.List.Elements.{All-more}
 use Rattle.std.proofs.lemmas.Result.{err_from_is_err_and}
 use Rattle.stab_treecore.specs.Network.{network_of}
 use Rattle.stab_treecore.specs.Refusals.{NamesLink}
-use Rattle.stab_treecore.specs.TreeReplay.{tree_opening, tree_replay}
+use Rattle.stab_treecore.specs.TreeReplay.{initial_tree, tree_replay}
 use Rattle.stab_treecore.specs.TreeStep.{tree_step}
 use Rattle.stab_treecore.specs.WholeTree.{WholeTree}
 use Rattle.stab_treecore.proofs.Refused.{CarriesOver, carries_on, refused_here, why_refused}
@@ -12,7 +12,7 @@ use Rattle.stab_treecore.proofs.schedule.replayed.Goals as goal
 
 pub loop-event-preserved : goal.loop-event-preserved
 loop-event-preserved c =
-    let t : WholeTree = tree_opening (network_of c.args.params.now c.args.tree.now c.args.published.now c.args.starts.now c.args.openings.now) in
+    let t : WholeTree = initial_tree (network_of c.args.params.now c.args.tree.now c.args.published.now c.args.starts.now c.args.openings.now) in
     let stepped : c.apply.new.self ≡ tree_step c.loop-event.state c.event-item.result = c.in_ok-apply.ensures.steps.0 in
     let names : NamesLink c.args.tree.now.parents (get_or c.args.events.now c.loop-event.event-index c.event-item.result) =
     rw (← c.event-item.is, ← c.loop-event.invariant.0) c.in_ok-apply.ensures.named in (
@@ -34,7 +34,7 @@ returns-clause-named c =
 
 pub returns-in_err-apply-clause-refused : goal.returns-in_err-apply-clause-refused
 returns-in_err-apply-clause-refused c =
-    let t : WholeTree = tree_opening (network_of c.args.params.now c.args.tree.now c.args.published.now c.args.starts.now c.args.openings.now) in
+    let t : WholeTree = initial_tree (network_of c.args.params.now c.args.tree.now c.args.published.now c.args.starts.now c.args.openings.now) in
     let p = err_from_is_err_and c.from_residual-in_err-apply.result c.from_residual-in_err-apply.ensures.1 in
     rw (p.1, p.2) (
       c.in_ok-state.ensures.params_per_link,

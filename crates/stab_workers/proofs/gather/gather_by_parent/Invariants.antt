@@ -7,5 +7,5 @@ use Rattle.stab_workers.proofs.gather.gather_by_parent.Given as goal
 abbrev pub invariant-nodes : goal.invariant-nodes
 invariant-nodes g l = record {
   room : vec_capacity l.entries ≡ length (links_of l.tree.parents);
-  so_far : GatheredSoFar l.tree.parents l.fn.dealt.items l.dealt.items l.entries.items l.node;
+  so_far : GatheredSoFar l.tree.parents l.fn.scattered.items l.scattered.items l.entries.items l.node;
 }

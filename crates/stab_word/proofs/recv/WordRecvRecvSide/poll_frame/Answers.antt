@@ -16,12 +16,12 @@ returns-in-Empty-clause-call c =
       acts = search rules;
     }
 
-pub returns-in-Shut-clause-call : goal.returns-in-Shut-clause-call
-returns-in-Shut-clause-call c =
+pub returns-in-Closed-clause-call : goal.returns-in-Closed-clause-call
+returns-in-Closed-clause-call c =
     record {
       unchanged = search rules;
       closed = search rules;
-      still_open = λ still. (recv_step.FrameLook frame.Shut ∷ [], search rules, (search rules, search rules));
+      still_open = λ still. (recv_step.FrameLook frame.Closed ∷ [], search rules, (search rules, search rules));
       acts = search rules;
     }
 
@@ -91,9 +91,9 @@ returns-in-Empty-frame_load-clause-call c =
       acts = search rules;
     }
 
-pub returns-in-Shut-frame_load-clause-call : goal.returns-in-Shut-frame_load-clause-call
-returns-in-Shut-frame_load-clause-call c =
-    let load = recv_step.FrameLoad frame.Shut in
+pub returns-in-Closed-frame_load-clause-call : goal.returns-in-Closed-frame_load-clause-call
+returns-in-Closed-frame_load-clause-call c =
+    let load = recv_step.FrameLoad frame.Closed in
     record {
       unchanged = search rules;
       closed = search rules;

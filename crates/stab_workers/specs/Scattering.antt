@@ -1,4 +1,4 @@
--- What there is one of per link, dealt out to the nodes that the links lead from. Its twin, which
+-- What there is one of per link, scattered to the nodes that the links lead from. Its twin, which
 -- deals it out to the nodes that the links lead into, is `by_child` of the layer below.
 -- Example: Nodes a, r, b, c with the parents 1, nothing, 0, 1: the links are those into 0, 2 and 3.
 -- Of 10, 20, 30, one per link, `by_parent` is 20 at a, then 10, 30 at r, and nothing at b and c;

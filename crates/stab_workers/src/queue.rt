@@ -6,11 +6,11 @@ use std::marker::Model;
 
 /// A list that grows at its end and is taken from its front. Contracts see its entries alone.
 #[derive(Debug, Drop)]
-pub(crate) struct Row<T> {
+pub(crate) struct Queue<T> {
     entries: VecDeque<T>,
 }
 
-impl<T> Model for Row<T> {
+impl<T> Model for Queue<T> {
     ghost use Rattle.std.specs.Prelude.{List};
     ghost use Rattle.std.specs.Coded.{coded_list};
 
@@ -18,24 +18,24 @@ impl<T> Model for Row<T> {
 
     ghost coded = { coded_list T.code };
 
-    ghost view = { λ row. row.entries.items };
+    ghost view = { λ queue. queue.entries.items };
 }
 
-impl<T> Row<T> {
-    /// An empty row. It takes no memory.
-    pub(crate) fn new(alloc: Global) -> Row<T>
+impl<T> Queue<T> {
+    /// An empty queue. It takes no memory.
+    pub(crate) fn new(alloc: Global) -> Queue<T>
         ensures { result ≡ [] }
     {
-        Row {
+        Queue {
             entries: VecDeque::new(alloc),
         }
     }
 
     /// The entries of a `Vec`, in their order. It takes no memory.
-    pub(crate) fn from_vec(entries: Vec<T>) -> Row<T>
+    pub(crate) fn from_vec(entries: Vec<T>) -> Queue<T>
         ensures { result ≡ entries.items }
     {
-        Row {
+        Queue {
             entries: VecDeque::from(entries),
         }
     }
@@ -44,11 +44,11 @@ impl<T> Row<T> {
     pub(crate) fn into_vec(self) -> Vec<T>
         ensures { result.items ≡ self }
     {
-        let Row { entries } = self;
+        let Queue { entries } = self;
         Vec::from(entries)
     }
 
-    /// Adds an entry at the end. Where memory is refused, the row stays as it was.
+    /// Adds an entry at the end. Where memory is refused, the queue stays as it was.
     pub(crate) fn push(&mut self, entry: T) -> Result<(), AllocError>
     where
         T: Drop,

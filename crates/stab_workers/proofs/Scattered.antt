@@ -1,10 +1,10 @@
--- What the nodes so far have been dealt, and what the others are still to get.
+-- What the nodes so far got, and what the others are still to get.
 use Rattle.std.proofs.Common.{◌≡◌, ◌<◌, ◌≤◌, ◌+◌, ℕ, List, [], ◌∷◌, ◌++◌, length, get_or, set, drop, replicate, Option, Some, None, MatchOption, if◌then◌else◌, refl, ap, sym, ◌∙◌, append_assoc, arith, inl, inr}
 use Rattle.std.proofs.lemmas.Bool.{cases_eq, eq-eqb, ne_eqb}
 use Rattle.std.proofs.lemmas.List.{drop_more, drop_all, append-nil, length-replicate, length-set, get_or-replicate, get_or-set_same, get_or-set_other}
 use Rattle.std.proofs.lemmas.List.FromFn.{fill_by_all}
 use Rattle.stab_treecore.specs.ByChild.{by_child, to_children}
-use Rattle.stab_workers.specs.Dealing.{by_parent}
+use Rattle.stab_workers.specs.Scattering.{by_parent}
 
 -- what is left of the parents begins with that of the next node
 pub next_parent : (parents : List (Option ℕ)) (i : ℕ) (parent : Option ℕ) → i < length parents → get_or parents i None ≡ parent
@@ -13,37 +13,37 @@ next_parent parents i parent in_list is = drop_more parents i None in_list ∙ a
 
 -- ---- by child
 
--- What the nodes so far have been dealt, and then what the others are dealt from what is left.
+-- What the nodes so far got, and then what the others get from what is left.
 abbrev pub ByChildSoFar : {A : Type 0} → List (Option ℕ) → List A → List (Option A) → List A → ℕ → Type 0
-ByChildSoFar parents xs dealt left i = dealt ++ by_child (drop i parents) left ≡ by_child parents xs
+ByChildSoFar parents xs scattered left i = scattered ++ by_child (drop i parents) left ≡ by_child parents xs
 
-module _ {A : Type 0} (parents : List (Option ℕ)) (xs : List A) (dealt : List (Option A)) (i : ℕ) (in_list : i < length parents) where
-  -- the root is dealt nothing
-  pub root_dealt : (left : List A) → ByChildSoFar parents xs dealt left i → get_or parents i None ≡ None
-      → ByChildSoFar parents xs (dealt ++ None ∷ []) left (i + 1)
-  root_dealt left so_far is_root =
-      append_assoc dealt (None ∷ []) (by_child (drop (i + 1) parents) left)
-      ∙ (ap (λ rest. dealt ++ by_child rest left) (sym (next_parent parents i None in_list is_root)) ∙ so_far)
+module _ {A : Type 0} (parents : List (Option ℕ)) (xs : List A) (scattered : List (Option A)) (i : ℕ) (in_list : i < length parents) where
+  -- the root gets nothing
+  pub root_scattered : (left : List A) → ByChildSoFar parents xs scattered left i → get_or parents i None ≡ None
+      → ByChildSoFar parents xs (scattered ++ None ∷ []) left (i + 1)
+  root_scattered left so_far is_root =
+      append_assoc scattered (None ∷ []) (by_child (drop (i + 1) parents) left)
+      ∙ (ap (λ rest. scattered ++ by_child rest left) (sym (next_parent parents i None in_list is_root)) ∙ so_far)
 
-  -- a child is dealt the first of what is left
-  pub child_dealt : (parent : ℕ) (taken : Option A) (old left : List A) → ByChildSoFar parents xs dealt old i
+  -- a child gets the first of what is left
+  pub child_scattered : (parent : ℕ) (taken : Option A) (old left : List A) → ByChildSoFar parents xs scattered old i
       → get_or parents i None ≡ Some parent → MatchOption taken ((old ≡ []) × (left ≡ [])) (λ x. old ≡ x ∷ left)
-      → ByChildSoFar parents xs (dealt ++ taken ∷ []) left (i + 1)
-  child_dealt parent None old left so_far is_child takes =
-      append_assoc dealt (None ∷ []) (by_child (drop (i + 1) parents) left)
-      ∙ (ap (λ rest. dealt ++ None ∷ by_child (drop (i + 1) parents) rest) takes.1
-      ∙ (ap (λ rest. dealt ++ by_child rest []) (sym (next_parent parents i (Some parent) in_list is_child))
-      ∙ (ap (λ rest. dealt ++ by_child (drop i parents) rest) (sym takes.0) ∙ so_far)))
-  child_dealt parent (Some x) old left so_far is_child takes =
-      append_assoc dealt (Some x ∷ []) (by_child (drop (i + 1) parents) left)
-      ∙ (ap (λ rest. dealt ++ by_child rest (x ∷ left)) (sym (next_parent parents i (Some parent) in_list is_child))
-      ∙ (ap (λ rest. dealt ++ by_child (drop i parents) rest) (sym takes) ∙ so_far))
+      → ByChildSoFar parents xs (scattered ++ taken ∷ []) left (i + 1)
+  child_scattered parent None old left so_far is_child takes =
+      append_assoc scattered (None ∷ []) (by_child (drop (i + 1) parents) left)
+      ∙ (ap (λ rest. scattered ++ None ∷ by_child (drop (i + 1) parents) rest) takes.1
+      ∙ (ap (λ rest. scattered ++ by_child rest []) (sym (next_parent parents i (Some parent) in_list is_child))
+      ∙ (ap (λ rest. scattered ++ by_child (drop i parents) rest) (sym takes.0) ∙ so_far)))
+  child_scattered parent (Some x) old left so_far is_child takes =
+      append_assoc scattered (Some x ∷ []) (by_child (drop (i + 1) parents) left)
+      ∙ (ap (λ rest. scattered ++ by_child rest (x ∷ left)) (sym (next_parent parents i (Some parent) in_list is_child))
+      ∙ (ap (λ rest. scattered ++ by_child (drop i parents) rest) (sym takes) ∙ so_far))
 
--- after the last node everything is dealt
-pub all_dealt : {A : Type 0} (parents : List (Option ℕ)) (xs : List A) (dealt : List (Option A)) (left : List A) (i : ℕ)
-    → ByChildSoFar parents xs dealt left i → length parents ≤ i → dealt ≡ by_child parents xs
-all_dealt parents xs dealt left i so_far past =
-    sym (ap (λ rest. dealt ++ by_child rest left) (drop_all i parents past) ∙ append-nil dealt) ∙ so_far
+-- after the last node everything is scattered
+pub all_scattered : {A : Type 0} (parents : List (Option ℕ)) (xs : List A) (scattered : List (Option A)) (left : List A) (i : ℕ)
+    → ByChildSoFar parents xs scattered left i → length parents ≤ i → scattered ≡ by_child parents xs
+all_scattered parents xs scattered left i so_far past =
+    sym (ap (λ rest. scattered ++ by_child rest left) (drop_all i parents past) ∙ append-nil scattered) ∙ so_far
 
 -- ---- by parent
 

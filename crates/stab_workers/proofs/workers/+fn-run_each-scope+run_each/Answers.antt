@@ -1,12 +1,12 @@
 use Rattle.std.proofs.Common.{ap, length, map, rules}
 use Rattle.stab_workers.proofs.Firsts.{known_first}
-use Rattle.stab_workers.proofs.workers.+fn-run_seats-scope+run_seats.Goals as goal
+use Rattle.stab_workers.proofs.workers.+fn-run_each-scope+run_each.Goals as goal
 
--- the promise remembers the seat that the worker took
+-- the promise remembers the ends that the worker took
 pub scope-spawn_with-requires-clause-keeps : goal.scope-spawn_with-requires-clause-keeps
 scope-spawn_with-requires-clause-keeps g t c κs within = λ r holds. rw c.of.ensures holds
 
--- the worker's answer goes before those of the seats after it
+-- the worker's answer goes before those of the workers after it
 pub scope-returns : goal.scope-returns
 scope-returns g t c = record {
   answers =
@@ -18,9 +18,9 @@ scope-returns g t c = record {
 }
 
 -- the closure may be called as it is: what it asks is what this asks
-pub fn::run_seats::scope+FnOnce::call_once-scope-requires :
-    goal.fn::run_seats::scope+FnOnce::call_once-scope-requires
-fn::run_seats::scope+FnOnce::call_once-scope-requires g t c κs within =
+pub fn::run_each::scope+FnOnce::call_once-scope-requires :
+    goal.fn::run_each::scope+FnOnce::call_once-scope-requires
+fn::run_each::scope+FnOnce::call_once-scope-requires g t c κs within =
     let asked = c.requires.1.1.1.1.1.1.1 in
     let kinds = asked.1.1.1.1.1.0 in (
       c.decreases,
@@ -74,7 +74,7 @@ pub scoped-requires : goal.scoped-requires
 scoped-requires g t c = record {
   at = λ a.
       let kinds = c.requires.kinds in
-      let known = known_first (length c.args.openings.now.lists) _ _ _ (ap (λ seats. map (λ s. s.node) seats) c.in-Some.ensures.items) c.requires.known in (
+      let known = known_first (length c.args.openings.now.lists) _ _ _ (ap (λ workers. map (λ s. s.node) workers) c.in-Some.ensures.items) c.requires.known in (
         search rules,
         (
           (λ x m. m),

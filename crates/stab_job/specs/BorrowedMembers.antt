@@ -1,11 +1,11 @@
 -- The members that the code's record of them lends.
 -- Source: this project's own.
 use Rattle.serde_json.specs.View.{view, items_view}
-use Rattle.stab_job.specs.declared.members.LentMembers.{LentMembers}
+use Rattle.stab_job.specs.declared.members.BorrowedMembers.{BorrowedMembers}
 use Rattle.stab_job.specs.JobMembers.{Members}
 
-abbrev pub members_lent : LentMembers → Members
-members_lent m = record {
+abbrev pub borrowed_members : BorrowedMembers → Members
+borrowed_members m = record {
   capacity = m.capacity;
   labels = m.labels;
   tree = view m.tree.now;
