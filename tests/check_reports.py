@@ -1,6 +1,7 @@
 """Checks that `rignolda check` accepts what `stab` prints, and refuses what is spoiled where it is.
 
-Run by hand, and not by the gate: python3 tests/check_reports.py [COUNT [SEED [RIGNOLDA]]]
+Run by hand, and not by the gate: python3 tests/check_reports.py [COUNT [SEED]]. The programs are
+those of release/, or STAB and RIGNOLDA in the environment. 10,000 jobs take three minutes.
 
 Each job is drawn: a tree with starts, scripts, openings, links of their own and few turns, and items
 of which many are equal to one another and to strays. `stab run`, with `--words`, `--mixed` or
@@ -14,7 +15,9 @@ of which `stab link` prints the text, and in it a line is spoiled in the same wa
 """
 
 import collections
+import gzip
 import json
+import os
 import random
 import re
 import subprocess
@@ -306,12 +309,12 @@ def spoiled(draw, text):
     return way, "\n".join(lines) + "\n"
 
 
-def answer_of(program, folder, job, text, swapped):
+def answer_of(rignolda, folder, job, text, swapped):
     """The status of `rignolda check`, and the first line that it writes, on either output."""
     (folder / "job").write_text(job)
     (folder / "report").write_text(text)
     words, given = (["job", "-"], text) if swapped else (["-", "report"], job)
-    done = subprocess.run([program, "check", *words], input=given.encode(), cwd=folder,
+    done = subprocess.run([rignolda, "check", *words], input=given.encode(), cwd=folder,
                           capture_output=True)
     return done.returncode, (done.stdout or done.stderr).decode().split("\n")[0]
 
@@ -329,21 +332,31 @@ def expected(found, is_link):
     return 1, f"{node}: " + SAID.get(part, "")
 
 
+def program(folder, name):
+    """A program of release/, or the one that the environment names."""
+    if name.upper() in os.environ:
+        return Path(os.environ[name.upper()]).resolve()
+    path = folder / name
+    path.write_bytes(gzip.decompress((ROOT / "release" / (name + ".gz")).read_bytes()))
+    path.chmod(0o755)
+    return path
+
+
 def main():
     """Draws jobs, and compares."""
     count = int(sys.argv[1]) if len(sys.argv) > 1 else 10000
     draw = random.Random(int(sys.argv[2]) if len(sys.argv) > 2 else 1)
-    program = sys.argv[3] if len(sys.argv) > 3 else ROOT / "rignolda"
     failed, found_parts = 0, collections.Counter()
     with tempfile.TemporaryDirectory() as folder:
         folder = Path(folder)
+        stab, rignolda = program(folder, "stab"), program(folder, "rignolda")
         for case in range(count):
             is_link = draw.random() < 0.2
             command = ["link"] if is_link else draw.choice(
                 [["run"], ["run", "--words"], ["run", "--mixed"], ["tree"]])
             job = drawn_link_job(draw) if is_link else drawn_job(draw, "--words" in command)
             whole = json.dumps(job)
-            done = subprocess.run([ROOT / "stab", *command], input=whole.encode(),
+            done = subprocess.run([stab, *command], input=whole.encode(),
                                   capture_output=True)
             text = done.stdout.decode()
             if done.returncode:
@@ -353,7 +366,7 @@ def main():
             way, other = (spoiled_link if is_link else spoiled)(draw, text)
             for kind, report in (("true", text), (way, other)):
                 found = (judged_link if is_link else judged)(job, report)
-                status, line = answer_of(program, folder, whole, report, draw.random() < 0.5)
+                status, line = answer_of(rignolda, folder, whole, report, draw.random() < 0.5)
                 wants, begins = expected(found, is_link)
                 good = status == wants and line.startswith(begins)
                 if kind == "true":
