@@ -4,9 +4,11 @@ use crate::again::{Calls, Row, Texts, make_row, print_object};
 use crate::books::push_book;
 use crate::end_calls::{EndCall, ROUNDS, ROWS, item_after, params, script_of, start_of};
 use stab_core::Start;
-use stab_lock::{LockLink, RecvSide, SendSide};
+use stab_ends::{RecvSide, SendSide};
+use stab_lock::LockLink;
+use stab_run::{AnyRecv, AnySend};
 use stab_script::Script;
-use stab_word::{AnyRecv, AnySend, WordLink, WordRecv, WordSend};
+use stab_word::{WordLink, WordRecv, WordSend};
 use std::alloc::AllocError;
 use std::sync::Wait;
 

@@ -1,9 +1,9 @@
 //! The work of a node, over ends without a link.
 
 use crate::again::{Calls, Made, Row, push_answer};
+use stab_ends::FrameSeen;
+use stab_ends::plain::{PlainRecv, PlainSend};
 use stab_frames::Item;
-use stab_lock::FrameSeen;
-use stab_node::plain::{PlainRecv, PlainSend};
 use stab_node::{Free, work};
 use std::alloc::{AllocError, Global};
 use std::collections::VecDeque;

@@ -4,10 +4,10 @@ use Rattle.std.proofs.Common.{nat_lt, ◌≡◌, ℕ, suc, false, List, [], ◌�
 use Rattle.std.proofs.lemmas.Bool.{eqb-true, ltb-false, or_parts}
 use Rattle.std.proofs.lemmas.List.{length-replicate}
 use Rattle.stab_json.specs.Checks.{◌>>=◌}
-use Rattle.stab_script.specs.declared.fault.ScriptFault.{ScriptFault}
+use Rattle.stab_acts.specs.declared.fault.ScriptFault.{ScriptFault}
 use Rattle.stab_script.specs.declared.script_entry.ScriptEntry.{ScriptEntry}
 use Rattle.stab_script.specs.MadeScripts.{made}
-use Rattle.stab_script.specs.Scripts.{Acts, no_acts}
+use Rattle.stab_acts.specs.Scripts.{Acts, no_acts}
 use Rattle.stab_frames.specs.Parameters.{Parameters, AreLawful}
 use Rattle.stab_core.specs.declared.start.Start.{Start}
 use Rattle.stab_core.specs.Replay.{clean_start}

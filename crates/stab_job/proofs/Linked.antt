@@ -2,10 +2,10 @@
 use Rattle.std.proofs.Common.{◌≡◌, ℕ, ◌+◌, List, [], ◌∷◌, ◌++◌, replicate, Result, Ok, Err, refl, sym, ap, ◌∙◌, append_assoc}
 use Rattle.std.proofs.lemmas.List.{replicate-append-replicate, append-nil}
 use Rattle.stab_json.specs.Checks.{◌>>=◌}
-use Rattle.stab_script.specs.declared.fault.ScriptFault.{ScriptFault}
+use Rattle.stab_acts.specs.declared.fault.ScriptFault.{ScriptFault}
 use Rattle.stab_script.specs.declared.script_entry.ScriptEntry.{ScriptEntry}
 use Rattle.stab_script.specs.MadeScripts.{made}
-use Rattle.stab_script.specs.Scripts.{Acts}
+use Rattle.stab_acts.specs.Scripts.{Acts}
 use Rattle.stab_job.specs.JobLinks.{all_made}
 
 -- one more at the end of as many alike is one more of them

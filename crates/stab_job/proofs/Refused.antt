@@ -1,7 +1,7 @@
 -- A part that is refused refuses its job, and refused memory is reported as that alone.
 use Rattle.std.proofs.Common.{◌≡◌, true, refl}
-use Rattle.stab_script.specs.declared.fault.ScriptFault.{ScriptFault}
-use Rattle.stab_script.specs.declared.fault.ScriptFault.TheVariants.{TooLong, RateOutOfRange, Memory}
+use Rattle.stab_acts.specs.declared.fault.ScriptFault.{ScriptFault}
+use Rattle.stab_acts.specs.declared.fault.ScriptFault.TheVariants.{TooLong, RateOutOfRange, Memory}
 use Rattle.stab_tree.specs.declared.fault.TreeFault.{TreeFault}
 use Rattle.stab_tree.specs.declared.fault.TreeFault.TheVariants as tree_fault
 use Rattle.stab_job.specs.Refusals.{tree_refused, script_refused, is_of_value}

@@ -5,10 +5,10 @@ use Rattle.std.specs.Prelude.{ℕ, List, [], ◌∷◌, length, replicate, Bool,
 use Rattle.stab_core.specs.declared.start.Start.{Start}
 use Rattle.stab_core.specs.Replay.{clean_start}
 use Rattle.stab_json.specs.Checks.{◌>>=◌}
-use Rattle.stab_script.specs.declared.fault.ScriptFault.{ScriptFault}
+use Rattle.stab_acts.specs.declared.fault.ScriptFault.{ScriptFault}
 use Rattle.stab_script.specs.declared.script_entry.ScriptEntry.{ScriptEntry}
 use Rattle.stab_script.specs.MadeScripts.{made}
-use Rattle.stab_script.specs.Scripts.{Acts, no_acts}
+use Rattle.stab_acts.specs.Scripts.{Acts, no_acts}
 
 -- a list is given, and it has not one entry for each of that many links
 abbrev pub are_miscounted : {X : Type 0} → ℕ → Option (List X) → Bool

@@ -14,7 +14,7 @@ use Rattle.serde_json.specs.Find.{get}
 use Rattle.stab_frames.specs.Parameters.{Parameters, fault_of}
 use Rattle.stab_json.specs.Checks.{◌>>=◌, ◌>>◌, ◌or◌, ◌when◌, ◌refused_as◌}
 use Rattle.stab_json.specs.Values.{value_of, count, entries}
-use Rattle.stab_script.specs.Scripts.{Acts}
+use Rattle.stab_acts.specs.Scripts.{Acts}
 use Rattle.stab_tree.specs.Nodes.{Nodes}
 use Rattle.stab_tree.specs.Read.{tree_of}
 use Rattle.stab_treecore.specs.declared.event.TreeEvent.{TreeEvent}

@@ -2,8 +2,8 @@
 -- memory alone where that is the cause.
 -- Source: this project's own.
 use Rattle.std.specs.Prelude.{Bool, true, false}
-use Rattle.stab_script.specs.declared.fault.ScriptFault.{ScriptFault}
-use Rattle.stab_script.specs.declared.fault.ScriptFault.TheVariants as script_fault
+use Rattle.stab_acts.specs.declared.fault.ScriptFault.{ScriptFault}
+use Rattle.stab_acts.specs.declared.fault.ScriptFault.TheVariants as script_fault
 use Rattle.stab_tree.specs.declared.fault.TreeFault.{TreeFault}
 use Rattle.stab_tree.specs.declared.fault.TreeFault.TheVariants as tree_fault
 use Rattle.stab_job.specs.declared.fault.JobFault.{JobFault}

@@ -2,7 +2,7 @@ ghost use Rattle.std.specs.Prelude.{◌≡◌, ◌≢◌, ◌<◌, ℕ, false, t
 ghost use Rattle.std.specs.Prelude.{Some, get_or, slice_get};
 ghost use Rattle.std.specs.Prelude.{IfErr, IfOk, MatchResult, Ok, Err};
 ghost use Rattle.stab_core.specs.Replay.{clean_start};
-ghost use Rattle.stab_script.specs.Scripts.{no_acts};
+ghost use Rattle.stab_acts.specs.Scripts.{no_acts};
 ghost use Rattle.stab_job.specs.JobLinks.{all_made, are_miscounted, scripts_of, starts_of};
 ghost use Rattle.stab_job.specs.JobValues.{links};
 ghost use Rattle.stab_job.specs.LinkParams.{all_params, params_into, params_of};

@@ -18,14 +18,14 @@ use Rattle.stab_core.specs.LinkState.{LinkState, is_idle, is_holding}
 use Rattle.stab_core.specs.Link.{Grows}
 use Rattle.stab_core.specs.Step.{effect, step}
 use Rattle.stab_lock.specs.declared.put.Put.{Put}
-use Rattle.stab_lock.specs.declared.seen.FrameSeen.{FrameSeen}
-use Rattle.stab_lock.specs.declared.seen.FrameSeen.TheVariants as seen
+use Rattle.stab_ends.specs.declared.seen.FrameSeen.{FrameSeen}
+use Rattle.stab_ends.specs.declared.seen.FrameSeen.TheVariants as seen
 use Rattle.stab_lock.specs.Book.{Book, state_of, book_after, MayRefuseAll}
-use Rattle.stab_script.specs.declared.act.OutAct.{OutAct}
-use Rattle.stab_script.specs.declared.act.OutAct.TheVariants.{Pass, Drop, Evict}
-use Rattle.stab_script.specs.declared.act.InAct.{InAct}
-use Rattle.stab_script.specs.declared.act.InAct.TheVariants.{Take, Keep}
-use Rattle.stab_script.specs.Scripts.{ActsRemaining, out_act, in_act, after_out, after_in}
+use Rattle.stab_acts.specs.declared.act.OutAct.{OutAct}
+use Rattle.stab_acts.specs.declared.act.OutAct.TheVariants.{Pass, Drop, Evict}
+use Rattle.stab_acts.specs.declared.act.InAct.{InAct}
+use Rattle.stab_acts.specs.declared.act.InAct.TheVariants.{Take, Keep}
+use Rattle.stab_acts.specs.Scripts.{ActsRemaining, out_act, in_act, after_out, after_in}
 
 -- the six calls
 pub data Call : Type 0 where

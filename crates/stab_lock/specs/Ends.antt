@@ -1,8 +1,8 @@
 -- What an end of a locked link shows: its account, and the acts of its half of the script that
 -- remain.
 -- Source: this project's own.
-use Rattle.stab_script.specs.Scripts.{ActsRemaining}
-use Rattle.stab_lock.specs.Accounts.{SenderAccount, ReceiverAccount}
+use Rattle.stab_acts.specs.Scripts.{ActsRemaining}
+use Rattle.stab_ends.specs.Accounts.{SenderAccount, ReceiverAccount}
 use Rattle.stab_lock.specs.declared.send.LockSend.{LockSend}
 use Rattle.stab_lock.specs.declared.recv.LockRecv.{LockRecv}
 

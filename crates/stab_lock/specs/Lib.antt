@@ -1,4 +1,3 @@
-pub mod Accounts
 pub mod Book
 pub mod Calls
 pub mod Settling

@@ -1,5 +1,4 @@
--- When two accounts agree with the state of one link, and the first thing in which they differ from
--- it.
+-- The first thing in which two accounts differ from the state of one link.
 -- Example: A sender whose account is open and a link that is closed: the lists and the count are
 -- compared before, so `ClosedDiffer` is the difference only where those agree.
 -- Source: this project's profile.
@@ -9,22 +8,11 @@ use Rattle.stab_core.specs.declared.event.Event.{Event}
 use Rattle.stab_core.specs.declared.start.Start.{Start}
 use Rattle.stab_core.specs.LinkState.{LinkState}
 use Rattle.stab_core.specs.Replay.{initial, replay}
-use Rattle.stab_lock.specs.Accounts.{SenderAccount, ReceiverAccount}
+use Rattle.stab_ends.specs.Accounts.{SenderAccount, ReceiverAccount}
+use Rattle.stab_ends.specs.Agreement.{ClosesAgree}
 use Rattle.stab_lock.specs.declared.settle.SettleFault.{SettleFault}
 use Rattle.stab_lock.specs.declared.settle.SettleFault.TheVariants.{OfferedDiffer, AckedDiffer}
 use Rattle.stab_lock.specs.declared.settle.SettleFault.TheVariants.{DeliveredDiffer, ClosedDiffer}
-
--- the sender's closed is the link's, and the receiver's is set only where the link is closed
-pub record ClosesAgree (s : LinkState) (sender : SenderAccount) (receiver : ReceiverAccount) : Type 0 where
-  pub by_sender : sender.closed ≡ s.closed
-  pub by_receiver : receiver.closed ≡ true → s.closed ≡ true
-
--- both accounts are what this state says
-pub record Agree (s : LinkState) (sender : SenderAccount) (receiver : ReceiverAccount) : Type 0 where
-  pub offered : sender.offered ≡ s.offered
-  pub acked : sender.acked ≡ s.acked
-  pub delivered : receiver.delivered ≡ s.delivered
-  pub closed : ClosesAgree s sender receiver
 
 -- this is the first thing in which the accounts differ from the state
 abbrev pub FirstDiffer : LinkState → SenderAccount → ReceiverAccount → SettleFault → Type 0

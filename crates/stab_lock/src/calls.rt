@@ -8,10 +8,10 @@ ghost use Rattle.stab_lock.specs.Calls.{put_noted, IsSent, is_held, seen_by, May
 
 use crate::book::LinkBook;
 use crate::put::Put;
-use crate::seen::FrameSeen;
+use stab_acts::{HalfScript, InAct, OutAct};
 use stab_core::{Effect, Event};
+use stab_ends::FrameSeen;
 use stab_frames::Item;
-use stab_script::{HalfScript, InAct, OutAct};
 use std::alloc::AllocError;
 
 impl LinkBook {

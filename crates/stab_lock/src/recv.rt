@@ -1,13 +1,11 @@
 ghost use Rattle.std.specs.Prelude.{◌≡◌, true, IfOk, OnErr};
 ghost use Rattle.stab_lock.specs.Ends.{recv_end};
-ghost use Rattle.stab_lock.specs.Accounts.{ReceiverAccount, IsOpenFor, new_receiver, after_poll_frame};
+ghost use Rattle.stab_ends.specs.Accounts.{ReceiverAccount, IsOpenFor, new_receiver, after_poll_frame};
 
-use crate::account::RecvAccount;
 use crate::link::LockLink;
-use crate::seen::FrameSeen;
-use crate::side::RecvSide;
+use stab_acts::HalfScript;
 use stab_core::Effect;
-use stab_script::HalfScript;
+use stab_ends::{FrameSeen, RecvAccount, RecvSide};
 use std::alloc::AllocError;
 use std::marker::PhantomData;
 use std::sync::Wait;

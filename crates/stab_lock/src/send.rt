@@ -1,14 +1,13 @@
 ghost use Rattle.std.specs.Prelude.{◌≡◌, true, IfOk, OnErr};
 ghost use Rattle.stab_lock.specs.Ends.{send_end};
-ghost use Rattle.stab_lock.specs.Accounts.{SenderAccount, MayOffer, Waits, new_sender, after_offer};
-ghost use Rattle.stab_lock.specs.Accounts.{after_poll_ack, after_close};
+ghost use Rattle.stab_ends.specs.Accounts.{SenderAccount, MayOffer, Waits, new_sender, after_offer};
+ghost use Rattle.stab_ends.specs.Accounts.{after_poll_ack, after_close};
 
-use crate::account::SendAccount;
 use crate::link::LockLink;
-use crate::side::SendSide;
+use stab_acts::HalfScript;
 use stab_core::Effect;
+use stab_ends::{SendAccount, SendSide};
 use stab_frames::Item;
-use stab_script::HalfScript;
 use std::alloc::AllocError;
 use std::marker::PhantomData;
 use std::sync::Wait;

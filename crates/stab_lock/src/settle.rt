@@ -3,11 +3,12 @@ ghost use Rattle.stab_core.specs.LinkLaw.{LinkLaw};
 ghost use Rattle.stab_core.specs.Replay.{initial, replay, start_items};
 ghost use Rattle.stab_core.specs.declared.event.Event.{Event};
 ghost use Rattle.stab_lock.specs.Book.{state_of};
-ghost use Rattle.stab_lock.specs.Settling.{Agree, FirstDiffer, DifferFromReplay};
+ghost use Rattle.stab_ends.specs.Agreement.{Agree};
+ghost use Rattle.stab_lock.specs.Settling.{FirstDiffer, DifferFromReplay};
 
-use crate::account::{RecvAccount, SendAccount};
 use crate::book::LinkBook;
 use stab_core::Start;
+use stab_ends::{RecvAccount, SendAccount};
 use stab_frames::Params;
 use thiserror::Error;
 
@@ -27,13 +28,6 @@ pub enum SettleFault {
     /// open.
     #[error("run: closes differ")]
     ClosedDiffer,
-}
-
-/// Two accounts of one link that agree with one history.
-#[derive(Debug, Drop)]
-pub struct Settled {
-    pub send: SendAccount,
-    pub recv: RecvAccount,
 }
 
 impl LinkBook {

@@ -8,7 +8,7 @@ use Rattle.stab_core.proofs.ForCallers.{prefix_with_next}
 use Rattle.stab_core.specs.declared.event.Effect.{Effect}
 use Rattle.stab_core.specs.declared.event.Effect.TheVariants.{Nothing, Held, Sent, Fresh, Old}
 use Rattle.stab_core.specs.declared.event.Effect.TheVariants.{Acked, Ignored, Lost, Closed}
-use Rattle.stab_lock.specs.Accounts.{SenderAccount, after_offer, after_poll_ack, after_close}
+use Rattle.stab_ends.specs.Accounts.{SenderAccount, after_offer, after_poll_ack, after_close}
 use Rattle.std.proofs.Common.{All, Some}
 use Rattle.std.proofs.Math.Seq.{take-append_seam}
 use Rattle.std.proofs.lemmas.List.{map-set}

@@ -5,9 +5,9 @@ use Rattle.std.proofs.Common.{◌++◌, append_assoc, ap, refl, sym, subst, ◌�
 use Rattle.std.proofs.Common.{Option, Some, None}
 use Rattle.std.proofs.lemmas.List.{append-nil}
 use Rattle.std.proofs.lemmas.List.Elements.{All-nil, All-cons, All-head, All-tail, All-weaker}
-use Rattle.stab_lock.specs.Accounts.{SenderAccount, ReceiverAccount, new_sender, after_seen}
-use Rattle.stab_lock.specs.declared.seen.FrameSeen.{FrameSeen}
-use Rattle.stab_lock.specs.declared.seen.FrameSeen.TheVariants as seen
+use Rattle.stab_ends.specs.Accounts.{SenderAccount, ReceiverAccount, new_sender, after_seen}
+use Rattle.stab_ends.specs.declared.seen.FrameSeen.{FrameSeen}
+use Rattle.stab_ends.specs.declared.seen.FrameSeen.TheVariants as seen
 use Rattle.stab_node.specs.declared.account.Ended.{Ended}
 use Rattle.stab_node.specs.declared.account.Ended.TheVariants.{Upstream, Turns}
 use Rattle.stab_node.specs.Work.{AreNew, HasAll, IsServed}

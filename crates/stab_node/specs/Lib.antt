@@ -1,3 +1,8 @@
 pub mod Turns
 pub mod UnderWay
 pub mod Work
+pub mod Answers
+pub mod ByNode
+pub mod Scattering
+pub mod FirstFault
+pub mod InitialItems

@@ -2,9 +2,9 @@
 -- Source: this project's own.
 use Rattle.std.specs.Prelude.{◌≡◌, ℕ, Bool, true, false, List, [], ◌∷◌, ◌++◌, length, All}
 use Rattle.std.specs.Prelude.{Option, IfSome}
-use Rattle.stab_lock.specs.Accounts.{SenderAccount, ReceiverAccount}
-use Rattle.stab_lock.specs.declared.seen.FrameSeen.{FrameSeen}
-use Rattle.stab_lock.specs.declared.seen.FrameSeen.TheVariants as seen
+use Rattle.stab_ends.specs.Accounts.{SenderAccount, ReceiverAccount}
+use Rattle.stab_ends.specs.declared.seen.FrameSeen.{FrameSeen}
+use Rattle.stab_ends.specs.declared.seen.FrameSeen.TheVariants as seen
 use Rattle.stab_node.specs.declared.account.Ended.{Ended}
 use Rattle.stab_node.specs.declared.account.Ended.TheVariants.{Upstream}
 use Rattle.stab_node.specs.Work.{IsHandedOn, received_by}

@@ -7,7 +7,7 @@
 -- received 50, 51, 7, 7, 8, and the lower end would have offered 50 first.
 -- Source: this project's profile.
 use Rattle.std.specs.Prelude.{◌≡◌, ℕ, true, List, ◌++◌, length, All, Option, Some, None, IfSome}
-use Rattle.stab_lock.specs.Accounts.{SenderAccount, ReceiverAccount, new_sender, new_receiver}
+use Rattle.stab_ends.specs.Accounts.{SenderAccount, ReceiverAccount, new_sender, new_receiver}
 use Rattle.stab_node.specs.declared.account.Ended.{Ended}
 use Rattle.stab_node.specs.declared.account.Ended.TheVariants.{Upstream}
 use mathlib.Core.List.{IsPrefix}

@@ -5,8 +5,8 @@ ghost use Rattle.std.specs.Prelude.{length};
 ghost use Rattle.std.specs.Prelude.{slice_get, vec_capacity};
 ghost use Rattle.stab_node.specs.UnderWay.{IsAllAcked, OffersPrefix, but_for_the_close};
 
+use stab_ends::{SendAccount, SendSide};
 use stab_frames::Item;
-use stab_lock::{SendAccount, SendSide};
 use std::alloc::AllocError;
 
 /// Looks for an acknowledgement, offers the next item where the end is idle and there is one, and

@@ -2,13 +2,13 @@
 
 ghost use Rattle.std.specs.Prelude.{◌≡◌, ◌<◌, ℕ, List, ◌++◌, true, IfOk, option_map, vec_len};
 ghost use Rattle.std.specs.Prelude.{vec_capacity};
-ghost use Rattle.stab_lock.specs.Accounts.{SenderAccount};
+ghost use Rattle.stab_ends.specs.Accounts.{SenderAccount};
 ghost use Rattle.stab_node.specs.Work.{received_by};
 ghost use Rattle.stab_node.specs.UnderWay.{EndedIsClosed, IsUnderWay, OffersPrefix};
 ghost use Rattle.stab_node.specs.UnderWay.{with_seen};
 
+use stab_ends::{FrameSeen, RecvSide};
 use stab_frames::Item;
-use stab_lock::{FrameSeen, RecvSide};
 use std::alloc::AllocError;
 
 /// Takes what the upper end has, where the upstream has not ended, and keeps whether it has ended

@@ -10,8 +10,8 @@ use crate::downs::{all_served, close_all, finish_all, serve_downs};
 use crate::fault::NodeFault;
 use crate::gate::Gate;
 use crate::upstream::{finish_upper, serve_upstream};
+use stab_ends::{RecvSide, SendSide};
 use stab_frames::Item;
-use stab_lock::{RecvSide, SendSide};
 use std::alloc::{AllocError, Global};
 
 /// The whole work of a node, over its upper end and its lower ends.

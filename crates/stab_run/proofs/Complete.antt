@@ -22,7 +22,7 @@ use Rattle.stab_treecore.proofs.AtNodes.{sum_above-add}
 use Rattle.stab_treecore.proofs.Fitting.{openings_fit}
 use Rattle.stab_treecore.specs.Paths.{lists_above, sum_above}
 use Rattle.stab_treecore.specs.TreeLaw.{CompleteLaw}
-use Rattle.stab_workers.specs.ByNode.{received_at}
+use Rattle.stab_node.specs.ByNode.{received_at}
 use Rattle.stab_run.specs.Reports.{Reported}
 use Rattle.stab_run.specs.Runs.{AllAboveEnded, AreExplained, CompleteBelowEnded, HandsOn, RootHas}
 

@@ -3,15 +3,15 @@ use Rattle.std.proofs.Common.{◌≡◌, ℕ, zero, suc, List, [], ◌∷◌, le
 use Rattle.std.proofs.lemmas.Option.{none-some}
 use mathlib.Core.List.{IsPrefix}
 use Rattle.stab_core.specs.LinkSetup.{CanBegin, LinkSetup}
-use Rattle.stab_lock.specs.Accounts.{SenderAccount, ReceiverAccount}
+use Rattle.stab_ends.specs.Accounts.{SenderAccount, ReceiverAccount}
 use Rattle.stab_node.specs.declared.account.Ended.{Ended}
 use Rattle.stab_tree.specs.Links.{links_from, links_of}
 use Rattle.stab_tree.specs.Nodes.{parent_at, root_of}
 use Rattle.stab_treecore.specs.ByChild.{by_child}
 use Rattle.stab_treecore.specs.EdgeLaw.{EdgeLaw}
 use Rattle.stab_treecore.specs.Network.{Network}
-use Rattle.stab_workers.proofs.ForCallers.{holds_by_child, length-by_child}
-use Rattle.stab_workers.specs.ByNode.{received_at}
+use Rattle.stab_node.proofs.ForCallers.{holds_by_child, length-by_child}
+use Rattle.stab_node.specs.ByNode.{received_at}
 use Rattle.stab_run.specs.LinkKinds.{LinkKind}
 use Rattle.stab_run.specs.LinkRuns.{AreSettled, IsRun, IsSettled, acked_of}
 use Rattle.stab_run.specs.Reports.{OnePerNode, Reported}

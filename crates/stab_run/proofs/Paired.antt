@@ -3,7 +3,7 @@ use Rattle.std.proofs.Common.{◌≡◌, ◌<◌, ◌+◌, ℕ, zero, suc, List,
 use Rattle.std.proofs.lemmas.List.{drop_more, length-map, map-append, map_more, take_more}
 use Rattle.std.proofs.lemmas.Option.{none-some, same_Some}
 use Rattle.std.specs.List.{AllZip}
-use Rattle.stab_workers.specs.ByNode.{entry_into}
+use Rattle.stab_node.specs.ByNode.{entry_into}
 
 module _ {A B : Type 0} (R : A → B → Type 0) where
   -- one more of each

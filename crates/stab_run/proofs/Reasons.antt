@@ -1,15 +1,15 @@
 -- Why a part of a run failed, as a reason of the whole run.
 use Rattle.std.proofs.Common.{◌≡◌, ◌≢◌, ℕ, List, Result, Ok, Err, IfErr, length, ap, refl, subst}
 use Rattle.stab_job.specs.JobValues.{JobValue, network}
-use Rattle.stab_lock.specs.Accounts.{ReceiverAccount, SenderAccount}
+use Rattle.stab_ends.specs.Accounts.{ReceiverAccount, SenderAccount}
 use Rattle.stab_lock.specs.declared.settle.SettleFault.{SettleFault}
 use Rattle.stab_node.specs.declared.account.Ended.{Ended}
 use Rattle.stab_node.specs.declared.fault.NodeFault.{NodeFault}
 use Rattle.stab_node.specs.declared.fault.NodeFault.TheVariants.{Gate}
 use Rattle.stab_node.specs.Turns.{IsRefused}
-use Rattle.stab_workers.specs.FirstFault.{IsFirstToGiveUp, IsFirstUnstarted}
-use Rattle.stab_workers.specs.declared.fault.WorkersFault.{WorkersFault}
-use Rattle.stab_workers.specs.declared.fault.WorkersFault.TheVariants as workers
+use Rattle.stab_node.specs.FirstFault.{IsFirstToGiveUp, IsFirstUnstarted}
+use Rattle.stab_node.specs.declared.workers_fault.WorkersFault.{WorkersFault}
+use Rattle.stab_node.specs.declared.workers_fault.WorkersFault.TheVariants as workers
 use Rattle.stab_run.specs.LinkKinds.{HaveOnePlace, IsLarge}
 use Rattle.stab_run.specs.LinkRuns.{HoldsInto}
 use Rattle.stab_run.specs.RunFaults.{CanStart, HaveAsked, IsRunReason, IsSettlingReason, IsStartReason, IsWorkersReason, of_workers}

@@ -4,14 +4,14 @@ use Rattle.std.proofs.lemmas.Bool.{cases_lt}
 use Rattle.std.proofs.lemmas.List.{append-nil, drop_more, drop_all}
 use Rattle.std.proofs.lemmas.Option.{none-some, same_Some}
 use Rattle.stab_core.specs.LinkSetup.{LinkSetup}
-use Rattle.stab_lock.specs.Accounts.{SenderAccount, ReceiverAccount}
+use Rattle.stab_ends.specs.Accounts.{SenderAccount, ReceiverAccount}
 use Rattle.stab_lock.specs.declared.settle.SettleFault.{SettleFault}
 use Rattle.stab_tree.proofs.ForCallers.{links_counted_anywhere}
 use Rattle.stab_tree.specs.Links.{links_from, links_of}
 use Rattle.stab_tree.specs.Nodes.{parent_at}
 use Rattle.stab_treecore.proofs.ForCallers.{no_link_into}
 use Rattle.stab_treecore.specs.ByChild.{by_child}
-use Rattle.stab_workers.specs.ByNode.{entry_into}
+use Rattle.stab_node.specs.ByNode.{entry_into}
 use Rattle.stab_run.specs.LinkRuns.{AreSettled, HoldsOfFirst, IsFirstRefused, IsSettled, SettledBefore, acked_of}
 
 -- what is left of one list with an entry for each link is what it has from this node on

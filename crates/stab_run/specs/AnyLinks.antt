@@ -3,15 +3,15 @@
 -- Source: this project's own.
 use Rattle.std.specs.Prelude.{◌≡◌, List, [], map}
 use Rattle.stab_core.specs.LinkSetup.{LinkSetup}
-use Rattle.stab_lock.specs.Accounts.{SenderAccount, ReceiverAccount}
+use Rattle.stab_ends.specs.Accounts.{SenderAccount, ReceiverAccount}
 use Rattle.stab_lock.specs.Settling.{DifferFromReplay}
 use Rattle.stab_lock.specs.declared.settle.SettleFault.{SettleFault}
-use Rattle.stab_word.specs.AnyEnds.{AnyLinkId, any_recv_end, any_recv_finished, any_send_end}
-use Rattle.stab_word.specs.AnyEnds.{any_send_finished, locked, of_words}
-use Rattle.stab_word.specs.declared.any_recv.AnyRecv.{AnyRecv}
-use Rattle.stab_word.specs.declared.any_recv.AnyRecvDone.{AnyRecvDone}
-use Rattle.stab_word.specs.declared.any_send.AnySend.{AnySend}
-use Rattle.stab_word.specs.declared.any_send.AnySendDone.{AnySendDone}
+use Rattle.stab_run.specs.AnyEnds.{AnyLinkId, any_recv_end, any_recv_finished, any_send_end}
+use Rattle.stab_run.specs.AnyEnds.{any_send_finished, locked, of_words}
+use Rattle.stab_run.specs.declared.any_recv.AnyRecv.{AnyRecv}
+use Rattle.stab_run.specs.declared.any_recv.AnyRecvDone.{AnyRecvDone}
+use Rattle.stab_run.specs.declared.any_send.AnySend.{AnySend}
+use Rattle.stab_run.specs.declared.any_send.AnySendDone.{AnySendDone}
 use Rattle.stab_run.specs.LinkKinds.{IsLocked, LinkKind, behind_lock, kind_for, two_words}
 use Rattle.stab_run.specs.declared.any_link.AnyLink.{AnyLink}
 use Rattle.stab_run.specs.declared.any_link.AnyLink.TheVariants.{Lock, Word}

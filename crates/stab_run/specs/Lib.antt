@@ -1,3 +1,4 @@
+pub mod AnyEnds
 pub mod Reports
 pub mod RunFaults
 pub mod LinkRuns

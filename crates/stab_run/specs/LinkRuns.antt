@@ -4,8 +4,8 @@ use Rattle.std.specs.Prelude.{◌≡◌, ◌<◌, ℕ, List, [], ◌∷◌, ◌+
 use Rattle.stab_core.specs.declared.event.Event.{Event}
 use Rattle.stab_core.specs.LinkSetup.{LinkSetup}
 use Rattle.stab_core.specs.Replay.{initial, replay}
-use Rattle.stab_lock.specs.Accounts.{SenderAccount, ReceiverAccount}
-use Rattle.stab_lock.specs.Settling.{Agree}
+use Rattle.stab_ends.specs.Accounts.{SenderAccount, ReceiverAccount}
+use Rattle.stab_ends.specs.Agreement.{Agree}
 use Rattle.stab_lock.specs.declared.settle.SettleFault.{SettleFault}
 use Rattle.stab_node.specs.declared.account.Ended.{Ended}
 use Rattle.stab_node.specs.declared.account.Ended.TheVariants.{Upstream}
@@ -14,7 +14,7 @@ use Rattle.stab_tree.specs.Links.{links_of}
 use Rattle.stab_tree.specs.Nodes.{parent_at, root_of}
 use Rattle.stab_treecore.specs.Network.{Network}
 use Rattle.stab_treecore.specs.NodeOpenings.{opening_at}
-use Rattle.stab_workers.specs.ByNode.{ended_at, entry_into, received_at}
+use Rattle.stab_node.specs.ByNode.{ended_at, entry_into, received_at}
 
 -- one list of events explains the accounts of both ends of a link
 pub record IsSettled (link : LinkSetup) (send : SenderAccount) (recv : ReceiverAccount) : Type 0 where

@@ -7,7 +7,7 @@
 use Rattle.std.specs.Prelude.{◌≡◌, ◌<◌, ℕ, List, length, All, Option}
 use Rattle.stab_core.specs.LinkSetup.{CanBegin, LinkSetup}
 use Rattle.stab_job.specs.JobValues.{JobValue, network}
-use Rattle.stab_lock.specs.Accounts.{SenderAccount, ReceiverAccount}
+use Rattle.stab_ends.specs.Accounts.{SenderAccount, ReceiverAccount}
 use Rattle.stab_node.specs.declared.account.Ended.{Ended}
 use Rattle.stab_node.specs.declared.fault.NodeFault.TheVariants.{Gate}
 use Rattle.stab_node.specs.Turns.{IsOver, IsRefused}
@@ -18,10 +18,10 @@ use Rattle.stab_run.specs.Runs.{IsFirstUnlawful}
 use Rattle.stab_run.specs.declared.links.Links.{Links}
 use Rattle.stab_run.specs.declared.run_fault.RunFault.{RunFault}
 use Rattle.stab_run.specs.declared.run_fault.RunFault.TheVariants as run
-use Rattle.stab_workers.specs.ByNode.{ended_at}
-use Rattle.stab_workers.specs.FirstFault.{IsFirstToGiveUp, IsFirstUnstarted}
-use Rattle.stab_workers.specs.declared.fault.WorkersFault.{WorkersFault}
-use Rattle.stab_workers.specs.declared.fault.WorkersFault.TheVariants as workers
+use Rattle.stab_node.specs.ByNode.{ended_at}
+use Rattle.stab_node.specs.FirstFault.{IsFirstToGiveUp, IsFirstUnstarted}
+use Rattle.stab_node.specs.declared.workers_fault.WorkersFault.{WorkersFault}
+use Rattle.stab_node.specs.declared.workers_fault.WorkersFault.TheVariants as workers
 
 -- each fault of the workers has a fault of the run of the same name
 abbrev pub of_workers : WorkersFault → RunFault

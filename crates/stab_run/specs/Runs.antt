@@ -22,7 +22,7 @@ use Rattle.stab_treecore.specs.Network.{IsNetwork, Network}
 use Rattle.stab_treecore.specs.NodeLaws.{HalfTreeLawAtNodes, TreeLawAtNodes, held_bound}
 use Rattle.stab_treecore.specs.NodeLaws.{most_missing, most_strays, path_garbage}
 use Rattle.stab_treecore.specs.TreeLaw.{CompleteLaw, TreeLaw}
-use Rattle.stab_workers.specs.ByNode.{ended_at, entry_into, received_at}
+use Rattle.stab_node.specs.ByNode.{ended_at, entry_into, received_at}
 use Rattle.stab_run.specs.LinkKinds.{HaveOnePlace, kind_for}
 use Rattle.stab_run.specs.Reports.{OnePerNode, Reported, acked_at}
 use Rattle.stab_run.specs.declared.links.Links.{Links}

@@ -4,21 +4,24 @@
 ghost use Rattle.std.specs.Prelude.{◌≡◌, [], ◌∷◌, if◌then◌else◌, IfErr, IfOk, OnOk};
 ghost use Rattle.stab_core.specs.LinkSetup.{setup};
 ghost use Rattle.stab_core.specs.Replay.{IsLawful};
-ghost use Rattle.stab_lock.specs.Accounts.{new_receiver, new_sender};
+ghost use Rattle.stab_ends.specs.Accounts.{new_receiver, new_sender};
 ghost use Rattle.stab_run.specs.AnyLinks.{HasReceived, HasSent, IsOneOf, IsOpenedBy, MayDiffer};
 ghost use Rattle.stab_run.specs.AnyLinks.{Receives, Sends, given_to, kind_of, received_by};
 ghost use Rattle.stab_run.specs.AnyLinks.{sent_by};
 ghost use Rattle.stab_run.specs.LinkKinds.{HaveOnePlace, behind_lock, kind_for, two_words};
 ghost use Rattle.stab_run.specs.LinkRuns.{IsSettled};
-ghost use Rattle.stab_script.specs.Scripts.{receiver_half, sender_half};
-ghost use Rattle.stab_word.specs.AnyEnds.{any_recv_end, any_send_end};
+ghost use Rattle.stab_acts.specs.Scripts.{receiver_half, sender_half};
+ghost use Rattle.stab_run.specs.AnyEnds.{any_recv_end, any_send_end};
 
+use crate::any_recv::{AnyRecv, AnyRecvDone};
+use crate::any_send::{AnySend, AnySendDone};
 use crate::links::Links;
+use stab_acts::Script;
 use stab_core::Start;
+use stab_ends::Settled;
 use stab_frames::Params;
-use stab_lock::{LockLink, SettleFault, Settled};
-use stab_script::Script;
-use stab_word::{AnyRecv, AnyRecvDone, AnySend, AnySendDone, WordLink, WordOpening};
+use stab_lock::{LockLink, SettleFault};
+use stab_word::{WordLink, WordOpening};
 use std::alloc::{AllocError, Global};
 use std::snapshot::Snapshot;
 

@@ -12,7 +12,7 @@ ghost use Rattle.stab_treecore.specs.NodeLaws.{HalfTreeLawAtNodes, LinkLawInto, 
 ghost use Rattle.stab_treecore.specs.NodeOpenings.{FitTree};
 ghost use Rattle.stab_treecore.specs.Refusals.{OnePerLink};
 ghost use Rattle.stab_treecore.specs.SharperLaw.{SharperTreeLawAtNodes};
-ghost use Rattle.stab_workers.specs.ByNode.{received_at};
+ghost use Rattle.stab_node.specs.ByNode.{received_at};
 
 /// Where every link of a report is explained, each node obeys the tree law, and so the half tree
 /// law; and the sharper law, which counts the strays that a node received.

@@ -3,11 +3,14 @@
 //! In a run a node has its opening, and then what the link into it delivered. The layer above uses
 //! one fact: the tree law holds at every node of the report that [`run_locked`] answers, over links
 //! behind locks, [`run_words`], over links of two words, and [`run_mixed`], over links of both
-//! kinds; [`report_text`] prints it. The job and its reader, which are those of `stab_job`, can be
+//! kinds; [`report_text`] prints it. [`AnySend`] and [`AnyRecv`] are the ends of a link of either
+//! kind, and a finished one keeps its kind. The job and its reader, which are those of `stab_job`, can be
 //! named here as well.
 #![tactic(auto)]
 
 mod any_link;
+mod any_recv;
+mod any_send;
 mod ends;
 pub mod laws;
 mod links;
@@ -18,6 +21,8 @@ mod runs;
 mod settle;
 mod starts;
 
+pub use any_recv::{AnyRecv, AnyRecvDone};
+pub use any_send::{AnySend, AnySendDone};
 pub use links::Links;
 pub use report::{Report, report_text};
 pub use run_fault::RunFault;

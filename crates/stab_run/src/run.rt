@@ -13,6 +13,8 @@ ghost use Rattle.stab_run.specs.RunFaults.{HaveAsked, IsRunReason, IsSettlingRea
 ghost use Rattle.stab_run.specs.Runs.{IsReport};
 
 use crate::any_link::{AnyLink, KeptLinks};
+use crate::any_recv::AnyRecvDone;
+use crate::any_send::AnySendDone;
 use crate::ends::{run_ends, split_all};
 use crate::laws;
 use crate::links::Links;
@@ -21,9 +23,7 @@ use crate::run_fault::RunFault;
 use crate::settle::settle_all;
 use crate::starts::{check_starts, make_links};
 use stab_job::Job;
-use stab_node::Gate;
-use stab_word::{AnyRecvDone, AnySendDone};
-use stab_workers::Gathered;
+use stab_node::{Gate, Gathered};
 use std::alloc::Global;
 use std::snapshot::Snapshot;
 use std::sync::Wait;

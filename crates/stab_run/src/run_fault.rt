@@ -1,8 +1,7 @@
 use stab_core::StartFault;
 use stab_lock::SettleFault;
-use stab_node::NodeFault;
+use stab_node::{NodeFault, WorkersFault};
 use stab_tree::NodeId;
-use stab_workers::WorkersFault;
 use std::alloc::AllocError;
 use thiserror::Error;
 

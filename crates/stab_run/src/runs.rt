@@ -8,7 +8,7 @@ ghost use Rattle.stab_run.specs.LinkKinds.{IsLarge};
 ghost use Rattle.stab_run.specs.LinkRuns.{HoldsInto};
 ghost use Rattle.stab_run.specs.RunFaults.{HaveAsked, IsRunReason};
 ghost use Rattle.stab_run.specs.Runs.{IsReport, TreeLawByDepth};
-ghost use Rattle.stab_workers.specs.ByNode.{received_at};
+ghost use Rattle.stab_node.specs.ByNode.{received_at};
 
 use crate::laws;
 use crate::links::Links;

@@ -10,11 +10,13 @@ ghost use Rattle.stab_tree.specs.Links.{links_of};
 ghost use Rattle.stab_treecore.specs.ByChild.{by_child};
 
 use crate::any_link::AnyLink;
+use crate::any_recv::AnyRecvDone;
+use crate::any_send::AnySendDone;
 use crate::links::Links;
 use crate::run_fault::RunFault;
-use stab_lock::{SettleFault, Settled};
+use stab_ends::Settled;
+use stab_lock::SettleFault;
 use stab_tree::{NodeId, Tree};
-use stab_word::{AnyRecvDone, AnySendDone};
 use std::alloc::Global;
 use std::collections::VecDeque;
 

@@ -2,7 +2,5 @@ pub mod Starts
 pub mod Events
 pub mod LinkMembers
 pub mod LinkJobs
-pub mod Scripts
-pub mod Draws
 pub mod ScriptEntries
 pub mod MadeScripts

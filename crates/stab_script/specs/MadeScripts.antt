@@ -5,12 +5,12 @@ use Rattle.serde_json.specs.Data.{Data}
 use Rattle.stab_json.specs.Checks.{◌>>=◌, ◌or◌, ◌refused_as◌}
 use Rattle.stab_script.specs.declared.fault.PartFault.{PartFault}
 use Rattle.stab_script.specs.declared.fault.PartFault.TheVariants.{Shape, Script}
-use Rattle.stab_script.specs.declared.fault.ScriptFault.{ScriptFault}
+use Rattle.stab_acts.specs.declared.fault.ScriptFault.{ScriptFault}
 use Rattle.stab_script.specs.declared.script_entry.ScriptEntry.{ScriptEntry}
 use Rattle.stab_script.specs.declared.script_entry.ScriptEntry.TheVariants.{Lists, Draw}
-use Rattle.stab_script.specs.Draws.{draw_fault, draw_script, pcg32_words}
+use Rattle.stab_acts.specs.Draws.{draw_fault, draw_script, pcg32_words}
 use Rattle.stab_script.specs.ScriptEntries.{script_entry}
-use Rattle.stab_script.specs.Scripts.{Acts, acts, script_of}
+use Rattle.stab_acts.specs.Scripts.{Acts, acts, script_of}
 
 -- the script of an entry, or what refuses its acts or numbers
 abbrev pub made : ScriptEntry → Result Acts ScriptFault

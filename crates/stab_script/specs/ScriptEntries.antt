@@ -6,10 +6,10 @@ use Rattle.std.specs.Prelude.{Bool, true, false}
 use Rattle.serde_json.specs.Data.{Data, null, boolean, number, string, array, object}
 use Rattle.serde_json.specs.Find.{get, as_str}
 use Rattle.stab_json.specs.Values.{◌>>=◌, most_u16, most_u32, whole, capped, pair}
-use Rattle.stab_script.specs.declared.act.OutAct.{OutAct}
-use Rattle.stab_script.specs.declared.act.OutAct.TheVariants.{Pass, Drop, Evict}
-use Rattle.stab_script.specs.declared.act.InAct.{InAct}
-use Rattle.stab_script.specs.declared.act.InAct.TheVariants.{Take, Keep}
+use Rattle.stab_acts.specs.declared.act.OutAct.{OutAct}
+use Rattle.stab_acts.specs.declared.act.OutAct.TheVariants.{Pass, Drop, Evict}
+use Rattle.stab_acts.specs.declared.act.InAct.{InAct}
+use Rattle.stab_acts.specs.declared.act.InAct.TheVariants.{Take, Keep}
 use Rattle.stab_script.specs.declared.script_entry.ScriptEntry.{ScriptEntry}
 use Rattle.stab_script.specs.declared.script_entry.ScriptEntry.TheVariants.{Lists, Draw}
 

@@ -7,10 +7,9 @@ ghost use Rattle.stab_script.specs.ScriptEntries.{out_letter, in_letter, letters
 ghost use Rattle.stab_script.specs.ScriptEntries.{letters_or_absent, lists, draw, script_entry};
 ghost use Rattle.stab_script.specs.ScriptEntries.{is_object};
 
-use crate::act::{InAct, OutAct};
-use crate::fault::{PartFault, ScriptFault};
-use crate::script::Script;
+use crate::fault::PartFault;
 use serde_json::Value;
+use stab_acts::{InAct, OutAct, Script, ScriptFault};
 use stab_frames::Sequence;
 use stab_json::{Entry, pair, u16_member, u32_member};
 use std::alloc::{AllocError, Global};

@@ -3,8 +3,8 @@
 use Rattle.std.specs.Prelude.{ℕ}
 use Rattle.stab_script.specs.declared.link_job.LinkJobFault.{LinkJobFault}
 use Rattle.stab_script.specs.declared.link_job.LinkJobFault.TheVariants as job
-use Rattle.stab_script.specs.declared.fault.ScriptFault.{ScriptFault}
-use Rattle.stab_script.specs.declared.fault.ScriptFault.TheVariants as script
+use Rattle.stab_acts.specs.declared.fault.ScriptFault.{ScriptFault}
+use Rattle.stab_acts.specs.declared.fault.ScriptFault.TheVariants as script
 use Rattle.stab_tree.specs.declared.fault.TreeFault.{TreeFault}
 use Rattle.stab_tree.specs.declared.fault.TreeFault.TheVariants as tree
 use Rattle.stab_job.specs.declared.fault.JobFault.{JobFault}

@@ -8,12 +8,12 @@ use Rattle.stab_core.specs.declared.event.Effect.{Effect}
 use Rattle.stab_core.specs.declared.event.Effect.TheVariants.{Nothing, Sent}
 use Rattle.stab_core.specs.declared.event.Effect.TheVariants.{Acked, Ignored, Lost}
 use Rattle.stab_frames.specs.Parameters.{Parameters, next}
-use Rattle.stab_lock.specs.Accounts.{SenderAccount}
-use Rattle.stab_lock.specs.declared.seen.FrameSeen.{FrameSeen}
-use Rattle.stab_lock.specs.declared.seen.FrameSeen.TheVariants as seen
-use Rattle.stab_script.specs.declared.act.OutAct.{OutAct}
-use Rattle.stab_script.specs.declared.act.OutAct.TheVariants.{Pass, Drop, Evict}
-use Rattle.stab_script.specs.Scripts.{ActsRemaining, out_act, after_out, after_in}
+use Rattle.stab_ends.specs.Accounts.{SenderAccount}
+use Rattle.stab_ends.specs.declared.seen.FrameSeen.{FrameSeen}
+use Rattle.stab_ends.specs.declared.seen.FrameSeen.TheVariants as seen
+use Rattle.stab_acts.specs.declared.act.OutAct.{OutAct}
+use Rattle.stab_acts.specs.declared.act.OutAct.TheVariants.{Pass, Drop, Evict}
+use Rattle.stab_acts.specs.Scripts.{ActsRemaining, out_act, after_out, after_in}
 
 -- what is put into a word takes the place of what was there; a drop puts nothing
 abbrev pub put_under : OutAct → Effect

@@ -13,21 +13,21 @@ use Rattle.std.specs.Prelude.{IfOk, OnErr}
 use Rattle.std.specs.declared.alloc.AllocError.{AllocError}
 use Rattle.stab_core.specs.declared.event.Effect.{Effect}
 use Rattle.stab_core.specs.declared.event.Effect.TheVariants.{Nothing, Acked, Ignored, Closed}
-use Rattle.stab_lock.specs.Accounts.{MayOffer}
-use Rattle.stab_lock.specs.declared.seen.FrameSeen.{FrameSeen}
-use Rattle.stab_lock.specs.declared.seen.FrameSeen.TheVariants as seen
+use Rattle.stab_ends.specs.Accounts.{MayOffer}
+use Rattle.stab_ends.specs.declared.seen.FrameSeen.{FrameSeen}
+use Rattle.stab_ends.specs.declared.seen.FrameSeen.TheVariants as seen
 use Rattle.stab_word.specs.Answers.{put_where, acts_put_where, steps_where, has_frame}
 use Rattle.stab_word.specs.Answers.{label_after_effect, acts_after_effect, acts_after_seen}
 use Rattle.stab_word.specs.Ends.{WordSendView, WordRecvView}
-use Rattle.stab_table.specs.Views.{is_waiting, waiting_frame}
-use Rattle.stab_table.specs.declared.words.FrameWord.{FrameWord}
-use Rattle.stab_table.specs.declared.words.FrameWord.TheVariants as frame
-use Rattle.stab_table.specs.declared.words.AckWord.{AckWord}
-use Rattle.stab_table.specs.declared.words.AckWord.TheVariants as ack
-use Rattle.stab_table.specs.declared.view.SendStep.{SendStep}
-use Rattle.stab_table.specs.declared.view.SendStep.TheVariants as send_step
-use Rattle.stab_table.specs.declared.view.RecvStep.{RecvStep}
-use Rattle.stab_table.specs.declared.view.RecvStep.TheVariants as recv_step
+use Rattle.stab_word.specs.Views.{is_waiting, waiting_frame}
+use Rattle.stab_word.specs.declared.words.FrameWord.{FrameWord}
+use Rattle.stab_word.specs.declared.words.FrameWord.TheVariants as frame
+use Rattle.stab_word.specs.declared.words.AckWord.{AckWord}
+use Rattle.stab_word.specs.declared.words.AckWord.TheVariants as ack
+use Rattle.stab_word.specs.declared.view.SendStep.{SendStep}
+use Rattle.stab_word.specs.declared.view.SendStep.TheVariants as send_step
+use Rattle.stab_word.specs.declared.view.RecvStep.{RecvStep}
+use Rattle.stab_word.specs.declared.view.RecvStep.TheVariants as recv_step
 
 -- ---- the sender's calls
 

@@ -2,11 +2,11 @@
 -- of an end that is finished.
 -- Source: this project's own.
 use Rattle.std.specs.Prelude.{ℕ, List, []}
-use Rattle.stab_lock.specs.Accounts.{SenderAccount, ReceiverAccount, new_sender, new_receiver}
-use Rattle.stab_script.specs.Scripts.{ActsRemaining}
-use Rattle.stab_table.specs.Seats.{LinkId, SeatedSender, SeatedReceiver}
-use Rattle.stab_table.specs.declared.view.SendStep.{SendStep}
-use Rattle.stab_table.specs.declared.view.RecvStep.{RecvStep}
+use Rattle.stab_ends.specs.Accounts.{SenderAccount, ReceiverAccount, new_sender, new_receiver}
+use Rattle.stab_acts.specs.Scripts.{ActsRemaining}
+use Rattle.stab_word.specs.Seats.{LinkId, SeatedSender, SeatedReceiver}
+use Rattle.stab_word.specs.declared.view.SendStep.{SendStep}
+use Rattle.stab_word.specs.declared.view.RecvStep.{RecvStep}
 
 -- the sender's end: its link, its account, its label, the acts that remain, and the steps that it
 -- made

@@ -1,5 +1,10 @@
+pub mod Words
+pub mod Views
+pub mod Interleaving
+pub mod Rule
+pub mod Plays
+pub mod Seats
 pub mod Ends
 pub mod Answers
 pub mod Calls
 pub mod WordFaults
-pub mod AnyEnds

@@ -2,20 +2,21 @@ ghost use Rattle.std.specs.Prelude.{◌≡◌, List, IfOk, IfErr, OnOk};
 ghost use Rattle.stab_core.specs.LinkLaw.{LinkLaw};
 ghost use Rattle.stab_core.specs.Replay.{IsLawful, initial, replay, start_items};
 ghost use Rattle.stab_core.specs.declared.event.Event.{Event};
-ghost use Rattle.stab_lock.specs.Settling.{Agree};
-ghost use Rattle.stab_script.specs.Scripts.{sender_half, receiver_half};
+ghost use Rattle.stab_ends.specs.Agreement.{Agree};
+ghost use Rattle.stab_acts.specs.Scripts.{sender_half, receiver_half};
 ghost use Rattle.stab_word.specs.Ends.{new_send_end, new_recv_end};
-ghost use Rattle.stab_table.specs.Interleaving.{AnInterleavingExplains};
+ghost use Rattle.stab_word.specs.Interleaving.{AnInterleavingExplains};
 ghost use Rattle.stab_word.specs.WordFaults.{IsWordReason};
 
 use crate::fault::WordFault;
 use crate::recv::{RecvDone, WordRecv};
+use crate::seats::OpeningSeat;
 use crate::send::{SendDone, WordSend};
+use crate::steps::WordTable;
+use stab_acts::Script;
 use stab_core::{Start, StartFault};
+use stab_ends::{RecvAccount, SendAccount, Settled};
 use stab_frames::{Label, Params};
-use stab_lock::{RecvAccount, SendAccount, Settled};
-use stab_script::Script;
-use stab_table::{OpeningSeat, WordTable};
 use std::alloc::{AllocError, Global};
 use std::marker::Model;
 
@@ -30,7 +31,7 @@ pub struct WordLink {
 }
 
 impl Model for WordLink {
-    ghost use Rattle.stab_table.specs.Seats.{LinkId};
+    ghost use Rattle.stab_word.specs.Seats.{LinkId};
 
     ghost Value = { LinkId };
 
@@ -49,7 +50,7 @@ pub struct WordOpening {
 
 impl Model for WordOpening {
     ghost use Rattle.std.specs.Prelude.{◌≡◌};
-    ghost use Rattle.stab_table.specs.Seats.{LinkId};
+    ghost use Rattle.stab_word.specs.Seats.{LinkId};
 
     ghost Value = { LinkId };
 

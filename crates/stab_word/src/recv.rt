@@ -1,14 +1,16 @@
 ghost use Rattle.std.specs.Prelude.{◌≡◌, [], IfOk};
-ghost use Rattle.stab_lock.specs.Accounts.{IsOpenFor, after_poll_frame};
+ghost use Rattle.stab_ends.specs.Accounts.{IsOpenFor, after_poll_frame};
 ghost use Rattle.stab_word.specs.Calls.{PollFrameCall, SendAckCall};
 ghost use Rattle.stab_word.specs.Ends.{receiver_seat};
-ghost use Rattle.stab_table.specs.Seats.{LinkId, link_of_receiver};
+ghost use Rattle.stab_word.specs.Seats.{LinkId, link_of_receiver};
 
+use crate::seats::RecvSeat;
+use crate::steps::WordTable;
+use crate::words::FrameWord;
+use stab_acts::{HalfScript, OutAct};
 use stab_core::Effect;
+use stab_ends::{FrameSeen, RecvAccount, RecvSide};
 use stab_frames::Label;
-use stab_lock::{FrameSeen, RecvAccount, RecvSide};
-use stab_script::{HalfScript, OutAct};
-use stab_table::{FrameWord, RecvSeat, WordTable};
 use std::alloc::AllocError;
 use std::marker::Model;
 
@@ -82,7 +84,7 @@ pub struct RecvDone {
 impl Model for RecvDone {
     ghost use Rattle.std.specs.Prelude.{◌≡◌};
     ghost use Rattle.stab_word.specs.Ends.{RecvFinished};
-    ghost use Rattle.stab_table.specs.Seats.{link_of_receiver};
+    ghost use Rattle.stab_word.specs.Seats.{link_of_receiver};
 
     ghost Value = { RecvFinished };
 

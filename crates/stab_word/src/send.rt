@@ -1,16 +1,18 @@
 ghost use Rattle.std.specs.Prelude.{◌≡◌, ◌↔◌, true, [], IsTrue, IfOk};
-ghost use Rattle.stab_lock.specs.Accounts.{MayOffer, Waits, after_offer, after_poll_ack};
-ghost use Rattle.stab_lock.specs.Accounts.{after_close, new_sender};
+ghost use Rattle.stab_ends.specs.Accounts.{MayOffer, Waits, after_offer, after_poll_ack};
+ghost use Rattle.stab_ends.specs.Accounts.{after_close, new_sender};
 ghost use Rattle.stab_word.specs.Answers.{has_frame};
 ghost use Rattle.stab_word.specs.Calls.{OfferCall, SendCall, PollAckCall, CloseCall};
 ghost use Rattle.stab_word.specs.Ends.{sender_seat};
-ghost use Rattle.stab_table.specs.Seats.{LinkId, link_of_sender};
+ghost use Rattle.stab_word.specs.Seats.{LinkId, link_of_sender};
 
+use crate::seats::SendSeat;
+use crate::steps::WordTable;
+use crate::words::AckWord;
+use stab_acts::{HalfScript, OutAct};
 use stab_core::Effect;
+use stab_ends::{SendAccount, SendSide};
 use stab_frames::{Frame, Item, Label, Params};
-use stab_lock::{SendAccount, SendSide};
-use stab_script::{HalfScript, OutAct};
-use stab_table::{AckWord, SendSeat, WordTable};
 use std::alloc::AllocError;
 use std::marker::Model;
 
@@ -105,7 +107,7 @@ pub struct SendDone {
 impl Model for SendDone {
     ghost use Rattle.std.specs.Prelude.{◌≡◌};
     ghost use Rattle.stab_word.specs.Ends.{SendFinished};
-    ghost use Rattle.stab_table.specs.Seats.{link_of_sender};
+    ghost use Rattle.stab_word.specs.Seats.{link_of_sender};
 
     ghost Value = { SendFinished };
 

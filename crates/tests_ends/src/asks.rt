@@ -4,8 +4,8 @@
 ghost use Rattle.std.specs.Prelude.{◌≡◌};
 
 use stab_core::Effect;
+use stab_ends::{FrameSeen, RecvSide, SendSide, Settled};
 use stab_frames::Item;
-use stab_lock::{FrameSeen, RecvSide, SendSide, Settled};
 use std::process::Abort;
 
 /// A call of one of the two ends, beside the answer that it must give.

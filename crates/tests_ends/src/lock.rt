@@ -2,18 +2,16 @@
 //! tables are walked by the ends of a locked link and by a book's own calls.
 
 use crate::asks::{Ask, ask_and_finish, assert_settled};
+use stab_acts::{HalfScript, InAct, OutAct, Script};
 use stab_core::{Effect, Event, Start};
+use stab_ends::{FrameSeen, RecvAccount, RecvSide, SendAccount, SendSide, Settled};
 use stab_frames::{Item, Params, Sequence};
-use stab_lock::{
-    FrameSeen, LinkBook, LockLink, RecvAccount, RecvSide, SendAccount, SendSide, SettleFault,
-    Settled,
-};
-use stab_script::{HalfScript, InAct, OutAct, Script};
+use stab_lock::{LinkBook, LockLink, SettleFault};
 use std::alloc::{AllocError, Global};
 use std::process::Abort;
 use std::sync::Wait;
-use std::thread;
 use std::thread::Threads;
+use std::thread;
 
 /// A round with 7, and the close.
 static ROUND_AND_CLOSE: [Ask; 13] = [

@@ -6,15 +6,15 @@ ghost use Rattle.std.specs.Prelude.{◌≡◌, IfOk};
 mod any_ends;
 
 use crate::asks::{Ask, ask_all, ask_and_finish, ask_one, assert_settled};
+use stab_acts::{OutAct, Script};
 use stab_core::{Effect, Start, StartFault};
+use stab_ends::{FrameSeen, RecvSide, SendSide, Settled};
 use stab_frames::{Frame, Item, Label, Params, Sequence};
-use stab_lock::{FrameSeen, RecvSide, SendSide, Settled};
-use stab_script::{OutAct, Script};
 use stab_word::{WordFault, WordLink, WordOpening};
 use std::alloc::{AllocError, Global};
 use std::process::Abort;
-use std::thread;
 use std::thread::Threads;
+use std::thread;
 
 /// Three items are acknowledged before the receiver has taken one.
 static WORST_START: [Ask; 12] = [

@@ -2,12 +2,13 @@
 
 ghost use Rattle.std.specs.Prelude.{◌≡◌, ◌≤◌, ⊤};
 
+use stab_acts::Script;
 use stab_core::Start;
+use stab_ends::plain::{PlainRecv, PlainSend};
+use stab_ends::{FrameSeen, RecvAccount, SendAccount, Settled};
 use stab_frames::{Item, Params};
-use stab_lock::{FrameSeen, LockLink, LockRecv, LockSend, RecvAccount, SendAccount, Settled};
-use stab_node::plain::{PlainRecv, PlainSend};
+use stab_lock::{LockLink, LockRecv, LockSend};
 use stab_node::{Ended, Free, Gate, NodeAccount, NodeFault, work};
-use stab_script::Script;
 use std::alloc::Global;
 use std::collections::VecDeque;
 use std::process::Abort;

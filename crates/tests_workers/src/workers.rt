@@ -2,26 +2,26 @@
 //! over a locked link under a gate that keeps the workers near to each other.
 
 ghost use Rattle.std.specs.Prelude.{◌≡◌, ⊤, [], ◌∷◌, All};
-ghost use Rattle.stab_lock.specs.Accounts.{new_sender, new_receiver};
+ghost use Rattle.stab_ends.specs.Accounts.{new_sender, new_receiver};
 ghost use Rattle.stab_treecore.specs.NodeOpenings.{FitTree};
 
 use serde_json::Value;
+use stab_acts::Script;
 use stab_core::Start;
+use stab_ends::plain::{PlainRecv, PlainSend};
+use stab_ends::{FrameSeen, RecvAccount, RecvSide, SendAccount, SendSide};
 use stab_frames::{Item, Params, Sequence};
-use stab_lock::{FrameSeen, LockLink, RecvAccount, RecvSide, SendAccount, SendSide};
-use stab_node::plain::{PlainRecv, PlainSend};
-use stab_node::{Ended, Gate, NodeFault};
-use stab_script::Script;
+use stab_lock::LockLink;
+use stab_node::{Ended, Gate, Gathered, NodeFault, WorkersFault, run_workers};
 use stab_tree::{Tree, read_tree};
 use stab_treecore::Openings;
-use stab_workers::{Gathered, WorkersFault, run_workers};
 use std::alloc::Global;
 use std::collections::VecDeque;
 use std::process::Abort;
 use std::sync::Wait;
 use std::sync::atomic::{AtomicU64, Ordering};
-use std::thread;
 use std::thread::Threads;
+use std::thread;
 
 /// The root r is second. Its children are a and c, and b is a child of a. So the links are those
 /// into a, b and c, in this order.

@@ -2,7 +2,7 @@
 
 use super::*;
 use stab_lock::LockLink;
-use stab_word::{AnyRecv, AnyRecvDone, AnySend, AnySendDone};
+use stab_run::{AnyRecv, AnyRecvDone, AnySend, AnySendDone};
 use std::sync::Wait;
 
 /// A round with 7, and the close, as a link of either kind answers.

@@ -4,9 +4,9 @@
 ghost use Rattle.std.specs.Prelude.{◌≡◌, ⊤};
 
 use stab_core::Effect;
+use stab_ends::plain::{PlainRecv, PlainSend};
+use stab_ends::{FrameSeen, RecvAccount, RecvSide, SendAccount, SendSide};
 use stab_frames::Item;
-use stab_lock::{FrameSeen, RecvAccount, RecvSide, SendAccount, SendSide};
-use stab_node::plain::{PlainRecv, PlainSend};
 use stab_node::{Gate, NodeFault, work};
 use std::alloc::{AllocError, Global};
 use std::cell::Cell;

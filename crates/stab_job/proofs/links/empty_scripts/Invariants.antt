@@ -1,5 +1,5 @@
 use Rattle.std.proofs.Common.{◌≡◌, replicate}
-use Rattle.stab_script.specs.Scripts.{no_acts}
+use Rattle.stab_acts.specs.Scripts.{no_acts}
 use Rattle.stab_job.proofs.links.empty_scripts.Given as goal
 
 -- there is one for each link so far

@@ -5,8 +5,8 @@ use Rattle.stab_node.specs.Work.{HasAll, IsServed}
 use Rattle.stab_tree.specs.Links.{links_of}
 use Rattle.stab_tree.specs.Nodes.{root_of}
 use Rattle.stab_treecore.specs.NodeOpenings.{opening_at}
-use Rattle.stab_workers.proofs.ForCallers.{at_error}
-use Rattle.stab_workers.specs.ByNode.{received_at}
+use Rattle.stab_node.proofs.ForCallers.{at_error}
+use Rattle.stab_node.specs.ByNode.{received_at}
 use Rattle.stab_run.specs.LinkRuns.{IsRun}
 use Rattle.stab_run.specs.RunFaults.{HaveAsked, IsWorkersReason}
 use Rattle.stab_run.proofs.Paired.{entry_read}

@@ -1,8 +1,8 @@
 use Rattle.std.proofs.Common.{◌≡◌, ◌<◌, ◌+◌, ◌∙◌, ap, length, arith}
 use Rattle.std.proofs.lemmas.List.Elements.{All-push}
-use Rattle.stab_lock.specs.Accounts.{new_receiver, new_sender}
-use Rattle.stab_script.specs.Scripts.{receiver_half, sender_half}
-use Rattle.stab_word.specs.AnyEnds.{any_recv_end, any_send_end}
+use Rattle.stab_ends.specs.Accounts.{new_receiver, new_sender}
+use Rattle.stab_acts.specs.Scripts.{receiver_half, sender_half}
+use Rattle.stab_run.specs.AnyEnds.{any_recv_end, any_send_end}
 use Rattle.stab_run.specs.AnyLinks.{IsOpenedBy, Receives, Sends}
 use Rattle.stab_run.proofs.Paired.{more_paired, next_paired, one_more_end, one_more_paired}
 use Rattle.stab_run.proofs.ends.split_all.Goals as goal

@@ -1,8 +1,8 @@
 use Rattle.std.proofs.Common.{◌≡◌, All, drop, length, map, take, vec_len, vec_capacity}
 use Rattle.std.specs.List.{AllZip}
-use Rattle.stab_lock.specs.Accounts.{new_receiver, new_sender}
-use Rattle.stab_script.specs.Scripts.{receiver_half, sender_half}
-use Rattle.stab_word.specs.AnyEnds.{any_recv_end, any_send_end}
+use Rattle.stab_ends.specs.Accounts.{new_receiver, new_sender}
+use Rattle.stab_acts.specs.Scripts.{receiver_half, sender_half}
+use Rattle.stab_run.specs.AnyEnds.{any_recv_end, any_send_end}
 use Rattle.stab_run.specs.AnyLinks.{IsOpenedBy, Receives, Sends}
 use Rattle.stab_run.proofs.ends.split_all.Given as goal
 

@@ -1,4 +1,4 @@
-use Rattle.stab_workers.specs.ByNode.{received_at}
+use Rattle.stab_node.specs.ByNode.{received_at}
 use Rattle.stab_run.proofs.laws.explained_links_obey_the_link_law.Goals as goal
 
 pub returns : goal.returns

@@ -6,7 +6,7 @@ use Rattle.stab_tree.specs.Links.{links_of}
 use Rattle.stab_tree.specs.Nodes.{parent_at, root_of}
 use Rattle.stab_treecore.specs.ByChild.{by_child}
 use Rattle.stab_treecore.specs.Network.{IsNetwork}
-use Rattle.stab_workers.proofs.ForCallers.{at_error}
+use Rattle.stab_node.proofs.ForCallers.{at_error}
 use Rattle.stab_run.specs.AnyLinks.{given_to, kind_of, received_by, sent_by}
 use Rattle.stab_run.specs.LinkRuns.{AreSettled, acked_of}
 use Rattle.stab_run.specs.RunFaults.{IsSettlingReason}

@@ -1,8 +1,8 @@
 use Rattle.std.proofs.Common.{All}
 use Rattle.stab_core.specs.LinkSetup.{CanBegin}
 use Rattle.stab_job.specs.JobValues.{network}
-use Rattle.stab_word.specs.AnyEnds.{any_recv_end, any_recv_finished, any_send_end, any_send_finished}
-use Rattle.stab_workers.proofs.ForCallers.{at_error}
+use Rattle.stab_run.specs.AnyEnds.{any_recv_end, any_recv_finished, any_send_end, any_send_finished}
+use Rattle.stab_node.proofs.ForCallers.{at_error}
 use Rattle.stab_run.specs.AnyLinks.{name_of}
 use Rattle.stab_run.specs.RunFaults.{IsRunReason}
 use Rattle.stab_run.proofs.Paired.{paired_named}

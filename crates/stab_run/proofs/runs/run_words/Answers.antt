@@ -2,8 +2,8 @@ use Rattle.std.proofs.Common.{◌≡◌, ◌≢◌, ℕ}
 use Rattle.stab_core.proofs.Setups.{all_have}
 use Rattle.stab_job.specs.JobValues.{network}
 use Rattle.stab_lock.specs.declared.settle.SettleFault.{SettleFault}
-use Rattle.stab_workers.proofs.ForCallers.{at_error}
-use Rattle.stab_workers.specs.ByNode.{received_at}
+use Rattle.stab_node.proofs.ForCallers.{at_error}
+use Rattle.stab_node.specs.ByNode.{received_at}
 use Rattle.stab_run.specs.declared.run_fault.RunFault.TheVariants.{Settle}
 use Rattle.stab_run.proofs.Reasons.{no_word_differs}
 use Rattle.stab_run.proofs.runs.run_words.Goals as goal

@@ -1,7 +1,7 @@
 use Rattle.std.proofs.Common.{rules, [], ◌∷◌, inr, inl}
 use Rattle.stab_word.proofs.StepLists.{one_more}
-use Rattle.stab_table.specs.declared.words.FrameWord.TheVariants as frame
-use Rattle.stab_table.specs.declared.view.RecvStep.TheVariants as recv_step
+use Rattle.stab_word.specs.declared.words.FrameWord.TheVariants as frame
+use Rattle.stab_word.specs.declared.view.RecvStep.TheVariants as recv_step
 use Rattle.stab_word.proofs.recv.WordRecvRecvSide.poll_frame.Goals as goal
 use Rattle.stab_word.proofs.recv.WordRecvRecvSide.poll_frame.Goals.{then-len-capacity+in-Full+else-frame-self+in_ok-reserve-in-Full, else-len-capacity}
 

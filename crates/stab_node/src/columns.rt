@@ -1,0 +1,77 @@
+ghost use Rattle.std.specs.Prelude.{◌≡◌, [], ◌∷◌, ◌++◌, IfOk, OnOk, map};
+
+use crate::account::{Ended, NodeAccount};
+use crate::queue::Queue;
+use stab_frames::{Item, Sequence};
+use std::alloc::{AllocError, Global};
+
+/// The accounts of all nodes, taken apart: each part by node, in file order.
+#[derive(Drop)]
+pub(crate) struct Columns<A: Drop, B: Drop> {
+    pub(crate) received: Vec<Sequence<Item>>,
+    pub(crate) ended: Vec<Ended>,
+    pub(crate) ups: Vec<Option<A>>,
+    pub(crate) downs: Vec<Queue<B>>,
+}
+
+impl<A: Drop, B: Drop> Columns<A, B> {
+    /// The columns of no node, with room for those of that many.
+    fn with_capacity(alloc: Global, nodes: usize) -> Result<Columns<A, B>, AllocError>
+        ensures received { IfOk result (λ columns. columns.received.items ≡ []) }
+        ensures ended { IfOk result (λ columns. columns.ended.items ≡ []) }
+        ensures ups { IfOk result (λ columns. columns.ups.items ≡ []) }
+        ensures downs { IfOk result (λ columns. columns.downs.items ≡ []) }
+    {
+        Ok(Columns {
+            received: Vec::with_capacity(alloc, nodes)?,
+            ended: Vec::with_capacity(alloc, nodes)?,
+            ups: Vec::with_capacity(alloc, nodes)?,
+            downs: Vec::with_capacity(alloc, nodes)?,
+        })
+    }
+
+    /// Adds each part of an account to its column. Where memory is refused, the columns are of no
+    /// further use.
+    fn push(&mut self, account: NodeAccount<A, B>) -> Result<(), AllocError>
+        ensures received { OnOk result
+            (self.new.received.items ≡ self.old.received.items ++ account.received.items ∷ []) }
+        ensures ended { OnOk result
+            (self.new.ended.items ≡ self.old.ended.items ++ account.ended ∷ []) }
+        ensures ups { OnOk result (self.new.ups.items ≡ self.old.ups.items ++ account.up ∷ []) }
+        ensures downs { OnOk result
+            (self.new.downs.items ≡ self.old.downs.items ++ account.downs.items ∷ []) }
+    {
+        let NodeAccount {
+            received,
+            up,
+            downs,
+            ended,
+        } = account;
+        self.received.push(Sequence::from_vec(received))?;
+        self.ended.push(ended)?;
+        self.ups.push(up)?;
+        self.downs.push(Queue::from_vec(downs))?;
+        Ok(())
+    }
+}
+
+/// Takes the accounts of all nodes apart.
+pub(crate) fn take_apart<A: Drop, B: Drop>(
+    alloc: Global,
+    accounts: Vec<NodeAccount<A, B>>,
+) -> Result<Columns<A, B>, AllocError>
+    ensures received { IfOk result (λ columns.
+        columns.received.items ≡ map (λ a. a.received.items) accounts.items) }
+    ensures ended { IfOk result (λ columns.
+        columns.ended.items ≡ map (λ a. a.ended) accounts.items) }
+    ensures ups { IfOk result (λ columns.
+        columns.ups.items ≡ map (λ a. a.up) accounts.items) }
+    ensures downs { IfOk result (λ columns.
+        columns.downs.items ≡ map (λ a. a.downs.items) accounts.items) }
+{
+    let mut columns = Columns::with_capacity(alloc, accounts.len())?;
+    for account in accounts {
+        columns.push(account)?;
+    }
+    Ok(columns)
+}

@@ -1,0 +1,116 @@
+ghost use Rattle.std.specs.Prelude.{◌≡◌, ◌<◌, [], ◌∷◌, ◌++◌, length, map, replicate};
+ghost use Rattle.std.specs.Prelude.{IfOk, OnOk, slice_index_or, slice_set};
+ghost use Rattle.std.specs.List.{range_with_len};
+ghost use Rattle.stab_treecore.specs.ByChild.{by_child};
+ghost use Rattle.stab_node.specs.Scattering.{by_parent};
+
+use crate::queue::Queue;
+use crate::worker_ends::WorkerEnds;
+use stab_tree::{NodeId, Tree};
+use std::alloc::{AllocError, Global};
+
+/// Scatters what there is one of per link: to each node what belongs to the link into it.
+#[tactic(auto, using(crate::proofs::Scattered::child_scattered, crate::proofs::Scattered::root_scattered, crate::proofs::Scattered::all_scattered))]
+pub(crate) fn scatter_by_child<T: Drop>(
+    alloc: Global,
+    tree: &Tree,
+    entries: Vec<T>,
+) -> Result<Vec<Option<T>>, AllocError>
+    ensures { IfOk result (λ scattered. scattered.items ≡ by_child tree.now.parents entries.items) }
+{
+    let mut scattered = Vec::with_capacity(alloc, usize::from(tree.len()))?;
+    let mut left = Queue::from_vec(entries);
+    'nodes: for node in 0..tree.len() {
+        match tree.parent(NodeId::new(node)) {
+            None => scattered.push_reserved(None),
+            Some(_) => scattered.push_reserved(left.take()),
+        }
+    }
+    Ok(scattered)
+}
+
+/// That many empty rows.
+fn empty_rows<T: Drop>(alloc: Global, count: usize) -> Result<Vec<Queue<T>>, AllocError>
+    ensures { IfOk result (λ rows. rows.items ≡ replicate count []) }
+{
+    let mut rows = Vec::with_capacity(alloc, count)?;
+    'rows: for _ in 0..count {
+        rows.push_reserved(Queue::new(alloc));
+    }
+    Ok(rows)
+}
+
+/// Adds an entry to the row of a node.
+fn add_to<T: Drop>(rows: &mut Vec<Queue<T>>, node: NodeId, entry: T) -> Result<(), AllocError>
+    requires { node < length rows.old.items }
+    ensures { OnOk result (rows.new.items ≡ slice_set rows.old.items node
+        (slice_index_or rows.old.items node [] ++ entry ∷ [])) }
+{
+    rows[node.index()].push(entry)
+}
+
+/// Scatters what there is one of per link: to each node what belongs to the links to its children.
+#[tactic(auto, using(crate::proofs::Scattered::rows_empty))]
+pub(crate) fn scatter_by_parent<T: Drop>(
+    alloc: Global,
+    tree: &Tree,
+    entries: Vec<T>,
+) -> Result<Vec<Queue<T>>, AllocError>
+    ensures { IfOk result (λ scattered. scattered.items ≡ by_parent tree.now.parents entries.items) }
+{
+    let mut scattered = empty_rows(alloc, usize::from(tree.len()))?;
+    let mut left = Queue::from_vec(entries);
+    'nodes: for node in 0..tree.len() {
+        match tree.parent(NodeId::new(node)) {
+            None => {}
+            Some(parent) => match left.take() {
+                None => {}
+                Some(entry) => add_to(&mut scattered, parent, entry)?,
+            },
+        }
+    }
+    Ok(scattered)
+}
+
+/// The ends of the next node: the first of the upper ends, and of the lists of lower ends.
+fn next_worker<U: Drop, D: Drop>(
+    node: u16,
+    ups: &mut Queue<Option<U>>,
+    downs: &mut Queue<Queue<D>>,
+) -> WorkerEnds<U, D>
+    requires ups { 0 < length ups.old }
+    requires downs { 0 < length downs.old }
+    ensures node { result.node ≡ node }
+    ensures up { ups.old ≡ result.up ∷ ups.new }
+    ensures downs { downs.old ≡ result.downs.items ∷ downs.new }
+{
+    WorkerEnds {
+        node,
+        up: ups.take().unwrap(),
+        downs: downs.take().unwrap().into_vec(),
+    }
+}
+
+/// Scatters the two ends of each link to its two nodes: the receiving end to the child, and the
+/// sending end to the parent.
+pub(crate) fn scatter<U: Drop, D: Drop>(
+    alloc: Global,
+    tree: &Tree,
+    sends: Vec<D>,
+    recvs: Vec<U>,
+) -> Result<Vec<WorkerEnds<U, D>>, AllocError>
+    ensures nodes { IfOk result (λ workers.
+        map (λ s. s.node) workers.items ≡ range_with_len 0 (length tree.now.parents)) }
+    ensures ups { IfOk result (λ workers.
+        map (λ s. s.up) workers.items ≡ by_child tree.now.parents recvs.items) }
+    ensures downs { IfOk result (λ workers.
+        map (λ s. s.downs.items) workers.items ≡ by_parent tree.now.parents sends.items) }
+{
+    let mut workers = Vec::with_capacity(alloc, usize::from(tree.len()))?;
+    let mut ups = Queue::from_vec(scatter_by_child(alloc, tree, recvs)?);
+    let mut downs = Queue::from_vec(scatter_by_parent(alloc, tree, sends)?);
+    'nodes: for node in 0..tree.len() {
+        workers.push_reserved(next_worker(node, &mut ups, &mut downs));
+    }
+    Ok(workers)
+}

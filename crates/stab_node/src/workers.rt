@@ -1,0 +1,172 @@
+ghost use Rattle.std.specs.List.{AllZip};
+ghost use Rattle.std.specs.Thread.{IsSend, IsSync};
+ghost use Rattle.std.specs.Prelude.{◌≡◌, ◌≤◌, ◌<◌, ◌+◌, [], ◌∷◌, All, IfErr, IfOk, MatchResult};
+ghost use Rattle.std.specs.Prelude.{length, map, ℕ};
+ghost use Rattle.std.specs.VecDeque.{deque_capacity, deque_len};
+ghost use Rattle.stab_node.specs.Turns.{IsRefused};
+ghost use Rattle.stab_node.specs.Answers.{HasWorked, node_ends};
+ghost use Rattle.stab_node.specs.FirstFault.{StopsAt};
+ghost use Rattle.stab_node.specs.InitialItems.{initial_at};
+
+use crate::account::NodeAccount;
+use crate::fault::NodeFault;
+use crate::first::first_items;
+use crate::gate::Gate;
+use crate::worker::work;
+use crate::worker_ends::WorkerEnds;
+use stab_ends::{RecvSide, SendSide};
+use stab_frames::Item;
+use stab_treecore::Openings;
+use std::alloc::Global;
+use std::collections::VecDeque;
+use std::snapshot::Snapshot;
+use std::sync::Wait;
+use std::thread::{Promise, Threads};
+use std::thread;
+
+/// What a worker answers.
+pub(crate) type Answer<U, D> = Result<
+    NodeAccount<<U as RecvSide>::Done, <D as SendSide>::Done>,
+    NodeFault,
+>;
+
+/// The promise of a worker: it answers for the ends that it took what `work` answers.
+#[derive(Drop)]
+struct WorkPromise<'e, U: RecvSide, D: SendSide, G: Gate> {
+    ends: Snapshot<WorkerEnds<U, D>>,
+    first: &'e [Item],
+    turns: u32,
+    gate: &'e G,
+}
+
+impl<'e, U: RecvSide, D: SendSide, G: Gate> Promise<
+    Result<NodeAccount<U::Done, D::Done>, NodeFault>,
+> for WorkPromise<'e, U, D, G> {
+    ghost use Rattle.std.specs.Prelude.{◌≡◌, MatchResult};
+    ghost use Rattle.stab_node.specs.Turns.{IsRefused};
+    ghost use Rattle.stab_node.specs.declared.fault.NodeFault.TheVariants.{Gate as Refused};
+    ghost use Rattle.stab_node.specs.Answers.{HasWorked, node_ends};
+
+    ghost kept_by = { λ p r. MatchResult r
+        (λ a. HasWorked (G.has_passed p.gate.now p.ends.value.node) p.turns p.first.now
+        (node_ends U.received U.link D.sent D.link p.ends.value.up p.ends.value.downs.items)
+        (node_ends U.done_received U.done_link D.done_sent D.done_link a.up a.downs.items)
+        a.received.items a.ended)
+        (λ fault. fault ≡ Refused → IsRefused (G.has_passed p.gate.now p.ends.value.node)
+        (G.may_refuse p.gate.now p.ends.value.node) p.turns)
+        × G.is_done p.gate.now p.ends.value.node };
+}
+
+/// Starts a worker for each of these, in their order, and waits for all. An error is the node whose
+/// worker could not be started; those after it are not started.
+pub(crate) fn run_each<'e, R: Threads + Wait + Sync, P: Sync, U, D, G>(
+    rt: &'e R,
+    pass: &'e P,
+    alloc: Global,
+    mut workers: VecDeque<WorkerEnds<U, D>>,
+    root: u16,
+    published: &'e [Item],
+    openings: &'e Openings,
+    turns: u32,
+    gate: &'e G,
+    answers: VecDeque<Answer<U, D>>,
+) -> Result<VecDeque<Answer<U, D>>, u16>
+where
+    U: RecvSide<Pass = P> + Send,
+    D: SendSide<Pass = P> + Send,
+    G: Gate + Sync,
+    U::Done: Send,
+    D::Done: Send,
+    requires turns { 1 ≤ turns }
+    requires known { All (λ node. node < length openings.now.lists)
+        (map (λ s. s.node) workers.items) }
+    requires none { answers.items ≡ [] }
+    requires room { deque_len workers ≤ deque_capacity answers }
+    requires kinds { IsSync R.row × IsSync P.row × IsSend U.row × IsSend D.row × IsSync G.row
+        × IsSend U.Done.row × IsSend D.Done.row }
+    ensures answers { IfOk result (λ answers. AllZip (λ s r. MatchResult r
+        (λ a. HasWorked (G.has_passed gate.now s.node) turns
+        (initial_at root published.now openings.now.lists s.node)
+        (node_ends U.received U.link D.sent D.link s.up s.downs.items)
+        (node_ends U.done_received U.done_link D.done_sent D.done_link a.up a.downs.items)
+        a.received.items a.ended)
+        (λ fault. fault ≡ NodeFault.Gate → IsRefused (G.has_passed gate.now s.node)
+        (G.may_refuse gate.now s.node) turns)
+        × G.is_done gate.now s.node) workers.items answers.items) }
+    ensures len { IfOk result (λ answers. deque_len answers ≡ deque_len workers) }
+    ensures room { IfOk result (λ new. deque_capacity new ≡ deque_capacity answers) }
+    ensures unstarted { IfErr result
+        (StopsAt (G.is_done gate.now) (map (λ s. s.node) workers.items)) }
+{
+    let Some(ends) = workers.pop_front() else {
+        return Ok(answers);
+    };
+    thread::scope(
+        thread::scope_env(),
+        rt,
+        move |scope| -> Result<VecDeque<Answer<U, D>>, u16>
+            requires turns { 1 ≤ turns }
+            requires node { ends.node < length openings.now.lists }
+            requires known { All (λ node. node < length openings.now.lists)
+                (map (λ s. s.node) workers.items) }
+            requires none { answers.items ≡ [] }
+            requires room { deque_len workers + 1 ≤ deque_capacity answers }
+            requires kinds { IsSync R.row × IsSync P.row × IsSend U.row × IsSend D.row
+                × IsSync G.row × IsSend U.Done.row × IsSend D.Done.row }
+            ensures answers { IfOk result (λ answers. AllZip (λ s r. MatchResult r
+                (λ a. HasWorked (G.has_passed gate.entry.now s.node) turns
+                (initial_at root published.entry.now openings.entry.now.lists s.node)
+                (node_ends U.received U.link D.sent D.link s.up s.downs.items)
+                (node_ends U.done_received U.done_link D.done_sent D.done_link
+                a.up a.downs.items)
+                a.received.items a.ended)
+                (λ fault. fault ≡ NodeFault.Gate
+                → IsRefused (G.has_passed gate.entry.now s.node)
+                (G.may_refuse gate.entry.now s.node) turns)
+                × G.is_done gate.entry.now s.node) (ends ∷ workers.items) answers.items) }
+            ensures len { IfOk result (λ answers. deque_len answers ≡ deque_len workers + 1) }
+            ensures room { IfOk result (λ new. deque_capacity new ≡ deque_capacity answers) }
+            ensures unstarted { IfErr result (StopsAt (G.is_done gate.entry.now)
+                (ends.node ∷ map (λ s. s.node) workers.items)) }
+        {
+            let node = ends.node;
+            let first = first_items(root, published, openings, node);
+            let promise = WorkPromise {
+                ends: Snapshot::of(&ends),
+                first,
+                turns,
+                gate,
+            };
+            let worker = match scope.spawn_with(
+                promise,
+                move || -> Answer<U, D>
+                    requires turns { 1 ≤ turns }
+                    ensures work { MatchResult result
+                        (λ a. HasWorked (G.has_passed gate.entry.now ends.node) turns
+                        first.entry.now
+                        (node_ends U.received U.link D.sent D.link ends.up ends.downs.items)
+                        (node_ends U.done_received U.done_link D.done_sent D.done_link
+                        a.up a.downs.items)
+                        a.received.items a.ended)
+                        (λ fault. fault ≡ NodeFault.Gate
+                        → IsRefused (G.has_passed gate.entry.now ends.node)
+                        (G.may_refuse gate.entry.now ends.node) turns) }
+                    ensures done { G.is_done gate.entry.now ends.node }
+                {
+                    let WorkerEnds { node, up, downs } = ends;
+                    work(pass, alloc, node, up, downs, first, turns, gate)
+                },
+            ) {
+                Ok(worker) => worker,
+                Err(_) => return Err(node),
+            };
+            let rest = run_each(
+                rt, pass, alloc, workers, root, published, openings, turns, gate, answers,
+            );
+            let answer = worker.join(rt);
+            let mut answers = rest?;
+            answers.push_front_reserved(answer);
+            Ok(answers)
+        },
+    )
+}

@@ -1,5 +1,0 @@
-use Rattle.stab_table.proofs.steps.WordTable.offer_load.Given as goal
-
--- the type that names the item of this call
-abbrev pub ghosts-offer_load_as : goal.ghosts-offer_load_as
-ghosts-offer_load_as a = record { item = a.item }

@@ -1,5 +1,0 @@
-pub mod Answers
-pub mod ByNode
-pub mod Scattering
-pub mod FirstFault
-pub mod InitialItems
