@@ -21,8 +21,8 @@ use std::alloc::Global;
 use std::collections::VecDeque;
 use std::snapshot::Snapshot;
 use std::sync::Wait;
-use std::thread::{Promise, Threads};
 use std::thread;
+use std::thread::{Promise, Threads};
 
 /// What a worker answers.
 pub(crate) type Answer<U, D> = Result<

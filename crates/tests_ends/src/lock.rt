@@ -10,8 +10,8 @@ use stab_lock::{LinkBook, LockLink, SettleFault};
 use std::alloc::{AllocError, Global};
 use std::process::Abort;
 use std::sync::Wait;
-use std::thread::Threads;
 use std::thread;
+use std::thread::Threads;
 
 /// A round with 7, and the close.
 static ROUND_AND_CLOSE: [Ask; 13] = [

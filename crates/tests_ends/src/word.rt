@@ -13,8 +13,8 @@ use stab_frames::{Frame, Item, Label, Params, Sequence};
 use stab_word::{WordFault, WordLink, WordOpening};
 use std::alloc::{AllocError, Global};
 use std::process::Abort;
-use std::thread::Threads;
 use std::thread;
+use std::thread::Threads;
 
 /// Three items are acknowledged before the receiver has taken one.
 static WORST_START: [Ask; 12] = [

@@ -20,8 +20,8 @@ use std::collections::VecDeque;
 use std::process::Abort;
 use std::sync::Wait;
 use std::sync::atomic::{AtomicU64, Ordering};
-use std::thread::Threads;
 use std::thread;
+use std::thread::Threads;
 
 /// The root r is second. Its children are a and c, and b is a child of a. So the links are those
 /// into a, b and c, in this order.
