@@ -15,14 +15,17 @@ is the one that the gate has left in crates/rignolda/out; PROGRAM in the environ
 The last line is 'N passed, M failed'.
 """
 
-import gzip
 import json
-import os
 import re
 import subprocess
 import sys
 import tempfile
 from pathlib import Path
+
+# (nothing is to be left beside the sources)
+sys.dont_write_bytecode = True
+
+from rignolda.program import program
 
 TOP = Path(__file__).resolve().parent.parent
 DATA = TOP / "crates/stab_checks/data"
@@ -37,30 +40,6 @@ DRAWN = {
 }
 # The run of the page that no job has: two labels are refused.
 WITHOUT_JOB = ["What goes wrong with two labels"]
-
-
-# Prints the program that was built of these sources, or `release` where that of release/ was.
-LOOK = """. "$0/tools/launch"; speaker=drawn; read_table rignolda; find_sources
-if find_built rignolda; then printf '%s' "${built[rignolda]}"
-elif is_released rignolda; then printf 'release'; fi"""
-
-
-def program(room):
-    """The program that draws, or None: the one that is named, or one of these sources."""
-    named = os.environ.get("PROGRAM")
-    if named:
-        return Path(named)
-    known = subprocess.run(["bash", "-c", LOOK, TOP], capture_output=True, text=True).stdout
-    if known == "release":
-        unpacked = Path(room) / "rignolda"
-        unpacked.write_bytes(gzip.decompress((TOP / "release/rignolda.gz").read_bytes()))
-        unpacked.chmod(0o755)
-        return unpacked
-    if known:
-        return Path(known)
-    # (the gate has just built it)
-    built = TOP / "crates/rignolda/out/rignolda"
-    return built if built.is_file() else None
 
 
 def draw(drawer, name, *words):

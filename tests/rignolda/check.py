@@ -1,0 +1,212 @@
+"""What `rignolda check` says of reports and links, and `rignolda bounds` of a job.
+
+There is a job of a chain of three nodes with a report that obeys, and the worst start of capacity 1
+with the text that `stab link` prints of it, and both with one part replaced. All is worked out by
+hand."""
+
+from rignolda.rows import Row, replaced
+
+# The chain r, a, b, where a begins with 50, and each link with a stray.
+JOB = """\
+{"version":2,"h":1,"capacity":1,"labels":4,
+"tree":[{"name":"r"},{"name":"a","parent":"r"},{"name":"b","parent":"a"}],
+"items":[10,11,12,13,14,15,16],"openings":[[],[50],[]],
+"starts":[{"frames":[[2,99]],"send":0,"recv":1},{"frames":[[2,98]],"send":0,"recv":1}]}"""
+
+BOUNDS = """\
+r depth 0: no strays (C 0 + E 0), all published items in order
+a depth 1: at most 2 strays (C 1 + E 1), then published items in order; of those before its last \
+one only some of the first 3 (M) can be missing
+b depth 2: at most 3 strays (C 2 + E 1), then published items in order; of those before its last \
+one only some of the first 6 (M) can be missing
+"""
+
+# A report of it: the strays, and of the published items those that cannot be missing.
+REPORT = """\
+r depth 0 received 7 acked - ended upstream
+items: 10 11 12 13 14 15 16
+a depth 1 received 6 acked 7 ended upstream
+items: 50 99 13 14 15 16
+b depth 2 received 4 acked 6 ended upstream
+items: 98 14 15 16
+"""
+
+# The same as the text of a tree.
+TREE = """\
+r depth 0 received 7 acked -
+items: 10 11 12 13 14 15 16
+a depth 1 received 6 acked 7
+items: 50 99 13 14 15 16
+b depth 2 received 4 acked 6
+items: 98 14 15 16
+"""
+
+# In all tables: a part of a text, what is there instead, the status, and what is said: a verdict,
+# which ends its line, or a fault.
+
+REPORTS = [
+    ("", "", 0, "obeys\n"),
+    ("acked 7 ended upstream", "acked 7 ended turns", 0, "obeys\n"),
+    ("items: 10 11", "items: 11 10", 1, """\
+r: its items are not the published ones
+published: 10 11 12 13 14 15 16
+items of r: 11 10 12 13 14 15 16
+"""),
+    ("acked -", "acked 7", 1,
+     "r: it has a count of acknowledged items, and no link leads into the root\n"),
+    ("acked 7", "acked -", 1, "a: it has no count of acknowledged items\n"),
+    ("items: 50 99", "items: 99 50", 1, """\
+a: its items do not begin with its opening
+opening: 50
+items of a: 99 50 13 14 15 16
+"""),
+    ("99 13 14", "99 14 13", 1, """\
+a: what it has after its opening is not what the link law allows
+the link from r has capacity 1 and 7 acknowledged items
+frames: 99
+items of r: 10 11 12 13 14 15 16
+opening: 50
+items of a: 50 99 14 13 15 16
+"""),
+    ("acked 6", "acked 5", 1, "b: a ended upstream with 6 items, and 5 of them are acknowledged\n"),
+    ("a depth 1", "c depth 1", 1, "not a report: line 3 is not as a report of this tree has it"),
+    ("items: 98 14", "items: 98 014", 1,
+     "not a report: line 6 is not as a report of this tree has it"),
+]
+
+TREES = [
+    ("", "", 0, "obeys\n"),
+    ("acked 6", "acked 5", 0, "obeys\n"),
+    ("items: 98 14 15 16", "items: 98 14 15 15", 1, """\
+b: what it has after its opening is not what the link law allows
+the link from a has capacity 1 and 6 acknowledged items
+frames: 98
+items of a: 50 99 13 14 15 16
+opening:
+items of b: 98 14 15 15
+"""),
+    ("acked 6", "acked 6 ended turns", 1,
+     "not a report: line 5 is not as a report of this tree has it"),
+]
+
+JOBS = [
+    ('"labels":4', '"labels":3', 1, "job: too few labels"),
+    ("[[2,99]]", "[[2,99],[2,97]]", 3, "start: too many frames"),
+    ("{", "", 1, "job: not JSON"),
+]
+
+# The worst start of capacity 1.
+LINK_JOB = """\
+{"capacity":1,"labels":4,
+"start":{"frames":[[2,99]],"acks":[0],"send":0,"recv":1},
+"events":[["offer",10],"recv_ack","send_ack",["offer",11],"recv_ack","recv_frame","send_ack",
+["offer",12],"recv_ack",["offer",13],"send_frame","recv_frame"]}"""
+
+# The link after it.
+LINK = """\
+delivered: 99 13
+offered: 10 11 12 13
+acked: 3
+send label: 3
+recv label: 3
+frames:
+acks:
+closed: no
+"""
+
+LINKS = [
+    ("", "", 0, "obeys\n"),
+    ("label: 3\nrecv label: 3\nframes:\nacks:\nclosed: no",
+     "label: 7\nrecv label: 65535\nframes: 2=4294967295 3=0\nacks: 1 0\nclosed: yes", 0,
+     "obeys\n"),
+    ("acked: 3", "acked: 4", 0, "obeys\n"),
+    ("10 11 12 13\nacked: 3", "10 12\nacked: 2", 1, """\
+the link law of capacity 1 is broken, with 2 items acknowledged
+frames: 99
+offered: 10 12
+delivered: 99 13
+"""),
+    ("10 11 12 13", "11 10 12 13", 1, """\
+the offered items are not among those that the job offers, in its order
+the job offers: 10 11 12 13
+offered: 11 10 12 13
+"""),
+    ("99 13", "98 13", 1, """\
+the link law of capacity 1 is broken, with 3 items acknowledged
+frames: 99
+offered: 10 11 12 13
+delivered: 98 13
+"""),
+    (" 99 13", "", 0, "obeys\n"),
+    (" 99 13\noffered: 10 11 12 13\nacked: 3", "\noffered: 10 11 12 13\nacked: 4", 1, """\
+the link law of capacity 1 is broken, with 4 items acknowledged
+frames: 99
+offered: 10 11 12 13
+delivered:
+"""),
+    ("acked: 3", "acked: 2", 1, """\
+the link law of capacity 1 is broken, with 2 items acknowledged
+frames: 99
+offered: 10 11 12 13
+delivered: 99 13
+"""),
+    ("delivered", "given", 1, "not a report: line 1 is not as the text of a link has it"),
+    ("acked: 3", "acked: 03", 1, "not a report: line 3 is not as the text of a link has it"),
+    ("send label: 3", "send label: 65536", 1,
+     "not a report: line 4 is not as the text of a link has it"),
+    ("frames:", "frames: 2", 1, "not a report: line 6 is not as the text of a link has it"),
+    ("closed: no\n", "closed: no", 1, "not a report: line 8 is not as the text of a link has it"),
+    ("closed: no\n", "closed: no\norigins: s0 i3\n", 1,
+     "not a report: line 9 is not as the text of a link has it"),
+]
+
+LINK_JOBS = [
+    ('"labels":4', '"labels":3', 1, "job: too few labels"),
+    ("[[2,99]]", "[[2,99],[2,98]]", 3, "start: too many frames"),
+    ('"acks":[0]', '"acks":[0,0]', 3, "start: too many acknowledgements"),
+    ('["offer",10]', '["offer"]', 1, "job: bad event"),
+]
+
+
+def said_of(name, words, files, status, said):
+    """A row whose files are beside the program: a verdict is printed, or a fault."""
+    is_fault = not said.endswith("\n")
+    return Row(name, words, files=files, status=status, out="" if is_fault else said,
+               err=f"rignolda: {said}\n" if is_fault else "")
+
+
+def checked(name, job, report, status, said):
+    """A row that checks a report of a job."""
+    return said_of(name, ["check", "job", "report"], {"job": job, "report": report}, status, said)
+
+
+ROWS = [
+    Row("writes the bounds of each node", ["bounds", "job"], files={"job": JOB}, out=BOUNDS),
+    Row("reads a job for its bounds", ["bounds"], JOB, out=BOUNDS),
+    Row("reads a report", ["check", "job", "-"], REPORT, files={"job": JOB}, out="obeys\n"),
+    Row("reads a job", ["check", "-", "report"], JOB, files={"report": REPORT}, out="obeys\n"),
+]
+ROWS += [
+    checked(f"names the part of a {kind} that is broken: {part!r}, {instead!r}", job,
+            replaced(text, part, instead), status, said)
+    for kind, job, text, table in [
+        ("report", JOB, REPORT, REPORTS),
+        ("tree", JOB, TREE, TREES),
+        ("link", LINK_JOB, LINK, LINKS),
+    ]
+    for part, instead, status, said in table
+]
+ROWS += [
+    checked(f"refuses a {kind} as stab does: {instead or 'no ' + part}",
+            replaced(job, part, instead), text, status, said)
+    for kind, job, text, table in [
+        ("job", JOB, REPORT, JOBS),
+        ("link job", LINK_JOB, LINK, LINK_JOBS),
+    ]
+    for part, instead, status, said in table
+]
+ROWS += [
+    said_of(f"has no bounds of a job that is refused: {instead or 'no ' + part}",
+            ["bounds", "job"], {"job": replaced(JOB, part, instead)}, status, said)
+    for part, instead, status, said in JOBS
+]

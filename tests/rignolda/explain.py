@@ -1,0 +1,283 @@
+"""What `rignolda explain` says of mistakes that people make when they write a job."""
+
+from rignolda.rows import Row, replaced
+
+# A job of a chain of three nodes, with every member.
+JOB = """\
+{"version":2,"h":2,"capacity":1,"labels":4,
+"tree":[{"name":"hub"},{"name":"site-a","parent":"hub"},{"name":"rack_1","parent":"site-a"}],
+"items":[7,8],"openings":[[],[50],[]],
+"starts":[{"send":0,"recv":1},{"frames":[[2,99]],"send":0,"recv":1}],
+"scripts":[{"frames_out":"PD"},{"seed":[1,2],"length":3,"loss":100,"repeat":0}],
+"schedule":[["site-a","offer"],["rack_1","recv_frame"]]}"""
+
+LINK_JOB = """\
+{"capacity":1,"labels":4,
+"start":{"frames":[[2,99]],"acks":[0],"send":0,"recv":1},
+"events":[["offer",10],"recv_ack"]}"""
+
+# In all tables: a part of the job, what is there instead, and the explanation.
+
+IGNORED = [
+    ('"schedule"', '"shedule"', """\
+shedule: ignored, since a job has no such member; did you mean "schedule"?
+stab tree: accepted
+"""),
+    ('"openings"', '"opening"', """\
+opening: ignored, since a job has no such member; did you mean "openings"?
+stab tree: accepted
+"""),
+    ('"version":2,', "", """\
+h: ignored without "version": 2
+openings: ignored without "version": 2
+stab tree: accepted
+"""),
+    ('"frames_out"', '"frame_out"', """\
+scripts[0].frame_out: ignored, since a script has no such member; did you mean "frames_out"?
+stab tree: accepted
+"""),
+    ('"items"', '"link":[null,null],"items"', """\
+link: ignored, since a job has no such member; did you mean "links"?
+stab tree: accepted
+"""),
+    ('"seed"', '"acks_in":"T","seed"', """\
+scripts[1].acks_in: ignored beside a "seed"
+stab tree: accepted
+"""),
+    ('{"name":"hub"}', '{"name":"hub","colour":1}', """\
+tree[0].colour: ignored, since a node has no such member
+stab tree: accepted
+"""),
+]
+
+NODES = [
+    ('"parent":"site-a"', '"parent":"sitea"', """\
+tree[2].parent: "sitea" is no node; did you mean "site-a"?
+stab tree: tree: unknown parent
+"""),
+    ('"name":"rack_1"', '"name":"site-a"', """\
+tree[2].name: "site-a" is the name of tree[1] already
+stab tree: tree: same name twice
+"""),
+    ('"name":"rack_1"', '"name":"Rack 1"', """\
+tree[2].name: "Rack 1"; a name is 1 to 32 bytes of a-z, 0-9, _ and -
+stab tree: tree: bad name
+"""),
+    (',"parent":"site-a"', "", """\
+tree[2]: no parent, and tree[0] has none either; one node alone is the root
+stab tree: tree: two roots
+"""),
+    ('"parent":"site-a"', '"parent":"rack_1"', """\
+tree[2]: its parents lead round in a circle, and never to the root
+stab tree: tree: cycle
+"""),
+]
+
+ENTRIES = [
+    ('"starts":[', '"starts":[{"send":0,"recv":1},', """\
+starts: 3 entries for 2 links; there is one for each node but the root, in their order
+stab tree: job: wrong number of starts
+"""),
+    ("[[],[50],[]]", "[[],[50]]", """\
+openings: 2 openings for 3 nodes; there is one for each node, in their order
+stab tree: job: wrong number of openings
+"""),
+    ("[[],[50],[]]", "[[],[],[50]]", """\
+openings[2] (node rack_1): only a node with a parent and a child may have an opening
+stab tree: job: opening at the root or a leaf
+"""),
+    ("[[],[50],[]]", "[[],[50,51,52],[]]", """\
+openings[1] (node site-a): 3 items, and "h" allows 2
+stab tree: job: opening too long
+"""),
+    ("[[2,99]]", "[[2,99],[2,99]]", """\
+starts[1].frames (the link into rack_1): 2 frames, and the capacity is 1
+stab tree: start: too many frames
+"""),
+]
+
+NUMBERS = [
+    ('"capacity":1', '"capacity":3', """\
+labels: 4 are too few for the capacity 3; the number of labels is a whole number from twice the \
+capacity and two to 1000
+stab tree: job: too few labels
+"""),
+    ('"version":2', '"version":"2"', """\
+version: the text "2"; the versions are the whole numbers 1 and 2
+stab tree: job: unknown version
+"""),
+    ('"version":2', '"version":3', """\
+version: 3; the versions are the whole numbers 1 and 2
+stab tree: job: unknown version
+"""),
+    ('"items"', '"turns":0,"items"', """\
+turns: 0; the turns are a whole number from 1 to 1000000
+stab tree: job: turns out of range
+"""),
+    ('"items"', '"links":[null,{"capacity":2,"labels":5}],"items"', """\
+links[1].labels (the link into rack_1): 5 are too few for the capacity 2; the number of labels \
+is a whole number from twice the capacity and two to 1000
+stab tree: job: too few labels
+"""),
+]
+
+STEPS = [
+    ('"recv_frame"', '"recvframe"', """\
+schedule[1][1]: "recvframe" is no event; did you mean "recv_frame"?
+stab tree: job: bad event
+"""),
+    ('["site-a","offer"]', '{"site-a":"offer"}', """\
+schedule[0]: an object; a step is a list of the name of a node, the name of an event, and for a \
+loss the place
+stab tree: job: bad event
+"""),
+    ('["rack_1"', '["rack1"', """\
+schedule[1]: "rack1" is no node; did you mean "rack_1"?
+stab tree: job: unknown node
+"""),
+    ('["site-a","offer"]', '["hub","offer"]', """\
+schedule[0]: "hub" is the root, and no link leads into it
+stab tree: step: no such link
+"""),
+]
+
+SHAPES = [
+    ('"capacity"', '"capcity"', """\
+capacity: missing; a capacity is a whole number from 1 to 64
+capcity: ignored, since a job has no such member; did you mean "capacity"?
+stab tree: job: wrong shape
+"""),
+    ("[7,8]", '[7,"8"]', """\
+items[1]: the text "8"; an item is a whole number from 0 to 4294967295
+stab tree: job: wrong shape
+"""),
+    ("[7,8]", "[7,4294967296]", """\
+items[1]: 4294967296; an item is a whole number from 0 to 4294967295
+stab tree: job: wrong shape
+"""),
+    ("[[2,99]]", "[2,99]", """\
+starts[1].frames[0]: 2; a frame is a list of two, a label and an item
+starts[1].frames[1]: 99; a frame is a list of two, a label and an item
+starts[1].frames (the link into rack_1): 2 frames, and the capacity is 1
+stab tree: job: wrong shape
+"""),
+    ('{"send":0,"recv":1}', '{"send":0}', """\
+starts[0].recv: missing; a start has "send" and "recv", whole numbers from 0 to 65535
+stab tree: job: wrong shape
+"""),
+    ('"h":2,', "", """\
+h: missing; "h" is a whole number from 0 to 64, the most items that an opening has
+stab tree: job: wrong shape
+"""),
+]
+
+SCRIPTS = [
+    ("PD", "pd", """\
+scripts[0].frames_out[0]: the text "pd"; the acts for what is sent are a text of the letters P, \
+D and E
+stab tree: job: wrong shape
+"""),
+    ("PD", "PTK", """\
+scripts[0].frames_out[1]: the text "PTK"; the acts for what is sent are a text of the letters P, \
+D and E
+stab tree: job: wrong shape
+"""),
+    ("100,", "0.1,", """\
+scripts[1].loss: a number that is not a whole one; the loss is a whole number up to 1000, how \
+many of a thousand are dropped
+stab tree: job: wrong shape
+"""),
+    ("100,", "1001,", """\
+scripts[1].loss (the link into rack_1): 1001; the loss is a whole number up to 1000, how many of \
+a thousand are dropped
+stab tree: job: rate out of range
+"""),
+]
+
+LINK_JOBS = [
+    ('["offer",10]', '"offer",["recv_ack",1],"recvack",["lose_ack",70000]', """\
+events[0]: an offer is written ["offer", item], the item from 0 to 4294967295
+events[1]: this event has no number, and is written as a word alone
+events[2]: "recvack" is no event; did you mean "recv_ack"?
+events[3]: a loss is written with its place, as ["lose_frame", 0], from 0 to 65535
+stab link: job: bad event
+"""),
+    ("[0]", "[0,0]", """\
+start.acks: 2 acknowledgements, and the capacity is 1
+stab link: start: too many acknowledgements
+"""),
+    ('"events"', '"event"', """\
+events: missing; the events are a list of at most 1000000 events
+event: ignored, since a link job has no such member; did you mean "events"?
+stab link: job: wrong shape
+"""),
+    ('"labels":4', '"labels":1001,"version":1', """\
+labels: 1001 are too many; the number of labels is a whole number from twice the capacity and \
+two to 1000
+version: ignored, since a link job has no such member
+stab link: job: too many labels
+"""),
+]
+
+NO_JSON = [
+    ('"items"', '/* two */"items"', """\
+line 3, column 1: not JSON; JSON has no comments
+stab link: job: not JSON
+"""),
+    ("[7,8]", "[7,8,]", """\
+line 3, column 14: not JSON; no comma may be after the last entry or member
+stab link: job: not JSON
+"""),
+    ("[7,8],", "[7,8]", """\
+line 3, column 14: not JSON; a comma is missing
+stab link: job: not JSON
+"""),
+    ('"items"', "'items'", """\
+line 3, column 1: not JSON; a text is written in double quotation marks
+stab link: job: not JSON
+"""),
+]
+
+TABLES = [
+    ("names members that no reader looks at", JOB, IGNORED),
+    ("says which node of the tree is wrong", JOB, NODES),
+    ("says which entry has no link or node", JOB, ENTRIES),
+    ("says which number is out of range", JOB, NUMBERS),
+    ("says which step is wrong", JOB, STEPS),
+    ("says where a shape is wrong", JOB, SHAPES),
+    ("says where a script is wrong", JOB, SCRIPTS),
+    ("says what is wrong with a link job", LINK_JOB, LINK_JOBS),
+    ("says where a job is not JSON", JOB, NO_JSON),
+]
+
+# What the first bytes show: the bytes, and the explanation.
+BYTES = [
+    ("an empty file", b"", """\
+the job: not JSON; the file is empty
+stab link: job: not JSON
+"""),
+    ("a byte order mark", b"\xEF\xBB\xBF{}", """\
+line 1, column 1: not JSON; a byte order mark is before the text, and JSON has none
+stab link: job: not JSON
+"""),
+    ("UTF-16", b"\xFF\xFE{\x00}\x00", """\
+line 1, column 1: not JSON; the text is UTF-16, and has to be UTF-8
+stab link: job: not JSON
+"""),
+]
+
+ROWS = [
+    Row("finds nothing in a whole job", ["explain"], JOB, out="stab tree: accepted\n"),
+    Row("finds nothing in a whole link job", ["explain"], LINK_JOB, out="stab link: accepted\n"),
+    Row("explains a file", ["explain", "job"], files={"job": JOB}, out="stab tree: accepted\n"),
+]
+ROWS += [
+    Row(f"{name}: {instead or 'no ' + part}", ["explain"], replaced(job, part, instead),
+        status=1, out=said)
+    for name, job, table in TABLES
+    for part, instead, said in table
+]
+ROWS += [
+    Row(f"says what the first bytes show: {name}", ["explain"], given, status=1, out=said)
+    for name, given, said in BYTES
+]

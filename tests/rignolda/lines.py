@@ -1,0 +1,93 @@
+"""Command lines: the texts of help, of the version and of mistakes."""
+
+from rignolda.rows import Like, Row
+
+HELP = """\
+Makes and examines the jobs of stab
+
+Usage: rignolda <COMMAND>
+
+Commands:
+  bounds   Says what the laws allow each node of a job: strays, and missing items
+  check    Says whether a report of a job obeys the laws, or which part of it is broken
+  draw     Draws the run of a link job or of a tree's schedule, a line for each event
+  explain  Says what is wrong with a link job or a job of a tree, and where
+  random   Prints a job of a tree with random garbage in it, the same for the same options
+  worst    Prints a link job that delivers as many strays and misses as many items as can be
+  help     Print this message or the help of the given subcommand(s)
+
+Options:
+  -h, --help     Print help
+  -V, --version  Print version
+"""
+
+WORST_HELP = """\
+Prints a link job that delivers as many strays and misses as many items as can be
+
+Usage: rignolda worst --capacity <C> --labels <K>
+
+Options:
+      --capacity <C>  How many entries each queue holds, 1 to 64
+      --labels <K>    How many labels there are, from twice the capacity and two to 1000
+  -h, --help          Print help
+"""
+
+RANDOM_HELP = """\
+Prints a job of a tree with random garbage in it, the same for the same options
+
+Usage: rignolda random [OPTIONS]
+
+Options:
+      --seed <N>      Where the generator begins [default: 1]
+      --items <N>     How many items the root publishes, up to 10000 [default: 10]
+      --turns <N>     How many turns each worker of a run has, 1 to 1000000 [default: 100000]
+      --schedule <N>  How many steps the schedule has, up to 500000 [default: 200]
+      --nodes <N>     How many nodes the tree has, 1 to 64 [default: 8]
+      --capacity <N>  The greatest capacity of a link, 1 to 64 [default: 2]
+      --loss <N>      Of a thousand sent messages, how many a script drops [default: 100]
+      --repeat <N>    Of a thousand received messages, how many a script keeps [default: 100]
+      --hold <N>      How many items a node may begin with, up to 64 [default: 2]
+      --labels <K>    How many labels each link has; drawn for each link where it is left out
+  -h, --help          Print help
+"""
+
+# Command lines with a mistake, and what is said of it before the usage.
+MISTAKEN = [
+    ("wurst", "unrecognized subcommand 'wurst'"),
+    ("check a", "the following required arguments were not provided:\n  <REPORT>"),
+    ("check - -", "JOB and REPORT cannot both be standard input"),
+    ("worst --capacity 1", "the following required arguments were not provided:\n  --labels <K>"),
+    ("worst --capacity 1 --labels four",
+     "invalid value 'four' for '--labels <K>': invalid digit found in string"),
+    ("worst --capacity 2 --labels 5", "a link has at least twice its capacity and two labels"),
+    ("worst --capacity 65 --labels 500", "the capacity of a link is 1 to 64"),
+    ("worst --capacity 1 --labels 1001", "a link has at most 1000 labels"),
+    ("random --nodes 65", "a tree has 1 to 64 nodes"),
+    ("random --capacity 4 --labels 9", "a link has at least twice its capacity and two labels"),
+    ("random --nodes 0", "a tree has 1 to 64 nodes"),
+    ("random --items 10001", "a job has at most 10000 items"),
+    ("random --capacity 65", "the capacity of a link is 1 to 64"),
+    ("random --labels 5", "a link has at least twice its capacity and two labels"),
+    ("random --turns 0", "a run has 1 to 1000000 turns"),
+    ("random --turns 1000001", "a run has 1 to 1000000 turns"),
+    ("random --loss 1001", "a rate is at most 1000 in a thousand"),
+    ("random --repeat 1001", "a rate is at most 1000 in a thousand"),
+    ("random --hold 65", "a node begins with at most 64 items"),
+    ("random --schedule 500001", "at most 500000 steps are drawn"),
+]
+
+# How each text about a mistake ends.
+HINT = "\nFor more information, try '--help'.\n"
+
+ROWS = [
+    Row("without words there is the help, as a mistake", [], status=2, err=HELP),
+    Row("help", ["--help"], out=HELP),
+    Row("the version", ["--version"], out="rignolda 0.1.0\n"),
+    Row("help on worst", ["worst", "--help"], out=WORST_HELP),
+    Row("help on random", ["random", "--help"], out=RANDOM_HELP),
+]
+ROWS += [
+    Row(f"a mistake: {line}", line.split(), status=2,
+        err=Like(begins=f"error: {said}\n", ends=HINT))
+    for line, said in MISTAKEN
+]

@@ -1,0 +1,82 @@
+"""Rows of tests: a command line with what it reads, and what it has to print."""
+
+from dataclasses import dataclass, field
+
+
+@dataclass
+class Row:
+    """A run of the program. What is read is a text or bytes, or what another run `Printed`; what is
+    printed is a text, or a class below says what it is like."""
+
+    name: str
+    words: list  # the command line, without the name of the program
+    given: object = ""  # what is read from standard input
+    files: dict = field(default_factory=dict)  # by its name, the text of a file beside it
+    status: int = 0
+    out: object = ""
+    err: object = ""
+
+
+@dataclass
+class Printed:
+    """What a run with these words and no input prints, which has to end with status 0."""
+
+    words: list
+
+
+@dataclass
+class Like:
+    """A text with this beginning, this end and these parts, which has none of the others, and no
+    line with more bytes."""
+
+    begins: str = ""
+    ends: str = ""
+    parts: list = ()
+    without: list = ()
+    width: int = None
+
+    def fault(self, text, _printed):
+        """What is wrong with a text, or None."""
+        if not text.startswith(self.begins):
+            return f"it does not begin with {self.begins!r}"
+        if not text.endswith(self.ends):
+            return f"it does not end with {self.ends!r}"
+        for part in self.parts:
+            if part not in text:
+                return f"it has no {part!r}"
+        for part in self.without:
+            if part in text:
+                return f"it has {part!r}"
+        if self.width and any(len(line.encode()) > self.width for line in text.splitlines()):
+            return f"a line has more than {self.width} bytes"
+        return None
+
+
+@dataclass
+class Same:
+    """What a run with other words prints."""
+
+    words: list
+
+    def fault(self, text, printed):
+        """What is wrong with a text, or None, where `printed` gives what a run prints."""
+        other = printed(self.words)
+        return None if text == other else f"{' '.join(self.words)} prints another text"
+
+
+@dataclass
+class Other:
+    """Another text than what a run with other words prints."""
+
+    words: list
+
+    def fault(self, text, printed):
+        """What is wrong with a text, or None, where `printed` gives what a run prints."""
+        return f"{' '.join(self.words)} prints the same" if text == printed(self.words) else None
+
+
+def replaced(text, part, instead):
+    """A text, the first such part of it replaced."""
+    if part not in text:
+        raise ValueError(f"there is no {part!r} to replace")
+    return text.replace(part, instead, 1)
