@@ -11,8 +11,6 @@ mod files;
 #[cfg(test)]
 mod limits;
 #[cfg(test)]
-mod links;
-#[cfg(test)]
 mod per_link;
 #[cfg(test)]
 mod readers;
@@ -20,8 +18,6 @@ mod readers;
 mod runs;
 #[cfg(test)]
 mod tasks;
-#[cfg(test)]
-mod trees;
 #[cfg(test)]
 mod words;
 #[cfg(test)]

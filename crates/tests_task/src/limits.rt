@@ -1,12 +1,10 @@
-//! Numbers, scripts and trees at their limits.
+//! Numbers and scripts beyond their limits.
 
-use crate::tasks::{LONE_ROOT, LONE_TEXT, OF_TREES, assert_answer, assert_refused};
-use crate::trees::{push_all, push_round};
+use crate::tasks::{LONE_ROOT, OF_TREES, assert_refused};
 use stab_frames::ParamsFault;
 use stab_run::{Job, JobFault, read_job};
 use stab_script::{OutAct, ScriptFault};
-use stab_task::{CliFault, Task};
-use stab_tree::TreeFault;
+use stab_task::CliFault;
 use std::alloc::{AllocError, Global};
 use std::process::Abort;
 use std::sync::Wait;
@@ -36,7 +34,7 @@ const LABELS: &str = r#""labels":4"#;
 const ITEMS: &str = r#""items":[7,8]"#;
 
 #[test]
-fn numbers_at_their_limits(rt: HostRuntime) -> Result<(), AllocError> {
+fn numbers_beyond_their_limits(rt: HostRuntime) -> Result<(), AllocError> {
     const NO_CAPACITY: &[&str] = &[r#""capacity":18446744073709551616"#, r#""capacity":-1"#];
     const NO_MEMBERS: &[&str] = &[r#""items":[4294967296]"#, r#""items":[7,8],"turns":"1""#];
     const NO_EVENTS: &[&str] = &[
@@ -49,15 +47,6 @@ fn numbers_at_their_limits(rt: HostRuntime) -> Result<(), AllocError> {
     const TOO_WIDE: &[&str] = &[r#""capacity":65536"#];
     const TOO_MANY: &[&str] = &[r#""labels":1001"#];
     const TOO_LONG: &[&str] = &[r#""items":[7,8],"turns":1000001"#];
-    const ACCEPTED: &[(&str, &str, &str)] = &[
-        (
-            ITEMS,
-            r#""items":[4294967295]"#,
-            "r depth 0 received 1 acked -\nitems: 4294967295\n",
-        ),
-        (LABELS, r#""labels":1000"#, LONE_TEXT),
-        (ITEMS, r#""items":[7,8],"turns":1000000"#, LONE_TEXT),
-    ];
     let too_wide = JobFault::Params(ParamsFault::CapacityOutOfRange);
     let too_many = JobFault::Params(ParamsFault::LabelsTooMany);
     assert_no_changes(&rt, CAPACITY, NO_CAPACITY, JobFault::Shape)?;
@@ -65,12 +54,7 @@ fn numbers_at_their_limits(rt: HostRuntime) -> Result<(), AllocError> {
     assert_no_changes(&rt, LABELS, TOO_MANY, too_many)?;
     assert_no_changes(&rt, ITEMS, NO_MEMBERS, JobFault::Shape)?;
     assert_no_changes(&rt, ITEMS, NO_EVENTS, JobFault::Event)?;
-    assert_no_changes(&rt, ITEMS, TOO_LONG, JobFault::TurnsOutOfRange)?;
-    for &(member, changed, text) in ACCEPTED {
-        let job = LONE_ROOT.replace(rt.alloc(), member, changed)?;
-        assert_answer(&rt, Task::Tree, &job, text);
-    }
-    Ok(())
+    assert_no_changes(&rt, ITEMS, TOO_LONG, JobFault::TurnsOutOfRange)
 }
 
 /// A job of two nodes, up to the script of its link.
@@ -134,83 +118,4 @@ fn scripts_at_their_limits(rt: HostRuntime) -> Result<(), AllocError> {
     let drawn = r#"{"seed":[1,2],"length":5000000000,"loss":0,"repeat":0}"#;
     assert_no_script(&rt, drawn, JobFault::Script(ScriptFault::TooLong))?;
     assert_no_script(&rt, r#"{"frames_out":"X"}"#, JobFault::Shape)
-}
-
-/// The nodes of a job of 64 nodes but the first, which is n0.
-const OTHERS: &[&str] = &[
-    "n1", "n2", "n3", "n4", "n5", "n6", "n7", "n8", "n9", "n10", "n11", "n12", "n13", "n14", "n15",
-    "n16", "n17", "n18", "n19", "n20", "n21", "n22", "n23", "n24", "n25", "n26", "n27", "n28",
-    "n29", "n30", "n31", "n32", "n33", "n34", "n35", "n36", "n37", "n38", "n39", "n40", "n41",
-    "n42", "n43", "n44", "n45", "n46", "n47", "n48", "n49", "n50", "n51", "n52", "n53", "n54",
-    "n55", "n56", "n57", "n58", "n59", "n60", "n61", "n62", "n63",
-];
-
-/// Adds 64 nodes n0, n1, .. in a chain or in a star, and a round of the item on each link.
-fn push_64(job: &mut String, is_chain: bool) -> Result<(), AllocError> {
-    let mut parent = "n0";
-    job.push_str(r#"{"name":"n0"}"#)?;
-    for &node in OTHERS {
-        push_all(
-            job,
-            &[r#",{"name":""#, node, r#"","parent":""#, parent, r#""}"#],
-        )?;
-        parent = if is_chain { node } else { parent };
-    }
-    job.push_str(r#"],"schedule":["#)?;
-    for &node in OTHERS {
-        push_round(job, node)?;
-    }
-    job.push_str("]}")
-}
-
-/// A job of 64 nodes n0, n1, .. in a chain or in a star, with one item and a round of it on each
-/// link.
-fn job_of_64(alloc: Global, is_chain: bool) -> Result<String, AllocError> {
-    let mut job = String::from_str(alloc, r#"{"capacity":1,"labels":4,"items":[7],"tree":["#)?;
-    push_64(&mut job, is_chain)?;
-    Ok(job)
-}
-
-/// Adds what is written for a node other than the first: it has the item, and its link
-/// acknowledged it.
-fn push_lines(alloc: Global, text: &mut String, node: &str, depth: u16) -> Result<(), AllocError> {
-    let depth = format!(in alloc; "{depth}")?;
-    push_all(
-        text,
-        &[node, " depth ", &depth, " received 1 acked 1\nitems: 7\n"],
-    )
-}
-
-/// What is written for that job: each node has the item, and each link acknowledged it.
-fn text_of_64(alloc: Global, is_chain: bool) -> Result<String, AllocError> {
-    let mut text = String::from_str(alloc, "n0 depth 0 received 1 acked -\nitems: 7\n")?;
-    let mut depth = 1_u16;
-    for node in OTHERS {
-        push_lines(alloc, &mut text, node, depth)?;
-        depth = if is_chain { depth.saturating_add(1) } else { 1 };
-    }
-    Ok(text)
-}
-
-/// Fails the test where the text of 64 nodes is not written, or two of one name are not refused.
-fn assert_64<T: Threads + Wait + Send + Sync + Abort + Alloc<A = Global>>(
-    rt: &T,
-    job: &str,
-    text: &str,
-) -> Result<(), AllocError> {
-    assert_answer(rt, Task::Tree, job, text);
-    let same = job.replace(rt.alloc(), r#""name":"n63""#, r#""name":"n62""#)?;
-    let same_name = CliFault::Job(JobFault::Tree(TreeFault::SameName));
-    assert_refused(rt, OF_TREES, same.as_bytes(), &same_name);
-    Ok(())
-}
-
-#[test]
-fn sixty_four_nodes(rt: HostRuntime) -> Result<(), AllocError> {
-    for &is_chain in &[true, false] {
-        let job = job_of_64(rt.alloc(), is_chain)?;
-        let text = text_of_64(rt.alloc(), is_chain)?;
-        assert_64(&rt, &job, &text)?;
-    }
-    Ok(())
 }

@@ -1,16 +1,11 @@
 //! Jobs whose links have parameters of their own.
 
-use crate::tasks::{
-    LOCKED, LONE_REPORT, LONE_ROOT, MIXED, OF_TREES, RUNS, WORDS, assert_answer, assert_fault_of,
-    outcome,
-};
-use crate::words::is_refused;
+use crate::tasks::{LOCKED, MIXED, OF_TREES, RUNS, assert_fault_of, outcome};
 use stab_core::StartFault;
 use stab_frames::ParamsFault;
 use stab_run::{JobFault, RunFault};
 use stab_task::{CliFault, Task};
 use stab_tree::NodeId;
-use stab_treecore::TreeStartFault;
 use std::alloc::{AllocError, Global};
 use std::process::Abort;
 use std::sync::Wait;
@@ -59,31 +54,6 @@ fn assert_no_job<T: Threads + Wait + Send + Sync + Abort + Alloc<A = Global>>(
 }
 
 #[test]
-fn a_wider_second_link(rt: HostRuntime) -> Result<(), AllocError> {
-    assert_answer(
-        &rt,
-        Task::Tree,
-        WIDER,
-        "\
-         r depth 0 received 2 acked -\n\
-         items: 7 8\n\
-         a depth 1 received 2 acked 2\n\
-         items: 7 8\n\
-         b depth 2 received 4 acked 2\n\
-         items: 20 21 7 8\n",
-    );
-    let fault = CliFault::Tree(TreeStartFault::Start(StartFault::TooManyFrames));
-    assert_no_links(
-        &rt,
-        &[Task::Tree],
-        r#""labels":4"#,
-        &fault,
-        3,
-        "start: too many frames",
-    )
-}
-
-#[test]
 fn refused_link_parameters(rt: HostRuntime) -> Result<(), AllocError> {
     const MISCOUNTED: &[&str] = &[r#""links":[null]"#, r#""links":[]"#];
     const TOO_FEW: &[&str] = &[r#""links":[null,{"capacity":2,"labels":5}]"#];
@@ -101,19 +71,7 @@ fn refused_link_parameters(rt: HostRuntime) -> Result<(), AllocError> {
     )?;
     assert_no_job(&rt, TOO_FEW, second, "job: too few labels")?;
     assert_no_job(&rt, TOO_WIDE, first, "job: capacity out of range")?;
-    assert_no_job(&rt, MISSHAPEN, JobFault::Shape, "job: wrong shape")?;
-    let not_one = CliFault::Run(RunFault::CapacityNotOne);
-    assert_fault_of(
-        &rt,
-        &[WORDS],
-        WIDER,
-        &not_one,
-        3,
-        "run: capacity is not one",
-    )?;
-    assert!(rt; is_refused(rt.alloc(), &["stab", "run", "--words", "--mixed"])?);
-    assert!(rt; CliFault::CommandLine.status() == 2);
-    Ok(())
+    assert_no_job(&rt, MISSHAPEN, JobFault::Shape, "job: wrong shape")
 }
 
 /// Whether a run writes a report of the chain: two lines for each node. How many items arrive is up
@@ -155,7 +113,6 @@ fn mixed_runs(rt: HostRuntime) -> Result<(), AllocError> {
         r#""links":[{"capacity":1,"labels":4},{"capacity":3,"labels":8}]"#,
         r#""links":[{"capacity":3,"labels":8},{"capacity":2,"labels":6}]"#,
     ];
-    assert_answer(&rt, MIXED, LONE_ROOT, LONE_REPORT);
     for links in REPORTED {
         assert_reported(&rt, links)?;
     }

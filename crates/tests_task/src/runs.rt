@@ -1,24 +1,14 @@
 //! Tasks that run the workers of a job.
 
-use crate::tasks::{
-    LOCKED, LONE_REPORT, LONE_ROOT, MIXED, RUNS, WORDS, assert_answer, assert_fault,
-    assert_fault_of, outcome,
-};
+use crate::tasks::{LOCKED, MIXED, RUNS, WORDS, assert_fault, assert_fault_of, outcome};
 use stab_core::StartFault;
 use stab_node::NodeFault;
-use stab_run::{JobFault, RunFault};
+use stab_run::RunFault;
 use stab_task::{CliFault, Task};
-use stab_tree::{NodeId, TreeFault};
+use stab_tree::NodeId;
 use std::alloc::{AllocError, Global};
 use std::sync::Wait;
 use std::thread::Threads;
-
-#[test]
-fn prints_the_report_of_a_lone_root(rt: HostRuntime) {
-    for &task in RUNS {
-        assert_answer(&rt, task, LONE_ROOT, LONE_REPORT);
-    }
-}
 
 #[test]
 fn refuses_a_start_that_is_not_lawful(rt: HostRuntime) -> Result<(), AllocError> {
@@ -27,20 +17,6 @@ fn refuses_a_start_that_is_not_lawful(rt: HostRuntime) -> Result<(), AllocError>
           "starts":[{"frames":[[0,1],[1,2]],"send":0,"recv":1}]}"#;
     let fault = CliFault::Run(RunFault::Start(NodeId::new(1), StartFault::TooManyFrames));
     assert_fault_of(&rt, RUNS, job, &fault, 3, "start: too many frames")
-}
-
-#[test]
-fn words_need_capacity_one(rt: HostRuntime) -> Result<(), AllocError> {
-    let job =
-        r#"{"capacity":2,"labels":6,"tree":[{"name":"r"},{"name":"a","parent":"r"}],"items":[7,
-          8]}"#;
-    let fault = CliFault::Run(RunFault::CapacityNotOne);
-    assert_fault_of(&rt, &[WORDS], job, &fault, 3, "run: capacity is not one")?;
-    let no_link = r#"{"capacity":2,"labels":6,"tree":[{"name":"r"}],"items":[7,8]}"#;
-    for &task in RUNS {
-        assert_answer(&rt, task, no_link, LONE_REPORT);
-    }
-    Ok(())
 }
 
 /// A link that begins with an acknowledgement of the first item, and loses everything that its ends
@@ -85,15 +61,6 @@ fn each_task_runs_over_its_kind_of_links(rt: HostRuntime) -> Result<(), AllocErr
         assert!(rt; writes, "{task:?}");
     }
     Ok(())
-}
-
-#[test]
-fn refuses_a_cycle_beside_the_root(rt: HostRuntime) -> Result<(), AllocError> {
-    let job =
-        r#"{"capacity":1,"labels":4,"tree":[{"name":"r"},{"name":"a","parent":"b"},{"name":"b",
-          "parent":"a"}],"items":[7]}"#;
-    let fault = CliFault::Job(JobFault::Tree(TreeFault::Cycle));
-    assert_fault_of(&rt, RUNS, job, &fault, 1, "tree: cycle")
 }
 
 #[test]

@@ -34,7 +34,7 @@ pub(crate) const WORST_START: &str =
       "events":[["offer",10],"recv_ack","send_ack",["offer",11],"recv_ack","recv_frame",
       "send_ack",["offer",12],"recv_ack",["offer",13],"send_frame","recv_frame"]}"#;
 
-pub(crate) const WORST_TEXT: &str = "\
+const WORST_TEXT: &str = "\
      delivered: 99 13\n\
      offered: 10 11 12 13\n\
      acked: 3\n\
@@ -53,9 +53,9 @@ pub(crate) const OF_TREES: &[Task] = &[Task::Tree, LOCKED, WORDS, MIXED];
 /// The tasks that run the workers of a job.
 pub(crate) const RUNS: &[Task] = &[LOCKED, WORDS, MIXED];
 
-pub(crate) const LONE_TEXT: &str = "r depth 0 received 2 acked -\nitems: 7 8\n";
+const LONE_TEXT: &str = "r depth 0 received 2 acked -\nitems: 7 8\n";
 
-pub(crate) const LONE_REPORT: &str = "r depth 0 received 2 acked - ended upstream\nitems: 7 8\n";
+const LONE_REPORT: &str = "r depth 0 received 2 acked - ended upstream\nitems: 7 8\n";
 
 /// A task with a job for it and the text that it writes, which no schedule of threads changes.
 #[derive(Clone, Copy)]
@@ -109,20 +109,6 @@ pub(crate) fn not_json(task: Task) -> CliFault {
         Task::Link { .. } => CliFault::LinkJob(LinkJobFault::Json),
         Task::Tree | Task::Run { .. } => CliFault::Job(JobFault::Json),
     }
-}
-
-/// Fails the test where the task does not write this text for the job.
-pub(crate) fn assert_answer<T: Threads + Wait + Send + Sync + Abort + Alloc<A = Global>>(
-    rt: &T,
-    task: Task,
-    job: &str,
-    text: &str,
-) {
-    let (ended, written) = outcome(rt, rt.alloc(), task, job.as_bytes());
-    assert!(rt;
-        ended == Ok(()) && written.as_slice() == text.as_bytes(),
-        "{job}"
-    );
 }
 
 /// Fails the test where one of these tasks does not refuse the bytes with this fault, or writes

@@ -36,7 +36,7 @@ fn is_taken(
 }
 
 /// Whether a command line is refused as one.
-pub(crate) fn is_refused(alloc: Global, line: &[&str]) -> Result<bool, AllocError> {
+fn is_refused(alloc: Global, line: &[&str]) -> Result<bool, AllocError> {
     Ok(parsed(alloc, line)?.err() == Some(CliFault::CommandLine))
 }
 
