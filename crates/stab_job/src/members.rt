@@ -77,7 +77,7 @@ pub(crate) fn list_member<'v, E: Entry<'v>>(
         return Ok(None);
     };
     match read_entries::<E>(alloc, list.as_slice())? {
-        Some(list) => Ok(Some(Some(list))),
+        Some(list) => Ok(Some(Some(Sequence::from_vec(list)))),
         None => Ok(None),
     }
 }

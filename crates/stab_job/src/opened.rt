@@ -28,7 +28,10 @@ impl<'v> Entry<'v> for OpeningEntry {
     ghost meaning = { list_of item_number };
 
     fn read(alloc: Global, value: &'v Value) -> Result<Option<Sequence<Item>>, AllocError> {
-        read_list::<Item>(alloc, Some(value))
+        match read_list::<Item>(alloc, Some(value))? {
+            Some(items) => Ok(Some(Sequence::from_vec(items))),
+            None => Ok(None),
+        }
     }
 }
 

@@ -1,13 +1,12 @@
--- Values: what one JSON value means as a whole number, a label, an item, a pair, a frame or a list;
--- None where it means nothing such.
+-- Values: what one JSON value means as a whole number, a label, an item, a pair or a list; None
+-- where it means nothing such.
 -- Example: `capped 65535` of 65536 is 65535; so a capacity of 65536 has the right shape and is
--- refused as out of range. `label` of 65536 is nothing, so a frame with that label is a wrong
+-- refused as out of range. `label` of 65536 is nothing, so a start with that label is a wrong
 -- shape.
 -- Source: this project's profile, over the values of `serde_json`.
 use Rattle.std.specs.Prelude.{ℕ, suc, nat_le, min, List, [], ◌∷◌, if◌then◌else◌}
 use Rattle.std.specs.Prelude.{Option, Some, None, option_and_then, option_map}
 use Rattle.std.specs.Str.{is_utf8}
-use Rattle.stab_frames.specs.declared.frame.Frame.{Frame}
 use Rattle.serde_json.specs.Data.{Data, Items, no_items, item}
 use Rattle.serde_json.specs.Find.{as_number, as_u64, as_array}
 use Rattle.serde_json.specs.Read.{read}
@@ -55,14 +54,6 @@ pair_of_items _ = None
 
 abbrev pub pair : Data → Option (Data × Data)
 pair d = as_array d >>= pair_of_items
-
--- a frame: a list of a label and an item
-abbrev pub frame : Data → Option Frame
-frame d = do
-  parts ← pair d
-  its_label ← label parts.0
-  its_item ← item_number parts.1
-  Some (record { label = its_label; item = its_item })
 
 -- how many entries there are
 abbrev pub count : Items → ℕ

@@ -1,11 +1,10 @@
 ghost use Rattle.std.specs.Prelude.{◌≡◌, Option, IfOk, OnErr, IsSome, option_map};
 ghost use Rattle.serde_json.specs.Data.{Data};
 ghost use Rattle.serde_json.specs.View.{view, items_view};
-ghost use Rattle.stab_json.specs.Values.{entries, frame, label, item_number, list_or_absent};
+ghost use Rattle.stab_json.specs.Values.{entries, label, item_number, list_or_absent};
 
-use crate::value::{frame, item, label};
+use crate::value::{item, label};
 use serde_json::Value;
-use stab_frames::{Frame, Item, Label, Sequence};
 use std::alloc::{AllocError, Global};
 
 /// A kind of entry that a list in a job may have: mostly the type that such an entry is read as.
@@ -21,33 +20,25 @@ pub trait Entry<'v> {
         ensures { IfOk result (λ entry. entry ≡ meaning (view value.now)) };
 }
 
-impl<'v> Entry<'v> for Label {
-    type Read = Label;
+/// A label, and as well a place in a queue.
+impl<'v> Entry<'v> for u16 {
+    type Read = u16;
 
     ghost meaning = { label };
 
-    fn read(_alloc: Global, value: &'v Value) -> Result<Option<Label>, AllocError> {
+    fn read(_alloc: Global, value: &'v Value) -> Result<Option<u16>, AllocError> {
         Ok(label(value))
     }
 }
 
-impl<'v> Entry<'v> for Item {
-    type Read = Item;
+/// An item.
+impl<'v> Entry<'v> for u32 {
+    type Read = u32;
 
     ghost meaning = { item_number };
 
-    fn read(_alloc: Global, value: &'v Value) -> Result<Option<Item>, AllocError> {
+    fn read(_alloc: Global, value: &'v Value) -> Result<Option<u32>, AllocError> {
         Ok(item(value))
-    }
-}
-
-impl<'v> Entry<'v> for Frame {
-    type Read = Frame;
-
-    ghost meaning = { frame };
-
-    fn read(_alloc: Global, value: &'v Value) -> Result<Option<Frame>, AllocError> {
-        Ok(frame(value))
     }
 }
 
@@ -55,10 +46,11 @@ impl<'v> Entry<'v> for Frame {
 pub fn read_entries<'v, E: Entry<'v>>(
     alloc: Global,
     values: &'v [Value],
-) -> Result<Option<Sequence<E::Read>>, AllocError>
-    ensures { IfOk result (λ list. list ≡ entries E.meaning (items_view values.now)) }
+) -> Result<Option<Vec<E::Read>>, AllocError>
+    ensures { IfOk result (λ list. option_map (λ its. its.items) list
+        ≡ entries E.meaning (items_view values.now)) }
 {
-    let mut read = Sequence::with_capacity(alloc, values.len())?;
+    let mut read = Vec::with_capacity(alloc, values.len())?;
     for value in values {
         let Some(entry) = E::read(alloc, value)? else {
             return Ok(None);
@@ -73,13 +65,13 @@ pub fn read_entries<'v, E: Entry<'v>>(
 pub fn read_list<'v, E: Entry<'v>>(
     alloc: Global,
     value: Option<&'v Value>,
-) -> Result<Option<Sequence<E::Read>>, AllocError>
-    ensures list { IfOk result (λ list. list
+) -> Result<Option<Vec<E::Read>>, AllocError>
+    ensures list { IfOk result (λ list. option_map (λ its. its.items) list
         ≡ list_or_absent E.meaning (option_map (λ given. view given.now) value.entry)) }
     ensures memory { OnErr result (IsSome (option_map (λ given. view given.now) value.entry)) }
 {
     let Some(value) = value else {
-        return Ok(Some(Sequence::new(alloc)));
+        return Ok(Some(Vec::new(alloc)));
     };
     match value.as_array() {
         Some(values) => read_entries::<E>(alloc, values.as_slice()),

@@ -2,10 +2,9 @@ ghost use Rattle.std.specs.Prelude.{◌≡◌, ◌<◌, length, option_map, opti
 ghost use Rattle.serde_json.specs.Find.{get};
 ghost use Rattle.serde_json.specs.View.{view, items_view};
 ghost use Rattle.stab_json.specs.Values.{value_of, most_u16, most_u32, whole_to, capped};
-ghost use Rattle.stab_json.specs.Values.{label, item_number, frame, pair, pair_of_items};
+ghost use Rattle.stab_json.specs.Values.{label, item_number, pair, pair_of_items};
 
 use serde_json::Value;
-use stab_frames::{Frame, Item, Label};
 use std::alloc::{AllocError, Global};
 
 /// The largest whole number of 16 bits.
@@ -43,28 +42,17 @@ pub fn u32_member(value: &Value, name: &str) -> Option<u32>
 }
 
 /// A label, and as well a place in a queue: a whole number of 16 bits.
-pub fn label(value: &Value) -> Option<Label>
+pub fn label(value: &Value) -> Option<u16>
     ensures { result ≡ label (view value.now) }
 {
     Some(whole_up_to(value, MAX_U16)? as u16)
 }
 
 /// An item: a whole number of 32 bits.
-pub fn item(value: &Value) -> Option<Item>
+pub fn item(value: &Value) -> Option<u32>
     ensures { result ≡ item_number (view value.now) }
 {
     Some(whole_up_to(value, MAX_U32)? as u32)
-}
-
-/// A frame: a list of a label and an item.
-pub(crate) fn frame(value: &Value) -> Option<Frame>
-    ensures { result ≡ frame (view value.now) }
-{
-    let (its_label, its_item) = pair(value)?;
-    Some(Frame {
-        label: label(its_label)?,
-        item: item(its_item)?,
-    })
 }
 
 /// The two values of a list of two.

@@ -1,10 +1,19 @@
--- Starts: what a JSON value means as the start of a link.
+-- Starts: what a JSON value means as a frame, and as the start of a link.
 -- Source: this project's profile. The capacity bounds a start where a link begins, not here.
 use Rattle.std.specs.Prelude.{codes, Bool, ◌||◌, Option, Some, is_some}
+use Rattle.stab_frames.specs.declared.frame.Frame.{Frame}
 use Rattle.stab_core.specs.declared.start.Start.{Start}
 use Rattle.serde_json.specs.Data.{Data}
 use Rattle.serde_json.specs.Find.{get}
-use Rattle.stab_json.specs.Values.{◌>>=◌, label, frame, list_or_absent}
+use Rattle.stab_json.specs.Values.{◌>>=◌, label, item_number, pair, list_or_absent}
+
+-- a frame: a list of a label and an item
+abbrev pub frame : Data → Option Frame
+frame d = do
+  parts ← pair d
+  its_label ← label parts.0
+  its_item ← item_number parts.1
+  Some (record { label = its_label; item = its_item })
 
 -- a start: an object with the two labels, and with the frames and acknowledgements, the front
 -- first, where it names any

@@ -3,14 +3,38 @@ ghost use Rattle.std.specs.Prelude.{option_map, option_and_then};
 ghost use Rattle.serde_json.specs.Find.{get};
 ghost use Rattle.serde_json.specs.View.{view};
 ghost use Rattle.stab_json.specs.Values.{label, list_or_absent};
-ghost use Rattle.stab_script.specs.Starts.{start, names_a_list};
+ghost use Rattle.stab_script.specs.Starts.{frame, start, names_a_list};
 
 use crate::fault::PartFault;
 use serde_json::Value;
 use stab_core::Start;
-use stab_frames::{Frame, Label};
-use stab_json::{Entry, label, read_list};
+use stab_frames::{Frame, Label, Sequence};
+use stab_json::{Entry, item, label, pair, read_list};
 use std::alloc::{AllocError, Global};
+
+/// The kind of entry that is a frame.
+enum FrameEntry {}
+
+impl<'v> Entry<'v> for FrameEntry {
+    type Read = Frame;
+
+    ghost meaning = { frame };
+
+    fn read(_alloc: Global, value: &'v Value) -> Result<Option<Frame>, AllocError> {
+        Ok(frame_of(value))
+    }
+}
+
+/// A frame: a list of a label and an item.
+fn frame_of(value: &Value) -> Option<Frame>
+    ensures { result ≡ frame (view value.now) }
+{
+    let (its_label, its_item) = pair(value)?;
+    Some(Frame {
+        label: label(its_label)?,
+        item: item(its_item)?,
+    })
+}
 
 /// The kind of entry that is the start of a link.
 pub struct StartEntry;
@@ -46,7 +70,7 @@ fn start_of(alloc: Global, value: &Value) -> Result<Option<Start>, AllocError>
     ensures start { IfOk result (λ its_start. its_start ≡ start (view value.now)) }
     ensures memory { OnErr result (names_a_list (view value.now) ≡ true) }
 {
-    let Some(frames) = read_list::<Frame>(alloc, value.get("frames"))? else {
+    let Some(frames) = read_list::<FrameEntry>(alloc, value.get("frames"))? else {
         return Ok(None);
     };
     let Some(acks) = read_list::<Label>(alloc, value.get("acks"))? else {
@@ -57,8 +81,8 @@ fn start_of(alloc: Global, value: &Value) -> Result<Option<Start>, AllocError>
         return Ok(None);
     };
     Ok(Some(Start {
-        frames,
-        acks,
+        frames: Sequence::from_vec(frames),
+        acks: Sequence::from_vec(acks),
         send_label,
         recv_label,
     }))

@@ -4,10 +4,9 @@ ghost use Rattle.std.specs.Prelude.{◌≡◌, ◌≤◌, Some, IfOk};
 ghost use Rattle.serde_json.specs.Data.{array, depth, item, items_depth, no_items, number, string};
 ghost use Rattle.serde_json.specs.Data.{unsigned};
 ghost use Rattle.serde_json.specs.View.{items_view, view};
-ghost use Rattle.stab_json.specs.Values.{entries};
-ghost use Rattle.stab_json.specs.Values.{frame as frame_meant, label as label_meant};
+ghost use Rattle.stab_json.specs.Values.{entries, label as label_meant};
 ghost use Rattle.stab_script.specs.Events.{event as event_meant};
-ghost use Rattle.stab_script.specs.Starts.{start};
+ghost use Rattle.stab_script.specs.Starts.{frame as frame_meant, start};
 
 use serde_json::{Value, json};
 use stab_core::{Event, Start};

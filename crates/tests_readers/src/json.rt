@@ -2,7 +2,7 @@
 
 use crate::helpers::value;
 use serde_json::Value;
-use stab_frames::{Frame, Item, Label};
+use stab_frames::Item;
 use stab_json::{item, label, pair, read_list, read_value, u16_member, u32_member};
 use std::alloc::Global;
 use std::process::Abort;
@@ -78,20 +78,12 @@ fn is_item_list(rt: &impl Abort, alloc: Global, value: &Value) -> bool {
         .is_some()
 }
 
-/// Whether a value is a list of frames.
-fn is_frame_list(rt: &impl Abort, alloc: Global, value: &Value) -> bool {
-    read_list::<Frame>(alloc, Some(value))
-        .expect(rt, "memory")
-        .is_some()
-}
-
 #[test]
 fn a_list_that_is_absent_is_empty(rt: HostRuntime) {
     let list = value(&rt, rt.alloc(), "[7,8]");
     assert!(rt; is_items(&rt, rt.alloc(), Some(&list), &[7, 8]));
     assert!(rt; is_items(&rt, rt.alloc(), None, &[]));
     assert!(rt; !is_item_list(&rt, rt.alloc(), &Value::Null));
-    assert!(rt; !is_frame_list(&rt, rt.alloc(), &list));
 }
 
 /// Whether bytes have a value.

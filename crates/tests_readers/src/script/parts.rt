@@ -49,6 +49,7 @@ fn refuses_starts_of_another_shape(rt: HostRuntime) {
         r#"{"send":0,"recv":1,"frames":null}"#,
         r#"{"send":0,"recv":1,"acks":null}"#,
         r#"{"send":0,"recv":1,"acks":["0"]}"#,
+        r#"{"send":0,"recv":1,"frames":[7,8]}"#,
         r#"{"send":0,"recv":1,"frames":[[2]]}"#,
         r#"{"send":0,"recv":1,"frames":[[2,99,0]]}"#,
         r#"{"send":0,"recv":1,"frames":[[2,4294967296]]}"#,

@@ -8,4 +8,4 @@ use Rattle.stab_json.proofs.list.read_entries.Given as goal
 abbrev pub invariant-loop-value : goal.invariant-loop-value
 invariant-loop-value g l =
     entries g.E.Entry.meaning (items_view l.values)
-    ≡ read_before l.read (entries g.E.Entry.meaning (items_view (drop l.value-index l.values)))
+    ≡ read_before l.read.items (entries g.E.Entry.meaning (items_view (drop l.value-index l.values)))

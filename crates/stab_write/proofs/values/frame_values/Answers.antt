@@ -1,6 +1,6 @@
 use Rattle.std.proofs.Common.{arith}
 use Rattle.std.proofs.lemmas.List.{take_more}
-use Rattle.stab_json.specs.Values.{frame}
+use Rattle.stab_script.specs.Starts.{frame}
 use Rattle.stab_write.proofs.Pushed.{depth_push, entries_push}
 use Rattle.stab_write.proofs.values.frame_values.Goals as goal
 

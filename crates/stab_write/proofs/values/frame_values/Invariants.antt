@@ -1,7 +1,8 @@
 use Rattle.std.proofs.Common.{◌≡◌, ◌≤◌, Some, take}
 use Rattle.serde_json.specs.Data.{items_depth}
 use Rattle.serde_json.specs.View.{items_view}
-use Rattle.stab_json.specs.Values.{entries, frame}
+use Rattle.stab_json.specs.Values.{entries}
+use Rattle.stab_script.specs.Starts.{frame}
 use Rattle.stab_write.proofs.values.frame_values.Given as goal
 
 -- the values so far mean the first of what is written
