@@ -3,6 +3,7 @@ use Rattle.std.proofs.Common.{◌≡◌, ◌==◌, ◌<◌, ◌≤◌, ◌+◌, 
 use Rattle.std.proofs.lemmas.Bool.{cases_eq, eq-eqb, ne_eqb}
 use Rattle.std.proofs.lemmas.List.{drop_all, append-nil, length-append, length-map, length-set, get_or-map, get_or-set_same, get_or-set_other, nil_from_length}
 use Rattle.std.proofs.lemmas.List.FromFn.{fill_by_all, get_or-map-range_with_len}
+use Rattle.core.specs.List.{cons_option, filter_map}
 use Rattle.stab_tree.proofs.ForCallers.{links_counted_anywhere}
 use Rattle.stab_tree.specs.Links.{links_from, links_of}
 use Rattle.stab_treecore.specs.ByChild.{by_child, to_children}
@@ -13,13 +14,18 @@ use Rattle.stab_node.specs.Scattering.{by_parent, child_counts}
 -- ---- by child
 
 -- what there is in these, in their order
-abbrev pub present : {A : Type 0} → List (Option A) → List A
+abbrev present : {A : Type 0} → List (Option A) → List A
 present [] = []
 present (None ∷ scattered) = present scattered
 present (Some x ∷ scattered) = x ∷ present scattered
 
+-- one more of them
+one_upper : {A : Type 0} (one : Option A) {ends : List A} {rest : List (Option A)} → ends ≡ present rest → cons_option one ends ≡ present (one ∷ rest)
+one_upper None same = same
+one_upper (Some x) same = ap (λ ends. x ∷ ends) same
+
 -- where each child has an entry and the root has none, the entries are scattered as they were
-pub present_by_child : {A : Type 0} (parents : List (Option ℕ)) (scattered : List (Option A)) → map is_some scattered ≡ map is_some parents
+present_by_child : {A : Type 0} (parents : List (Option ℕ)) (scattered : List (Option A)) → map is_some scattered ≡ map is_some parents
     → by_child parents (present scattered) ≡ scattered
 present_by_child [] [] same = refl
 present_by_child [] (x ∷ scattered) same = absurd (omega (arith, ap length same))
@@ -30,7 +36,7 @@ present_by_child (Some p ∷ parents) (None ∷ scattered) same = cc
 present_by_child (Some p ∷ parents) (Some x ∷ scattered) same = ap (λ rest. Some x ∷ rest) (present_by_child parents scattered (ap (λ flags. drop 1 flags) same))
 
 -- and there is one for each link
-pub present_counted : {A : Type 0} (w : ℕ) (parents : List (Option ℕ)) (scattered : List (Option A)) → map is_some scattered ≡ map is_some parents
+present_counted : {A : Type 0} (w : ℕ) (parents : List (Option ℕ)) (scattered : List (Option A)) → map is_some scattered ≡ map is_some parents
     → length (present scattered) ≡ length (links_from w parents)
 present_counted w [] [] same = refl
 present_counted w [] (x ∷ scattered) same = absurd (omega (arith, ap length same))
@@ -40,12 +46,22 @@ present_counted w (None ∷ parents) (Some x ∷ scattered) same = cc
 present_counted w (Some p ∷ parents) (None ∷ scattered) same = cc
 present_counted w (Some p ∷ parents) (Some x ∷ scattered) same = ap (λ n. suc n) (present_counted (suc w) parents scattered (ap (λ flags. drop 1 flags) same))
 
--- after the last node the entries are scattered as they were, one for each link
-pub all_present : {A : Type 0} (parents : List (Option ℕ)) (scattered left : List (Option A)) (entries : List A) → map is_some scattered ≡ map is_some parents
-    → entries ++ present left ≡ present scattered → left ≡ [] → (length entries ≡ length (links_of parents)) × (by_child parents entries ≡ scattered)
-all_present parents scattered left entries same so_far none =
-    let all : entries ≡ present scattered = sym (append-nil entries) ∙ (ap (λ rest. entries ++ present rest) (sym none) ∙ so_far) in
-    (ap length all ∙ present_counted 0 parents scattered same, ap (λ xs. by_child parents xs) all ∙ present_by_child parents scattered same)
+-- the upper ends that there are
+uppers : {S A : Type 0} (up : S → Option A) (accounts : List S) → filter_map up accounts ≡ present (map up accounts)
+uppers up [] = refl
+uppers up (account ∷ accounts) = one_upper (up account) (uppers up accounts)
+
+-- where each child has an upper end and the root has none, they are scattered as they were
+pub uppers_by_child : {S A : Type 0} (parents : List (Option ℕ)) (up : S → Option A) (accounts : List S) → map is_some (map up accounts) ≡ map is_some parents
+    → by_child parents (filter_map up accounts) ≡ map up accounts
+uppers_by_child parents up accounts same =
+    ap (λ ends. by_child parents ends) (uppers up accounts) ∙ present_by_child parents (map up accounts) same
+
+-- and there is one for each link
+pub uppers_counted : {S A : Type 0} (parents : List (Option ℕ)) (up : S → Option A) (accounts : List S) → map is_some (map up accounts) ≡ map is_some parents
+    → length (filter_map up accounts) ≡ length (links_of parents)
+uppers_counted parents up accounts same =
+    ap (λ ends. length ends) (uppers up accounts) ∙ present_counted 0 parents (map up accounts) same
 
 -- ---- by parent
 

@@ -13,37 +13,23 @@ next_parent parents i parent in_list is = drop_more parents i None in_list ∙ a
 
 -- ---- by child
 
--- What the nodes so far got, and then what the others get from what is left.
-abbrev pub ByChildSoFar : {A : Type 0} → List (Option ℕ) → List A → List (Option A) → List A → ℕ → Type 0
-ByChildSoFar parents xs scattered left i = scattered ++ by_child (drop i parents) left ≡ by_child parents xs
+module _ {A : Type 0} (parents : List (Option ℕ)) (i : ℕ) (in_list : i < length parents) where
+  -- nothing belongs to a link into the root
+  pub root_takes_nothing : (left : List A) → get_or parents i None ≡ None
+      → by_child (drop i parents) left ≡ None ∷ by_child (drop (i + 1) parents) left
+  root_takes_nothing left is_root = ap (λ rest. by_child rest left) (next_parent parents i None in_list is_root)
 
-module _ {A : Type 0} (parents : List (Option ℕ)) (xs : List A) (scattered : List (Option A)) (i : ℕ) (in_list : i < length parents) where
-  -- the root gets nothing
-  pub root_scattered : (left : List A) → ByChildSoFar parents xs scattered left i → get_or parents i None ≡ None
-      → ByChildSoFar parents xs (scattered ++ None ∷ []) left (i + 1)
-  root_scattered left so_far is_root =
-      append_assoc scattered (None ∷ []) (by_child (drop (i + 1) parents) left)
-      ∙ (ap (λ rest. scattered ++ by_child rest left) (sym (next_parent parents i None in_list is_root)) ∙ so_far)
-
-  -- a child gets the first of what is left
-  pub child_scattered : (parent : ℕ) (taken : Option A) (old left : List A) → ByChildSoFar parents xs scattered old i
+  -- a child takes the first of what is left
+  pub child_takes_the_first : (parent : ℕ) (taken : Option A) (old left : List A)
       → get_or parents i None ≡ Some parent → MatchOption taken ((old ≡ []) × (left ≡ [])) (λ x. old ≡ x ∷ left)
-      → ByChildSoFar parents xs (scattered ++ taken ∷ []) left (i + 1)
-  child_scattered parent None old left so_far is_child takes =
-      append_assoc scattered (None ∷ []) (by_child (drop (i + 1) parents) left)
-      ∙ (ap (λ rest. scattered ++ None ∷ by_child (drop (i + 1) parents) rest) takes.1
-      ∙ (ap (λ rest. scattered ++ by_child rest []) (sym (next_parent parents i (Some parent) in_list is_child))
-      ∙ (ap (λ rest. scattered ++ by_child (drop i parents) rest) (sym takes.0) ∙ so_far)))
-  child_scattered parent (Some x) old left so_far is_child takes =
-      append_assoc scattered (Some x ∷ []) (by_child (drop (i + 1) parents) left)
-      ∙ (ap (λ rest. scattered ++ by_child rest (x ∷ left)) (sym (next_parent parents i (Some parent) in_list is_child))
-      ∙ (ap (λ rest. scattered ++ by_child (drop i parents) rest) (sym takes) ∙ so_far))
-
--- after the last node everything is scattered
-pub all_scattered : {A : Type 0} (parents : List (Option ℕ)) (xs : List A) (scattered : List (Option A)) (left : List A) (i : ℕ)
-    → ByChildSoFar parents xs scattered left i → length parents ≤ i → scattered ≡ by_child parents xs
-all_scattered parents xs scattered left i so_far past =
-    sym (ap (λ rest. scattered ++ by_child rest left) (drop_all i parents past) ∙ append-nil scattered) ∙ so_far
+      → by_child (drop i parents) old ≡ taken ∷ by_child (drop (i + 1) parents) left
+  child_takes_the_first parent None old left is_child takes =
+      ap (λ rest. by_child (drop i parents) rest) takes.0
+      ∙ (ap (λ rest. by_child rest []) (next_parent parents i (Some parent) in_list is_child)
+      ∙ ap (λ rest. None ∷ by_child (drop (i + 1) parents) rest) (sym takes.1))
+  child_takes_the_first parent (Some x) old left is_child takes =
+      ap (λ rest. by_child (drop i parents) rest) takes
+      ∙ ap (λ rest. by_child rest (x ∷ left)) (next_parent parents i (Some parent) in_list is_child)
 
 -- ---- by parent
 

@@ -1,16 +1,17 @@
-ghost use Rattle.std.specs.Prelude.{◌≡◌, [], ◌∷◌, ◌++◌, IfOk, OnOk, map};
+ghost use Rattle.std.specs.Prelude.{◌≡◌, [], ◌∷◌, ◌++◌, IfOk, OnOk, filter_map, map, option_to_list};
 
 use crate::account::{Ended, NodeAccount};
 use crate::queue::Queue;
 use stab_frames::{Item, Sequence};
 use std::alloc::{AllocError, Global};
 
-/// The accounts of all nodes, taken apart: each part by node, in file order.
+/// The accounts of all nodes, taken apart: each part by node, in file order, and of the upper ends
+/// those that there are, which are in the order of the links.
 #[derive(Drop)]
 pub(crate) struct Columns<A: Drop, B: Drop> {
     pub(crate) received: Vec<Sequence<Item>>,
     pub(crate) ended: Vec<Ended>,
-    pub(crate) ups: Vec<Option<A>>,
+    pub(crate) recvs: Vec<A>,
     pub(crate) downs: Vec<Queue<B>>,
 }
 
@@ -19,13 +20,13 @@ impl<A: Drop, B: Drop> Columns<A, B> {
     fn with_capacity(alloc: Global, nodes: usize) -> Result<Columns<A, B>, AllocError>
         ensures received { IfOk result (λ columns. columns.received.items ≡ []) }
         ensures ended { IfOk result (λ columns. columns.ended.items ≡ []) }
-        ensures ups { IfOk result (λ columns. columns.ups.items ≡ []) }
+        ensures recvs { IfOk result (λ columns. columns.recvs.items ≡ []) }
         ensures downs { IfOk result (λ columns. columns.downs.items ≡ []) }
     {
         Ok(Columns {
             received: Vec::with_capacity(alloc, nodes)?,
             ended: Vec::with_capacity(alloc, nodes)?,
-            ups: Vec::with_capacity(alloc, nodes)?,
+            recvs: Vec::with_capacity(alloc, nodes)?,
             downs: Vec::with_capacity(alloc, nodes)?,
         })
     }
@@ -37,7 +38,8 @@ impl<A: Drop, B: Drop> Columns<A, B> {
             (self.new.received.items ≡ self.old.received.items ++ account.received.items ∷ []) }
         ensures ended { OnOk result
             (self.new.ended.items ≡ self.old.ended.items ++ account.ended ∷ []) }
-        ensures ups { OnOk result (self.new.ups.items ≡ self.old.ups.items ++ account.up ∷ []) }
+        ensures recvs { OnOk result
+            (self.new.recvs.items ≡ self.old.recvs.items ++ option_to_list account.up) }
         ensures downs { OnOk result
             (self.new.downs.items ≡ self.old.downs.items ++ account.downs.items ∷ []) }
     {
@@ -49,7 +51,10 @@ impl<A: Drop, B: Drop> Columns<A, B> {
         } = account;
         self.received.push(Sequence::from_vec(received))?;
         self.ended.push(ended)?;
-        self.ups.push(up)?;
+        match up {
+            None => {}
+            Some(up) => self.recvs.push(up)?,
+        }
         self.downs.push(Queue::from_vec(downs))?;
         Ok(())
     }
@@ -64,8 +69,8 @@ pub(crate) fn take_apart<A: Drop, B: Drop>(
         columns.received.items ≡ map (λ a. a.received.items) accounts.items) }
     ensures ended { IfOk result (λ columns.
         columns.ended.items ≡ map (λ a. a.ended) accounts.items) }
-    ensures ups { IfOk result (λ columns.
-        columns.ups.items ≡ map (λ a. a.up) accounts.items) }
+    ensures recvs { IfOk result (λ columns.
+        columns.recvs.items ≡ filter_map (λ a. a.up) accounts.items) }
     ensures downs { IfOk result (λ columns.
         columns.downs.items ≡ map (λ a. a.downs.items) accounts.items) }
 {

@@ -1,34 +1,11 @@
-ghost use Rattle.std.specs.Prelude.{◌≡◌, ◌<◌, ◌∷◌, [], drop, length, map, is_some};
+ghost use Rattle.std.specs.Prelude.{◌≡◌, ◌<◌, ◌∷◌, [], length, map};
 ghost use Rattle.std.specs.Prelude.{IfOk, slice_index_or, slice_set};
 ghost use Rattle.stab_tree.specs.Links.{links_of};
-ghost use Rattle.stab_treecore.specs.ByChild.{by_child};
 ghost use Rattle.stab_node.specs.Scattering.{by_parent, child_counts};
 
 use crate::queue::Queue;
 use stab_tree::{NodeId, Tree};
 use std::alloc::{AllocError, Global};
-
-/// Gathers by link what each node has of the link into it. Each node but the root has one.
-pub(crate) fn gather_by_child<T: Drop>(
-    alloc: Global,
-    tree: &Tree,
-    scattered: Vec<Option<T>>,
-) -> Result<Vec<T>, AllocError>
-    requires { map is_some scattered.items ≡ map is_some tree.now.parents }
-    ensures links { IfOk result (λ entries.
-        length entries.items ≡ length (links_of tree.now.parents)) }
-    ensures entries { IfOk result (λ entries.
-        by_child tree.now.parents entries.items ≡ scattered.items) }
-{
-    let mut entries = Vec::with_capacity(alloc, usize::from(tree.link_count()))?;
-    for entry in scattered {
-        match entry {
-            None => {}
-            Some(entry) => entries.push_reserved(entry),
-        }
-    }
-    Ok(entries)
-}
 
 /// Takes the first entry of the row of a node.
 fn take_from<T: Drop>(rows: &mut Vec<Queue<T>>, node: NodeId) -> T

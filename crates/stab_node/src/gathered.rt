@@ -5,7 +5,7 @@ ghost use Rattle.stab_node.specs.Scattering.{by_parent, child_counts};
 
 use crate::account::{Ended, NodeAccount};
 use crate::columns::{Columns, take_apart};
-use crate::gather::{gather_by_child, gather_by_parent};
+use crate::gather::gather_by_parent;
 use stab_frames::{Item, Sequence};
 use stab_tree::Tree;
 use std::alloc::{AllocError, Global};
@@ -25,6 +25,7 @@ pub struct Gathered<A, B> {
 
 /// Gathers what the workers of all nodes left: what belongs to a node by node, and the ends by
 /// link.
+#[tactic(auto, using(crate::proofs::Gathering::uppers_by_child, crate::proofs::Gathering::uppers_counted))]
 pub(crate) fn gather_accounts<A: Drop, B: Drop>(
     alloc: Global,
     tree: &Tree,
@@ -49,11 +50,10 @@ pub(crate) fn gather_accounts<A: Drop, B: Drop>(
     let Columns {
         received,
         ended,
-        ups,
+        recvs,
         downs,
     } = take_apart(alloc, accounts)?;
     let sends = gather_by_parent(alloc, tree, downs)?;
-    let recvs = gather_by_child(alloc, tree, ups)?;
     Ok(Gathered {
         received,
         ended,

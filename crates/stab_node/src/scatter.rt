@@ -1,4 +1,4 @@
-ghost use Rattle.std.specs.Prelude.{◌≡◌, ◌<◌, [], ◌∷◌, ◌++◌, length, map, replicate};
+ghost use Rattle.std.specs.Prelude.{◌≡◌, ◌<◌, ◌+◌, [], ◌∷◌, ◌++◌, drop, length, map, replicate};
 ghost use Rattle.std.specs.Prelude.{IfOk, OnOk, slice_index_or, slice_set};
 ghost use Rattle.std.specs.List.{range_with_len};
 ghost use Rattle.stab_treecore.specs.ByChild.{by_child};
@@ -9,24 +9,18 @@ use crate::worker_ends::WorkerEnds;
 use stab_tree::{NodeId, Tree};
 use std::alloc::{AllocError, Global};
 
-/// Scatters what there is one of per link: to each node what belongs to the link into it.
-#[tactic(auto, using(crate::proofs::Scattered::child_scattered, crate::proofs::Scattered::root_scattered, crate::proofs::Scattered::all_scattered))]
-pub(crate) fn scatter_by_child<T: Drop>(
-    alloc: Global,
-    tree: &Tree,
-    entries: Vec<T>,
-) -> Result<Vec<Option<T>>, AllocError>
-    ensures { IfOk result (λ scattered. scattered.items ≡ by_child tree.now.parents entries.items) }
+/// Takes, for a node, what belongs to the link into it: the first of what is left, and nothing for
+/// the root.
+#[tactic(auto, using(crate::proofs::Scattered::root_takes_nothing, crate::proofs::Scattered::child_takes_the_first))]
+fn take_into<T: Drop>(tree: &Tree, node: NodeId, left: &mut Queue<T>) -> Option<T>
+    requires { node < length tree.now.parents }
+    ensures { by_child (drop node tree.now.parents) left.old
+        ≡ result ∷ by_child (drop (node + 1) tree.now.parents) left.new }
 {
-    let mut scattered = Vec::with_capacity(alloc, usize::from(tree.len()))?;
-    let mut left = Queue::from_vec(entries);
-    'nodes: for node in 0..tree.len() {
-        match tree.parent(NodeId::new(node)) {
-            None => scattered.push_reserved(None),
-            Some(_) => scattered.push_reserved(left.take()),
-        }
+    match tree.parent(node) {
+        None => None,
+        Some(_) => left.take(),
     }
-    Ok(scattered)
 }
 
 /// That many empty rows.
@@ -72,21 +66,24 @@ pub(crate) fn scatter_by_parent<T: Drop>(
     Ok(scattered)
 }
 
-/// The ends of the next node: the first of the upper ends, and of the lists of lower ends.
+/// The ends of the next node: of the upper ends that of the link into it, and the first of the lists
+/// of lower ends.
 fn next_worker<U: Drop, D: Drop>(
+    tree: &Tree,
     node: u16,
-    ups: &mut Queue<Option<U>>,
+    ups: &mut Queue<U>,
     downs: &mut Queue<Queue<D>>,
 ) -> WorkerEnds<U, D>
-    requires ups { 0 < length ups.old }
+    requires node { node < length tree.now.parents }
     requires downs { 0 < length downs.old }
     ensures node { result.node ≡ node }
-    ensures up { ups.old ≡ result.up ∷ ups.new }
+    ensures up { by_child (drop node tree.now.parents) ups.old
+        ≡ result.up ∷ by_child (drop (node + 1) tree.now.parents) ups.new }
     ensures downs { downs.old ≡ result.downs.items ∷ downs.new }
 {
     WorkerEnds {
         node,
-        up: ups.take().unwrap(),
+        up: take_into(tree, NodeId::new(node), ups),
         downs: downs.take().unwrap().into_vec(),
     }
 }
@@ -107,10 +104,10 @@ pub(crate) fn scatter<U: Drop, D: Drop>(
         map (λ s. s.downs.items) workers.items ≡ by_parent tree.now.parents sends.items) }
 {
     let mut workers = Vec::with_capacity(alloc, usize::from(tree.len()))?;
-    let mut ups = Queue::from_vec(scatter_by_child(alloc, tree, recvs)?);
+    let mut ups = Queue::from_vec(recvs);
     let mut downs = Queue::from_vec(scatter_by_parent(alloc, tree, sends)?);
     'nodes: for node in 0..tree.len() {
-        workers.push_reserved(next_worker(node, &mut ups, &mut downs));
+        workers.push_reserved(next_worker(tree, node, &mut ups, &mut downs));
     }
     Ok(workers)
 }

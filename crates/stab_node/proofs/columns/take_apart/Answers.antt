@@ -1,4 +1,7 @@
-use Rattle.std.proofs.Common.{rules, ◌≡◌, ◌∙◌, List, [], ◌∷◌, ◌++◌, map, refl, ap}
+use Rattle.std.proofs.Common.{rules, ◌≡◌, ◌∙◌, List, [], ◌∷◌, ◌++◌, map, refl, ap, Option, Some, None, append_assoc}
+use Rattle.std.proofs.lemmas.List.{append-nil}
+use Rattle.std.specs.Prelude.{option_to_list}
+use Rattle.core.specs.List.{cons_option}
 use Rattle.std.specs.Vec.Iter.{into_iter_items}
 use Rattle.stab_node.proofs.columns.take_apart.Goals as goal
 
@@ -10,6 +13,14 @@ moved f (y ∷ ys) x rest = ap (λ zs. y ∷ zs) (moved f ys x rest)
 grown : {X Y : Type 0} (x : X) (rest : List X) (f : X → Y) (column : List Y) (whole : List Y) → column ++ map f (x ∷ rest) ≡ whole → (column ++ f x ∷ []) ++ map f rest ≡ whole
 grown x rest f column whole so_far = moved f column x rest ∙ so_far
 
+-- the same of an entry that may be absent
+moved_one : {A : Type 0} (one : Option A) (column rest : List A) → (column ++ option_to_list one) ++ rest ≡ column ++ cons_option one rest
+moved_one None column rest = ap (λ front. front ++ rest) (append-nil column)
+moved_one (Some x) column rest = append_assoc column (x ∷ []) rest
+
+grown_by_one : {A : Type 0} (one : Option A) (column rest whole : List A) → column ++ cons_option one rest ≡ whole → (column ++ option_to_list one) ++ rest ≡ whole
+grown_by_one one column rest whole so_far = moved_one one column rest ∙ so_far
+
 pub loop-account-preserved : goal.loop-account-preserved
 loop-account-preserved g c =
     let before = c.loop-account.invariant in
@@ -20,7 +31,7 @@ loop-account-preserved g c =
     record {
       received = rw added.received (grown account rest (λ a. a.received.items) _ _ (rw steps at before.received));
       ended = rw added.ended (grown account rest (λ a. a.ended) _ _ (rw steps at before.ended));
-      ups = rw added.ups (grown account rest (λ a. a.up) _ _ (rw steps at before.ups));
+      recvs = rw added.recvs (grown_by_one account.up _ _ _ (rw steps at before.recvs));
       downs = rw added.downs (grown account rest (λ a. a.downs.items) _ _ (rw steps at before.downs));
       left = search rules;
     }
