@@ -18,8 +18,6 @@ mod links;
 #[cfg(test)]
 mod lock;
 #[cfg(test)]
-mod mixed;
-#[cfg(test)]
 mod opened;
 #[cfg(test)]
 mod outcomes;
