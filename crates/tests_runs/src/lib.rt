@@ -1,8 +1,8 @@
 //! Tests of the two kinds of link, behind a lock and of two words, and of whole runs by worker
 //! threads, by public calls alone.
 //!
-//! The modules `lock` and `word` are those of the crates of links, and `asks` has the calls that
-//! both make. The other modules are of `stab_run`.
+//! The modules `lock` and `word` are those of the crates of links; `asks` has the calls that both
+//! make, and `threads` the two threads. The other modules are of `stab_run`.
 //!
 //! No test rests on how the threads are scheduled: where the outcome depends on the order of turns,
 //! a gate makes that order. The tests stand apart from the crates that they test, so that those are
@@ -25,5 +25,7 @@ mod outcomes;
 mod runs;
 #[cfg(test)]
 mod stopped;
+#[cfg(test)]
+mod threads;
 #[cfg(test)]
 mod word;
