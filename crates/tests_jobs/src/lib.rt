@@ -1,8 +1,11 @@
-//! Tests of the reader of jobs, which use its public calls alone.
+//! Tests of the reader of jobs, and of explanations and random jobs as no command line of `rignolda`
+//! asks for them, by public calls alone. `tests/check_rignolda.py` tries the command lines.
 //!
-//! They stand apart from `stab_job`, so that the crate is not proved again with its tests.
+//! They stand apart from the crates that they test, so that those are not proved again with them.
 #![tactic(auto)]
 
+#[cfg(test)]
+mod explain;
 #[cfg(test)]
 mod faults;
 #[cfg(test)]
@@ -13,5 +16,7 @@ mod openings;
 mod own_params;
 #[cfg(test)]
 mod parts;
+#[cfg(test)]
+mod random;
 #[cfg(test)]
 mod refusals;

@@ -1,8 +1,7 @@
-//! One link, where no example shows it: losses by place, origins, refused starts, and its two ends.
+//! One link, where no example shows it: losses by place, refused starts, and its two ends.
 
 use stab_core::{
-    Effect, Event, Link, LinkAct, Origin, Receiver, Sender, Start, StartFault, link_text,
-    origins_text, run_link, trace,
+    Effect, Event, Link, LinkAct, Receiver, Sender, Start, StartFault, link_text, run_link, trace,
 };
 use stab_frames::{Frame, Item, Label, Params, Sequence};
 use std::alloc::Global;
@@ -75,22 +74,6 @@ fn rounds(rt: &(impl Abort + Alloc<A = Global>), items: &[Item]) -> Vec<Event> {
     events
 }
 
-/// The twelve events that follow the worst start.
-static WORST_EVENTS: [Event; 12] = [
-    Event::Offer(10),
-    TAKE_ACK,
-    Event::SendAck,
-    Event::Offer(11),
-    TAKE_ACK,
-    TAKE_FRAME,
-    Event::SendAck,
-    Event::Offer(12),
-    TAKE_ACK,
-    Event::Offer(13),
-    Event::SendFrame,
-    TAKE_FRAME,
-];
-
 /// Fails the test where an event of these has not the effect beside it.
 fn assert_steps(rt: &impl Abort, link: &mut Link, steps: &[(Event, Effect)]) {
     for (event, effect) in steps {
@@ -128,28 +111,6 @@ fn link_after(rt: &(impl Abort + Alloc<A = Global>), opening: &Opening, events: 
 fn idle_after_clean_rounds(rt: HostRuntime) {
     let link = link_after(&rt, &CLEAN, &rounds(&rt, &[7, 8]));
     assert!(rt; link.is_idle());
-}
-
-/// Fails the test where the origins of what these events deliver, for the capacity 1 and four
-/// labels, are not these, or are printed as another line.
-fn assert_origins(
-    rt: &(impl Abort + Alloc<A = Global>),
-    opening: &Opening,
-    events: &[Event],
-    want: &[Origin],
-    line: &str,
-) {
-    let start = start(rt, opening);
-    let origins = trace(rt.alloc(), narrow(rt), &start, events).expect(rt, "origins");
-    assert!(rt; origins.as_slice() == want);
-    let text = origins_text(rt.alloc(), &origins).expect(rt, "a text");
-    assert!(rt; text.as_str() == line);
-}
-
-#[test]
-fn origins_after_the_worst_start(rt: HostRuntime) {
-    let want = [Origin::Stray(0), Origin::Sent(3)];
-    assert_origins(&rt, &WORST, &WORST_EVENTS, &want, "origins: s0 i3\n");
 }
 
 /// What a link is that has lost what it began with, or ignored it.
@@ -276,18 +237,6 @@ fn loss_after_the_front(rt: HostRuntime) {
         &TWO_FRAMES_QUEUED,
         &LOSE_THE_SECOND,
         FRONT_DELIVERED,
-    );
-}
-
-#[test]
-fn origins_of_equal_items(rt: HostRuntime) {
-    let want = [Origin::Sent(0), Origin::Sent(1)];
-    assert_origins(
-        &rt,
-        &CLEAN,
-        &rounds(&rt, &[7, 7]),
-        &want,
-        "origins: i0 i1\n",
     );
 }
 

@@ -1,4 +1,5 @@
-//! The worked examples of a tree under one schedule, and how starts, openings and steps are refused.
+//! A tree under one schedule, where no example shows it: how starts, openings and steps are refused,
+//! and what openings and steps answer.
 
 ghost use Rattle.std.specs.Prelude.{◌≡◌, IfOk, length};
 ghost use Rattle.stab_treecore.specs.NodeOpenings.{FitTree};
@@ -9,7 +10,7 @@ use stab_frames::{Frame, Item, Params, Sequence};
 use stab_tree::{NodeId, Tree, read_tree};
 use stab_treecore::{
     LinkAct, OpeningFault, Openings, TreeEvent, TreeStartFault, TreeState, TreeStepFault,
-    push_node_counts, run_schedule, schedule_text,
+    push_node_counts, run_schedule,
 };
 use std::alloc::Global;
 use std::process::Abort;
@@ -29,24 +30,6 @@ const STRANGER: u16 = 3;
 /// The published items of the chain's tests.
 static ITEMS: [Item; 7] = [10, 11, 12, 13, 14, 15, 16];
 
-/// The acts of the worst start, and the two after which the sender is idle.
-const WORST: [LinkAct; 14] = [
-    LinkAct::Offer,
-    LinkAct::RecvAck { keep: false },
-    LinkAct::SendAck,
-    LinkAct::Offer,
-    LinkAct::RecvAck { keep: false },
-    LinkAct::RecvFrame { keep: false },
-    LinkAct::SendAck,
-    LinkAct::Offer,
-    LinkAct::RecvAck { keep: false },
-    LinkAct::Offer,
-    LinkAct::SendFrame,
-    LinkAct::RecvFrame { keep: false },
-    LinkAct::SendAck,
-    LinkAct::RecvAck { keep: false },
-];
-
 /// The worst start of each of the chain's two links: its frames, and the number of its
 /// acknowledgements.
 const WORST_STARTS: [(&[Frame], usize); 2] = [(&[STRAY_99], 1), (&[STRAY_98], 1)];
@@ -54,46 +37,6 @@ const WORST_STARTS: [(&[Frame], usize); 2] = [(&[STRAY_99], 1), (&[STRAY_98], 1)
 const STRAY_99: Frame = Frame { label: 2, item: 99 };
 
 const STRAY_98: Frame = Frame { label: 2, item: 98 };
-
-/// What the whole tree is after that schedule.
-const TWO_LINKS: &str = "\
-r depth 0 received 7 acked -
-items: 10 11 12 13 14 15 16
-a depth 1 received 5 acked 7
-items: 99 13 14 15 16
-b depth 2 received 3 acked 5
-items: 98 15 16
-";
-
-/// What the chain is after two items, where the second link has capacity two.
-const WIDER_SECOND_LINK: &str = "\
-r depth 0 received 2 acked -
-items: 7 8
-a depth 1 received 2 acked 2
-items: 7 8
-b depth 2 received 4 acked 2
-items: 20 21 7 8
-";
-
-/// What the chain is after four rounds on each of its links, of two published items and two that
-/// the node between begins with.
-const PASSED_ON: &str = "\
-r depth 0 received 2 acked -
-items: 7 8
-a depth 1 received 4 acked 2
-items: 50 51 7 8
-b depth 2 received 4 acked 4
-items: 50 51 7 8
-";
-
-/// One item goes from the parent to the child, undisturbed.
-const ROUND: [LinkAct; 5] = [
-    LinkAct::Offer,
-    LinkAct::SendFrame,
-    LinkAct::RecvFrame { keep: false },
-    LinkAct::SendAck,
-    LinkAct::RecvAck { keep: false },
-];
 
 /// The tree that this text describes.
 fn tree(rt: &(impl Abort + Alloc<A = Global>), text: &str) -> Tree {
@@ -155,66 +98,9 @@ fn push_acts(rt: &impl Abort, schedule: &mut Vec<TreeEvent>, child: NodeId, acts
     }
 }
 
-/// Each link meets the worst start, and then items go on undisturbed.
-static TWO_LINKS_SCHEDULE: [(u16, &[LinkAct]); 6] = [
-    (A, &WORST),
-    (A, &ROUND),
-    (A, &ROUND),
-    (A, &ROUND),
-    (B, &WORST),
-    (B, &ROUND),
-];
-
 /// The parameters of two links of capacity one with four labels.
 fn narrow(rt: &impl Abort) -> [Params; 2] {
     [Params::new(1, 4).expect(rt, "parameters"); 2]
-}
-
-/// Fails the test where this schedule from these starts does not lead to this text.
-fn assert_text(
-    rt: &(impl Abort + Alloc<A = Global>),
-    params: &[Params],
-    opened: &Opened,
-    published: &[Item],
-    starts: &[Start],
-    events: &[TreeEvent],
-    want: &str,
-)
-    requires { FitTree opened.now.tree.parents opened.now.openings }
-{
-    let Opened { tree, openings } = opened;
-    let state = run_schedule(
-        rt.alloc(),
-        params,
-        tree,
-        published,
-        starts,
-        openings,
-        events,
-    )
-    .expect(rt, "a state");
-    let text = schedule_text(rt.alloc(), tree, &state).expect(rt, "a text");
-    assert!(rt; text.as_str() == want);
-}
-
-/// The same for the chain whose nodes begin with nothing.
-fn assert_chain(
-    rt: &(impl Abort + Alloc<A = Global>),
-    params: &[Params],
-    published: &[Item],
-    starts: &[Start],
-    events: &[TreeEvent],
-    want: &str,
-) {
-    assert_text(
-        rt,
-        params,
-        &unopened(rt, CHAIN),
-        published,
-        starts,
-        events,
-        want,
-    );
 }
 
 /// A clean link into a, and a link into b that holds two frames of nobody's items.
@@ -234,39 +120,6 @@ fn starts_of_a_wider_second_link(rt: &(impl Abort + Alloc<A = Global>)) -> [Star
             recv_label: 0,
         },
     ]
-}
-
-/// Two items go on undisturbed, after the two strays of the second link.
-static WIDER_SECOND_LINK_SCHEDULE: [(u16, &[LinkAct]); 6] = [
-    (A, &ROUND),
-    (A, &ROUND),
-    (B, &[LinkAct::RecvFrame { keep: false }]),
-    (B, &[LinkAct::RecvFrame { keep: false }]),
-    (B, &ROUND),
-    (B, &ROUND),
-];
-
-#[test]
-fn two_links_under_one_schedule_deliver_one_stray_each(rt: HostRuntime) {
-    let starts = starts(&rt, &WORST_STARTS);
-    let events = schedule(&rt, &TWO_LINKS_SCHEDULE);
-    assert_chain(&rt, &narrow(&rt), &ITEMS, &starts, &events, TWO_LINKS);
-}
-
-#[test]
-fn a_wider_second_link_holds_two_strays(rt: HostRuntime) {
-    let one = Params::new(1, 4).expect(&rt, "parameters");
-    let two = Params::new(2, 6).expect(&rt, "parameters");
-    let starts = starts_of_a_wider_second_link(&rt);
-    let events = schedule(&rt, &WIDER_SECOND_LINK_SCHEDULE);
-    assert_chain(
-        &rt,
-        &[one, two],
-        &[7, 8],
-        &starts,
-        &events,
-        WIDER_SECOND_LINK,
-    );
 }
 
 /// Why this schedule of these published items is refused on the chain, or `None` where it is not.
@@ -341,32 +194,6 @@ fn opened_chain(rt: &(impl Abort + Alloc<A = Global>)) -> Opened
     let tree = tree(rt, CHAIN);
     let openings = openings(rt, &tree, 2, &[&[], &[50, 51], &[]]).expect(rt, "openings");
     Opened { tree, openings }
-}
-
-/// Two rounds on the upper link of the chain, and then four on the lower one.
-static ROUNDS: [(u16, &[LinkAct]); 6] = [
-    (A, &ROUND),
-    (A, &ROUND),
-    (B, &ROUND),
-    (B, &ROUND),
-    (B, &ROUND),
-    (B, &ROUND),
-];
-
-#[test]
-fn an_opening_passed_on(rt: HostRuntime) {
-    let starts = [Start::clean(rt.alloc()), Start::clean(rt.alloc())];
-    let events = schedule(&rt, &ROUNDS);
-    let chain = opened_chain(&rt);
-    assert_text(
-        &rt,
-        &narrow(&rt),
-        &chain,
-        &[7, 8],
-        &starts,
-        &events,
-        PASSED_ON,
-    );
 }
 
 /// The most items of an opening of the chain, the openings of its nodes, and why they are refused.
@@ -488,15 +315,6 @@ fn an_offer_of_nothing_does_nothing(rt: HostRuntime) {
     assert_acts(&rt, &mut state, &ACTS);
     assert!(rt; state.link(NodeId::new(ROOT)).is_none());
     assert!(rt; state.link(NodeId::new(STRANGER)).is_none());
-}
-
-/// What a tree of one node is, which publishes 7 and 8.
-const LONE_ROOT: &str = "r depth 0 received 2 acked -\nitems: 7 8\n";
-
-#[test]
-fn a_lone_root_has_what_it_publishes(rt: HostRuntime) {
-    let lone = unopened(&rt, r#"[{"name":"r"}]"#);
-    assert_text(&rt, &[], &lone, &[7, 8], &[], &[], LONE_ROOT);
 }
 
 #[test]

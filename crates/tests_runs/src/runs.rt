@@ -1,4 +1,4 @@
-//! Whole runs over links of one kind, which mixed runs have as well where the capacity is one.
+//! Whole runs over links behind locks, over links of two words, and over both.
 
 use crate::gates::{Order, TestGate};
 use crate::outcomes::{ALL, Links, assert_printed, assert_refused_by, refusal_of_run};
@@ -25,14 +25,6 @@ pub(crate) fn assert_in_order<T: Threads + Wait + Send + Sync + Abort + Alloc<A 
         let gate = TestGate::for_nodes(order, nodes);
         assert_printed(rt, its_links, text, &gate, expected)?;
     }
-    Ok(())
-}
-
-#[test]
-fn a_lone_root_runs(rt: HostRuntime) -> Result<(), Fail> {
-    let text = r#"{"capacity":1,"labels":4,"tree":[{"name":"r"}],"items":[7,8]}"#;
-    let expected = "r depth 0 received 2 acked - ended upstream\nitems: 7 8\n";
-    assert_in_order(&rt, &ALL, text, Order::Paced, 1, expected)?;
     Ok(())
 }
 
@@ -84,16 +76,23 @@ fn a_stray_of_the_start_comes_first(rt: HostRuntime) -> Result<(), Fail> {
 }
 
 /// The links of paced runs, and the beginnings of their jobs: the parameters.
-const RUNS: [(Links, &str); 3] = [
-    (
-        Links::Locked,
-        r#"{"capacity":1,"labels":4,"turns":1000000,"#,
-    ),
-    (
-        Links::Locked,
-        r#"{"capacity":3,"labels":8,"turns":1000000,"#,
-    ),
-    (Links::Words, r#"{"capacity":1,"labels":4,"turns":1000000,"#),
+const RUNS: [(Links, &str); 5] = [
+    (Links::Locked, CAPACITY_ONE),
+    (Links::Locked, CAPACITY_THREE),
+    (Links::Words, CAPACITY_ONE),
+    (Links::Mixed, CAPACITY_ONE),
+    (Links::Mixed, CAPACITY_THREE),
+];
+
+const CAPACITY_ONE: &str = r#"{"capacity":1,"labels":4,"turns":1000000,"#;
+
+const CAPACITY_THREE: &str = r#"{"capacity":3,"labels":8,"turns":1000000,"#;
+
+/// The same of mixed runs with two links, one of each kind: the second link has the lock, and the
+/// first.
+const OF_BOTH_KINDS: [&str; 2] = [
+    r#"{"capacity":1,"labels":4,"turns":1000000,"links":[null,{"capacity":3,"labels":8}],"#,
+    r#"{"capacity":1,"labels":4,"turns":1000000,"links":[{"capacity":3,"labels":8},null],"#,
 ];
 
 /// The items 1 to 100.
@@ -193,7 +192,7 @@ fn assert_paced<T: Threads + Wait + Send + Sync + Abort + Alloc<A = Global>>(
 }
 
 /// Runs jobs of chains so: each node receives everything, and each link has all of it acknowledged.
-pub(crate) fn assert_paced_chains<T: Threads + Wait + Send + Sync + Abort + Alloc<A = Global>>(
+fn assert_paced_chains<T: Threads + Wait + Send + Sync + Abort + Alloc<A = Global>>(
     rt: &T,
     links: Links,
     parameters: &str,
@@ -205,7 +204,7 @@ pub(crate) fn assert_paced_chains<T: Threads + Wait + Send + Sync + Abort + Allo
 }
 
 /// The same of chains and of stars.
-pub(crate) fn assert_paced_trees<T: Threads + Wait + Send + Sync + Abort + Alloc<A = Global>>(
+fn assert_paced_trees<T: Threads + Wait + Send + Sync + Abort + Alloc<A = Global>>(
     rt: &T,
     links: Links,
     parameters: &str,
@@ -221,6 +220,9 @@ fn paced_runs_deliver_everything(rt: HostRuntime) -> Result<(), Fail> {
     for &(links, parameters) in &RUNS {
         assert_paced_trees(&rt, links, parameters)?;
     }
+    for parameters in OF_BOTH_KINDS {
+        assert_paced_chains(&rt, Links::Mixed, parameters)?;
+    }
     Ok(())
 }
 
@@ -228,9 +230,13 @@ fn paced_runs_deliver_everything(rt: HostRuntime) -> Result<(), Fail> {
 const TWO_TURNS: &str = r#"{"capacity":1,"labels":4,"turns":2,"items":[7],
     "tree":[{"name":"r"},{"name":"a","parent":"r"}]}"#;
 
+/// The same, where their link is behind a lock also in a mixed run.
+const TWO_TURNS_WITH_A_LOCK: &str = r#"{"capacity":3,"labels":8,"turns":2,"items":[7],
+    "tree":[{"name":"r"},{"name":"a","parent":"r"}]}"#;
+
 /// Fails the test where a run of two nodes gives no report, of which each begins its first turn
 /// once the other asks for its own.
-pub(crate) fn assert_together<T: Threads + Wait + Send + Sync + Abort + Alloc<A = Global>>(
+fn assert_together<T: Threads + Wait + Send + Sync + Abort + Alloc<A = Global>>(
     rt: &T,
     links: Links,
     text: &str,
@@ -247,13 +253,14 @@ fn workers_run_together(rt: HostRuntime) -> Result<(), Fail> {
     for &links in &ALL {
         assert_together(&rt, links, TWO_TURNS)?;
     }
+    assert_together(&rt, Links::Mixed, TWO_TURNS_WITH_A_LOCK)?;
     Ok(())
 }
 
 /// Fails the test where the order of turns does not decide what arrives of the job of this text,
 /// which has two nodes, an item and two turns: the other node begins once the root is done, or they
 /// take turns.
-pub(crate) fn assert_decided<T: Threads + Wait + Send + Sync + Abort + Alloc<A = Global>>(
+fn assert_decided<T: Threads + Wait + Send + Sync + Abort + Alloc<A = Global>>(
     rt: &T,
     links: &[Links],
     text: &str,
@@ -269,5 +276,6 @@ pub(crate) fn assert_decided<T: Threads + Wait + Send + Sync + Abort + Alloc<A =
 #[test]
 fn the_order_of_turns_decides_what_arrives(rt: HostRuntime) -> Result<(), Fail> {
     assert_decided(&rt, &ALL, TWO_TURNS)?;
+    assert_decided(&rt, &[Links::Mixed], TWO_TURNS_WITH_A_LOCK)?;
     Ok(())
 }

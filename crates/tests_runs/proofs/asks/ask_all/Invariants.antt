@@ -1,5 +1,5 @@
 use Rattle.std.proofs.Common.{◌≡◌}
-use Rattle.tests_ends.proofs.asks.ask_all.Given as goal
+use Rattle.tests_runs.proofs.asks.ask_all.Given as goal
 
 -- both ends belong to their link
 abbrev pub invariant-asks : goal.invariant-asks

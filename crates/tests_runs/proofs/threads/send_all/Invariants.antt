@@ -1,5 +1,5 @@
 use Rattle.std.proofs.Common.{◌≡◌}
-use Rattle.tests_ends.proofs.word.send_all.Given as goal
+use Rattle.tests_runs.proofs.threads.send_all.Given as goal
 
 -- the end belongs to its link
 abbrev pub invariant-items : goal.invariant-items

@@ -1,5 +1,5 @@
 use Rattle.std.proofs.Common.{◌≡◌}
-use Rattle.tests_ends.proofs.word.hand_over.Given as goal
+use Rattle.tests_runs.proofs.threads.hand_over.Given as goal
 
 -- the end belongs to its link
 abbrev pub invariant-tries : goal.invariant-tries

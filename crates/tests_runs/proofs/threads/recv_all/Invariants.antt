@@ -1,5 +1,5 @@
 use Rattle.std.proofs.Common.{◌≡◌}
-use Rattle.tests_ends.proofs.word.recv_all.Given as goal
+use Rattle.tests_runs.proofs.threads.recv_all.Given as goal
 
 -- the end belongs to its link
 abbrev pub invariant-looks : goal.invariant-looks

@@ -1,20 +1,19 @@
 //! The worked examples of a link of two words, each as a table of calls beside their answers, and
 //! two threads that work on one end each.
 
-ghost use Rattle.std.specs.Prelude.{◌≡◌, IfOk};
+ghost use Rattle.std.specs.Prelude.{◌≡◌};
 
 mod any_ends;
 
 use crate::asks::{Ask, ask_all, ask_and_finish, ask_one, assert_settled};
+use crate::threads::both;
 use stab_acts::{OutAct, Script};
 use stab_core::{Effect, Start, StartFault};
 use stab_ends::{FrameSeen, RecvSide, SendSide, Settled};
 use stab_frames::{Frame, Item, Label, Params, Sequence};
 use stab_word::{WordFault, WordLink, WordOpening};
-use std::alloc::{AllocError, Global};
+use std::alloc::Global;
 use std::process::Abort;
-use std::thread;
-use std::thread::Threads;
 
 /// Three items are acknowledged before the receiver has taken one.
 static WORST_START: [Ask; 12] = [
@@ -304,71 +303,8 @@ fn makes_room_for_another_label_alone(rt: HostRuntime) {
 /// How many items the two threads exchange.
 const ITEMS: u32 = 10_000;
 
-/// How often the sender tries to send one item, before it gives up.
-const TRIES: u32 = 1000;
-
-/// How often the receiver looks for a frame.
-const LOOKS: u32 = 10_000_000;
-
 /// How many acknowledged items the receiver of a link of capacity one may miss.
 const MAY_MISS: usize = 3;
-
-/// Sends one item until it is acknowledged; false where it was not within all tries.
-fn hand_over<S: SendSide<Pass = ()>>(send: &mut S, item: Item) -> Result<bool, AllocError>
-    ensures { S.link send.new ≡ S.link send.old }
-{
-    send.offer(&(), item)?;
-    'tries: for _ in 0..TRIES {
-        send.send(&())?;
-        if send.poll_ack(&())? == Effect::Acked {
-            return Ok(true);
-        }
-        thread::yield_now();
-    }
-    Ok(false)
-}
-
-/// The sender's part: the items in their order, and the close.
-fn send_all<S: SendSide<Pass = ()>>(mut send: S) -> Result<S::Done, AllocError>
-    ensures { IfOk result (λ done. S.done_link done ≡ S.link send) }
-{
-    'items: for item in 1..=ITEMS {
-        if !hand_over(&mut send, item)? {
-            break;
-        }
-    }
-    send.close(&())?;
-    Ok(send.finish())
-}
-
-/// The receiver's part: it looks for frames and acknowledges, until it is shown the close.
-fn recv_all<T: RecvSide<Pass = ()>>(mut recv: T) -> Result<T::Done, AllocError>
-    ensures { IfOk result (λ done. T.done_link done ≡ T.link recv) }
-{
-    'looks: for _ in 0..LOOKS {
-        if recv.poll_frame(&())? == FrameSeen::Closed {
-            break;
-        }
-        recv.send_ack(&())?;
-        thread::yield_now();
-    }
-    Ok(recv.finish())
-}
-
-/// Both parts, each in a thread of its own.
-fn both<S, T, R>(rt: &R, send: S, recv: T) -> (S::Done, T::Done)
-where
-    S: SendSide<Pass = ()> + Send,
-    T: RecvSide<Pass = ()> + Send,
-    S::Done: Send,
-    T::Done: Send,
-    R: Threads + Abort,
-    ensures sender { S.done_link result.0 ≡ S.link send }
-    ensures receiver { T.done_link result.1 ≡ T.link recv }
-{
-    let (sent, received) = thread::join(rt, || send_all(send), || recv_all(recv));
-    (sent.expect(rt, "memory"), received.expect(rt, "memory"))
-}
 
 /// Fails the test where the delivered items do not rise, so that one came twice or out of order, or
 /// was never offered.
@@ -395,6 +331,6 @@ fn two_threads(rt: HostRuntime) {
     let (link, opening) = link_at(&rt, rt.alloc(), &Start::clean(rt.alloc()));
     let script = Script::from_seed(rt.alloc(), 42, 54, 20_000, 300, 300).expect(&rt, "a script");
     let (send, recv) = link.split(rt.alloc(), opening, script).expect(&rt, "ends");
-    let (sent, received) = both(&rt, send, recv);
+    let (sent, received) = both(&rt, &(), send, recv, ITEMS);
     assert_lawful(&rt, &link.settle(sent, received));
 }

@@ -3,6 +3,8 @@
 ghost use Rattle.std.specs.Prelude.{IfOk};
 ghost use Rattle.stab_treecore.specs.NodeOpenings.{FitTree};
 
+mod lists;
+
 use serde_json::Value;
 use stab_core::Start;
 use stab_frames::{Frame, Item, Params, Sequence};

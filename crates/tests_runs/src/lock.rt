@@ -2,15 +2,15 @@
 //! tables are walked by the ends of a locked link and by a book's own calls.
 
 use crate::asks::{Ask, ask_and_finish, assert_settled};
+use crate::threads::both;
 use stab_acts::{HalfScript, InAct, OutAct, Script};
 use stab_core::{Effect, Event, Start};
-use stab_ends::{FrameSeen, RecvAccount, RecvSide, SendAccount, SendSide, Settled};
+use stab_ends::{FrameSeen, RecvAccount, SendAccount};
 use stab_frames::{Item, Params, Sequence};
 use stab_lock::{LinkBook, LockLink, SettleFault};
-use std::alloc::{AllocError, Global};
+use std::alloc::Global;
 use std::process::Abort;
 use std::sync::Wait;
-use std::thread;
 use std::thread::Threads;
 
 /// A round with 7, and the close.
@@ -345,61 +345,6 @@ fn accounts_that_differ_from_a_book(rt: HostRuntime) {
 /// How many items the two threads exchange.
 const ITEMS: u32 = 1000;
 
-/// How often the sender tries to send one item, before it gives up.
-const TRIES: u32 = 1000;
-
-/// How often the receiver looks for a frame.
-const LOOKS: u32 = 1_000_000;
-
-/// Sends one item until it is acknowledged; false where it was not within all tries.
-fn hand_over<S: SendSide>(pass: &S::Pass, send: &mut S, item: Item) -> Result<bool, AllocError> {
-    send.offer(pass, item)?;
-    for _ in 0..TRIES {
-        send.send(pass)?;
-        if send.poll_ack(pass)? == Effect::Acked {
-            return Ok(true);
-        }
-        thread::yield_now();
-    }
-    Ok(false)
-}
-
-/// The sender's part: the items in their order, and the close.
-fn send_all<S: SendSide>(pass: &S::Pass, mut send: S) -> Result<S::Done, AllocError> {
-    for item in 1..=ITEMS {
-        if !hand_over(pass, &mut send, item)? {
-            break;
-        }
-    }
-    send.close(pass)?;
-    Ok(send.finish())
-}
-
-/// The receiver's part: it looks for frames and acknowledges, until it is shown the close.
-fn recv_all<T: RecvSide>(pass: &T::Pass, mut recv: T) -> Result<T::Done, AllocError> {
-    for _ in 0..LOOKS {
-        if recv.poll_frame(pass)? == FrameSeen::Closed {
-            break;
-        }
-        recv.send_ack(pass)?;
-        thread::yield_now();
-    }
-    Ok(recv.finish())
-}
-
-/// Both parts, each in a thread of its own.
-fn both<S, T, R>(rt: &R, send: S, recv: T) -> (S::Done, T::Done)
-where
-    S: SendSide<Pass = R> + Send,
-    T: RecvSide<Pass = R> + Send,
-    S::Done: Send,
-    T::Done: Send,
-    R: Threads + Wait + Abort + Sync,
-{
-    let (sent, received) = thread::join(rt, || send_all(rt, send), || recv_all(rt, recv));
-    (sent.expect(rt, "memory"), received.expect(rt, "memory"))
-}
-
 /// Fails the test where the items are not 1, 2, 3 and so on.
 fn assert_counted<R: Abort>(rt: &R, items: &[Item]) {
     for place in 0..items.len() {
@@ -416,7 +361,7 @@ fn both_ends<R: Threads + Wait + Abort + Send + Sync>(
 ) -> (SendAccount, RecvAccount) {
     let script = Script::from_seed(alloc, 42, 54, 200, 300, 300).expect(rt, "a script");
     let (send, recv) = link.split(script);
-    both(rt, send, recv)
+    both(rt, rt, send, recv, ITEMS)
 }
 
 #[test]
