@@ -3,7 +3,7 @@ use Rattle.std.proofs.Common.{◌≡◌, ◌==◌, ◌<◌, ◌≤◌, ◌+◌, 
 use Rattle.std.proofs.lemmas.Bool.{cases_eq, eq-eqb, ne_eqb}
 use Rattle.std.proofs.lemmas.List.{drop_all, append-nil, length-append, length-map, length-set, get_or-map, get_or-set_same, get_or-set_other, nil_from_length}
 use Rattle.std.proofs.lemmas.List.FromFn.{fill_by_all, get_or-map-range_with_len}
-use Rattle.core.specs.List.{cons_option, filter_map}
+use Rattle.std.specs.List.{cons_option, filter_map}
 use Rattle.stab_tree.proofs.ForCallers.{links_counted_anywhere}
 use Rattle.stab_tree.specs.Links.{links_from, links_of}
 use Rattle.stab_treecore.specs.ByChild.{by_child, to_children}
@@ -20,9 +20,9 @@ present (None ∷ scattered) = present scattered
 present (Some x ∷ scattered) = x ∷ present scattered
 
 -- one more of them
-one_upper : {A : Type 0} (one : Option A) {ends : List A} {rest : List (Option A)} → ends ≡ present rest → cons_option one ends ≡ present (one ∷ rest)
-one_upper None same = same
-one_upper (Some x) same = ap (λ ends. x ∷ ends) same
+one_upper : {A : Type 0} (one : Option A) (ends : List A) (rest : List (Option A)) → ends ≡ present rest → cons_option one ends ≡ present (one ∷ rest)
+one_upper None ends rest same = same
+one_upper (Some x) ends rest same = ap (λ more. x ∷ more) same
 
 -- where each child has an entry and the root has none, the entries are scattered as they were
 present_by_child : {A : Type 0} (parents : List (Option ℕ)) (scattered : List (Option A)) → map is_some scattered ≡ map is_some parents
@@ -49,7 +49,7 @@ present_counted w (Some p ∷ parents) (Some x ∷ scattered) same = ap (λ n. s
 -- the upper ends that there are
 uppers : {S A : Type 0} (up : S → Option A) (accounts : List S) → filter_map up accounts ≡ present (map up accounts)
 uppers up [] = refl
-uppers up (account ∷ accounts) = one_upper (up account) (uppers up accounts)
+uppers up (account ∷ accounts) = one_upper (up account) (filter_map up accounts) (map up accounts) (uppers up accounts)
 
 -- where each child has an upper end and the root has none, they are scattered as they were
 pub uppers_by_child : {S A : Type 0} (parents : List (Option ℕ)) (up : S → Option A) (accounts : List S) → map is_some (map up accounts) ≡ map is_some parents

@@ -25,7 +25,6 @@ pub struct Gathered<A, B> {
 
 /// Gathers what the workers of all nodes left: what belongs to a node by node, and the ends by
 /// link.
-#[tactic(auto, using(crate::proofs::Gathering::uppers_by_child, crate::proofs::Gathering::uppers_counted))]
 pub(crate) fn gather_accounts<A: Drop, B: Drop>(
     alloc: Global,
     tree: &Tree,

@@ -1,7 +1,7 @@
 use Rattle.std.proofs.Common.{rules, ◌≡◌, ◌∙◌, List, [], ◌∷◌, ◌++◌, map, refl, ap, Option, Some, None, append_assoc}
 use Rattle.std.proofs.lemmas.List.{append-nil}
 use Rattle.std.specs.Prelude.{option_to_list}
-use Rattle.core.specs.List.{cons_option}
+use Rattle.std.specs.List.{cons_option}
 use Rattle.std.specs.Vec.Iter.{into_iter_items}
 use Rattle.stab_node.proofs.columns.take_apart.Goals as goal
 

@@ -1,5 +1,5 @@
 use Rattle.std.proofs.Common.{◌≡◌, ◌++◌, length, map}
-use Rattle.core.specs.List.{filter_map}
+use Rattle.std.specs.List.{filter_map}
 use Rattle.std.specs.Vec.Iter.{into_iter_items, into_iter_len}
 use Rattle.stab_node.proofs.columns.take_apart.Given as goal
 
