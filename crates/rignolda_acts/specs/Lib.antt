@@ -2,3 +2,4 @@ pub mod Begun
 pub mod Checked
 pub mod Drawn
 pub mod Explained
+pub mod Statuses

@@ -30,8 +30,14 @@ pub enum CheckFault {
 }
 
 impl CheckFault {
-    /// The status that the program ends with.
-    pub fn status(&self) -> u8 {
+    ghost use Rattle.std.specs.Prelude.{◌≡◌};
+    ghost use Rattle.rignolda_acts.specs.Statuses.{check_status};
+
+    /// The status that the program ends with: that of `stab` for a fault of the job or of a file,
+    /// and 1 for a text that is no report.
+    pub fn status(&self) -> u8
+        ensures { result ≡ check_status self.now }
+    {
         match self {
             CheckFault::Job(fault) | CheckFault::Unloaded(fault) => fault.status(),
             CheckFault::Line(_) | CheckFault::LinkLine(_) => NO_REPORT,

@@ -57,8 +57,13 @@ pub fn act_random<W: Write>(
 }
 
 impl RandomWriteFault {
+    ghost use Rattle.std.specs.Prelude.{◌≡◌};
+    ghost use Rattle.rignolda_acts.specs.Statuses.{random_status};
+
     /// The status that the program ends with: 2 where the options are refused, and else 3.
-    pub fn status(&self) -> u8 {
+    pub fn status(&self) -> u8
+        ensures { result ≡ random_status self.now }
+    {
         match self {
             RandomWriteFault::Draw(RandomFault::Options(_)) => 2,
             RandomWriteFault::Draw(_) | RandomWriteFault::Write => 3,

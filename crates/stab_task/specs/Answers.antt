@@ -7,8 +7,8 @@
 -- behind a lock may be refused for settling: so for the chain of the example a_wider_second_link
 -- with `--mixed` the link into b may be, and that into a may not.
 -- Source: this project's own.
-use Rattle.std.specs.Prelude.{◌≡◌, ◌≢◌, ℕ, ◌<◌, Bool, List, [], ◌++◌, length, All}
-use Rattle.std.specs.Prelude.{if◌then◌else◌, Ok, Err}
+use Rattle.std.specs.Prelude.{◌≡◌, ◌≢◌, ◌⊎◌, ℕ, ◌<◌, Bool, List, [], ◌++◌, length, All}
+use Rattle.std.specs.Prelude.{if◌then◌else◌, Option, Ok, Err}
 use Rattle.stab_core.specs.Replay.{initial, replay, IsLawful}
 use Rattle.stab_core.specs.Trace.{traced_initial, traced_replay}
 use Rattle.stab_core.specs.Link.{IsReason}
@@ -38,7 +38,7 @@ use Rattle.stab_task.specs.declared.fault.CliFault.{CliFault}
 use Rattle.stab_task.specs.declared.fault.CliFault.TheVariants.{CommandLine, Open, Read}
 use Rattle.stab_task.specs.declared.fault.CliFault.TheVariants.{TooLong, LinkJob, Job, Start}
 use Rattle.stab_task.specs.declared.fault.CliFault.TheVariants.{Tree, Run, Write, Memory}
-use Rattle.stab_task.specs.Loading.{most_bytes}
+use Rattle.stab_task.specs.Loading.{most_bytes, IsUnloaded, IsWhole}
 
 -- the text of a link job: the link after its replay, and with a trace the origins of what it
 -- delivered
@@ -139,3 +139,14 @@ IsFault task input (Tree refusal) = IsTreeFault task input refusal
 IsFault task input (Run refusal) = IsRunFault task input refusal
 IsFault task input Write = (text : List ℕ) × IsAnswer task input text
 IsFault task input Memory = Unit {0}
+
+-- this is the text of a task for all the bytes that a reader had, where it tells them; they are not
+-- too many
+abbrev pub IsTaskAnswer : Task → Option (List ℕ) → List ℕ → Type 0
+IsTaskAnswer task had text = (input : List ℕ) × IsWhole had input × IsAnswer task input text
+
+-- why a task fails for a reader that had these bytes, where it tells them: they cannot be loaded, or
+-- all of them are, and this is why they have no answer, or why it was not written
+abbrev pub IsTaskFault : Task → Option (List ℕ) → CliFault → Type 0
+IsTaskFault task had fault =
+    IsUnloaded had fault ⊎ ((input : List ℕ) × IsWhole had input × IsFault task input fault)

@@ -1,4 +1,5 @@
 pub mod Statuses
 pub mod Loading
 pub mod Answers
+pub mod Refusals
 pub mod CommandLine

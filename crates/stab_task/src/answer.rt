@@ -1,5 +1,5 @@
 ghost use Rattle.std.specs.Prelude.{◌≡◌, ◌≢◌, ◌++◌, List, ℕ, true, string_bytes};
-ghost use Rattle.std.specs.Prelude.{All, IfSome, IfOk, IfErr, OnOk};
+ghost use Rattle.std.specs.Prelude.{All, IfSome, IfOk, IfErr, IsErrAnd, OnOk};
 ghost use Rattle.std.specs.Io.KnownBytes.{Appends, Keeps};
 ghost use Rattle.stab_core.specs.Link.{IsReason, link_at};
 ghost use Rattle.stab_core.specs.Replay.{IsLawful, initial, replay};
@@ -10,7 +10,9 @@ ghost use Rattle.stab_treecore.specs.Refusals.{IsScheduleReason, NamesLink};
 ghost use Rattle.stab_treecore.specs.TreeReplay.{initial_tree, tree_replay};
 ghost use Rattle.stab_task.specs.Answers.{IsLinkAnswer, IsTreeAnswer, IsRunAnswer};
 ghost use Rattle.stab_task.specs.Answers.{IsAnswer, IsFault, IsFreeRunReason, IsRunText};
+ghost use Rattle.stab_task.specs.Answers.{IsTaskAnswer, IsTaskFault};
 ghost use Rattle.stab_task.specs.Answers.{link_answer, tree_answer};
+ghost use Rattle.stab_task.specs.Refusals.{IsOfBytes, IsRefused};
 
 use crate::command::Task;
 use crate::fault::CliFault;
@@ -47,6 +49,17 @@ pub fn act<T: Threads + Wait + Send + Sync, R: Read, W: Write>(
         fault ≢ CliFault.Write → Keeps (W.contents writer.old) (W.contents writer.new)) }
     ensures opened { IfErr result (λ fault. fault ≢ CliFault.Open) }
     ensures named { IfErr result (λ fault. fault ≢ CliFault.CommandLine) }
+
+    // The same of every reader, also of one that does not tell its bytes; they are not too many.
+    ensures whole_answer { OnOk result ((text : List ℕ)
+        × IsTaskAnswer task (R.remaining reader.old) text
+        × Appends (W.contents writer.old) (W.contents writer.new) text) }
+    ensures whole_fault { IfErr result (IsTaskFault task (R.remaining reader.old)) }
+
+    // What the bytes are refused for is the fault, unless it is one that bytes do not decide.
+    ensures refused { IfSome (R.remaining reader.old) (λ input. (refusal : CliFault)
+        → IsRefused task input refusal
+        → IsErrAnd result (λ fault. IsOfBytes fault → fault ≡ refusal)) }
 {
     let text = text_of(rt, alloc, task, reader)?;
     write_text(writer, &text)?;
@@ -64,6 +77,9 @@ fn text_of<T: Threads + Wait + Send + Sync, R: Read>(
         IfSome (R.remaining reader.old) (λ input. IsAnswer task input (string_bytes text))) }
     ensures fault { IfErr result (λ fault.
         IfSome (R.remaining reader.old) (λ input. IsFault task input fault)) }
+    ensures whole_answer { IfOk result (λ text.
+        IsTaskAnswer task (R.remaining reader.old) (string_bytes text)) }
+    ensures whole_fault { IfErr result (IsTaskFault task (R.remaining reader.old)) }
     ensures no_write { IfErr result (λ fault. fault ≢ CliFault.Write) }
     ensures opened { IfErr result (λ fault. fault ≢ CliFault.Open) }
     ensures named { IfErr result (λ fault. fault ≢ CliFault.CommandLine) }

@@ -1,5 +1,6 @@
 ghost use Rattle.std.specs.Prelude.{◌≡◌, ◌≢◌, ◌⊎◌, None, IfErr};
 ghost use Rattle.std.specs.IoError.{error_kind};
+ghost use Rattle.stab_task.specs.Answers.{IsTaskFault};
 
 use crate::answer::act;
 use crate::command::Task;
@@ -36,6 +37,10 @@ pub fn perform<R: Files + Input + Print + Threads + Wait + Send + Sync + AllocGl
 ) -> Result<(), CliFault>
     ensures opened { path ≡ None → IfErr result (λ fault. fault ≢ CliFault.Open) }
     ensures named { IfErr result (λ fault. fault ≢ CliFault.CommandLine) }
+
+    // Another fault than that of opening the file is one that the task has.
+    ensures fault { IfErr result (λ fault.
+        (fault ≡ CliFault.Open) ⊎ IsTaskFault task None fault) }
 {
     let Some(path) = path else {
         return act(rt, rt.alloc(), task, &mut rt.reader(), &mut io::writer(rt));

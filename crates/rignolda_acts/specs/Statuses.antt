@@ -1,0 +1,32 @@
+-- The status that the program ends with, by the fault of a check, and by that of a random job.
+-- Example: A report that cannot be read has status 1, as a job that cannot be read has, and memory
+-- that is refused has status 3 in both. Options by which no job is drawn are part of the command
+-- line, so they have status 2.
+-- Source: this project's own.
+use Rattle.std.specs.Prelude.{ℕ}
+use Rattle.stab_random.specs.declared.checked.RandomFault.{RandomFault}
+use Rattle.stab_random.specs.declared.checked.RandomFault.TheVariants as random
+use Rattle.stab_task.specs.Statuses.{status_of}
+use Rattle.rignolda_acts.specs.declared.fault.CheckFault.{CheckFault}
+use Rattle.rignolda_acts.specs.declared.fault.CheckFault.TheVariants.{Job, Unloaded, Line, LinkLine}
+use Rattle.rignolda_acts.specs.declared.random.RandomWriteFault.{RandomWriteFault}
+use Rattle.rignolda_acts.specs.declared.random.RandomWriteFault.TheVariants.{Draw, Write}
+
+-- the status that `stab` has for this fault of the job or of a file, and 1 for a text that is no
+-- report
+abbrev pub check_status : CheckFault → ℕ
+check_status (Job fault) = status_of fault
+check_status (Unloaded fault) = status_of fault
+check_status (Line line) = 1
+check_status (LinkLine line) = 1
+
+-- 2 for options that are refused, and 3 for a drawn job that is none and for memory
+abbrev pub draw_status : RandomFault → ℕ
+draw_status (random.Options refusal) = 2
+draw_status random.Unlike = 3
+draw_status random.Memory = 3
+
+-- that of the drawing, and 3 for a write that fails
+abbrev pub random_status : RandomWriteFault → ℕ
+random_status (Draw fault) = draw_status fault
+random_status Write = 3
