@@ -1,8 +1,8 @@
 //! A call that may be refused memory, and how it is made.
 
-use anyhow::ensure;
 use std::alloc::{AllocError, Global};
 use std::fmt::{Debug, Display};
+use std::io;
 
 /// An object, with the calls that are made on it.
 pub trait Calls: Drop {
@@ -68,7 +68,7 @@ impl Texts {
         rt: &R,
         owner: &str,
         name: &str,
-    ) -> anyhow::Result<()> {
+    ) -> io::Result<()> {
         eprintln!(rt; "refused {owner}{name}")?;
         if self.before != self.after {
             println!(rt;
@@ -80,18 +80,18 @@ impl Texts {
         Ok(())
     }
 
+    /// The answer, unless there may have been no room for a text.
+    fn shown(&self) -> &str {
+        if self.before.len() >= ROOM || self.answer.len() >= ROOM {
+            "(a long text)"
+        } else {
+            self.answer.trim_end()
+        }
+    }
+
     /// Prints an answer after the name of its call, in lines of its own where it has several.
-    pub fn print_answer<R: Print>(
-        &mut self,
-        rt: &R,
-        owner: &str,
-        name: &str,
-    ) -> anyhow::Result<()> {
-        ensure!(
-            self.before.len() < ROOM && self.answer.len() < ROOM,
-            "{name} has a long text"
-        );
-        let answer = self.answer.trim_end();
+    pub fn print_answer<R: Print>(&mut self, rt: &R, owner: &str, name: &str) -> io::Result<()> {
+        let answer = self.shown();
         let between = if answer.contains('\n') { "\n" } else { " " };
         println!(rt; "{owner}{name}:{between}{answer}")?;
         self.before.clear();
@@ -111,24 +111,26 @@ fn again<R: Print + Eprint, C: Calls>(
     call: &C::Call,
 ) -> anyhow::Result<()> {
     let owner = object.owner(call);
-    object.push_object(&mut texts.before)?;
-    if object.make(call, &mut texts.answer).is_err() {
-        object.push_object(&mut texts.after)?;
+    if !is_made_at_once(texts, object, call)? {
         texts.print_refused(rt, owner, name)?;
         object.make(call, &mut texts.answer)?;
     }
-    texts.print_answer(rt, owner, name)
+    texts.print_answer(rt, owner, name)?;
+    Ok(())
 }
 
-/// Prints what an object holds.
-pub fn print_object<R: Print, C: Calls>(
-    rt: &R,
+/// Makes a call, and says whether it was not refused. Both states of the object are added.
+fn is_made_at_once<C: Calls>(
     texts: &mut Texts,
-    name: &str,
-    object: &C,
-) -> anyhow::Result<()> {
-    object.push_object(&mut texts.answer)?;
-    texts.print_answer(rt, "", name)
+    object: &mut C,
+    call: &C::Call,
+) -> Result<bool, AllocError> {
+    object.push_object(&mut texts.before)?;
+    let is_made = object.make(call, &mut texts.answer).is_ok();
+    if !is_made {
+        object.push_object(&mut texts.after)?;
+    }
+    Ok(is_made)
 }
 
 /// Makes the calls of a row.
@@ -147,22 +149,32 @@ pub fn make_row<R: Print + Eprint, C: Calls>(
     Ok(())
 }
 
-/// Makes an object, once more where memory was refused, and the calls of some rows on it. The
-/// object is handed out.
+/// Makes an object, and the calls of some rows on it.
 pub fn make_rows<R: Print + Eprint + AllocGlobal, C: Made>(
     rt: &R,
     texts: &mut Texts,
     given: C::Given,
     rows: &[Row<'_, C::Call>],
-) -> anyhow::Result<C> {
-    let mut object = match C::new(rt.alloc(), given) {
-        Ok(object) => object,
-        Err(_) => C::new(rt.alloc(), given)?,
-    };
+) -> anyhow::Result<()> {
+    let mut object = new_object::<C>(rt.alloc(), given)?;
     for row in rows {
         make_row(rt, texts, &mut object, row)?;
     }
-    Ok(object)
+    Ok(())
+}
+
+/// Makes an object, once more where memory was refused.
+fn new_object<C: Made>(alloc: Global, given: C::Given) -> anyhow::Result<C> {
+    match C::new(alloc, given) {
+        Ok(object) => Ok(object),
+        Err(_) => C::new(alloc, given),
+    }
+}
+
+/// Adds a text.
+pub fn push_text(text: &mut String, made: Result<String, AllocError>) -> Result<(), AllocError> {
+    let made = made?;
+    text.push_str(&made)
 }
 
 /// Adds an answer, or its fault.

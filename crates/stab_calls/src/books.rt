@@ -1,8 +1,8 @@
 //! The calls on the book of a link.
 
-use crate::again::{Calls, Made, Row, Texts, make_rows, print_object, push_fault};
-use crate::end_calls::{EndCall, ROWS, item_after, params, script_of, start_of};
-use stab_core::{Event, Start, push_link_text};
+use crate::again::{Calls, Made, Row, Texts, make_rows, push_fault};
+use crate::end_calls::{EndCall, OF_BOOK, ROWS, item_after, params, script_of, start_of};
+use stab_core::{Event, Start, StartFault, push_link_text};
 use stab_frames::Params;
 use stab_lock::{LinkBook, LockLink};
 use stab_script::HalfScript;
@@ -65,9 +65,8 @@ struct Books {
 /// Makes the calls: those that make a book or note an event, and each row on a book of its own.
 pub fn make_all<R: Print + Eprint + AllocGlobal>(rt: &R, texts: &mut Texts) -> anyhow::Result<()> {
     make_rows::<R, Notes>(rt, texts, (), &[NOTES])?;
-    for row in ROWS {
-        let books = make_rows::<R, Books>(rt, texts, row.0, &[row])?;
-        print_object(rt, texts, "the book holds", &books)?;
+    for row in &ROWS {
+        make_rows::<R, Books>(rt, texts, row.0, &[*row, OF_BOOK])?;
     }
     Ok(())
 }
@@ -76,11 +75,13 @@ impl Made for Notes {
     type Given = ();
 
     fn new(alloc: Global, _given: ()) -> anyhow::Result<Notes> {
+        let params = params()?;
+        let starts = starts_of(alloc)?;
         let book = book_of(alloc, 1)?;
         Ok(Notes {
             alloc,
-            params: params()?,
-            starts: starts_of(alloc)?,
+            params,
+            starts,
             book,
         })
     }
@@ -98,17 +99,11 @@ impl Calls for Notes {
         match call {
             NoteCall::New => {
                 let start = self.starts.pop().ok_or(AllocError)?;
-                match LinkBook::new(alloc, params, start) {
-                    Ok(book) => push_book(text, &book),
-                    Err(fault) => push_fault(text, &fault),
-                }
+                push_new_book(text, LinkBook::new(alloc, params, start))
             }
             NoteCall::NewLock => {
                 let start = self.starts.pop().ok_or(AllocError)?;
-                match LockLink::new(alloc, params, start) {
-                    Ok(link) => push_book(text, &link.into_book()),
-                    Err(fault) => push_fault(text, &fault),
-                }
+                push_new_lock(text, LockLink::new(alloc, params, start))
             }
             NoteCall::Note(event) => {
                 let effect = self.book.note(*event)?;
@@ -123,9 +118,10 @@ impl Made for Books {
     type Given = u32;
 
     fn new(alloc: Global, times: u32) -> anyhow::Result<Books> {
+        let book = book_of(alloc, times)?;
         let (sender, receiver) = script_of(alloc, times)?.split();
         Ok(Books {
-            book: book_of(alloc, times)?,
+            book,
             sender,
             receiver,
         })
@@ -135,8 +131,11 @@ impl Made for Books {
 impl Calls for Books {
     type Call = EndCall;
 
-    fn owner(&self, _call: &EndCall) -> &'static str {
-        "LinkBook::"
+    fn owner(&self, call: &EndCall) -> &'static str {
+        match call {
+            EndCall::Hold => "",
+            _ => "LinkBook::",
+        }
     }
 
     fn push_object(&self, text: &mut String) -> Result<(), AllocError> {
@@ -157,6 +156,7 @@ impl Calls for Books {
             EndCall::Close => write!(text, "{:?}", self.book.close()?),
             EndCall::PollFrame => write!(text, "{:?}", self.book.poll_frame(&mut self.receiver)?),
             EndCall::SendAck => write!(text, "{:?}", self.book.send_ack(&mut self.receiver)?),
+            EndCall::Hold => self.push_object(text),
         }
     }
 }
@@ -165,6 +165,22 @@ impl Calls for Books {
 fn book_of(alloc: Global, times: u32) -> anyhow::Result<LinkBook> {
     let start = start_of(alloc, times)?;
     Ok(LinkBook::new(alloc, params()?, start)?)
+}
+
+/// Adds what a new book holds, or why there is none.
+fn push_new_book(text: &mut String, made: Result<LinkBook, StartFault>) -> Result<(), AllocError> {
+    match made {
+        Ok(book) => push_book(text, &book),
+        Err(fault) => push_fault(text, &fault),
+    }
+}
+
+/// Adds what the book of a new link behind a lock holds, or why there is no such link.
+fn push_new_lock(text: &mut String, made: Result<LockLink, StartFault>) -> Result<(), AllocError> {
+    match made {
+        Ok(link) => push_book(text, &link.into_book()),
+        Err(fault) => push_fault(text, &fault),
+    }
 }
 
 /// Starts for two calls that may each be made twice.

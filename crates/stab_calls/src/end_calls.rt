@@ -7,7 +7,8 @@ use stab_frames::{Item, Params, ParamsFault};
 use stab_script::Script;
 use std::alloc::Global;
 
-/// A call of one of the two ends of a link, or the call of that name of a book.
+/// A call of one of the two ends of a link, or the call of that name of a book; or what the object
+/// of the calls holds.
 #[derive(Clone, Copy)]
 pub enum EndCall {
     Offer,
@@ -16,6 +17,7 @@ pub enum EndCall {
     Close,
     PollFrame,
     SendAck,
+    Hold,
 }
 
 /// Calls on a new link, which are made once where the link begins full, and more often where it
@@ -30,6 +32,12 @@ pub const ROWS: [Row<'static, EndCall>; 6] = [
     (1, &[("send_ack", EndCall::SendAck)]),
     ROUNDS,
 ];
+
+/// What a book holds after its calls.
+pub const OF_BOOK: Row<'static, EndCall> = (1, &[("the book holds", EndCall::Hold)]);
+
+/// What the ends of a link hold after their calls.
+pub const OF_ENDS: Row<'static, EndCall> = (1, &[("the ends hold", EndCall::Hold)]);
 
 /// Items are taken, delivered and acknowledged, one after the other.
 pub const ROUNDS: Row<'static, EndCall> = (

@@ -1,15 +1,15 @@
 //! The calls of the two ends of a link: behind a lock, of two words, and of either kind.
 
-use crate::again::{Calls, Row, Texts, make_row, print_object};
+use crate::again::{Calls, Row, Texts, make_row};
 use crate::books::push_book;
-use crate::end_calls::{EndCall, ROUNDS, ROWS, item_after, params, script_of, start_of};
+use crate::end_calls::{EndCall, OF_ENDS, ROUNDS, ROWS, item_after, params, script_of, start_of};
 use stab_core::Start;
 use stab_ends::{RecvSide, SendSide};
-use stab_lock::LockLink;
+use stab_lock::{LinkBook, LockLink};
 use stab_run::{AnyRecv, AnySend};
 use stab_script::Script;
 use stab_word::{WordLink, WordRecv, WordSend};
-use std::alloc::AllocError;
+use std::alloc::{AllocError, Global};
 use std::sync::Wait;
 
 /// What a link is: behind a lock, of two words, or of either kind.
@@ -19,10 +19,6 @@ enum Kind {
     Words,
     Any,
 }
-
-const OF_WORDS: [&str; 2] = ["WordSend::", "WordRecv::"];
-
-const ANY: [&str; 2] = ["AnySend::", "AnyRecv::"];
 
 /// Both ends of a link, and what the link is.
 #[derive(Drop)]
@@ -37,14 +33,15 @@ impl<'p, S: SendSide, T: RecvSide<Pass = S::Pass>> Calls for Ends<'p, S, T> {
     type Call = EndCall;
 
     fn owner(&self, call: &EndCall) -> &'static str {
-        let is_recv = matches!(call, EndCall::PollFrame | EndCall::SendAck);
-        match self.kind {
-            Kind::Lock if is_recv => "LockRecv::",
-            Kind::Lock => "LockSend::",
-            Kind::Words if is_recv => "WordRecv::",
-            Kind::Words => "WordSend::",
-            Kind::Any if is_recv => "AnyRecv::",
-            Kind::Any => "AnySend::",
+        let (of_send, of_recv) = match self.kind {
+            Kind::Lock => ("LockSend::", "LockRecv::"),
+            Kind::Words => ("WordSend::", "WordRecv::"),
+            Kind::Any => ("AnySend::", "AnyRecv::"),
+        };
+        match call {
+            EndCall::PollFrame | EndCall::SendAck => of_recv,
+            EndCall::Hold => "",
+            _ => of_send,
         }
     }
 
@@ -65,6 +62,7 @@ impl<'p, S: SendSide, T: RecvSide<Pass = S::Pass>> Calls for Ends<'p, S, T> {
             EndCall::Close => write!(text, "{:?}", self.send.close(pass)?),
             EndCall::PollFrame => write!(text, "{:?}", self.recv.poll_frame(pass)?),
             EndCall::SendAck => write!(text, "{:?}", self.recv.send_ack(pass)?),
+            EndCall::Hold => self.push_object(text),
         }
     }
 }
@@ -75,15 +73,25 @@ pub fn make_all<R: Print + Eprint + Wait + AllocGlobal>(
     rt: &R,
     texts: &mut Texts,
 ) -> anyhow::Result<()> {
-    for (is_any, rows) in [(false, &ROWS[..]), (true, &ROWS[..ROWS.len() - 1])] {
-        for row in rows {
-            if make_locked(rt, texts, is_any, row).is_err() {
-                make_locked(rt, texts, is_any, row)?;
-            }
+    make_kind(rt, texts, false, &ROWS)?;
+    make_kind(rt, texts, true, &ROWS[..ROWS.len() - 1])
+}
+
+/// Makes the rows on the ends of links behind a lock, and the rounds on those of a link of two
+/// words, as such or as ends of either kind.
+fn make_kind<R: Print + Eprint + Wait + AllocGlobal>(
+    rt: &R,
+    texts: &mut Texts,
+    is_any: bool,
+    rows: &[Row<'_, EndCall>],
+) -> anyhow::Result<()> {
+    for row in rows {
+        if make_locked(rt, texts, is_any, row).is_err() {
+            make_locked(rt, texts, is_any, row)?;
         }
-        if make_on_words(rt, texts, is_any).is_err() {
-            make_on_words(rt, texts, is_any)?;
-        }
+    }
+    if make_on_words(rt, texts, is_any).is_err() {
+        make_on_words(rt, texts, is_any)?;
     }
     Ok(())
 }
@@ -95,11 +103,23 @@ fn make_locked<R: Print + Eprint + Wait + AllocGlobal>(
     is_any: bool,
     row: &Row<'_, EndCall>,
 ) -> anyhow::Result<()> {
-    let start = start_of(rt.alloc(), row.0)?;
-    let link = LockLink::new(rt.alloc(), params()?, start)?;
+    let link = link_of(rt.alloc(), row.0)?;
     make_split(rt, texts, is_any, &link, row)?;
-    push_book(&mut texts.answer, &link.into_book())?;
-    texts.print_answer(rt, "", "the book holds")
+    print_book(rt, texts, &link.into_book())
+}
+
+/// The link behind a lock of a row that is made so often.
+fn link_of(alloc: Global, times: u32) -> anyhow::Result<LockLink> {
+    let params = params()?;
+    let start = start_of(alloc, times)?;
+    Ok(LockLink::new(alloc, params, start)?)
+}
+
+/// Prints what a book holds.
+fn print_book<R: Print>(rt: &R, texts: &mut Texts, book: &LinkBook) -> anyhow::Result<()> {
+    push_book(&mut texts.answer, book)?;
+    texts.print_answer(rt, "", "the book holds")?;
+    Ok(())
 }
 
 /// Makes a row of calls on the ends of a link behind a lock, as such or as ends of either kind.
@@ -168,5 +188,5 @@ fn make_on<R: Print + Eprint, S: SendSide, T: RecvSide<Pass = S::Pass>>(
         recv,
     };
     make_row(rt, texts, &mut ends, row)?;
-    print_object(rt, texts, "the ends hold", &ends)
+    make_row(rt, texts, &mut ends, &OF_ENDS)
 }

@@ -21,6 +21,7 @@ mod works;
 
 use crate::again::{Texts, make_rows};
 use crate::links::Links;
+use crate::scripts::Scripts;
 use crate::trees::Chain;
 use crate::works::Works;
 use std::sync::Wait;
@@ -34,10 +35,9 @@ pub fn make_calls<R: Print + Eprint + Wait + AllocGlobal>(
 ) -> anyhow::Result<()> {
     make_rows::<R, Links>(rt, texts, (), &links::ROWS)?;
     readers::make_all(rt, texts)?;
-    scripts::make_all(rt, texts)?;
+    make_rows::<R, Scripts>(rt, texts, (), &[scripts::ROW])?;
     make_rows::<R, Chain>(rt, texts, (), &trees::ROWS)?;
     books::make_all(rt, texts)?;
     ends::make_all(rt, texts)?;
-    make_rows::<R, Works>(rt, texts, (), &[works::ROW])?;
-    Ok(())
+    make_rows::<R, Works>(rt, texts, (), &[works::ROW])
 }

@@ -1,7 +1,7 @@
 //! The calls on a queue, a start and a link: the steps of a link, the replays of a list of events,
 //! and their texts.
 
-use crate::again::{Calls, Made, Row, push_answer, push_fault};
+use crate::again::{Calls, Made, Row, push_answer, push_fault, push_text};
 use crate::jobs::WORST_START;
 use stab_core::{
     Event, Link, Origin, StartFault, link_text, origins_text, push_link_text, push_origins_text,
@@ -9,7 +9,7 @@ use stab_core::{
 };
 use stab_frames::{FrameQueue, Item};
 use stab_script::{LinkJob, read_link_job};
-use stab_word::WordLink;
+use stab_word::{WordFault, WordLink, WordOpening};
 use std::alloc::{AllocError, Global};
 
 /// Items, so many that both lists of a link grow three times.
@@ -102,26 +102,25 @@ impl Calls for Links {
         let (alloc, params, start) = (self.alloc, self.job.params, &self.job.start);
         let events = self.job.events.as_slice();
         match call {
-            LinkCall::NewQueue => push_room(text, FrameQueue::new(alloc, 2)?),
+            LinkCall::NewQueue => push_room(text, FrameQueue::new(alloc, 2)),
             LinkCall::CopyStart => push_answer(text, start.copy(alloc)),
             LinkCall::NewLink => push_link(text, Link::new(alloc, params, start)),
-            LinkCall::NewWords => match WordLink::new(alloc, params, start) {
-                Ok(_) => text.push_str("a link of two words"),
-                Err(fault) => push_fault(text, &fault),
-            },
+            LinkCall::NewWords => push_words(text, WordLink::new(alloc, params, start)),
             LinkCall::RunLink => push_link(text, run_link(alloc, params, start, events)),
-            LinkCall::Trace => match trace(alloc, params, start, events) {
-                Ok(origins) => push_origins_text(text, &origins),
-                Err(fault) => push_fault(text, &fault),
-            },
-            LinkCall::OriginsText => text.push_str(&origins_text(alloc, &ORIGINS)?),
-            LinkCall::Offer => match ITEMS.get(self.link.offered().len()) {
-                Some(item) => apply(&mut self.link, Event::Offer(*item), text),
-                None => text.push_str("no item is left"),
-            },
+            LinkCall::Trace => push_origins(text, trace(alloc, params, start, events)),
+            LinkCall::OriginsText => push_text(text, origins_text(alloc, &ORIGINS)),
+            LinkCall::Offer => offer(&mut self.link, text),
             LinkCall::Apply(event) => apply(&mut self.link, *event, text),
-            LinkCall::LinkText => text.push_str(&link_text(alloc, &self.link)?),
+            LinkCall::LinkText => push_text(text, link_text(alloc, &self.link)),
         }
+    }
+}
+
+/// Offers the next item to a link.
+fn offer(link: &mut Link, text: &mut String) -> Result<(), AllocError> {
+    match ITEMS.get(link.offered().len()) {
+        Some(item) => apply(link, Event::Offer(*item), text),
+        None => text.push_str("no item is left"),
     }
 }
 
@@ -132,14 +131,45 @@ fn apply(link: &mut Link, event: Event, text: &mut String) -> Result<(), AllocEr
 }
 
 /// Adds for which items a new queue has room.
-fn push_room(text: &mut String, mut queue: FrameQueue<Item>) -> Result<(), AllocError> {
+fn push_room(
+    text: &mut String,
+    queue: Result<FrameQueue<Item>, AllocError>,
+) -> Result<(), AllocError> {
+    let mut queue = queue?;
     text.push_str("room for")?;
-    for item in ITEMS {
-        if queue.put(item) {
+    fill(text, &mut queue)
+}
+
+/// Adds the items that a queue takes.
+fn fill(text: &mut String, queue: &mut FrameQueue<Item>) -> Result<(), AllocError> {
+    for item in &ITEMS {
+        if queue.put(*item) {
             write!(text, " {item}")?;
         }
     }
     Ok(())
+}
+
+/// Adds that there is a link of two words, or why there is none.
+fn push_words(
+    text: &mut String,
+    made: Result<(WordLink, WordOpening), WordFault>,
+) -> Result<(), AllocError> {
+    match made {
+        Ok(_) => text.push_str("a link of two words"),
+        Err(fault) => push_fault(text, &fault),
+    }
+}
+
+/// Adds where the delivered items come from, or why there are none.
+fn push_origins(
+    text: &mut String,
+    origins: Result<Vec<Origin>, StartFault>,
+) -> Result<(), AllocError> {
+    match origins {
+        Ok(origins) => push_origins_text(text, &origins),
+        Err(fault) => push_fault(text, &fault),
+    }
 }
 
 /// Adds the lines of a link, or why there is none.

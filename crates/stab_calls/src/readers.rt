@@ -87,10 +87,21 @@ struct Read {
 
 /// Makes the calls of the readers.
 pub fn make_all<R: Print + Eprint + AllocGlobal>(rt: &R, texts: &mut Texts) -> anyhow::Result<()> {
-    for (name, reader, given) in TEXTS {
-        for text in given {
-            make_rows::<R, Read>(rt, texts, text, &[(1, &[(name, reader)])])?;
-        }
+    for (name, reader, given) in &TEXTS {
+        make_each(rt, texts, &[(*name, *reader)], given)?;
+    }
+    Ok(())
+}
+
+/// Makes the calls of a reader, each on a text.
+fn make_each<R: Print + Eprint + AllocGlobal>(
+    rt: &R,
+    texts: &mut Texts,
+    calls: &[(&str, Reader)],
+    given: &[&'static str],
+) -> anyhow::Result<()> {
+    for text in given {
+        make_rows::<R, Read>(rt, texts, *text, &[(1, calls)])?;
     }
     Ok(())
 }

@@ -1,6 +1,6 @@
 //! The calls that make a script: a copy, and draws of a generator.
 
-use crate::again::{Calls, Made, Row, Texts, make_rows, push_answer};
+use crate::again::{Calls, Made, Row, push_answer};
 use crate::readers::script_of;
 use rand_core::Rng;
 use rand_pcg::Pcg32;
@@ -12,8 +12,8 @@ const SCRIPT: &str = r#"{"frames_out":"DPE","frames_in":"K","acks_out":"ED","ack
 
 /// A copy of a script, and draws of one generator, one after the other: the length of each list,
 /// the loss, and the repetition. The last draw but one is refused for its rate, and one draws
-/// nothing.
-const ROW: Row<'static, ScriptCall> = (
+/// nothing. Then the generator gave no word but those of the draws.
+pub const ROW: Row<'static, ScriptCall> = (
     1,
     &[
         ("Script::copy", ScriptCall::Copy),
@@ -29,31 +29,25 @@ const ROW: Row<'static, ScriptCall> = (
         ("Script::draw", ScriptCall::Draw(6, 0, 1001)),
         ("Script::from_seed", ScriptCall::FromSeed(2, 1000, 1000)),
         ("Script::draw", ScriptCall::Draw(2, 1000, 1000)),
+        ("the next word", ScriptCall::NextWord),
     ],
 );
 
 /// A script, and a generator that scripts are drawn of.
 #[derive(Drop)]
-struct Scripts {
+pub struct Scripts {
     alloc: Global,
     script: Script,
     generator: Pcg32,
 }
 
-/// A call that makes a script.
+/// A call that makes a script, or the next word of the generator.
 #[derive(Clone, Copy)]
-enum ScriptCall {
+pub enum ScriptCall {
     Copy,
     Draw(u32, u16, u16),
     FromSeed(u32, u16, u16),
-}
-
-/// Makes the calls. Then the generator gave no word but those of the draws.
-pub fn make_all<R: Print + Eprint + AllocGlobal>(rt: &R, texts: &mut Texts) -> anyhow::Result<()> {
-    let mut scripts = make_rows::<R, Scripts>(rt, texts, (), &[ROW])?;
-    let word = scripts.generator.next_u32();
-    println!(rt; "the next word is {word}")?;
-    Ok(())
+    NextWord,
 }
 
 impl Made for Scripts {
@@ -86,6 +80,7 @@ impl Calls for Scripts {
             ScriptCall::FromSeed(len, loss, repeat) => {
                 push_answer(text, Script::from_seed(alloc, 42, 54, len, loss, repeat))
             }
+            ScriptCall::NextWord => write!(text, "{}", generator.next_u32()),
         }
     }
 }

@@ -2,7 +2,7 @@
 
 ghost use Rattle.std.specs.Prelude.{◌≡◌, IfOk};
 
-use crate::again::{Calls, Made, Row, push_answer, push_fault};
+use crate::again::{Calls, Made, Row, push_answer, push_fault, push_text};
 use crate::jobs::WORST_CHAIN;
 use crate::links::ITEMS;
 use stab_core::{LinkAct, push_link_text};
@@ -117,7 +117,7 @@ impl Calls for Chain {
             ChainCall::NoOpenings => push_answer(text, Openings::none(alloc, tree)),
             ChainCall::NewState => push_state(text, opened(alloc, &self.job)),
             ChainCall::Run => push_state(text, after(alloc, &self.job)),
-            ChainCall::Text => text.push_str(&schedule_text(alloc, tree, &self.state)?),
+            ChainCall::Text => push_text(text, schedule_text(alloc, tree, &self.state)),
             ChainCall::Step(child, act) => step(&mut self.steps, child, act, text),
             ChainCall::Links => push_links(text, &self.steps),
         }
@@ -175,8 +175,8 @@ fn push_state(
 
 /// Adds the lines of all links.
 fn push_links(text: &mut String, state: &TreeState) -> Result<(), AllocError> {
-    for child in CHILDREN {
-        if let Some(link) = state.link(NodeId::new(child)) {
+    for child in &CHILDREN {
+        if let Some(link) = state.link(NodeId::new(*child)) {
             writeln!(text, "link into {child}")?;
             push_link_text(text, link)?;
         }

@@ -54,8 +54,8 @@ impl Works {
     /// Adds an upper end, and a lower end that acknowledges at once.
     fn add_ends(&mut self) -> Result<(), AllocError> {
         let mut seen = VecDeque::with_capacity(self.alloc, SEEN.len())?;
-        for entry in SEEN {
-            seen.push_back(entry)?;
+        for entry in &SEEN {
+            seen.push_back(*entry)?;
         }
         self.ups.push(PlainRecv::new(self.alloc, seen))?;
         let mut ends = Vec::new(self.alloc);

@@ -8,14 +8,14 @@ ghost use Rattle.stab_run.specs.Reports.{OnePerNode};
 
 use crate::gate::{CountingGate, NODES};
 use crate::record::Record;
-use stab_calls::again::{Texts, push_fault};
+use stab_calls::again::{Texts, push_fault, push_text};
 use stab_calls::jobs::{
     CHAIN, LONE_ROOT, LOSSY_CHAIN, OPENED_CHAIN, TWO_LINKS, UNLAWFUL_START, WIDER_CHAIN,
     WIDER_LOSSY_CHAIN, WORST_START,
 };
 use stab_frames::{Item, Sequence};
 use stab_node::Ended;
-use stab_run::{Job, Report, read_job, report_text, run_locked, run_mixed, run_words};
+use stab_run::{Job, Report, RunFault, read_job, report_text, run_locked, run_mixed, run_words};
 use stab_task::{Links, Task, act};
 use stab_tree::Tree;
 use std::alloc::{AllocError, Global};
@@ -127,13 +127,27 @@ fn again_in_threads<R: Print + Eprint + Threads + Wait + Send + Sync + AllocGlob
     runs: &mut Runs,
     call: &RunCall,
 ) -> anyhow::Result<()> {
-    write!(texts.before, "{runs:?}")?;
-    if make(rt, runs, call, &mut texts.answer).is_err() {
-        write!(texts.after, "{runs:?}")?;
+    if !is_made_at_once(rt, texts, runs, call)? {
         texts.print_refused(rt, "", name)?;
         make(rt, runs, call, &mut texts.answer)?;
     }
-    texts.print_answer(rt, "", name)
+    texts.print_answer(rt, "", name)?;
+    Ok(())
+}
+
+/// Makes a call, and says whether it was not refused. Both states of the object are added.
+fn is_made_at_once<R: Threads + Wait + Send + Sync + AllocGlobal>(
+    rt: &R,
+    texts: &mut Texts,
+    runs: &mut Runs,
+    call: &RunCall,
+) -> Result<bool, AllocError> {
+    write!(texts.before, "{runs:?}")?;
+    let is_made = make(rt, runs, call, &mut texts.answer).is_ok();
+    if !is_made {
+        write!(texts.after, "{runs:?}")?;
+    }
+    Ok(is_made)
 }
 
 /// Makes a call.
@@ -145,7 +159,7 @@ fn make<R: Threads + Wait + Send + Sync + AllocGlobal>(
 ) -> Result<(), AllocError> {
     match *call {
         RunCall::Run(links) => run(rt, &runs.job, links, text),
-        RunCall::ReportText => push_report(rt.alloc(), text, &runs.job, &runs.report),
+        RunCall::ReportText => push_report(rt.alloc(), text, runs.job.tree(), &runs.report),
         RunCall::Act(task, job) => do_task(rt, task, job, true, &mut runs.record, text),
         RunCall::ActInPart(task, job) => do_task(rt, task, job, false, &mut runs.record, text),
     }
@@ -164,13 +178,19 @@ fn run<R: Threads + Wait + Send + Sync + AllocGlobal>(
         Links::Words => run_words(rt, rt.alloc(), job, &gate),
         Links::Mixed => run_mixed(rt, rt.alloc(), job, &gate),
     };
-    if !gate.is_done_once(answer.is_ok()) {
-        return text.push_str("a node did not ask, or asked and was not done once");
+    if gate.is_done_once(answer.is_ok()) {
+        push_ended(text, &answer)
+    } else {
+        text.push_str("a node did not ask, or asked and was not done once")
     }
+}
+
+/// Adds what holds of every report, or a report of which it does not hold, or a fault.
+fn push_ended(text: &mut String, answer: &Result<Report, RunFault>) -> Result<(), AllocError> {
     match answer {
-        Ok(report) if is_handed_on(&report) => text.push_str(HANDED_ON),
+        Ok(report) if is_handed_on(report) => text.push_str(HANDED_ON),
         Ok(report) => write!(text, "{report:?}"),
-        Err(fault) => push_fault(text, &fault),
+        Err(fault) => push_fault(text, fault),
     }
 }
 
@@ -178,11 +198,11 @@ fn run<R: Threads + Wait + Send + Sync + AllocGlobal>(
 fn push_report(
     alloc: Global,
     text: &mut String,
-    job: &Job,
+    tree: &Tree,
     report: &Report,
 ) -> Result<(), AllocError> {
-    if is_of(report, job.tree()) {
-        text.push_str(&report_text(alloc, job.tree(), report)?)
+    if is_of(report, tree) {
+        push_text(text, report_text(alloc, tree, report))
     } else {
         text.push_str("no report of this job")
     }
@@ -240,14 +260,20 @@ fn is_some_of(items: &[Item], all: &[Item]) -> bool {
 
 /// A report of the chain.
 fn chain_report(alloc: Global) -> Result<Report, AllocError> {
+    let received = chain_received(alloc)?;
+    let acked = Vec::from_slice(alloc, &[None, Some(5), Some(3)])?;
+    let ended = Vec::from_slice(alloc, &[Ended::Upstream, Ended::Upstream, Ended::Turns])?;
+    Ok(Report::new(received, acked, ended))
+}
+
+/// What each node of that report has received.
+fn chain_received(alloc: Global) -> Result<Vec<Sequence<Item>>, AllocError> {
     let mut received = Vec::with_capacity(alloc, NODES)?;
     for count in [5, 5, 3] {
         let items = Vec::from_slice(alloc, &PUBLISHED[..count])?;
         received.push(Sequence::from_vec(items))?;
     }
-    let acked = Vec::from_slice(alloc, &[None, Some(5), Some(3)])?;
-    let ended = Vec::from_slice(alloc, &[Ended::Upstream, Ended::Upstream, Ended::Turns])?;
-    Ok(Report::new(received, acked, ended))
+    Ok(received)
 }
 
 /// Whether a report has an entry for each node of a tree.
