@@ -16,34 +16,45 @@ pub(crate) struct Given {
     pub(crate) text: String,
 }
 
-/// What the program writes for an example: the text of its answer, or the line of its fault and its
-/// status.
+/// What is given for a file that says what is expected: the run of a link job; or what the program
+/// writes, which is the text of its answer, or the line of its fault and its status.
 pub(crate) fn answer<R: Files + Threads + Wait + Send + Sync + AllocGlobal>(
     rt: &R,
     name: &str,
+    kind: &str,
 ) -> io::Result<Given> {
+    if kind == "run" {
+        return run_of(rt, name);
+    }
     let mut written = Vec::new(rt.alloc());
     let ended = perform_files(rt, name, &mut written)?;
     given_of(rt, &written, ended)
 }
 
-/// Does what the lines of NAME.args ask for, with the bytes of NAME.json, which are none where
-/// there is no such file.
+/// Does what the lines of NAME.args ask for, with the bytes of NAME.json.
 fn perform_files<R: Files + Threads + Wait + Send + Sync + AllocGlobal>(
     rt: &R,
     name: &str,
     written: &mut Vec<u8>,
 ) -> io::Result<Result<(), CliFault>> {
-    let file = format!(in rt.alloc(); "{name}.args")?;
-    let line = if_there(fs::read_to_string(rt, &file))?.unwrap_or(String::new(rt.alloc()));
-    let words = words_of(rt.alloc(), &line)?;
-    let job = job_of(rt, name)?;
+    let words = given_words(rt, name)?;
+    let job = bytes_of(rt, name, "json")?;
     Ok(perform(rt, &words, &job, written))
 }
 
-/// The bytes of NAME.json, or none if there is no such file.
-fn job_of<R: Files + AllocGlobal>(rt: &R, name: &str) -> io::Result<Vec<u8>> {
-    let file = format!(in rt.alloc(); "{name}.json")?;
+/// The words of a command line: the name of the program, and the lines of NAME.args.
+fn given_words<R: Files + AllocGlobal>(rt: &R, name: &str) -> io::Result<Vec<String>> {
+    let line = bytes_of(rt, name, "args")?;
+    let words = words_of(
+        rt.alloc(),
+        std::str::from_utf8(&line).unwrap_or("(no text)"),
+    )?;
+    Ok(words)
+}
+
+/// The bytes of a file of an example, or none if there is no such file.
+fn bytes_of<R: Files + AllocGlobal>(rt: &R, name: &str, kind: &str) -> io::Result<Vec<u8>> {
+    let file = format!(in rt.alloc(); "{name}.{kind}")?;
     let bytes = if_there(fs::read(rt, &file))?;
     Ok(bytes.unwrap_or(Vec::new(rt.alloc())))
 }
@@ -90,13 +101,13 @@ fn perform<R: Files + Threads + Wait + Send + Sync + AllocGlobal>(
 }
 
 /// The run of a link job, step by step, or the fault for which it has none.
-pub(crate) fn run_of<R: Files + AllocGlobal>(rt: &R, name: &str) -> io::Result<Given> {
-    let job = job_of(rt, name)?;
-    Ok(match run_table(rt.alloc(), &job) {
-        Ok(text) => Given { kind: "run", text },
-        Err(fault) => Given {
+fn run_of<R: Files + AllocGlobal>(rt: &R, name: &str) -> io::Result<Given> {
+    let job = bytes_of(rt, name, "json")?;
+    match run_table(rt.alloc(), &job) {
+        Ok(text) => Ok(Given { kind: "run", text }),
+        Err(fault) => Ok(Given {
             kind: "err",
             text: fault.to_string(rt.alloc())?,
-        },
-    })
+        }),
+    }
 }

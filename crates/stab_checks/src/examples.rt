@@ -5,9 +5,9 @@
 //! link step by step. For each file it prints a line, and after a difference both texts. A file
 //! that is not in the list is a difference as well. The last line counts.
 
-use crate::answer::{Given, answer, run_of};
+use crate::answer::{Given, answer};
 use crate::listing::{expected_files, if_there, listed_files};
-use crate::table::squeezed;
+use crate::table::is_same_table;
 use std::rt::Files;
 use std::sync::Wait;
 use std::thread::Threads;
@@ -19,23 +19,43 @@ pub(crate) fn compare_all<
     R: Files + Input + Print + Threads + Wait + Send + Sync + AllocGlobal + Clone + Drop,
 >(rt: &R) -> io::Result<bool> {
     let listed = listed_files(rt)?;
+    let (same, other) = compare_listed(rt, &listed)?;
+    let other = print_unlisted(rt, &listed, other)?;
+    println!(rt; "{same} same, {other} other")?;
+    Ok(other == 0 && same > 0)
+}
+
+/// Compares the listed files, and counts those that are as expected and the others.
+fn compare_listed<R: Files + Print + Threads + Wait + Send + Sync + AllocGlobal>(
+    rt: &R,
+    listed: &[String],
+) -> io::Result<(u64, u64)> {
     let mut same = 0u64;
     let mut other = 0u64;
-    for file in listed.as_slice() {
+    for file in listed {
         if compare(rt, file)? {
             same = same.saturating_add(1);
         } else {
             other = other.saturating_add(1);
         }
     }
-    for file in expected_files(rt)?.as_slice() {
-        if !listed.as_slice().contains(file) {
+    Ok((same, other))
+}
+
+/// Names the files that are not listed, and counts them with the others.
+fn print_unlisted<R: Files + Print + AllocGlobal + Clone + Drop>(
+    rt: &R,
+    listed: &[String],
+    other: u64,
+) -> io::Result<u64> {
+    let mut other = other;
+    for file in &expected_files(rt)? {
+        if !listed.contains(file) {
             println!(rt; "OTHER  {file}\nThe file is not in the list.")?;
             other = other.saturating_add(1);
         }
     }
-    println!(rt; "{same} same, {other} other")?;
-    Ok(other == 0 && same > 0)
+    Ok(other)
 }
 
 /// Compares one file with what is given for it, and says whether both are the same.
@@ -48,12 +68,14 @@ fn compare<R: Files + Print + Threads + Wait + Send + Sync + AllocGlobal>(
         return Ok(false);
     };
     let (name, kind) = file.rsplit_once('.').unwrap_or((file, ""));
-    if kind == "run" {
-        let expected = squeezed(rt.alloc(), &expected)?;
-        print_same(rt, file, kind, &expected, &run_of(rt, name)?)
-    } else {
-        print_same(rt, file, kind, &expected, &answer(rt, name)?)
-    }
+    let given = answer(rt, name, kind)?;
+    print_same(rt, file, kind, &expected, &given)
+}
+
+/// Whether what is given is as expected. Of a run the words count alone.
+fn is_as_expected(kind: &str, expected: &str, given: &Given) -> bool {
+    let text = given.text.as_str();
+    given.kind == kind && (text == expected || (kind == "run" && is_same_table(text, expected)))
 }
 
 /// Prints a line and any difference, and says whether what is given is as expected.
@@ -64,7 +86,7 @@ fn print_same<R: Print>(
     expected: &str,
     given: &Given,
 ) -> io::Result<bool> {
-    let is_same = given.kind == kind && given.text.as_str() == expected;
+    let is_same = is_as_expected(kind, expected, given);
     if is_same {
         println!(rt; "same   {file}")?;
     } else {

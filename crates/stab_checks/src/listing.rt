@@ -1,5 +1,6 @@
 //! The files of the examples, and those that say what is expected.
 
+use std::alloc::Global;
 use std::fs;
 use std::io::{self, ErrorKind};
 use std::rt::Files;
@@ -18,16 +19,35 @@ pub(crate) fn expected_files<R: Files + AllocGlobal + Clone + Drop>(
     rt: &R,
 ) -> io::Result<Vec<String>> {
     let mut files = Vec::new(rt.alloc());
+    add_all_files(rt, &mut files)?;
+    Ok(files)
+}
+
+/// Adds the files that say what is expected, in this folder and in those right below it.
+fn add_all_files<R: Files + AllocGlobal + Clone + Drop>(
+    rt: &R,
+    files: &mut Vec<String>,
+) -> io::Result<()> {
     for entry in fs::read_dir(rt, ".")? {
         let entry = entry?;
-        let name = entry.file_name();
-        if entry.file_type()?.is_dir() {
-            add_files_of(rt, name, &mut files)?;
-        } else if says_what_is_expected(name) {
-            files.push(String::from_str(rt.alloc(), name)?)?;
-        }
+        let is_folder = entry.file_type()?.is_dir();
+        add_entry(rt, entry.file_name(), is_folder, files)?;
     }
-    Ok(files)
+    Ok(())
+}
+
+/// Adds a file, or the files of a folder, that say what is expected.
+fn add_entry<R: Files + AllocGlobal + Clone + Drop>(
+    rt: &R,
+    name: &str,
+    is_folder: bool,
+    files: &mut Vec<String>,
+) -> io::Result<()> {
+    if is_folder {
+        add_files_of(rt, name, files)
+    } else {
+        add_file(rt.alloc(), "", name, files)
+    }
 }
 
 /// Adds the files of a folder that say what is expected.
@@ -36,12 +56,18 @@ fn add_files_of<R: Files + AllocGlobal + Clone + Drop>(
     folder: &str,
     files: &mut Vec<String>,
 ) -> io::Result<()> {
+    let before = format!(in rt.alloc(); "{folder}/")?;
     for entry in fs::read_dir(rt, folder)? {
         let entry = entry?;
-        let name = entry.file_name();
-        if says_what_is_expected(name) {
-            files.push(format!(in rt.alloc(); "{folder}/{name}")?)?;
-        }
+        add_file(rt.alloc(), &before, entry.file_name(), files)?;
+    }
+    Ok(())
+}
+
+/// Adds a file if it says what is expected: what comes before its name, and its name.
+fn add_file(alloc: Global, before: &str, name: &str, files: &mut Vec<String>) -> io::Result<()> {
+    if says_what_is_expected(name) {
+        files.push(format!(in alloc; "{before}{name}")?)?;
     }
     Ok(())
 }
