@@ -1,6 +1,6 @@
 -- The faults of a run's table.
 -- Source: this project's own.
-use Rattle.std.specs.Prelude.{ℕ, List}
+use Rattle.std.specs.Prelude.{ℕ, false, List}
 use Rattle.stab_task.specs.Answers.{IsFault}
 use Rattle.stab_task.specs.declared.command.Task.TheVariants.{Link}
 use Rattle.stab_task.specs.declared.fault.CliFault.{CliFault}
