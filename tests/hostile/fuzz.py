@@ -66,11 +66,16 @@ TEXTS["run", "--words"] = TEXTS["run", "--mixed"] = TEXTS["run",]
 
 
 def faults():
-    """The table of faults in docs/FORMATS.md: the status of each line."""
+    """The faults in docs/FORMATS.md, each with its status: those beside the checks of a job, which
+    have status 1 where the job is refused and 3 where a start, a step or the run is, and those of
+    the table, which says the status."""
     with open(os.path.join(TOP, "docs", "FORMATS.md"), encoding="utf-8") as page:
-        section = page.read().split("\n## Faults\n")[1]
+        checks, section = page.read().split("\n## Faults\n")
+    found = {text: 1 if text.startswith(("job:", "tree:")) else 3
+             for text in re.findall(r"^\| .* \| `([a-z]+: [^`]*)` \|$", checks, re.M)}
     rows = re.findall(r"^\| .* \| `(.*)` \| ([123]) \|$", section, re.M)
-    return {b"stab: %s\n" % text.encode(): int(status) for text, status in rows}
+    found.update((text, int(status)) for text, status in rows)
+    return {b"stab: %s\n" % text.encode(): status for text, status in found.items()}
 
 
 # How a job is spoilt. A job is its bytes, or a value: a Scalar, a list of values, or a Members.
