@@ -11,7 +11,6 @@ use Rattle.stab_frames.specs.Parameters.{Parameters}
 use Rattle.stab_core.specs.declared.event.Event.{Event}
 use Rattle.stab_core.specs.declared.start.Start.{Start}
 use Rattle.stab_core.specs.Link.{LinkValue, link_at, Grows}
-use Rattle.stab_core.specs.LinkSetup.{LinkSetup}
 use Rattle.stab_core.specs.LinkState.{LinkState}
 use Rattle.stab_core.specs.Replay.{initial, replay}
 use Rattle.stab_core.specs.Step.{effect}
@@ -21,10 +20,6 @@ pub record Book : Type 0 where
   pub params : Parameters
   pub start : Start
   pub history : List Event
-
--- what a link is given: its parameters and its start
-abbrev pub Given : Type 0
-Given = LinkSetup
 
 -- the book of these
 abbrev pub book_of : Parameters → Start → List Event → Book
