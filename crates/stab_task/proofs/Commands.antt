@@ -19,7 +19,7 @@ use Rattle.stab_task.specs.declared.fault.CliFault.{CliFault}
 use Rattle.stab_task.specs.declared.fault.CliFault.TheVariants.{CommandLine, Memory}
 
 -- the model of `clap` covers this command line
-simple : is_simple stab_line ≡ true
+pub simple : is_simple stab_line ≡ true
 unfolding clap_on_literals
 simple = refl
 

@@ -8,9 +8,12 @@
 use Rattle.std.specs.Prelude.{◌≡◌, ◌⊎◌, Bool, true, false, List, [], Option, Some, None}
 use Rattle.std.specs.Prelude.{◌&&◌, codes, find, option_and_then, if◌then◌else◌}
 use Rattle.std.specs.Str.{bytes_eq}
-use Rattle.clap.specs.Words.{App, Row, Rule, Text, fault_of, first_of, new_app, new_rule}
+use Rattle.clap.specs.Words.{App, Row, Rule, Text, app_of, fault_of, first_of}
+use Rattle.clap.specs.Words.{new_app, new_rule}
 use Rattle.clap.specs.Words.{subcommand_of, with_rule, with_subcommand}
 use Rattle.clap.specs.Simple.{on_top}
+use Rattle.clap.specs.declared.builder.command.Command.{Command}
+use Rattle.clap.specs.declared.builder.command.Command.TheViews.{out-Command as fields_of}
 use Rattle.clap.specs.declared.builder.action.ArgAction.TheVariants.{SetTrue}
 use Rattle.clap.specs.declared.parser.matches.ValueSource.{ValueSource}
 use Rattle.clap.specs.declared.parser.matches.ValueSource.TheVariants as source
@@ -21,26 +24,24 @@ use Rattle.stab_task.specs.declared.command.Task.TheVariants.{Link, Tree, Run}
 use Rattle.stab_task.specs.declared.fault.CliFault.{CliFault}
 use Rattle.stab_task.specs.declared.fault.CliFault.TheVariants.{CommandLine, Memory}
 
--- the flag `--trace`
-abbrev pub trace_flag : Rule
-trace_flag = record (new_rule (codes "trace")) {
-  long = Some (codes "trace");
+-- a flag of this name
+abbrev pub flag_of : Text → Rule
+flag_of name = record (new_rule name) {
+  long = Some name;
   action = Some SetTrue;
 }
+
+-- the flag `--trace`
+abbrev pub trace_flag : Rule
+trace_flag = flag_of (codes "trace")
 
 -- the flag `--words`
 abbrev pub words_flag : Rule
-words_flag = record (new_rule (codes "words")) {
-  long = Some (codes "words");
-  action = Some SetTrue;
-}
+words_flag = flag_of (codes "words")
 
 -- the flag `--mixed`
 abbrev pub mixed_flag : Rule
-mixed_flag = record (new_rule (codes "mixed")) {
-  long = Some (codes "mixed");
-  action = Some SetTrue;
-}
+mixed_flag = flag_of (codes "mixed")
 
 -- a file, which may be left out
 abbrev pub file_argument : Rule
@@ -67,6 +68,11 @@ bare_line = on_top (λ s. record s { disable_help_subcommand = true }) (new_app 
 abbrev pub stab_line : App
 stab_line = with_subcommand
     (with_subcommand (with_subcommand bare_line link_line.top) tree_line.top) run_line.top
+
+-- a command has this line, and no argument that is global
+pub record HasLine (line : App) (command : Command) : Type 0 where
+  pub shape : app_of command ≡ line
+  pub local : (fields_of command).has_globals ≡ false
 
 -- where the value of an argument came from
 abbrev pub source_of : Text → List Row → Option ValueSource

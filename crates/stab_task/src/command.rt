@@ -1,13 +1,13 @@
 ghost use Rattle.std.specs.Prelude.{◌≡◌, ◌≢◌, ◌≤◌, ◌⊎◌, [], codes, false, length, map, None};
-ghost use Rattle.std.specs.Prelude.{option_map, string_bytes, IfOk, IfErr, IsOkAnd};
-ghost use Rattle.clap.specs.Words.{App, app_of, with_subcommand, fault_of, first_of, found_of, kind_of, rows_of};
-ghost use Rattle.clap.specs.Words.{rule_of};
+ghost use Rattle.std.specs.Prelude.{option_map, string_bytes, true, IfOk, IfErr, IsOkAnd};
+ghost use Rattle.clap.specs.Words.{App, app_of, with_rule, with_subcommand, fault_of, first_of};
+ghost use Rattle.clap.specs.Words.{found_of, kind_of, rows_of, rule_of};
 ghost use Rattle.clap.specs.Words.{subcommand_of, subcommand_rows_of};
-ghost use Rattle.clap.specs.declared.builder.command.Command.TheViews.{out-Command as fields_of};
-ghost use Rattle.stab_task.specs.CommandLine.{has_trace, is_from_words, link_line, named_by};
-ghost use Rattle.stab_task.specs.CommandLine.{stab_line, task_of, trace_flag, tree_line};
+ghost use Rattle.stab_task.specs.CommandLine.{HasLine, file_argument, flag_of, has_trace};
+ghost use Rattle.stab_task.specs.CommandLine.{is_from_words, link_line, named_by};
+ghost use Rattle.stab_task.specs.CommandLine.{stab_line, task_and_file, task_of, tree_line};
 ghost use Rattle.stab_task.specs.CommandLine.{has_both_flags, has_mixed_flag, has_words_flag};
-ghost use Rattle.stab_task.specs.CommandLine.{links_by_flags, mixed_flag, run_line, words_flag};
+ghost use Rattle.stab_task.specs.CommandLine.{links_by_flags, run_line};
 ghost use Rattle.stab_task.specs.CommandLine.{IsTaken, IsWordsFault};
 
 use crate::fault::CliFault;
@@ -44,6 +44,18 @@ pub fn parse(alloc: Global, words: &[String]) -> Result<(Task, Option<String>), 
         return Ok((Task::Link { trace: false }, None));
     }
     let matches = matches_of(alloc, words)?;
+    named(alloc, &matches)
+}
+
+/// The task and the file that these matches name, unless both flags of `run` are among the words.
+fn named(alloc: Global, matches: &ArgMatches<'_>) -> Result<(Task, Option<String>), CliFault>
+    ensures taken { IfOk result (λ r. has_both_flags (subcommand_rows_of matches.now) ≡ false) }
+    ensures named { IfOk result (λ r. (r.0, option_map string_bytes r.1)
+        ≡ task_and_file (subcommand_rows_of matches.now)) }
+    ensures fault { IfErr result (λ fault. (fault ≡ CliFault.Memory)
+        ⊎ ((fault ≡ CliFault.CommandLine)
+        × (has_both_flags (subcommand_rows_of matches.now) ≡ true))) }
+{
     match matches.subcommand() {
         None => Ok((Task::Link { trace: false }, None)),
         Some((_, inner)) if has_words(inner) && has_mixed(inner) => Err(CliFault::CommandLine),
@@ -73,8 +85,7 @@ fn stab<'a>(alloc: Global) -> Result<Command<'a>, AllocError>
     let bare = Command::new(alloc, "stab").disable_help_subcommand(true);
     let with_link = add_to(bare, link(alloc))?;
     let with_tree = add_to(with_link, tree(alloc))?;
-    let stab = add_to(with_tree, run(alloc))?;
-    Ok(stab)
+    add_to(with_tree, run(alloc))
 }
 
 /// The command with this subcommand, where that could be made.
@@ -82,75 +93,76 @@ fn add_to<'a>(
     command: Command<'a>,
     subcommand: Result<Command<'a>, AllocError>,
 ) -> Result<Command<'a>, AllocError>
-    ensures { IfOk result (λ whole. (line : App)
-        → IfOk subcommand.entry (λ added. app_of added ≡ line)
-        → IfOk subcommand.entry (λ added. (fields_of added).has_globals ≡ false)
-        → app_of whole ≡ with_subcommand (app_of command.entry) line.top) }
+    ensures { (line : App) → (added : App)
+        → app_of command.entry ≡ line → IfOk subcommand.entry (HasLine added)
+        → IfOk result (λ whole. app_of whole ≡ with_subcommand line added.top) }
 {
-    command.subcommand(subcommand?)
+    match subcommand {
+        Ok(subcommand) => command.subcommand(subcommand),
+        Err(refused) => Err(refused),
+    }
 }
 
 /// The subcommand `link [--trace] [FILE]`.
 fn link<'a>(alloc: Global) -> Result<Command<'a>, AllocError>
-    ensures line { IfOk result (λ command. app_of command ≡ link_line) }
-    ensures local { IfOk result (λ command. (fields_of command).has_globals ≡ false) }
+    ensures { IfOk result (HasLine link_line) }
 {
-    let link = Command::new(alloc, "link")
-        .arg(trace_argument(alloc))?
-        .arg(Arg::new(alloc, "FILE"))?;
-    Ok(link)
-}
-
-/// The flag `--trace` of `link`.
-fn trace_argument<'a>(alloc: Global) -> Arg<'a>
-    ensures rule { rule_of result ≡ trace_flag }
-    ensures local { result.global ≡ false }
-{
-    Arg::new(alloc, "trace")
-        .long("trace")
-        .action(ArgAction::SetTrue)
+    let link = Ok(Command::new(alloc, "link"));
+    with_file(alloc, with_flag(alloc, link, "trace"))
 }
 
 /// The subcommand `tree [FILE]`.
 fn tree<'a>(alloc: Global) -> Result<Command<'a>, AllocError>
-    ensures line { IfOk result (λ command. app_of command ≡ tree_line) }
-    ensures local { IfOk result (λ command. (fields_of command).has_globals ≡ false) }
+    ensures { IfOk result (HasLine tree_line) }
 {
-    let tree = Command::new(alloc, "tree").arg(Arg::new(alloc, "FILE"))?;
-    Ok(tree)
+    with_file(alloc, Ok(Command::new(alloc, "tree")))
 }
 
 /// The subcommand `run [--words | --mixed] [FILE]`. `clap` is told no rule about both flags
 /// together, since its model says exactly which words match only where no argument has such a rule.
 fn run<'a>(alloc: Global) -> Result<Command<'a>, AllocError>
-    ensures line { IfOk result (λ command. app_of command ≡ run_line) }
-    ensures local { IfOk result (λ command. (fields_of command).has_globals ≡ false) }
+    ensures { IfOk result (HasLine run_line) }
 {
-    let run = Command::new(alloc, "run")
-        .arg(words_argument(alloc))?
-        .arg(mixed_argument(alloc))?
-        .arg(Arg::new(alloc, "FILE"))?;
-    Ok(run)
+    let run = Ok(Command::new(alloc, "run"));
+    let with_words = with_flag(alloc, run, "words");
+    with_file(alloc, with_flag(alloc, with_words, "mixed"))
 }
 
-/// The flag `--words` of `run`.
-fn words_argument<'a>(alloc: Global) -> Arg<'a>
-    ensures rule { rule_of result ≡ words_flag }
-    ensures local { result.global ≡ false }
+/// The command with a flag of this name, where the command could be made.
+fn with_flag<'a>(
+    alloc: Global,
+    command: Result<Command<'a>, AllocError>,
+    name: &'a str,
+) -> Result<Command<'a>, AllocError>
+    ensures { (line : App) → IfOk command.entry (HasLine line)
+        → IfOk result (HasLine (with_rule line (flag_of name.entry.now))) }
 {
-    Arg::new(alloc, "words")
-        .long("words")
-        .action(ArgAction::SetTrue)
+    match command {
+        Ok(command) => command.arg(flag(alloc, name)),
+        Err(refused) => Err(refused),
+    }
 }
 
-/// The flag `--mixed` of `run`.
-fn mixed_argument<'a>(alloc: Global) -> Arg<'a>
-    ensures rule { rule_of result ≡ mixed_flag }
+/// The flag of this name.
+fn flag<'a>(alloc: Global, name: &'a str) -> Arg<'a>
+    ensures rule { rule_of result ≡ flag_of name.entry.now }
     ensures local { result.global ≡ false }
 {
-    Arg::new(alloc, "mixed")
-        .long("mixed")
-        .action(ArgAction::SetTrue)
+    Arg::new(alloc, name).long(name).action(ArgAction::SetTrue)
+}
+
+/// The command with the argument `FILE`, where the command could be made.
+fn with_file<'a>(
+    alloc: Global,
+    command: Result<Command<'a>, AllocError>,
+) -> Result<Command<'a>, AllocError>
+    ensures { (line : App) → IfOk command.entry (HasLine line)
+        → IfOk result (HasLine (with_rule line file_argument)) }
+{
+    match command {
+        Ok(command) => command.arg(Arg::new(alloc, "FILE")),
+        Err(refused) => Err(refused),
+    }
 }
 
 /// The task of a command word, which is `link`, `tree` or `run`.
