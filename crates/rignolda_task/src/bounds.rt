@@ -1,19 +1,10 @@
-//! The command `bounds`: its words, and the file that it reads.
+//! The command `bounds`: the file that it reads.
 
 use crate::program::{say_that_it_reads, status_of, unopened};
-use clap::{Arg, Command};
 use rignolda_acts::act_bounds;
 use stab_task::CliFault;
-use std::alloc::{AllocError, Global};
 use std::rt::Files;
 use std::{fs, io};
-
-/// The command `bounds [FILE]`.
-pub(crate) fn bounds_line<'a>(alloc: Global) -> Result<Command<'a>, AllocError> {
-    Command::new(alloc, "bounds")
-        .about("Says what the laws allow each node of a job: strays, and missing items")
-        .arg(Arg::new(alloc, "FILE").help("The job; standard input where it is left out"))
-}
 
 /// Writes the bounds of the job in a file, or of that on the standard input, and gives the status.
 pub(crate) fn bounds_of<R: Files + Input + Print + Eprint + AllocGlobal>(

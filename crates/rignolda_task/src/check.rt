@@ -1,36 +1,34 @@
 //! The command `check`: its words, and the files that it reads.
 
+use crate::command::{Request, mistake};
 use crate::program::{FOUND, say_that_it_reads, unopened};
-use clap::{Arg, ArgMatches, Command};
+use clap::error::ErrorKind;
+use clap::{ArgMatches, Error};
 use rignolda_acts::{CheckFault, act_check};
 use std::alloc::{AllocError, Global};
 use std::io::Read;
 use std::rt::Files;
 use std::{fs, io};
 
-/// The command `check JOB REPORT`.
-pub(crate) fn check_line<'a>(alloc: Global) -> Result<Command<'a>, AllocError> {
-    Command::new(alloc, "check")
-        .about("Says whether a report of a job obeys the laws, or which part of it is broken")
-        .arg(
-            Arg::new(alloc, "JOB")
-                .required(true)
-                .help("The job; - is standard input"),
-        )?
-        .arg(
-            Arg::new(alloc, "REPORT")
-                .required(true)
-                .help("The text of stab run, tree or link; - is standard input"),
-        )
+/// The check of the two files that are named, of which one at most is standard input.
+pub(crate) fn check_request(alloc: Global, matches: &ArgMatches<'_>) -> Result<Request, Error> {
+    if is_input(matches.get_str("JOB")) && is_input(matches.get_str("REPORT")) {
+        let text = "JOB and REPORT cannot both be standard input";
+        return Err(mistake(alloc, ErrorKind::ValueValidation, text));
+    }
+    let job = named_file(alloc, matches.get_str("JOB"))?;
+    let report = named_file(alloc, matches.get_str("REPORT"))?;
+    Ok(Request::Check { job, report })
+}
+
+/// Whether a value names standard input.
+fn is_input(path: Option<&str>) -> bool {
+    matches!(path, None | Some("-"))
 }
 
 /// The file that a value names, and none where it is `-`, standard input.
-pub(crate) fn named_file(
-    alloc: Global,
-    matches: &ArgMatches<'_>,
-    id: &str,
-) -> Result<Option<String>, AllocError> {
-    match matches.get_str(id) {
+fn named_file(alloc: Global, path: Option<&str>) -> Result<Option<String>, AllocError> {
+    match path {
         None | Some("-") => Ok(None),
         Some(path) => Ok(Some(String::from_str(alloc, path)?)),
     }
