@@ -25,7 +25,7 @@ use stab_run::{
 use stab_script::{LinkJob, read_link_job};
 use stab_treecore::{TreeStartFault, TreeState, run_schedule, schedule_text};
 use std::alloc::Global;
-use std::io::{Read, Write};
+use std::io::{self, Read, Write};
 use std::sync::Wait;
 use std::thread::Threads;
 
@@ -85,8 +85,7 @@ fn text_of<T: Threads + Wait + Send + Sync, R: Read>(
     ensures named { IfErr result (λ fault. fault ≢ CliFault.CommandLine) }
 {
     let bytes = load(alloc, reader)?;
-    let text = answer_bytes(rt, alloc, task, &bytes)?;
-    Ok(text)
+    answer_bytes(rt, alloc, task, &bytes)
 }
 
 /// The text of a task for these bytes. A run alone is handed the runtime.
@@ -113,9 +112,20 @@ fn answer_link(alloc: Global, with_trace: bool, bytes: &[u8]) -> Result<String, 
     ensures fault { IfErr result (IsFault (Task.Link with_trace) bytes.now) }
     ensures no_write { IfErr result (λ fault. fault ≢ CliFault.Write) }
 {
-    let job = read_link_job(alloc, bytes)?;
-    let text = job_text(alloc, with_trace, &job)?;
-    Ok(text)
+    match read_link_job(alloc, bytes) {
+        Ok(job) => job_answer(alloc, with_trace, &job),
+        Err(fault) => Err(CliFault::LinkJob(fault)),
+    }
+}
+
+/// The text of a link job that was read, or the fault of its start.
+fn job_answer(alloc: Global, with_trace: bool, job: &LinkJob) -> Result<String, CliFault>
+    ensures text { IfOk result (λ text. string_bytes text ≡ link_answer with_trace job.now) }
+    ensures lawful { OnOk result (IsLawful job.now.params job.now.start) }
+    ensures refused { IfErr result (λ fault. (why : StartFault) × (fault ≡ CliFault.Start why)
+        × IsReason job.now.params job.now.start why) }
+{
+    Ok(job_text(alloc, with_trace, job)?)
 }
 
 /// The text of a link job that was read.
@@ -159,9 +169,21 @@ fn answer_tree(alloc: Global, bytes: &[u8]) -> Result<String, CliFault>
     ensures fault { IfErr result (IsFault Task.Tree bytes.now) }
     ensures no_write { IfErr result (λ fault. fault ≢ CliFault.Write) }
 {
-    let job = read_job(alloc, bytes)?;
-    let text = tree_text(alloc, &job)?;
-    Ok(text)
+    match read_job(alloc, bytes) {
+        Ok(job) => schedule_answer(alloc, &job),
+        Err(fault) => Err(CliFault::Job(fault)),
+    }
+}
+
+/// The text of the whole tree of a job after its schedule, or the fault of a start or an event.
+fn schedule_answer(alloc: Global, job: &Job) -> Result<String, CliFault>
+    ensures text { IfOk result (λ text. string_bytes text ≡ tree_answer job.now) }
+    ensures network { OnOk result (IsNetwork (network job.now)) }
+    ensures named { OnOk result (All (NamesLink job.now.tree.parents) job.now.schedule) }
+    ensures refused { IfErr result (λ fault. (why : TreeStartFault) × (fault ≡ CliFault.Tree why)
+        × IsScheduleReason job.now.params job.now.starts (network job.now) job.now.schedule why) }
+{
+    Ok(tree_text(alloc, job)?)
 }
 
 /// The text of the whole tree of a job after its schedule.
@@ -208,9 +230,24 @@ fn answer_run<T: Threads + Wait + Send + Sync>(
     ensures fault { IfErr result (IsFault (Task.Run links) bytes.now) }
     ensures no_write { IfErr result (λ fault. fault ≢ CliFault.Write) }
 {
-    let job = read_job(alloc, bytes)?;
-    let text = run_text(rt, alloc, links, &job)?;
-    Ok(text)
+    match read_job(alloc, bytes) {
+        Ok(job) => run_answer(rt, alloc, links, &job),
+        Err(fault) => Err(CliFault::Job(fault)),
+    }
+}
+
+/// The text of the report of a run of a job that was read, or the fault of the run.
+fn run_answer<T: Threads + Wait + Send + Sync>(
+    rt: &T,
+    alloc: Global,
+    links: Links,
+    job: &Job,
+) -> Result<String, CliFault>
+    ensures text { IfOk result (λ text. IsRunText links job.now (string_bytes text)) }
+    ensures reason { IfErr result (λ fault. (why : RunFault) × (fault ≡ CliFault.Run why)
+        × IsFreeRunReason links job.now why) }
+{
+    Ok(run_text(rt, alloc, links, job)?)
 }
 
 /// The text of the report of a run of a job that was read.
@@ -251,9 +288,16 @@ fn write_text<W: Write>(writer: &mut W, text: &str) -> Result<(), CliFault>
         (Appends (W.contents writer.old) (W.contents writer.new) text.now) }
     ensures fault { IfErr result (λ fault. fault ≡ CliFault.Write) }
 {
-    writer
-        .write_all(text.as_bytes())
-        .map_err(|_| CliFault::Write)?;
-    writer.flush().map_err(|_| CliFault::Write)?;
-    Ok(())
+    match written(writer, text) {
+        Ok(()) => Ok(()),
+        Err(_) => Err(CliFault::Write),
+    }
+}
+
+/// Writes a whole text, and asks the writer for a flush; or the error of the writer.
+fn written<W: Write>(writer: &mut W, text: &str) -> io::Result<()>
+    ensures { OnOk result (Appends (W.contents writer.old) (W.contents writer.new) text.now) }
+{
+    writer.write_all(text.as_bytes())?;
+    writer.flush()
 }

@@ -23,19 +23,19 @@ pub enum CliFault {
     #[error("file: too long")]
     TooLong,
     /// The bytes are no link job.
-    #[error("{0}")]
+    #[error(transparent)]
     LinkJob(LinkJobFault),
     /// The bytes are no job.
-    #[error("{0}")]
+    #[error(transparent)]
     Job(JobFault),
     /// The start of a link job is refused.
-    #[error("{0}")]
+    #[error(transparent)]
     Start(StartFault),
     /// A start or an event of a job's schedule is refused.
-    #[error("{0}")]
+    #[error(transparent)]
     Tree(TreeStartFault),
     /// The run of a job's workers is refused.
-    #[error("{0}")]
+    #[error(transparent)]
     Run(RunFault),
     /// Writing failed; a part of the text may be written.
     #[error("output: cannot be written")]

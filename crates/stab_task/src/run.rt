@@ -42,10 +42,23 @@ pub fn perform<R: Files + Input + Print + Threads + Wait + Send + Sync + AllocGl
     ensures fault { IfErr result (λ fault.
         (fault ≡ CliFault.Open) ⊎ IsTaskFault task None fault) }
 {
-    let Some(path) = path else {
-        return act(rt, rt.alloc(), task, &mut rt.reader(), &mut io::writer(rt));
-    };
-    match fs::open(rt, &path) {
+    match &path {
+        None => act(rt, rt.alloc(), task, &mut rt.reader(), &mut io::writer(rt)),
+        Some(path) => perform_file(rt, task, path),
+    }
+}
+
+/// Does a task with the file of this name.
+fn perform_file<R: Files + Print + Threads + Wait + Send + Sync + AllocGlobal>(
+    rt: &R,
+    task: Task,
+    path: &str,
+) -> Result<(), CliFault>
+    ensures named { IfErr result (λ fault. fault ≢ CliFault.CommandLine) }
+    ensures fault { IfErr result (λ fault.
+        (fault ≡ CliFault.Open) ⊎ IsTaskFault task None fault) }
+{
+    match fs::open(rt, path) {
         Ok(mut file) => act(rt, rt.alloc(), task, &mut file, &mut io::writer(rt)),
         Err(error) => Err(fault_of(&error, CliFault::Open)),
     }
