@@ -55,8 +55,30 @@ fn take_from<U: RecvSide>(
 /// an old one is. True where the end was shown the close.
 ///
 /// The place of an item is reserved before the end looks, so that no item that it takes is lost.
-#[tactic(auto, using(crate::proofs::UnderWay::prefix_with_seen))]
 fn look<U: RecvSide>(
+    pass: &U::Pass,
+    up: &mut U,
+    received: &mut Vec<Item>,
+) -> Result<bool, AllocError>
+    ensures received { (initial : List ℕ)
+        → received.old.items ≡ initial ++ (U.received up.old).delivered
+        → received.new.items ≡ initial ++ (U.received up.new).delivered }
+    ensures prefixes { (down : SenderAccount)
+        → OffersPrefix received.old.items down → OffersPrefix received.new.items down }
+    ensures ended { IfOk result (λ ended. ended ≡ true → (U.received up.new).closed ≡ true) }
+    ensures link { U.link up.new ≡ U.link up.old }
+{
+    if see(pass, up, received)? {
+        return Ok(true);
+    }
+    up.send_ack(pass)?;
+    Ok(false)
+}
+
+/// Looks for a frame once, and adds a fresh item to what the node received. True where the end was
+/// shown the close.
+#[tactic(auto, using(crate::proofs::UnderWay::prefix_with_seen))]
+fn see<U: RecvSide>(
     pass: &U::Pass,
     up: &mut U,
     received: &mut Vec<Item>,
@@ -72,11 +94,7 @@ fn look<U: RecvSide>(
     received.reserve(1)?;
     let seen = up.poll_frame(pass)?;
     add_seen(received, seen);
-    if seen == FrameSeen::Closed {
-        return Ok(true);
-    }
-    up.send_ack(pass)?;
-    Ok(false)
+    Ok(seen == FrameSeen::Closed)
 }
 
 /// Adds what was seen, where it is a fresh item.
