@@ -1,52 +1,42 @@
--- For callers of scattering and gathering: what is one per link, beside the nodes, and back.
-pub use Rattle.stab_treecore.proofs.ForCallers.{holds_by_child, length-by_child, map-by_child, map-to_children, scattered_alike, holds_at_child}
-pub use Rattle.stab_node.proofs.Taken.{length-by_parent}
-pub use Rattle.stab_node.proofs.Gathering.{by_parent_at, as_many_to_children}
+-- For callers of the workers of a tree: what is one per link, beside the nodes, and back.
+pub use Rattle.stab_treecore.proofs.ForCallers.{holds_by_child, length-by_child}
 pub use Rattle.stab_node.proofs.Worked.{at_error}
-use Rattle.std.proofs.Common.{◌≡◌, ◌<◌, ℕ, zero, suc, true, false, List, [], ◌∷◌, length, map, get_or, drop, is_some, Option, Some, None, option_map, All, refl, ap, sym, ◌∙◌, subst, arith}
+use Rattle.std.proofs.Common.{◌≡◌, ◌==◌, ◌<◌, ℕ, zero, suc, Bool, true, false, if◌then◌else◌, List, [], ◌∷◌, length, map, get_or, drop, is_some, Option, Some, None, option_map, All, refl, ap, sym, ◌∙◌, subst, eq-eqb, arith}
 use Rattle.std.proofs.lemmas.List.{length-map}
+use Rattle.std.proofs.lemmas.List.Elements.{All-head, All-tail}
 use Rattle.std.proofs.lemmas.Option.{none-some, same_Some}
-use Rattle.std.specs.List.{AllZip, range_with_len}
 use mathlib.Core.List.{map-map}
 use Rattle.stab_tree.specs.Links.{links_from, links_of}
 use Rattle.stab_tree.specs.Nodes.{parent_at}
-use Rattle.stab_treecore.specs.ByChild.{by_child, to_children}
-use Rattle.stab_treecore.proofs.ForCallers.{linked_nodes, map-by_child, map-to_children, scattered_alike, holds_at_child}
-use Rattle.stab_node.proofs.Gathering.{by_parent_at, as_many_to_children}
-use Rattle.stab_node.specs.Scattering.{by_parent, child_counts}
+use Rattle.stab_treecore.specs.ByChild.{by_child}
+use Rattle.stab_treecore.proofs.ForCallers.{linked_nodes, map-by_child, not_of_nothing}
+use Rattle.stab_scatter.proofs.ForCallers.{by_parent_at, same_maps}
+use Rattle.stab_scatter.specs.Scattering.{by_parent, to_children}
 
 -- ---- by parent
 
--- two functions that agree on each element give one list
-same_maps : {A B : Type 0} (f g : A → B) (xs : List A) → ((x : A) → f x ≡ g x) → map f xs ≡ map g xs
-same_maps f g [] same = refl
-same_maps f g (x ∷ xs) same = let first = same x in let rest = same_maps f g xs same in cc
+-- what may begin with an element, where it does; and what comes after it
+first_of_chosen : {A : Type 0} (P : A → Type 0) (b : Bool) (x : A) (xs : List A) → b ≡ true → All P (if b then x ∷ xs else xs) → P x
+first_of_chosen P true x xs begins all = All-head P x xs all
+first_of_chosen P false x xs begins all = cc
 
--- to scatter and then to map is to map and then to scatter
-pub map-by_parent : {A B : Type 0} (f : A → B) (parents : List (Option ℕ)) (xs : List A)
-    → map (λ row. map f row) (by_parent parents xs) ≡ by_parent parents (map f xs)
-map-by_parent f parents xs =
-    map-map (λ row. map f row) (λ node. to_children node parents xs) (range_with_len 0 (length parents))
-    ∙ same_maps (λ node. map f (to_children node parents xs)) (λ node. to_children node parents (map f xs)) (range_with_len 0 (length parents))
-    (λ node. map-to_children f node parents xs)
+rest_of_chosen : {A : Type 0} (P : A → Type 0) (b : Bool) (x : A) (xs : List A) → All P (if b then x ∷ xs else xs) → All P xs
+rest_of_chosen P true x xs all = All-tail P x xs all
+rest_of_chosen P false x xs all = all
 
--- what is one per link, scattered, gives each node one for each of its children
-pub counts_by_parent : {A : Type 0} (parents : List (Option ℕ)) (xs : List A) → length xs ≡ length (links_of parents)
-    → map (λ row. length row) (by_parent parents xs) ≡ child_counts parents
-counts_by_parent parents xs counted =
-    map-map (λ row. length row) (λ node. to_children node parents xs) (range_with_len 0 (length parents))
-    ∙ (same_maps (λ node. length (to_children node parents xs)) (λ node. length (to_children node parents (links_of parents)))
-    (range_with_len 0 (length parents)) (λ node. as_many_to_children node parents xs (links_of parents) counted)
-    ∙ sym (map-map (λ row. length row) (λ node. to_children node parents (links_of parents)) (range_with_len 0 (length parents))))
-
--- lists with one entry for each link that are scattered alike by parent are one list
-pub same_by_parent : {A : Type 0} (parents : List (Option ℕ)) (xs ys : List A)
-    → ((child parent : ℕ) → parent_at parents child ≡ Some parent → parent < length parents)
-    → length xs ≡ length (links_of parents) → length ys ≡ length (links_of parents) → by_parent parents xs ≡ by_parent parents ys → xs ≡ ys
-same_by_parent parents xs ys known first second same =
-    scattered_alike (length parents) 0 parents xs ys known first second
-    (λ node within.
-    sym (by_parent_at parents xs node within) ∙ (ap (λ rows. get_or rows node []) same ∙ by_parent_at parents ys node within))
+-- what holds of all that belongs to the links from a parent holds of what belongs to the link into its child
+pub holds_at_child : {A : Type 0} (P : A → Type 0) (parents : List (Option ℕ)) (xs : List A) (child parent : ℕ) (x : A)
+    → All P (to_children parent parents xs) → parent_at parents child ≡ Some parent → get_or (by_child parents xs) child None ≡ Some x → P x
+holds_at_child P [] xs child parent x all is_child is = absurd (none-some parent is_child)
+holds_at_child P (None ∷ parents) xs zero parent x all is_child is = absurd (none-some parent is_child)
+holds_at_child P (None ∷ parents) xs (suc child) parent x all is_child is = holds_at_child P parents xs child parent x all is_child is
+holds_at_child P (Some q ∷ parents) [] child parent x all is_child is =
+    not_of_nothing (P x) (Some q ∷ parents) child x is
+holds_at_child P (Some q ∷ parents) (y ∷ ys) zero parent x all is_child is =
+    let begins : (q == parent) ≡ true = eq-eqb q parent (same_Some q parent is_child) in
+    subst P (same_Some y x is) (first_of_chosen P (q == parent) y (to_children parent parents ys) begins all)
+holds_at_child P (Some q ∷ parents) (y ∷ ys) (suc child) parent x all is_child is =
+    holds_at_child P parents ys child parent x (rest_of_chosen P (q == parent) y (to_children parent parents ys) all) is_child is
 
 -- what holds of all that the row of each parent has holds of what belongs to the link into its child
 pub holds_of_child : {A : Type 0} (P : ℕ → A → Type 0) (parents : List (Option ℕ)) (xs : List A) (rows : List (List A)) → by_parent parents xs ≡ rows
@@ -77,22 +67,6 @@ same_by_child w (Some p ∷ parents) (x ∷ xs) (y ∷ ys) first second same =
 
 -- ---- what the workers leave
 
--- what each pair of two lists has alike, the lists have alike
-pub pairs_alike : {A B C : Type 0} (f : A → C) (g : B → C) (xs : List A) (ys : List B) → AllZip (λ x y. f x ≡ g y) xs ys → map f xs ≡ map g ys
-pairs_alike f g [] [] alike = refl
-pairs_alike f g [] (y ∷ ys) alike = absurd alike
-pairs_alike f g (x ∷ xs) [] alike = absurd alike
-pairs_alike f g (x ∷ xs) (y ∷ ys) alike = let first = alike.0 in let rest = pairs_alike f g xs ys alike.1 in cc
-
--- rows that are read alike are as long
-counts_of_alike : {A B C : Type 0} (f : A → C) (g : B → C) (xss : List (List A)) (yss : List (List B))
-    → map (λ row. map f row) xss ≡ map (λ row. map g row) yss → map (λ row. length row) xss ≡ map (λ row. length row) yss
-counts_of_alike f g xss yss alike =
-    sym (same_maps (λ row. length (map f row)) (λ row. length row) xss (λ row. length-map row f))
-    ∙ (sym (map-map (λ row. length row) (λ row. map f row) xss)
-    ∙ (ap (λ rows. map (λ row. length row) rows) alike
-    ∙ (map-map (λ row. length row) (λ row. map g row) yss ∙ same_maps (λ row. length (map g row)) (λ row. length row) yss (λ row. length-map row g))))
-
 -- what is read of an entry is there where the entry is
 some_mapped : {A B : Type 0} (f : A → B) (x : Option A) → is_some (option_map f x) ≡ is_some x
 some_mapped f None = refl
@@ -108,19 +82,6 @@ some_of_alike f g xs ys alike =
     ∙ (map-map is_some (option_map g) ys ∙ same_maps (λ y. is_some (option_map g y)) is_some ys (some_mapped g))))
 
 module _ {A B C : Type 0} (f : A → C) (g : B → C) (parents : List (Option ℕ)) (xs : List B) (counted : length xs ≡ length (links_of parents)) where
-  -- rows that are read as what was scattered by parent can be gathered
-  pub rows_can_be_gathered : (rows : List (List A)) → map (λ row. map f row) rows ≡ map (λ row. map g row) (by_parent parents xs)
-      → map (λ row. length row) rows ≡ child_counts parents
-  rows_can_be_gathered rows alike = counts_of_alike f g rows (by_parent parents xs) alike ∙ counts_by_parent parents xs counted
-
-  -- and what is gathered from them is read, link by link, as what was scattered
-  pub rows_gathered_alike : ((child parent : ℕ) → parent_at parents child ≡ Some parent → parent < length parents)
-      → (rows : List (List A)) (ys : List A) → map (λ row. map f row) rows ≡ map (λ row. map g row) (by_parent parents xs)
-      → length ys ≡ length (links_of parents) → by_parent parents ys ≡ rows → map f ys ≡ map g xs
-  rows_gathered_alike known rows ys alike gathered same =
-      same_by_parent parents (map f ys) (map g xs) known (length-map ys f ∙ gathered) (length-map xs g ∙ counted)
-      (sym (map-by_parent f parents ys) ∙ (ap (λ all. map (λ row. map f row) all) same ∙ (alike ∙ map-by_parent g parents xs)))
-
   -- a column that is read as what was scattered by child can be gathered
   pub column_can_be_gathered : (column : List (Option A)) → map (option_map f) column ≡ map (option_map g) (by_child parents xs)
       → map is_some column ≡ map is_some parents

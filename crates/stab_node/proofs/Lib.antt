@@ -1,6 +1,5 @@
 pub mod Prefixes
 pub mod UnderWay
-pub mod Scattered
 pub mod Taken
 pub mod Firsts
 pub mod Gathering

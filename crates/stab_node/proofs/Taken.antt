@@ -1,14 +1,28 @@
 -- The workers so far, and what the others are still to take.
-use Rattle.std.proofs.Common.{◌≡◌, ◌≤◌, ◌<◌, ◌+◌, ℕ, suc, List, [], ◌∷◌, ◌++◌, length, map, Option, Some, None, refl, ap, sym, ◌∙◌, append_assoc, arith}
+use Rattle.std.proofs.Common.{◌≡◌, ◌≤◌, ◌<◌, ◌+◌, ℕ, List, [], ◌∷◌, ◌++◌, length, get_or, drop, map, MatchOption, Option, Some, None, refl, ap, sym, ◌∙◌, append_assoc, arith}
 use Rattle.std.proofs.lemmas.List.{append-nil, map-append, map-id, length-append, length-map, nil_from_length}
-use Rattle.std.proofs.lemmas.List.FromFn.{length-map-range_with_len, map-range_with_len_more}
+use Rattle.std.proofs.lemmas.List.FromFn.{map-range_with_len_more}
 use Rattle.std.specs.List.{range_with_len}
-use Rattle.stab_treecore.specs.ByChild.{by_child, to_children}
-use Rattle.stab_node.specs.Scattering.{by_parent}
+use Rattle.stab_treecore.specs.ByChild.{by_child}
+use Rattle.stab_scatter.proofs.ForCallers.{next_parent}
 
--- each node has an entry by parent, though there may be nothing in it
-pub length-by_parent : {A : Type 0} (parents : List (Option ℕ)) (xs : List A) → length (by_parent parents xs) ≡ length parents
-length-by_parent parents xs = length-map-range_with_len (λ node. to_children node parents xs) 0 (length parents)
+module _ {A : Type 0} (parents : List (Option ℕ)) (i : ℕ) (in_list : i < length parents) where
+  -- nothing belongs to a link into the root
+  pub root_takes_nothing : (left : List A) → get_or parents i None ≡ None
+      → by_child (drop i parents) left ≡ None ∷ by_child (drop (i + 1) parents) left
+  root_takes_nothing left is_root = ap (λ rest. by_child rest left) (next_parent parents i None in_list is_root)
+
+  -- a child takes the first of what is left
+  pub child_takes_the_first : (parent : ℕ) (taken : Option A) (old left : List A)
+      → get_or parents i None ≡ Some parent → MatchOption taken ((old ≡ []) × (left ≡ [])) (λ x. old ≡ x ∷ left)
+      → by_child (drop i parents) old ≡ taken ∷ by_child (drop (i + 1) parents) left
+  child_takes_the_first parent None old left is_child takes =
+      ap (λ rest. by_child (drop i parents) rest) takes.0
+      ∙ (ap (λ rest. by_child rest []) (next_parent parents i (Some parent) in_list is_child)
+      ∙ ap (λ rest. None ∷ by_child (drop (i + 1) parents) rest) (sym takes.1))
+  child_takes_the_first parent (Some x) old left is_child takes =
+      ap (λ rest. by_child (drop i parents) rest) takes
+      ∙ ap (λ rest. by_child rest (x ∷ left)) (next_parent parents i (Some parent) in_list is_child)
 
 -- The workers so far took these from the front of the list, and the others are still to take what is left.
 pub record TakenSoFar {S X : Type 0} (part : S → X) (workers : List S) (left all : List X) : Type 0 where

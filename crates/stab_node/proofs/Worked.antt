@@ -9,9 +9,10 @@ use Rattle.std.specs.List.{AllZip, range_with_len}
 use Rattle.stab_ends.specs.Accounts.{ReceiverAccount, SenderAccount, new_receiver, new_sender}
 use Rattle.stab_node.specs.declared.fault.NodeFault.{NodeFault}
 use Rattle.stab_node.specs.Work.{AreNew}
-use Rattle.stab_treecore.specs.ByChild.{by_child, to_children}
+use Rattle.stab_treecore.specs.ByChild.{by_child}
 use Rattle.stab_node.specs.declared.workers_fault.WorkersFault.TheVariants.{Node, Thread}
-use Rattle.stab_node.specs.Scattering.{by_parent}
+use Rattle.stab_scatter.proofs.ForCallers.{all_to_children}
+use Rattle.stab_scatter.specs.Scattering.{by_parent, to_children}
 use Rattle.stab_node.specs.FirstFault.{StopsAt, first_fault}
 
 -- ---- what the workers get
@@ -25,21 +26,6 @@ all_by_child P (Some parent ∷ parents) [] none all = All-cons P None (by_child
 all_by_child P (Some parent ∷ parents) (x ∷ xs) none all =
     All-cons P (Some x) (by_child parents xs) (All-head (λ y. P (Some y)) x xs all)
     (all_by_child P parents xs none (All-tail (λ y. P (Some y)) x xs all))
-
--- what holds of each of a longer and a shorter list holds of each of the one that is chosen
-all_chosen : {A : Type 0} (P : A → Type 0) (b : Bool) (x : A) (xs : List A) → P x → All P xs → All P (if b then x ∷ xs else xs)
-all_chosen P true x xs first rest = All-cons P x xs first rest
-all_chosen P false x xs first rest = rest
-
--- what holds of each holds of each that a node gets by parent
-pub all_to_children : {A : Type 0} (P : A → Type 0) (node : ℕ) (parents : List (Option ℕ)) (xs : List A) → All P xs
-    → All P (to_children node parents xs)
-all_to_children P node [] xs all = All-nil P
-all_to_children P node (None ∷ parents) xs all = all_to_children P node parents xs all
-all_to_children P node (Some parent ∷ parents) [] all = all
-all_to_children P node (Some parent ∷ parents) (x ∷ xs) all =
-    all_chosen P (parent == node) x (to_children node parents xs) (All-head P x xs all)
-    (all_to_children P node parents xs (All-tail P x xs all))
 
 -- what holds of each of a map holds, after the map, of each
 pub all_of_map : {X Y : Type 0} (P : X → Type 0) (f : Y → X) (ys : List Y) → All P (map f ys) → All (λ y. P (f y)) ys

@@ -3,6 +3,5 @@ pub mod UnderWay
 pub mod Work
 pub mod Answers
 pub mod ByNode
-pub mod Scattering
 pub mod FirstFault
 pub mod InitialItems

@@ -8,7 +8,7 @@ ghost use Rattle.stab_tree.specs.Nodes.{root_of};
 ghost use Rattle.stab_treecore.specs.ByChild.{by_child};
 ghost use Rattle.stab_treecore.specs.NodeOpenings.{FitTree};
 ghost use Rattle.stab_node.specs.ByNode.{ended_at};
-ghost use Rattle.stab_node.specs.Scattering.{by_parent};
+ghost use Rattle.stab_scatter.specs.Scattering.{by_parent};
 ghost use Rattle.stab_node.specs.FirstFault.{IsFirstToGiveUp, IsFirstUnstarted};
 ghost use Rattle.stab_node.specs.InitialItems.{initial_at};
 

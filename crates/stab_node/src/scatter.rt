@@ -1,17 +1,16 @@
-ghost use Rattle.std.specs.Prelude.{◌≡◌, ◌<◌, ◌+◌, [], ◌∷◌, ◌++◌, drop, length, map, replicate};
-ghost use Rattle.std.specs.Prelude.{IfOk, OnOk, slice_index_or, slice_set};
+ghost use Rattle.std.specs.Prelude.{◌≡◌, ◌<◌, ◌+◌, ◌∷◌, IfOk, drop, length, map};
 ghost use Rattle.std.specs.List.{range_with_len};
 ghost use Rattle.stab_treecore.specs.ByChild.{by_child};
-ghost use Rattle.stab_node.specs.Scattering.{by_parent};
+ghost use Rattle.stab_scatter.specs.Scattering.{by_parent};
 
-use crate::queue::Queue;
 use crate::worker_ends::WorkerEnds;
+use stab_scatter::{Queue, scatter_by_parent};
 use stab_tree::{NodeId, Tree};
 use std::alloc::{AllocError, Global};
 
 /// Takes, for a node, what belongs to the link into it: the first of what is left, and nothing for
 /// the root.
-#[tactic(auto, using(crate::proofs::Scattered::root_takes_nothing, crate::proofs::Scattered::child_takes_the_first))]
+#[tactic(auto, using(crate::proofs::Taken::root_takes_nothing, crate::proofs::Taken::child_takes_the_first))]
 fn take_into<T: Drop>(tree: &Tree, node: NodeId, left: &mut Queue<T>) -> Option<T>
     requires { node < length tree.now.parents }
     ensures { by_child (drop node tree.now.parents) left.old
@@ -21,49 +20,6 @@ fn take_into<T: Drop>(tree: &Tree, node: NodeId, left: &mut Queue<T>) -> Option<
         None => None,
         Some(_) => left.take(),
     }
-}
-
-/// That many empty rows.
-fn empty_rows<T: Drop>(alloc: Global, count: usize) -> Result<Vec<Queue<T>>, AllocError>
-    ensures { IfOk result (λ rows. rows.items ≡ replicate count []) }
-{
-    let mut rows = Vec::with_capacity(alloc, count)?;
-    'rows: for _ in 0..count {
-        rows.push_reserved(Queue::new(alloc));
-    }
-    Ok(rows)
-}
-
-/// Adds an entry to the row of a node.
-fn add_to<T: Drop>(rows: &mut Vec<Queue<T>>, node: NodeId, entry: T) -> Result<(), AllocError>
-    requires { node < length rows.old.items }
-    ensures { OnOk result (rows.new.items ≡ slice_set rows.old.items node
-        (slice_index_or rows.old.items node [] ++ entry ∷ [])) }
-{
-    rows[node.index()].push(entry)
-}
-
-/// Scatters what there is one of per link: to each node what belongs to the links to its children.
-#[tactic(auto, using(crate::proofs::Scattered::rows_empty))]
-pub(crate) fn scatter_by_parent<T: Drop>(
-    alloc: Global,
-    tree: &Tree,
-    entries: Vec<T>,
-) -> Result<Vec<Queue<T>>, AllocError>
-    ensures { IfOk result (λ scattered. scattered.items ≡ by_parent tree.now.parents entries.items) }
-{
-    let mut scattered = empty_rows(alloc, usize::from(tree.len()))?;
-    let mut left = Queue::from_vec(entries);
-    'nodes: for node in 0..tree.len() {
-        match tree.parent(NodeId::new(node)) {
-            None => {}
-            Some(parent) => match left.take() {
-                None => {}
-                Some(entry) => add_to(&mut scattered, parent, entry)?,
-            },
-        }
-    }
-    Ok(scattered)
 }
 
 /// The ends of the next node: of the upper ends that of the link into it, and the first of the lists

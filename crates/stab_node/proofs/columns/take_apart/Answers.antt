@@ -1,7 +1,7 @@
 use Rattle.std.proofs.Common.{rules, ◌≡◌, ◌∙◌, List, [], ◌∷◌, ◌++◌, map, refl, ap, Option, Some, None, append_assoc}
 use Rattle.std.proofs.lemmas.List.{append-nil}
 use Rattle.std.specs.Prelude.{option_to_list}
-use Rattle.std.specs.List.{cons_option}
+use Rattle.std.specs.List.{cons_option, filter_map}
 use Rattle.std.specs.Vec.Iter.{into_iter_items}
 use Rattle.stab_node.proofs.columns.take_apart.Goals as goal
 
@@ -20,6 +20,19 @@ moved_one (Some x) column rest = append_assoc column (x ∷ []) rest
 
 grown_by_one : {A : Type 0} (one : Option A) (column rest whole : List A) → column ++ cons_option one rest ≡ whole → (column ++ option_to_list one) ++ rest ≡ whole
 grown_by_one one column rest whole so_far = moved_one one column rest ∙ so_far
+
+pub loop-account-init : goal.loop-account-init
+loop-account-init g c =
+    let columns = c.in_ok-columns.ensures in
+    let all = c.into_iter-account-iterator.ensures.into_iter_gives in
+    let rest = into_iter_items c.into_iter-account-iterator.result in
+    record {
+      received = ap (λ front. front ++ map (λ a. a.received.items) rest) columns.received ∙ ap (λ xs. map (λ a. a.received.items) xs) all.0;
+      ended = ap (λ front. front ++ map (λ a. a.ended) rest) columns.ended ∙ ap (λ xs. map (λ a. a.ended) xs) all.0;
+      recvs = ap (λ front. front ++ filter_map (λ a. a.up) rest) columns.recvs ∙ ap (λ xs. filter_map (λ a. a.up) xs) all.0;
+      downs = ap (λ front. front ++ map (λ a. a.downs.items) rest) columns.downs ∙ ap (λ xs. map (λ a. a.downs.items) xs) all.0;
+      left = search rules;
+    }
 
 pub loop-account-preserved : goal.loop-account-preserved
 loop-account-preserved g c =

@@ -1,4 +1,5 @@
-use Rattle.stab_node.proofs.ForCallers.{column_can_be_gathered, column_gathered_alike, rows_can_be_gathered, rows_gathered_alike}
+use Rattle.stab_scatter.proofs.ForCallers.{rows_can_be_gathered, rows_gathered_alike}
+use Rattle.stab_node.proofs.ForCallers.{column_can_be_gathered, column_gathered_alike}
 use Rattle.stab_node.proofs.HandedOn.{delivered_at, first_below, handed_on_at, length_ended, length_received, root_at, served_at, upstream_at}
 use Rattle.std.proofs.Common.{◌++◌, ap, refl, ◌∙◌}
 use Rattle.stab_tree.specs.Nodes.{parent_at, root_of}

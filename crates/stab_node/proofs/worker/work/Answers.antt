@@ -1,4 +1,4 @@
-use Rattle.std.proofs.Common.{rules, ◌≡◌, map, option_map, subst, sym, ap, ◌∙◌}
+use Rattle.std.proofs.Common.{rules, ◌≡◌, ◌≤◌, length, vec_capacity, map, option_map, subst, sym, ap, ◌∙◌}
 use Rattle.stab_node.specs.Work.{AreNew, IsWork}
 use Rattle.stab_node.proofs.Prefixes.{written_back}
 use Rattle.stab_node.proofs.worker.work.Goals as goal
@@ -22,3 +22,22 @@ returns-clause-work g c = λ new.
     subst (λ u. IsWork initial received u (map g.D.SendSide.done_sent c.finish_all.result.items) ended)
     (sym c.finish_upper.ensures.account)
     (subst (λ d. IsWork initial received upper d ended) (sym closed) work)
+
+pub finish_all-requires-clause-room : goal.finish_all-requires-clause-room
+finish_all-requires-clause-room g c =
+    subst (λ xs. length xs ≤ vec_capacity c.in_ok-served.served.room)
+    (sym
+    (written_back c.serve-served.new.downs c.args.downs.items c.args.downs.len
+    (search (rules, c.serve-served.auto.downs, c.deref_mut.ensures.len))))
+    c.in_ok-served.ensures.room
+
+pub returns-clause-lower_links : goal.returns-clause-lower_links
+returns-clause-lower_links g c =
+    c.finish_all.ensures.links
+    ∙ (ap (map g.D.SendSide.link)
+    (written_back c.serve-served.new.downs c.args.downs.items c.args.downs.len
+    (search (rules, c.serve-served.auto.downs, c.deref_mut.ensures.len)))
+    ∙ (c.serve-served.ensures.lower_links ∙ ap (map g.D.SendSide.link) c.deref_mut.ensures.value))
+
+pub returns-clause-upper_link : goal.returns-clause-upper_link
+returns-clause-upper_link g c = c.finish_upper.ensures.link ∙ c.serve-served.ensures.upper_link

@@ -1,7 +1,7 @@
 ghost use Rattle.std.specs.Prelude.{◌≡◌, ◌<◌, ◌∷◌, [], length, map};
 ghost use Rattle.std.specs.Prelude.{IfOk, slice_index_or, slice_set};
 ghost use Rattle.stab_tree.specs.Links.{links_of};
-ghost use Rattle.stab_node.specs.Scattering.{by_parent, child_counts};
+ghost use Rattle.stab_scatter.specs.Scattering.{by_parent, child_counts};
 
 use crate::queue::Queue;
 use stab_tree::{NodeId, Tree};
@@ -19,7 +19,7 @@ fn take_from<T: Drop>(rows: &mut Vec<Queue<T>>, node: NodeId) -> T
 }
 
 /// Gathers by link what each node has of the links to its children, in their file order.
-pub(crate) fn gather_by_parent<T: Drop>(
+pub fn gather_by_parent<T: Drop>(
     alloc: Global,
     tree: &Tree,
     mut scattered: Vec<Queue<T>>,

@@ -1,5 +1,5 @@
 use Rattle.std.proofs.Common.{◌≡◌, [], replicate, vec_len, vec_capacity}
-use Rattle.stab_node.proofs.scatter.empty_rows.Given as goal
+use Rattle.stab_scatter.proofs.scatter.empty_rows.Given as goal
 
 -- the rows so far are empty, and there is room for all
 abbrev pub invariant-rows : goal.invariant-rows

@@ -6,7 +6,7 @@ use std::marker::Model;
 
 /// A list that grows at its end and is taken from its front. Contracts see its entries alone.
 #[derive(Debug, Drop)]
-pub(crate) struct Queue<T> {
+pub struct Queue<T> {
     entries: VecDeque<T>,
 }
 
@@ -23,7 +23,7 @@ impl<T> Model for Queue<T> {
 
 impl<T> Queue<T> {
     /// An empty queue. It takes no memory.
-    pub(crate) fn new(alloc: Global) -> Queue<T>
+    pub fn new(alloc: Global) -> Queue<T>
         ensures { result ≡ [] }
     {
         Queue {
@@ -32,7 +32,7 @@ impl<T> Queue<T> {
     }
 
     /// The entries of a `Vec`, in their order. It takes no memory.
-    pub(crate) fn from_vec(entries: Vec<T>) -> Queue<T>
+    pub fn from_vec(entries: Vec<T>) -> Queue<T>
         ensures { result ≡ entries.items }
     {
         Queue {
@@ -41,7 +41,7 @@ impl<T> Queue<T> {
     }
 
     /// The `Vec` of the entries, in their order. It takes no memory.
-    pub(crate) fn into_vec(self) -> Vec<T>
+    pub fn into_vec(self) -> Vec<T>
         ensures { result.items ≡ self }
     {
         let Queue { entries } = self;
@@ -49,7 +49,7 @@ impl<T> Queue<T> {
     }
 
     /// Adds an entry at the end. Where memory is refused, the queue stays as it was.
-    pub(crate) fn push(&mut self, entry: T) -> Result<(), AllocError>
+    pub fn push(&mut self, entry: T) -> Result<(), AllocError>
     where
         T: Drop,
         ensures { self.new ≡ (if is_ok result then self.old ++ entry ∷ [] else self.old) }
@@ -59,7 +59,7 @@ impl<T> Queue<T> {
     }
 
     /// Takes the first entry, where there is one.
-    pub(crate) fn take(&mut self) -> Option<T>
+    pub fn take(&mut self) -> Option<T>
         ensures { MatchOption result
             ((self.old ≡ []) × (self.new ≡ []))
             (λ entry. self.old ≡ entry ∷ self.new) }

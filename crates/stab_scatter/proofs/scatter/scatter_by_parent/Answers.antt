@@ -1,7 +1,7 @@
 use Rattle.std.proofs.Common.{◌≡◌, ◌<◌, length, get_or, None, arith, ap, ◌∙◌, sym}
-use Rattle.stab_node.proofs.Scattered.{root_adds_nothing, none_left_to_add, child_adds, rows_whole}
-use Rattle.stab_node.proofs.scatter.scatter_by_parent.Goals as goal
-use Rattle.stab_node.proofs.scatter.scatter_by_parent.Goals.{in-None, in-Some+in-None-take, in-Some+in-Some-take+in_ok-add_to-in-Some-take}
+use Rattle.stab_scatter.proofs.Scattered.{root_adds_nothing, none_left_to_add, child_adds, rows_whole}
+use Rattle.stab_scatter.proofs.scatter.scatter_by_parent.Goals as goal
+use Rattle.stab_scatter.proofs.scatter.scatter_by_parent.Goals.{in-None, in-Some+in-None-take, in-Some+in-Some-take+in_ok-add_to-in-Some-take}
 
 pub nodes-preserved : goal.nodes-preserved
 nodes-preserved g c =

@@ -1,7 +1,7 @@
 use Rattle.std.proofs.Common.{◌≡◌, length, vec_capacity}
 use Rattle.stab_tree.specs.Links.{links_of}
-use Rattle.stab_node.proofs.Gathering.{GatheredSoFar}
-use Rattle.stab_node.proofs.gather.gather_by_parent.Given as goal
+use Rattle.stab_scatter.proofs.Gathering.{GatheredSoFar}
+use Rattle.stab_scatter.proofs.gather.gather_by_parent.Given as goal
 
 -- each node so far has given back what belongs to the link into it, and there is room for all links
 abbrev pub invariant-nodes : goal.invariant-nodes

@@ -1,5 +1,5 @@
-use Rattle.stab_node.proofs.Scattered.{ByParentSoFar}
-use Rattle.stab_node.proofs.scatter.scatter_by_parent.Given as goal
+use Rattle.stab_scatter.proofs.Scattered.{ByParentSoFar}
+use Rattle.stab_scatter.proofs.scatter.scatter_by_parent.Given as goal
 
 -- the rows have what the nodes so far add to them
 abbrev pub invariant-nodes : goal.invariant-nodes

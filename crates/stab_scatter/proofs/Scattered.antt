@@ -1,37 +1,14 @@
--- What the nodes so far got, and what the others are still to get.
-use Rattle.std.proofs.Common.{◌≡◌, ◌<◌, ◌≤◌, ◌+◌, ℕ, List, [], ◌∷◌, ◌++◌, length, get_or, set, drop, replicate, Option, Some, None, MatchOption, if◌then◌else◌, refl, ap, sym, ◌∙◌, append_assoc, arith, inl, inr}
+-- What the nodes so far got of what there is one of per link, and what the others are still to get.
+use Rattle.std.proofs.Common.{◌≡◌, ◌<◌, ◌≤◌, ◌+◌, ℕ, List, [], ◌∷◌, ◌++◌, length, get_or, set, drop, replicate, Option, Some, None, if◌then◌else◌, refl, ap, sym, ◌∙◌, append_assoc, arith, inl, inr}
 use Rattle.std.proofs.lemmas.Bool.{cases_eq, eq-eqb, ne_eqb}
 use Rattle.std.proofs.lemmas.List.{drop_more, drop_all, append-nil, length-replicate, length-set, get_or-replicate, get_or-set_same, get_or-set_other}
 use Rattle.std.proofs.lemmas.List.FromFn.{fill_by_all}
-use Rattle.stab_treecore.specs.ByChild.{by_child, to_children}
-use Rattle.stab_node.specs.Scattering.{by_parent}
+use Rattle.stab_scatter.specs.Scattering.{by_parent, to_children}
 
 -- what is left of the parents begins with that of the next node
 pub next_parent : (parents : List (Option ℕ)) (i : ℕ) (parent : Option ℕ) → i < length parents → get_or parents i None ≡ parent
     → drop i parents ≡ parent ∷ drop (i + 1) parents
 next_parent parents i parent in_list is = drop_more parents i None in_list ∙ ap (λ x. x ∷ drop (i + 1) parents) is
-
--- ---- by child
-
-module _ {A : Type 0} (parents : List (Option ℕ)) (i : ℕ) (in_list : i < length parents) where
-  -- nothing belongs to a link into the root
-  pub root_takes_nothing : (left : List A) → get_or parents i None ≡ None
-      → by_child (drop i parents) left ≡ None ∷ by_child (drop (i + 1) parents) left
-  root_takes_nothing left is_root = ap (λ rest. by_child rest left) (next_parent parents i None in_list is_root)
-
-  -- a child takes the first of what is left
-  pub child_takes_the_first : (parent : ℕ) (taken : Option A) (old left : List A)
-      → get_or parents i None ≡ Some parent → MatchOption taken ((old ≡ []) × (left ≡ [])) (λ x. old ≡ x ∷ left)
-      → by_child (drop i parents) old ≡ taken ∷ by_child (drop (i + 1) parents) left
-  child_takes_the_first parent None old left is_child takes =
-      ap (λ rest. by_child (drop i parents) rest) takes.0
-      ∙ (ap (λ rest. by_child rest []) (next_parent parents i (Some parent) in_list is_child)
-      ∙ ap (λ rest. None ∷ by_child (drop (i + 1) parents) rest) (sym takes.1))
-  child_takes_the_first parent (Some x) old left is_child takes =
-      ap (λ rest. by_child (drop i parents) rest) takes
-      ∙ ap (λ rest. by_child rest (x ∷ left)) (next_parent parents i (Some parent) in_list is_child)
-
--- ---- by parent
 
 -- where there is nothing for any link, there is nothing for the links to the children of a node
 nothing_to_children : {A : Type 0} (node : ℕ) (parents : List (Option ℕ)) → to_children {A = A} node parents [] ≡ []

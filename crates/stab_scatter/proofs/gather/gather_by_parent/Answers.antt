@@ -1,7 +1,7 @@
 use Rattle.std.proofs.Common.{rules, ◌≡◌, ◌<◌, length, get_or, None, arith, ap, ◌∙◌, sym}
-use Rattle.stab_node.proofs.Gathering.{none_gathered, root_gathered, child_gathered, all_gathered}
-use Rattle.stab_node.proofs.gather.gather_by_parent.Goals as goal
-use Rattle.stab_node.proofs.gather.gather_by_parent.Goals.{in-None, in-Some}
+use Rattle.stab_scatter.proofs.Gathering.{none_gathered, root_gathered, child_gathered, all_gathered}
+use Rattle.stab_scatter.proofs.gather.gather_by_parent.Goals as goal
+use Rattle.stab_scatter.proofs.gather.gather_by_parent.Goals.{in-None, in-Some}
 
 pub nodes-init : goal.nodes-init
 nodes-init g c = record {

@@ -1,0 +1,3 @@
+pub mod Scattered
+pub mod ForCallers
+pub mod Gathering
