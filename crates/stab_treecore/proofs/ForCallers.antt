@@ -1,16 +1,16 @@
--- For the crates above: facts on what there is one of per link, scattered by child, and scattered to
--- the children of each node; on texts that have one part per node; and on all places of a list.
+-- For the crates above: facts on what there is one of per link, scattered by child; on texts that have
+-- one part per node; and on all places of a list.
 pub use Rattle.stab_treecore.proofs.Fitting.{AreOpenings, openings_fit}
 pub use Rattle.stab_treecore.proofs.Lines.{next_place}
 pub use Rattle.stab_treecore.proofs.Opened.{linked_nodes}
 pub use Rattle.stab_treecore.proofs.Root.{all_places, all_below, all_items, all_picked, all_there, length_all}
 use Rattle.std.specs.List.{AllZip}
-use Rattle.std.proofs.Common.{◌≡◌, ◌==◌, ◌<◌, ℕ, zero, suc, Bool, true, false, if◌then◌else◌, List, [], ◌∷◌, length, map, get_or, Option, Some, None, option_map, All, refl, ap, sym, ◌∙◌, subst, eq-eqb, arith}
+use Rattle.std.proofs.Common.{◌≡◌, ℕ, zero, suc, List, [], ◌∷◌, length, map, get_or, Option, Some, None, option_map, All, refl, ap, sym, ◌∙◌, subst, arith}
 use Rattle.std.proofs.lemmas.List.Elements.{All-head, All-tail}
 use Rattle.std.proofs.lemmas.Option.{none-some, same_Some}
 use Rattle.stab_tree.specs.Links.{links_from}
 use Rattle.stab_tree.specs.Nodes.{parent_at}
-use Rattle.stab_treecore.specs.ByChild.{by_child, to_children}
+use Rattle.stab_treecore.specs.ByChild.{by_child}
 
 -- ---- what belongs to the link into each node
 
@@ -87,73 +87,3 @@ map-by_child f [] xs = refl
 map-by_child f (None ∷ parents) xs = ap (λ rest. None ∷ rest) (map-by_child f parents xs)
 map-by_child f (Some parent ∷ parents) [] = ap (λ rest. None ∷ rest) (map-by_child f parents [])
 map-by_child f (Some parent ∷ parents) (x ∷ xs) = ap (λ rest. Some (f x) ∷ rest) (map-by_child f parents xs)
-
--- ---- what belongs to the links from a node to its children
-
--- a map of a choice is the choice of the maps
-map_chosen : {A B : Type 0} (f : A → B) (b : Bool) (xs ys : List A) → map f (if b then xs else ys) ≡ (if b then map f xs else map f ys)
-map_chosen f true xs ys = refl
-map_chosen f false xs ys = refl
-
-pub map-to_children : {A B : Type 0} (f : A → B) (node : ℕ) (parents : List (Option ℕ)) (xs : List A)
-    → map f (to_children node parents xs) ≡ to_children node parents (map f xs)
-map-to_children f node [] xs = refl
-map-to_children f node (None ∷ parents) xs = map-to_children f node parents xs
-map-to_children f node (Some parent ∷ parents) [] = refl
-map-to_children f node (Some parent ∷ parents) (x ∷ xs) =
-    let rest = map-to_children f node parents xs in
-    map_chosen f (parent == node) (x ∷ to_children node parents xs) (to_children node parents xs)
-    ∙ ap (λ ys. if parent == node then f x ∷ ys else ys) rest
-
--- what may begin with an element, where it does; and what comes after it
-first_of_chosen : {A : Type 0} (P : A → Type 0) (b : Bool) (x : A) (xs : List A) → b ≡ true → All P (if b then x ∷ xs else xs) → P x
-first_of_chosen P true x xs begins all = All-head P x xs all
-first_of_chosen P false x xs begins all = cc
-
-rest_of_chosen : {A : Type 0} (P : A → Type 0) (b : Bool) (x : A) (xs : List A) → All P (if b then x ∷ xs else xs) → All P xs
-rest_of_chosen P true x xs all = All-tail P x xs all
-rest_of_chosen P false x xs all = all
-
--- what holds of all that belongs to the links from a parent holds of what belongs to the link into its child
-pub holds_at_child : {A : Type 0} (P : A → Type 0) (parents : List (Option ℕ)) (xs : List A) (child parent : ℕ) (x : A)
-    → All P (to_children parent parents xs) → parent_at parents child ≡ Some parent → get_or (by_child parents xs) child None ≡ Some x → P x
-holds_at_child P [] xs child parent x all is_child is = absurd (none-some parent is_child)
-holds_at_child P (None ∷ parents) xs zero parent x all is_child is = absurd (none-some parent is_child)
-holds_at_child P (None ∷ parents) xs (suc child) parent x all is_child is = holds_at_child P parents xs child parent x all is_child is
-holds_at_child P (Some q ∷ parents) [] child parent x all is_child is =
-    not_of_nothing (P x) (Some q ∷ parents) child x is
-holds_at_child P (Some q ∷ parents) (y ∷ ys) zero parent x all is_child is =
-    let begins : (q == parent) ≡ true = eq-eqb q parent (same_Some q parent is_child) in
-    subst P (same_Some y x is) (first_of_chosen P (q == parent) y (to_children parent parents ys) begins all)
-holds_at_child P (Some q ∷ parents) (y ∷ ys) (suc child) parent x all is_child is =
-    holds_at_child P parents ys child parent x (rest_of_chosen P (q == parent) y (to_children parent parents ys) all) is_child is
-
--- two choices that are alike: what they may begin with, and what comes after it
-same_first : {A : Type 0} (b : Bool) (x y : A) (xs ys : List A) → b ≡ true → (if b then x ∷ xs else xs) ≡ (if b then y ∷ ys else ys) → x ≡ y
-same_first true x y xs ys begins same = cc
-same_first false x y xs ys begins same = cc
-
-same_rest : {A : Type 0} (b : Bool) (x y : A) (xs ys : List A) → (if b then x ∷ xs else xs) ≡ (if b then y ∷ ys else ys) → xs ≡ ys
-same_rest true x y xs ys same = cc
-same_rest false x y xs ys same = same
-
--- lists with one entry for each link that are scattered alike to the children of each node are one list
-pub scattered_alike : {A : Type 0} (nodes w : ℕ) (parents : List (Option ℕ)) (xs ys : List A)
-    → ((child parent : ℕ) → parent_at parents child ≡ Some parent → parent < nodes)
-    → length xs ≡ length (links_from w parents) → length ys ≡ length (links_from w parents)
-    → ((node : ℕ) → node < nodes → to_children node parents xs ≡ to_children node parents ys)
-    → xs ≡ ys
-scattered_alike nodes w [] [] [] known first second alike = refl
-scattered_alike nodes w [] [] (y ∷ ys) known first second alike = absurd (omega arith)
-scattered_alike nodes w [] (x ∷ xs) ys known first second alike = absurd (omega arith)
-scattered_alike nodes w (None ∷ parents) xs ys known first second alike =
-    scattered_alike nodes (suc w) parents xs ys (λ child parent is_child. known (suc child) parent is_child) first second alike
-scattered_alike nodes w (Some q ∷ parents) [] ys known first second alike = absurd (omega arith)
-scattered_alike nodes w (Some q ∷ parents) (x ∷ xs) [] known first second alike = absurd (omega arith)
-scattered_alike nodes w (Some q ∷ parents) (x ∷ xs) (y ∷ ys) known first second alike =
-    let begins : x ≡ y =
-    same_first (q == q) x y (to_children q parents xs) (to_children q parents ys) (eq-eqb q q refl) (alike q (known 0 q refl)) in
-    let goes_on : xs ≡ ys =
-    scattered_alike nodes (suc w) parents xs ys (λ child parent is_child. known (suc child) parent is_child) (omega arith) (omega arith)
-    (λ node is_node. same_rest (q == node) x y (to_children node parents xs) (to_children node parents ys) (alike node is_node)) in
-    cc

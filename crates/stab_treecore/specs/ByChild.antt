@@ -1,7 +1,7 @@
 -- What there is one of per link, by node: links are in the file order of their children, and the
 -- root has none.
 -- Source: this project's profile.
-use Rattle.std.specs.Prelude.{ℕ, ◌==◌, List, [], ◌∷◌, Option, Some, None, if◌then◌else◌}
+use Rattle.std.specs.Prelude.{ℕ, List, [], ◌∷◌, Option, Some, None}
 
 -- beside each node what belongs to the link into it
 abbrev pub by_child : {A : Type 0} → List (Option ℕ) → List A → List (Option A)
@@ -9,11 +9,3 @@ by_child [] xs = []
 by_child (None ∷ parents) xs = None ∷ by_child parents xs
 by_child (Some parent ∷ parents) [] = None ∷ by_child parents []
 by_child (Some parent ∷ parents) (x ∷ xs) = Some x ∷ by_child parents xs
-
--- what belongs to the links from a node to its children, in their file order
-abbrev pub to_children : {A : Type 0} → ℕ → List (Option ℕ) → List A → List A
-to_children node [] xs = []
-to_children node (None ∷ parents) xs = to_children node parents xs
-to_children node (Some parent ∷ parents) [] = []
-to_children node (Some parent ∷ parents) (x ∷ xs) =
-    if parent == node then x ∷ to_children node parents xs else to_children node parents xs
