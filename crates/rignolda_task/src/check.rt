@@ -1,4 +1,4 @@
-//! The command `check`: its words, and the files that it reads.
+//! The command `check`: what its words ask for, and the files that it reads.
 
 use crate::command::{Request, mistake};
 use crate::program::{FOUND, say_that_it_reads, unopened};

@@ -70,11 +70,13 @@ fn request_of(alloc: Global, named: Option<(&str, &ArgMatches<'_>)>) -> Result<R
 /// What a command asks for that reads one job.
 fn job_request(alloc: Global, word: &str, matches: &ArgMatches<'_>) -> Result<Request, AllocError> {
     let file = file_of(alloc, matches)?;
-    let svg = matches.get_flag("svg");
     Ok(match word {
         "explain" => Request::Explain { file },
         "bounds" => Request::Bounds { file },
-        _ => Request::Draw { svg, file },
+        _ => Request::Draw {
+            svg: matches.get_flag("svg"),
+            file,
+        },
     })
 }
 
