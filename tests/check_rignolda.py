@@ -34,8 +34,9 @@ class Refused(Exception):
 
 def run(name, words, given, folder):
     """A run of the program: its status, and what it prints on the standard output and error."""
-    done = subprocess.run([name, *words], input=given, capture_output=True, cwd=folder,
-                          timeout=LONGEST)
+    # (its help names the program as it was called, and a file that was kept has a longer name)
+    done = subprocess.run(["rignolda", *words], executable=name, input=given,
+                          capture_output=True, cwd=folder, timeout=LONGEST)
     return done.returncode, done.stdout, done.stderr
 
 
