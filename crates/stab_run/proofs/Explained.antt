@@ -1,9 +1,11 @@
--- What the workers left and what settling showed, joined: each link of the report is explained.
-use Rattle.std.proofs.Common.{◌≡◌, ℕ, zero, suc, List, [], ◌∷◌, length, map, get_or, Option, Some, None, refl, ap, sym, ◌∙◌, subst, arith, All}
-use Rattle.std.proofs.lemmas.Option.{none-some}
+-- What the workers left and what settling showed, joined: each link of the report is explained, over two words by its own script.
+use Rattle.std.proofs.Common.{◌≡◌, ℕ, zero, suc, List, [], ◌∷◌, length, map, Option, Some, None, refl, ap, sym, ◌∙◌, subst, arith, All}
+use Rattle.std.proofs.lemmas.Option.{none-some, same_Some}
 use mathlib.Core.List.{IsPrefix}
 use Rattle.stab_core.specs.LinkSetup.{CanBegin, LinkSetup}
 use Rattle.stab_ends.specs.Accounts.{SenderAccount, ReceiverAccount}
+use Rattle.stab_acts.specs.Scripts.{receiver_half, sender_half}
+use Rattle.stab_job.specs.JobValues.{JobValue, network}
 use Rattle.stab_node.specs.declared.account.Ended.{Ended}
 use Rattle.stab_tree.specs.Links.{links_from, links_of}
 use Rattle.stab_tree.specs.Nodes.{parent_at, root_of}
@@ -11,32 +13,41 @@ use Rattle.stab_treecore.specs.ByChild.{by_child}
 use Rattle.stab_treecore.specs.EdgeLaw.{EdgeLaw}
 use Rattle.stab_treecore.specs.Network.{Network}
 use Rattle.stab_node.proofs.ForCallers.{holds_by_child, length-by_child}
-use Rattle.stab_node.specs.ByNode.{received_at}
-use Rattle.stab_run.specs.LinkKinds.{LinkKind}
-use Rattle.stab_run.specs.LinkRuns.{AreSettled, IsRun, IsSettled, acked_of}
+use Rattle.stab_node.specs.ByNode.{entry_into, received_at}
+use Rattle.stab_word.specs.Interleaving.{AnInterleavingExplains}
+use Rattle.stab_run.specs.AnyLinks.{IsFollowed, IsOneOf, given_to, kind_of, received_by, sent_by}
+use Rattle.stab_run.specs.ByScript.{AreByScript}
+use Rattle.stab_run.specs.LinkKinds.{LinkKind, kind_for, two_words}
+use Rattle.stab_run.specs.LinkRuns.{AllOfEach, AreSettled, IsRun, IsSettled, acked_of}
 use Rattle.stab_run.specs.Reports.{OnePerNode, Reported}
 use Rattle.stab_run.specs.Runs.{AreExplained, HandsOn, RootHas}
+use Rattle.stab_run.specs.Scripted.{FollowPlans, IsLetThrough, LinkPlan, ScriptedRecvFinished, ScriptedSendFinished, ack_stores, frame_stores, plan}
+use Rattle.stab_run.specs.declared.any_link.AnyLink.{AnyLink}
+use Rattle.stab_run.specs.declared.any_link.AnyLink.TheVariants.{Lock, Word}
+use Rattle.stab_run.specs.declared.links.Links.{Links}
+use Rattle.stab_run.proofs.OfKinds.{IsWord}
+use Rattle.stab_run.proofs.Paired.{entry_mapped, same_entry}
 use Rattle.stab_treecore.proofs.ForCallers.{no_link_into}
 
--- what is settled of the link into a child
-pub record SettledInto (parents : List (Option ℕ)) (links : List LinkSetup) (sends : List SenderAccount) (recvs : List ReceiverAccount) (child : ℕ) : Type 0 where
-  pub link : LinkSetup
-  pub send : SenderAccount
-  pub recv : ReceiverAccount
-  pub leads : get_or (by_child parents links) child None ≡ Some link
-  pub sent : get_or (by_child parents sends) child None ≡ Some send
-  pub delivered : get_or (by_child parents recvs) child None ≡ Some recv
-  pub counted : get_or (by_child parents (map acked_of sends)) child None ≡ Some send.acked
-  pub settled : IsSettled link send recv
+-- what holds of the link into a child and of its two finished ends
+pub record HoldsAtChild {L S R : Type 0} (P : L → S → R → Type 0) (parents : List (Option ℕ)) (links : List L) (sends : List S) (recvs : List R)
+    (child : ℕ) : Type 0 where
+  pub link : L
+  pub send : S
+  pub recv : R
+  pub leads : entry_into parents links child ≡ Some link
+  pub sent : entry_into parents sends child ≡ Some send
+  pub delivered : entry_into parents recvs child ≡ Some recv
+  pub holds : P link send recv
 
--- the link into each child is settled
-settled_into : (w : ℕ) (parents : List (Option ℕ)) (links : List LinkSetup) (sends : List SenderAccount) (recvs : List ReceiverAccount)
-    → length links ≡ length (links_from w parents) → AreSettled links sends recvs
-    → (child parent : ℕ) → parent_at parents child ≡ Some parent → SettledInto parents links sends recvs child
-settled_into w [] links sends recvs counted all child parent is_child = absurd (none-some parent is_child)
-settled_into w (None ∷ parents) links sends recvs counted all zero parent is_child = absurd (none-some parent is_child)
-settled_into w (None ∷ parents) links sends recvs counted all (suc child) parent is_child =
-    let below = settled_into (suc w) parents links sends recvs counted all child parent is_child in
+-- what holds of each link holds of the link into each child
+at_child : {L S R : Type 0} (P : L → S → R → Type 0) (w : ℕ) (parents : List (Option ℕ)) (links : List L) (sends : List S) (recvs : List R)
+    → length links ≡ length (links_from w parents) → AllOfEach P links sends recvs
+    → (child parent : ℕ) → parent_at parents child ≡ Some parent → HoldsAtChild P parents links sends recvs child
+at_child P w [] links sends recvs counted all child parent is_child = absurd (none-some parent is_child)
+at_child P w (None ∷ parents) links sends recvs counted all zero parent is_child = absurd (none-some parent is_child)
+at_child P w (None ∷ parents) links sends recvs counted all (suc child) parent is_child =
+    let below = at_child P (suc w) parents links sends recvs counted all child parent is_child in
     record {
       link = below.link;
       send = below.send;
@@ -44,25 +55,15 @@ settled_into w (None ∷ parents) links sends recvs counted all (suc child) pare
       leads = below.leads;
       sent = below.sent;
       delivered = below.delivered;
-      counted = below.counted;
-      settled = below.settled;
+      holds = below.holds;
     }
-settled_into w (Some q ∷ parents) [] sends recvs counted all child parent is_child = absurd (omega arith)
-settled_into w (Some q ∷ parents) (link ∷ links) [] recvs counted all child parent is_child = absurd all
-settled_into w (Some q ∷ parents) (link ∷ links) (send ∷ sends) [] counted all child parent is_child = absurd all
-settled_into w (Some q ∷ parents) (link ∷ links) (send ∷ sends) (recv ∷ recvs) counted all zero parent is_child =
-    record {
-      link = link;
-      send = send;
-      recv = recv;
-      leads = refl;
-      sent = refl;
-      delivered = refl;
-      counted = refl;
-      settled = all.0;
-    }
-settled_into w (Some q ∷ parents) (link ∷ links) (send ∷ sends) (recv ∷ recvs) counted all (suc child) parent is_child =
-    let below = settled_into (suc w) parents links sends recvs (omega arith) all.1 child parent is_child in
+at_child P w (Some q ∷ parents) [] sends recvs counted all child parent is_child = absurd (omega arith)
+at_child P w (Some q ∷ parents) (link ∷ links) [] recvs counted all child parent is_child = absurd all
+at_child P w (Some q ∷ parents) (link ∷ links) (send ∷ sends) [] counted all child parent is_child = absurd all
+at_child P w (Some q ∷ parents) (link ∷ links) (send ∷ sends) (recv ∷ recvs) counted all zero parent is_child =
+    record { link = link; send = send; recv = recv; leads = refl; sent = refl; delivered = refl; holds = all.0 }
+at_child P w (Some q ∷ parents) (link ∷ links) (send ∷ sends) (recv ∷ recvs) counted all (suc child) parent is_child =
+    let below = at_child P (suc w) parents links sends recvs (omega arith) all.1 child parent is_child in
     record {
       link = below.link;
       send = below.send;
@@ -70,8 +71,7 @@ settled_into w (Some q ∷ parents) (link ∷ links) (send ∷ sends) (recv ∷ 
       leads = below.leads;
       sent = below.sent;
       delivered = below.delivered;
-      counted = below.counted;
-      settled = below.settled;
+      holds = below.holds;
     }
 
 -- the report of what the workers left
@@ -106,12 +106,12 @@ module _ (net : Network) (received : List (List ℕ)) (ended : List Ended) (send
     -- each link is explained
     pub are_explained : All CanBegin net.links → AreExplained net report
     are_explained can_begin child parent is_child =
-        let link = settled_into 0 parents net.links sends recvs counted all child parent is_child in
-        let agree = link.settled.agree in
+        let link = at_child IsSettled 0 parents net.links sends recvs counted all child parent is_child in
+        let agree = link.holds.agree in
         let served = run.served child parent link.send is_child link.sent in
         let edge : EdgeLaw link.link.params link.link.start (received_at received parent) link.send.acked link.recv.delivered =
         record {
-          events = link.settled.events;
+          events = link.holds.events;
           closed = sym agree.closed.by_sender ∙ served.closed;
           delivers = sym agree.delivered;
           counts = sym agree.acked;
@@ -127,11 +127,59 @@ module _ (net : Network) (received : List (List ℕ)) (ended : List Ended) (send
             has = run.delivered child link.recv link.delivered;
             edge = edge;
           };
-          counted = link.counted;
+          counted = entry_mapped acked_of parents sends child link.send link.sent;
         }
 
     -- what a node received whose worker ended with its upstream is acknowledged
     pub hands_on : HandsOn parents report
     hands_on child parent is_child over =
-        let link = settled_into 0 parents net.links sends recvs counted all child parent is_child in
-        link.counted ∙ ap Some (run.handed_on child parent link.send is_child link.sent over).acked
+        let link = at_child IsSettled 0 parents net.links sends recvs counted all child parent is_child in
+        entry_mapped acked_of parents sends child link.send link.sent
+        ∙ ap Some (run.handed_on child parent link.send is_child link.sent over).acked
+
+-- two words are no lock, so their ends followed what they have to follow
+words_followed : (link : AnyLink) (send : ScriptedSendFinished) (recv : ScriptedRecvFinished) → kind_of link ≡ two_words → IsFollowed link send recv
+    → FollowPlans (given_to link) send recv
+words_followed (Lock link) send recv is held = absurd (subst IsWord (sym is) tt)
+words_followed (Word link) send recv is held = held
+
+module _ (which : Links) (job : JobValue) (made : List AnyLink) (received : List (List ℕ)) (ended : List Ended) (sends : List ScriptedSendFinished)
+    (recvs : List ScriptedRecvFinished) (kinds : List LinkKind)
+    (run : IsRun (network job) received ended (map sent_by sends) (map received_by recvs))
+    (given : map given_to made ≡ (network job).links) (one_of : All (IsOneOf which) made)
+    (send_plans : map (λ (done : ScriptedSendFinished). done.link.plan) sends ≡ map (plan job.turns) job.scripts)
+    (recv_plans : map (λ (done : ScriptedRecvFinished). done.link.plan) recvs ≡ map (plan job.turns) job.scripts)
+    (counted : length made ≡ length (links_of job.tree.parents)) (all : AllOfEach IsFollowed made sends recvs) where
+  -- each link of two words is by its own script
+  pub are_by_script : AreByScript which job (report_of job.tree.parents received ended (map sent_by sends) kinds)
+  are_by_script child parent link script is_child leads its_script two =
+      let parents = job.tree.parents in
+      let at = at_child IsFollowed 0 parents made sends recvs counted all child parent is_child in
+      let same_link : given_to at.link ≡ link =
+      same_Some (given_to at.link) link
+      (sym (entry_mapped given_to parents made child at.link at.leads) ∙ (ap (λ ls. entry_into parents ls child) given ∙ leads)) in
+      let send_plan : at.send.link.plan ≡ plan job.turns script =
+      same_entry (λ (done : ScriptedSendFinished). done.link.plan) (plan job.turns) parents sends job.scripts child at.send script send_plans
+      at.sent its_script in
+      let recv_plan : at.recv.link.plan ≡ plan job.turns script =
+      same_entry (λ (done : ScriptedRecvFinished). done.link.plan) (plan job.turns) parents recvs job.scripts child at.recv script recv_plans
+      at.delivered its_script in
+      let its_kind : kind_of at.link ≡ kind_for which (given_to at.link).params =
+      holds_by_child (IsOneOf which) parents made child at.link one_of at.leads in
+      let kept : FollowPlans (given_to at.link) at.send at.recv =
+      words_followed at.link at.send at.recv (its_kind ∙ (ap (λ (l : LinkSetup). kind_for which l.params) same_link ∙ two)) at.holds in
+      let sent : entry_into parents (map sent_by sends) child ≡ Some (sent_by at.send) = entry_mapped sent_by parents sends child at.send at.sent in
+      let served = run.served child parent (sent_by at.send) is_child sent in
+      record {
+        sent = at.send.steps;
+        received = at.recv.steps;
+        sender = at.send.account;
+        receiver = at.recv.account;
+        explained = subst (λ g. AnInterleavingExplains g at.send.steps at.send.account at.recv.steps at.recv.account) same_link kept.explained;
+        frames = subst (λ (p : LinkPlan). IsLetThrough (sender_half p.script) p.turns (frame_stores at.send.steps)) send_plan kept.frames;
+        acks = subst (λ (p : LinkPlan). IsLetThrough (receiver_half p.script) p.turns (ack_stores at.recv.steps)) recv_plan kept.acks;
+        offers = served.offered;
+        closed = served.closed;
+        delivers = run.delivered child (received_by at.recv) (entry_mapped received_by parents recvs child at.recv at.delivered);
+        counts = entry_mapped acked_of parents (map sent_by sends) child (sent_by at.send) sent;
+      }

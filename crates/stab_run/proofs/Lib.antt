@@ -1,4 +1,5 @@
 pub mod Paired
+pub mod InOrder
 pub mod Begun
 pub mod OfKinds
 pub mod Reasons

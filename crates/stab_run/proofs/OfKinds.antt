@@ -17,7 +17,7 @@ one_of_all Words params place p within is all =
     (All-nil (λ (q : Parameters). q.capacity ≡ 1))
 
 -- two words are no lock
-abbrev IsWord : LinkKind → Type 0
+abbrev pub IsWord : LinkKind → Type 0
 IsWord two_words = Unit {0}
 IsWord behind_lock = ⊥
 

@@ -1,8 +1,9 @@
 -- Lists of which the entries belong together, one by one: links and what there is one of for each.
 use Rattle.std.proofs.Common.{◌≡◌, ◌<◌, ◌+◌, ℕ, zero, suc, List, [], ◌∷◌, ◌++◌, length, map, take, drop, get_or, Some, None, Option, refl, sym, ap, ◌∙◌, subst, arith}
-use Rattle.std.proofs.lemmas.List.{drop_more, length-map, map-append, map_more, take_more}
+use Rattle.std.proofs.lemmas.List.{drop_more, map-append, map_more, take_more}
 use Rattle.std.proofs.lemmas.Option.{none-some, same_Some}
 use Rattle.std.specs.List.{AllZip}
+use mathlib.Core.List.{map-map}
 use Rattle.stab_node.specs.ByNode.{entry_into}
 
 module _ {A B : Type 0} (R : A → B → Type 0) where
@@ -35,22 +36,6 @@ module _ {A B : Type 0} (R : A → B → Type 0) where
       subst (λ zs. AllZip R zs (y ∷ ys)) (drop_more xs place x within) (subst (λ zs. AllZip R (drop place xs) zs) first all) in
       (subst (λ z. R z y) (sym read) both.0, both.1)
 
-  -- the entries at one place are paired
-  pub paired_at : (xs : List A) (ys : List B) (place : ℕ) (x : A) (y : B) → place < length xs → x ≡ get_or xs place x → y ≡ get_or ys place y
-      → AllZip R xs ys → R x y
-  paired_at [] ys place x y within read_x read_y all = absurd (omega (arith, within))
-  paired_at (v ∷ vs) [] place x y within read_x read_y all = absurd all
-  paired_at (v ∷ vs) (w ∷ ws) zero x y within read_x read_y all = subst (λ a. R a y) (sym read_x) (subst (λ b. R v b) (sym read_y) all.0)
-  paired_at (v ∷ vs) (w ∷ ws) (suc place) x y within read_x read_y all = paired_at vs ws place x y (omega (arith, within)) read_x read_y all.1
-
-  -- where the entries before a place are paired, and those at it, so are these together
-  pub one_more_pair : (xs : List A) (ys : List B) (place : ℕ) (x : A) (y : B) → place < length xs → place < length ys
-      → x ≡ get_or xs place x → y ≡ get_or ys place y
-      → AllZip R (take place xs) (take place ys) → R x y → AllZip R (take (place + 1) xs) (take (place + 1) ys)
-  one_more_pair xs ys place x y in_xs in_ys read_x read_y so_far next =
-      subst (λ zs. AllZip R (take (place + 1) xs) zs) (sym (take_more ys place y in_ys))
-      (one_more_paired xs (take place ys) place x (get_or ys place y) in_xs read_x so_far (subst (λ b. R x b) read_y next))
-
   -- there are as many
   pub as_many_paired : (xs : List A) (ys : List B) → AllZip R xs ys → length ys ≡ length xs
   as_many_paired [] [] all = refl
@@ -58,35 +43,41 @@ module _ {A B : Type 0} (R : A → B → Type 0) where
   as_many_paired (x ∷ xs) [] all = absurd all
   as_many_paired (x ∷ xs) (y ∷ ys) all = ap (λ n. suc n) (as_many_paired xs ys all.1)
 
--- lists that are as long are paired by what always holds
-pub always_paired : {A B : Type 0} (xs : List A) (ys : List B) → length ys ≡ length xs → AllZip (λ x y. Unit {0}) xs ys
-always_paired [] [] same = tt
-always_paired [] (y ∷ ys) same = absurd (omega (arith, same))
-always_paired (x ∷ xs) [] same = absurd (omega (arith, same))
-always_paired (x ∷ xs) (y ∷ ys) same = (tt, always_paired xs ys (omega (arith, same)))
+-- what holds of each entry and of what is read of the one beside it holds of others that are read alike, in the same order
+pub paired_read : {X A B C : Type 0} (R : X → A → Type 0) (f : B → A) (g : C → A) (xs : List X) (ys : List B) (zs : List C)
+    → AllZip (λ x y. R x (f y)) xs ys → map g zs ≡ map f ys → AllZip (λ x z. R x (g z)) xs zs
+paired_read R f g [] [] [] all same = tt
+paired_read R f g [] [] (z ∷ zs) all same = absurd (omega (arith, ap length same))
+paired_read R f g [] (y ∷ ys) zs all same = absurd all
+paired_read R f g (x ∷ xs) [] zs all same = absurd all
+paired_read R f g (x ∷ xs) (y ∷ ys) [] all same = absurd (omega (arith, ap length same))
+paired_read R f g (x ∷ xs) (y ∷ ys) (z ∷ zs) all same =
+    let first : g z ≡ f y = ap (λ ws. get_or ws 0 (f y)) same in
+    (subst (R x) (sym first) all.0, paired_read R f g xs ys zs all.1 (ap (λ ws. drop 1 ws) same))
 
--- where each link has an entry, and there are as many others in the same order, each link has one of those
-pub as_many_alike : {A B C N : Type 0} (R : A → B → Type 0) (f : B → N) (g : C → N) (xs : List A) (ys : List B) (zs : List C) → AllZip R xs ys
-    → map g zs ≡ map f ys → AllZip (λ x z. Unit {0}) xs zs
-as_many_alike R f g xs ys zs all same =
-    always_paired xs zs (sym (length-map zs g) ∙ (ap (λ ns. length ns) same ∙ (length-map ys f ∙ as_many_paired R xs ys all)))
+-- what is read of entries that are read alike is the same
+pub read_further : {A B C N : Type 0} (h : A → N) (f : B → A) (g : C → A) (ys : List B) (zs : List C) → map g zs ≡ map f ys
+    → map (λ z. h (g z)) zs ≡ map (λ y. h (f y)) ys
+read_further h f g ys zs same = sym (map-map h g zs) ∙ (ap (λ ws. map h ws) same ∙ map-map h f ys)
 
--- where each entry shows the name of its link, and others show the same in the same order, each of these shows that of its link
-pub paired_named : {X A B C : Type 0} (name : X → A) (f : B → A) (g : C → A) (xs : List X) (ys : List B) (zs : List C)
-    → AllZip (λ x y. f y ≡ name x) xs ys → map g zs ≡ map f ys → AllZip (λ x z. g z ≡ name x) xs zs
-paired_named name f g [] [] [] all same = tt
-paired_named name f g [] [] (z ∷ zs) all same = absurd (omega (arith, ap length same))
-paired_named name f g [] (y ∷ ys) zs all same = absurd all
-paired_named name f g (x ∷ xs) [] zs all same = absurd all
-paired_named name f g (x ∷ xs) (y ∷ ys) [] all same = absurd (omega (arith, ap length same))
-paired_named name f g (x ∷ xs) (y ∷ ys) (z ∷ zs) all same =
-    let first : g z ≡ f y = ap (λ ws. get_or ws 0 (name x)) same in
-    (first ∙ all.0, paired_named name f g xs ys zs all.1 (ap (λ ws. drop 1 ws) same))
+-- what is read of an entry is there where the entry is
+pub entry_mapped : {A B : Type 0} (f : A → B) (parents : List (Option ℕ)) (xs : List A) (node : ℕ) (x : A) → entry_into parents xs node ≡ Some x
+    → entry_into parents (map f xs) node ≡ Some (f x)
+entry_mapped f [] xs node x is = absurd (none-some x is)
+entry_mapped f (None ∷ parents) xs zero x is = absurd (none-some x is)
+entry_mapped f (None ∷ parents) xs (suc node) x is = entry_mapped f parents xs node x is
+entry_mapped f (Some q ∷ parents) [] zero x is = absurd (none-some x is)
+entry_mapped f (Some q ∷ parents) [] (suc node) x is = entry_mapped f parents [] node x is
+entry_mapped f (Some q ∷ parents) (y ∷ ys) zero x is = ap (λ z. Some (f z)) (same_Some y x is)
+entry_mapped f (Some q ∷ parents) (y ∷ ys) (suc node) x is = entry_mapped f parents ys node x is
 
--- entries of one link each, and others that are of the same links in the same order
-pub paired_alike : {A B C : Type 0} (f : B → A) (g : C → A) (xs : List A) (ys : List B) (zs : List C) → AllZip (λ x y. f y ≡ x) xs ys
-    → map g zs ≡ map f ys → AllZip (λ x z. g z ≡ x) xs zs
-paired_alike f g xs ys zs all same = paired_named (λ x. x) f g xs ys zs all same
+-- two lists that are read alike are read alike at a node
+pub same_entry : {A B N : Type 0} (f : A → N) (g : B → N) (parents : List (Option ℕ)) (xs : List A) (ys : List B) (node : ℕ) (x : A) (y : B)
+    → map f xs ≡ map g ys → entry_into parents xs node ≡ Some x → entry_into parents ys node ≡ Some y → f x ≡ g y
+same_entry f g parents xs ys node x y same at_x at_y =
+    same_Some (f x) (g y)
+    (sym (entry_mapped f parents xs node x at_x)
+    ∙ (ap (λ zs. entry_into parents zs node) same ∙ entry_mapped g parents ys node y at_y))
 
 -- what is read of the entry into a node is that of an entry
 pub entry_read : {A B : Type 0} (f : A → B) (parents : List (Option ℕ)) (xs : List A) (node : ℕ) (y : B) → entry_into parents (map f xs) node ≡ Some y

@@ -1,18 +1,21 @@
 -- Settling link by link: what is settled so far, and what it shows of each link by its child.
-use Rattle.std.proofs.Common.{◌≡◌, ◌<◌, ◌+◌, ℕ, zero, suc, inl, inr, List, [], ◌∷◌, ◌++◌, length, map, drop, get_or, Option, Some, None, refl, ap, sym, ◌∙◌, subst, arith, append_assoc}
+use Rattle.std.proofs.Common.{◌≡◌, ◌<◌, ◌+◌, ℕ, suc, inl, inr, List, [], ◌∷◌, ◌++◌, length, map, drop, Option, Some, None, refl, ap, sym, ◌∙◌, subst, arith, append_assoc}
 use Rattle.std.proofs.lemmas.Bool.{cases_lt}
-use Rattle.std.proofs.lemmas.List.{append-nil, drop_more, drop_all}
+use Rattle.std.proofs.lemmas.List.{append-nil, drop_more, drop_all, length-map}
 use Rattle.std.proofs.lemmas.Option.{none-some, same_Some}
 use Rattle.stab_core.specs.LinkSetup.{LinkSetup}
 use Rattle.stab_ends.specs.Accounts.{SenderAccount, ReceiverAccount}
 use Rattle.stab_lock.specs.declared.settle.SettleFault.{SettleFault}
 use Rattle.stab_tree.proofs.ForCallers.{links_counted_anywhere}
-use Rattle.stab_tree.specs.Links.{links_from, links_of}
+use Rattle.stab_tree.specs.Links.{links_of}
 use Rattle.stab_tree.specs.Nodes.{parent_at}
 use Rattle.stab_treecore.proofs.ForCallers.{no_link_into}
 use Rattle.stab_treecore.specs.ByChild.{by_child}
 use Rattle.stab_node.specs.ByNode.{entry_into}
-use Rattle.stab_run.specs.LinkRuns.{AreSettled, HoldsOfFirst, IsFirstRefused, IsSettled, SettledBefore, acked_of}
+use Rattle.stab_run.specs.AnyLinks.{IsFollowed, given_to, received_by, sent_by}
+use Rattle.stab_run.specs.Scripted.{ScriptedRecvFinished, ScriptedSendFinished}
+use Rattle.stab_run.specs.declared.any_link.AnyLink.{AnyLink}
+use Rattle.stab_run.specs.LinkRuns.{AllOfEach, AreSettled, HoldsOfFirst, IsFirstRefused, IsSettled, SettledBefore, acked_of}
 
 -- what is left of one list with an entry for each link is what it has from this node on
 pub record IsLeftOf {A : Type 0} (parents : List (Option ℕ)) (all left : List A) (node : ℕ) : Type 0 where
@@ -165,13 +168,13 @@ first_refused P parents links sends recvs acked (l ∷ ls) (s ∷ ss) (r ∷ rs)
       before = so_far.before;
     }
 
--- no link, and no account, is settled
-nothing_left : (links : List LinkSetup) (sends : List SenderAccount) (recvs : List ReceiverAccount) → length links ≡ 0 → length sends ≡ 0 → length recvs ≡ 0
-    → AreSettled links sends recvs
-nothing_left [] [] [] no_link no_send no_recv = tt
-nothing_left [] [] (r ∷ rs) no_link no_send no_recv = absurd (omega arith)
-nothing_left [] (s ∷ ss) rs no_link no_send no_recv = absurd (omega arith)
-nothing_left (l ∷ ls) ss rs no_link no_send no_recv = absurd (omega arith)
+-- of no link, with no ends, all holds
+nothing_left : {L S R : Type 0} (P : L → S → R → Type 0) (links : List L) (sends : List S) (recvs : List R) → length links ≡ 0 → length sends ≡ 0
+    → length recvs ≡ 0 → AllOfEach P links sends recvs
+nothing_left P [] [] [] no_link no_send no_recv = tt
+nothing_left P [] [] (r ∷ rs) no_link no_send no_recv = absurd (omega arith)
+nothing_left P [] (s ∷ ss) rs no_link no_send no_recv = absurd (omega arith)
+nothing_left P (l ∷ ls) ss rs no_link no_send no_recv = absurd (omega arith)
 
 pub all_settled : (parents : List (Option ℕ)) (links : List LinkSetup) (sends : List SenderAccount) (recvs : List ReceiverAccount) (acked : List (Option ℕ))
     (links_left : List LinkSetup) (sends_left : List SenderAccount) (recvs_left : List ReceiverAccount) (node : ℕ)
@@ -180,7 +183,20 @@ pub all_settled : (parents : List (Option ℕ)) (links : List LinkSetup) (sends 
 all_settled parents links sends recvs acked links_left sends_left recvs_left node so_far over =
     let none : length (links_of (drop node parents)) ≡ 0 = ap (λ ps. length (links_of ps)) (drop_all node parents (omega (arith, over))) in
     so_far.settled
-    (nothing_left links_left sends_left recvs_left (so_far.links_enough ∙ none) (so_far.sends_enough ∙ none) (so_far.recvs_enough ∙ none))
+    (nothing_left IsSettled links_left sends_left recvs_left (so_far.links_enough ∙ none) (so_far.sends_enough ∙ none) (so_far.recvs_enough ∙ none))
+
+-- after the last node the ends of all links followed what they have to follow
+pub all_followed : (parents : List (Option ℕ)) (links : List AnyLink) (sends : List ScriptedSendFinished) (recvs : List ScriptedRecvFinished)
+    (acked : List (Option ℕ)) (links_left : List AnyLink) (sends_left : List ScriptedSendFinished) (recvs_left : List ScriptedRecvFinished) (node : ℕ)
+    → SettledSoFar parents (map given_to links) (map sent_by sends) (map received_by recvs) acked (map given_to links_left) (map sent_by sends_left)
+    (map received_by recvs_left) node
+    → (AllOfEach IsFollowed links_left sends_left recvs_left → AllOfEach IsFollowed links sends recvs) → length parents ≡ node
+    → AllOfEach IsFollowed links sends recvs
+all_followed parents links sends recvs acked links_left sends_left recvs_left node so_far followed over =
+    let none : length (links_of (drop node parents)) ≡ 0 = ap (λ ps. length (links_of ps)) (drop_all node parents (omega (arith, over))) in
+    followed
+    (nothing_left IsFollowed links_left sends_left recvs_left (sym (length-map links_left given_to) ∙ (so_far.links_enough ∙ none))
+    (sym (length-map sends_left sent_by) ∙ (so_far.sends_enough ∙ none)) (sym (length-map recvs_left received_by) ∙ (so_far.recvs_enough ∙ none)))
 
 -- one more link is settled
 pub child_settled : (parents : List (Option ℕ)) (links : List LinkSetup) (sends : List SenderAccount) (recvs : List ReceiverAccount) (acked : List (Option ℕ))

@@ -6,12 +6,9 @@ use Rattle.stab_core.specs.LinkSetup.{LinkSetup}
 use Rattle.stab_ends.specs.Accounts.{SenderAccount, ReceiverAccount}
 use Rattle.stab_lock.specs.Settling.{DifferFromReplay}
 use Rattle.stab_lock.specs.declared.settle.SettleFault.{SettleFault}
-use Rattle.stab_run.specs.AnyEnds.{AnyLinkId, any_recv_end, any_recv_finished, any_send_end}
-use Rattle.stab_run.specs.AnyEnds.{any_send_finished, locked, of_words}
-use Rattle.stab_run.specs.declared.any_recv.AnyRecv.{AnyRecv}
-use Rattle.stab_run.specs.declared.any_recv.AnyRecvDone.{AnyRecvDone}
-use Rattle.stab_run.specs.declared.any_send.AnySend.{AnySend}
-use Rattle.stab_run.specs.declared.any_send.AnySendDone.{AnySendDone}
+use Rattle.stab_run.specs.AnyEnds.{AnyLinkId, locked, of_words}
+use Rattle.stab_run.specs.Scripted.{FollowPlans, ScriptedRecvEnd, ScriptedRecvFinished}
+use Rattle.stab_run.specs.Scripted.{ScriptedSendEnd, ScriptedSendFinished}
 use Rattle.stab_run.specs.LinkKinds.{IsLocked, LinkKind, behind_lock, kind_for, two_words}
 use Rattle.stab_run.specs.declared.any_link.AnyLink.{AnyLink}
 use Rattle.stab_run.specs.declared.any_link.AnyLink.TheVariants.{Lock, Word}
@@ -48,25 +45,31 @@ IsOpenedBy (Word link) opening.Lock = ⊥
 IsOpenedBy (Word link) (opening.Word splits) = splits ≡ link
 
 -- an end of either side is that of this link
-abbrev pub Sends : {R : Type 0} → AnyLink → AnySend R → Type 0
-Sends link end = (any_send_end end).link ≡ name_of link
+abbrev pub Sends : AnyLink → ScriptedSendEnd → Type 0
+Sends link end = end.link.id ≡ name_of link
 
-abbrev pub Receives : {R : Type 0} → AnyLink → AnyRecv R → Type 0
-Receives link end = (any_recv_end end).link ≡ name_of link
+abbrev pub Receives : AnyLink → ScriptedRecvEnd → Type 0
+Receives link end = end.link.id ≡ name_of link
 
 -- and so is a finished end
-abbrev pub HasSent : AnyLink → AnySendDone → Type 0
-HasSent link done = (any_send_finished done).link ≡ name_of link
+abbrev pub HasSent : AnyLink → ScriptedSendFinished → Type 0
+HasSent link done = done.link.id ≡ name_of link
 
-abbrev pub HasReceived : AnyLink → AnyRecvDone → Type 0
-HasReceived link done = (any_recv_finished done).link ≡ name_of link
+abbrev pub HasReceived : AnyLink → ScriptedRecvFinished → Type 0
+HasReceived link done = done.link.id ≡ name_of link
 
 -- the account of a finished end
-abbrev pub sent_by : AnySendDone → SenderAccount
-sent_by done = (any_send_finished done).account
+abbrev pub sent_by : ScriptedSendFinished → SenderAccount
+sent_by done = done.account
 
-abbrev pub received_by : AnyRecvDone → ReceiverAccount
-received_by done = (any_recv_finished done).account
+abbrev pub received_by : ScriptedRecvFinished → ReceiverAccount
+received_by done = done.account
+
+-- both finished ends of a link of two words followed what they have to follow; of a locked link
+-- this says nothing
+abbrev pub IsFollowed : AnyLink → ScriptedSendFinished → ScriptedRecvFinished → Type 0
+IsFollowed (Lock link) send recv = Unit {0}
+IsFollowed (Word link) send recv = FollowPlans link.given send recv
 
 -- what is known where a link of this setup is called different in a run over these links: it has
 -- a lock, and its history differs from these accounts in this way

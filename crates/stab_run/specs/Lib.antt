@@ -1,7 +1,9 @@
 pub mod AnyEnds
+pub mod Scripted
 pub mod Reports
 pub mod RunFaults
 pub mod LinkRuns
 pub mod LinkKinds
 pub mod AnyLinks
+pub mod ByScript
 pub mod Runs

@@ -21,12 +21,16 @@ pub record IsSettled (link : LinkSetup) (send : SenderAccount) (recv : ReceiverA
   pub events : List Event
   pub agree : Agree (replay link.params (initial link.start) events) send recv
 
--- the accounts of each link, in the order of the links
+-- of each link, with its two finished ends, this holds: the three lists are in the same order
+abbrev pub AllOfEach : {L S R : Type 0} → (L → S → R → Type 0) → List L → List S → List R → Type 0
+AllOfEach P [] [] [] = Unit {0}
+AllOfEach P (link ∷ links) (send ∷ sends) (recv ∷ recvs) =
+    P link send recv × AllOfEach P links sends recvs
+AllOfEach P _ _ _ = ⊥
+
+-- the accounts of each link are settled
 abbrev pub AreSettled : List LinkSetup → List SenderAccount → List ReceiverAccount → Type 0
-AreSettled [] [] [] = Unit {0}
-AreSettled (link ∷ links) (send ∷ sends) (recv ∷ recvs) =
-    IsSettled link send recv × AreSettled links sends recvs
-AreSettled _ _ _ = ⊥
+AreSettled links sends recvs = AllOfEach IsSettled links sends recvs
 
 -- A link leads into this node, and this holds of its setup.
 pub record HoldsInto (P : LinkSetup → Type 0) (parents : List (Option ℕ)) (links : List LinkSetup)

@@ -5,17 +5,18 @@ ghost use Rattle.std.specs.Prelude.{◌≡◌, [], ◌∷◌, if◌then◌else�
 ghost use Rattle.stab_core.specs.LinkSetup.{setup};
 ghost use Rattle.stab_core.specs.Replay.{IsLawful};
 ghost use Rattle.stab_ends.specs.Accounts.{new_receiver, new_sender};
-ghost use Rattle.stab_run.specs.AnyLinks.{HasReceived, HasSent, IsOneOf, IsOpenedBy, MayDiffer};
-ghost use Rattle.stab_run.specs.AnyLinks.{Receives, Sends, given_to, kind_of, received_by};
-ghost use Rattle.stab_run.specs.AnyLinks.{sent_by};
+ghost use Rattle.stab_run.specs.AnyLinks.{HasReceived, HasSent, IsFollowed, IsOneOf, IsOpenedBy};
+ghost use Rattle.stab_run.specs.AnyLinks.{MayDiffer, Receives, Sends, given_to, kind_of};
 ghost use Rattle.stab_run.specs.LinkKinds.{HaveOnePlace, behind_lock, kind_for, two_words};
 ghost use Rattle.stab_run.specs.LinkRuns.{IsSettled};
-ghost use Rattle.stab_acts.specs.Scripts.{receiver_half, sender_half};
-ghost use Rattle.stab_run.specs.AnyEnds.{any_recv_end, any_send_end};
+ghost use Rattle.stab_run.specs.Scripted.{plan};
 
 use crate::any_recv::{AnyRecv, AnyRecvDone};
 use crate::any_send::{AnySend, AnySendDone};
 use crate::links::Links;
+use crate::plan::Plan;
+use crate::scripted_recv::{ScriptedRecv, ScriptedRecvDone};
+use crate::scripted_send::{ScriptedSend, ScriptedSendDone};
 use stab_acts::Script;
 use stab_core::Start;
 use stab_ends::Settled;
@@ -91,54 +92,66 @@ impl AnyLink {
         }
     }
 
-    /// The two ends of the link, which have made no call, each with its half of the script.
-    pub(crate) fn split<'a, R>(
+    /// The two ends of the link, which have made no call, each with its half of a copy of the
+    /// script, for so many turns.
+    pub(crate) fn split<'a, 's, R>(
         &'a self,
         alloc: Global,
         opening: AnyOpening,
-        script: Script,
-    ) -> Result<(AnySend<'a, R>, AnyRecv<'a, R>), AllocError>
+        script: &'s Script,
+        turns: u32,
+    ) -> Result<(ScriptedSend<'a, 's, R>, ScriptedRecv<'a, 's, R>), AllocError>
         requires { IsOpenedBy self.now opening }
         ensures sends { IfOk result (λ ends. Sends self.now ends.0) }
         ensures receives { IfOk result (λ ends. Receives self.now ends.1) }
-        ensures send_account { IfOk result (λ ends. (any_send_end ends.0).account ≡ new_sender) }
-        ensures recv_account { IfOk result (λ ends. (any_recv_end ends.1).account ≡ new_receiver) }
-        ensures send_acts { IfOk result (λ ends. (any_send_end ends.0).acts ≡ sender_half script) }
-        ensures recv_acts { IfOk result (λ ends.
-            (any_recv_end ends.1).acts ≡ receiver_half script) }
+        ensures send_account { IfOk result (λ ends. ends.0.account ≡ new_sender) }
+        ensures recv_account { IfOk result (λ ends. ends.1.account ≡ new_receiver) }
+        ensures send_plan { IfOk result (λ ends. ends.0.link.plan ≡ plan turns script.now) }
+        ensures recv_plan { IfOk result (λ ends. ends.1.link.plan ≡ plan turns script.now) }
     {
+        let send_plan = Plan::new(script, turns);
+        let recv_plan = Plan::new(script, turns);
+        let acts = script.copy(alloc)?;
         match (self, opening) {
             (AnyLink::Lock(link), AnyOpening::Lock) => {
-                let (send, recv) = link.split(script);
-                Ok((AnySend::Lock(send), AnyRecv::Lock(recv)))
+                let (send, recv) = link.split(acts);
+                Ok((
+                    ScriptedSend::new(AnySend::Lock(send), send_plan),
+                    ScriptedRecv::new(AnyRecv::Lock(recv), recv_plan),
+                ))
             }
             (AnyLink::Word(link), AnyOpening::Word(opening)) => {
-                let (send, recv) = link.split(alloc, opening, script)?;
-                Ok((AnySend::Word(send), AnyRecv::Word(recv)))
+                let (send, recv) = link.split(alloc, opening, acts)?;
+                Ok((
+                    ScriptedSend::new(AnySend::Word(send), send_plan),
+                    ScriptedRecv::new(AnyRecv::Word(recv), recv_plan),
+                ))
             }
             _ => unreachable!(),
         }
     }
 
-    /// Settles a link with its two finished ends: one list of events explains both accounts. Which
-    /// links the run has is for contracts alone.
+    /// Settles a link with its two finished ends: one list of events explains both accounts, and
+    /// over two words the ends followed their script. Which links the run has is for contracts
+    /// alone.
     pub(crate) fn settle(
         self,
         _links: Links,
-        send: AnySendDone,
-        recv: AnyRecvDone,
+        send: ScriptedSendDone<'_>,
+        recv: ScriptedRecvDone<'_>,
     ) -> Result<Settled, SettleFault>
         requires one_of { IsOneOf _links self }
         requires send { HasSent self send }
         requires recv { HasReceived self recv }
-        ensures send { IfOk result (λ settled. settled.send ≡ sent_by send) }
-        ensures recv { IfOk result (λ settled. settled.recv ≡ received_by recv) }
+        ensures send { IfOk result (λ settled. settled.send ≡ send.entry.account) }
+        ensures recv { IfOk result (λ settled. settled.recv ≡ recv.entry.account) }
         ensures settled { OnOk result
-            (IsSettled (given_to self) (sent_by send) (received_by recv)) }
+            (IsSettled (given_to self) send.entry.account recv.entry.account) }
+        ensures followed { OnOk result (IsFollowed self send.entry recv.entry) }
         ensures refused { IfErr result
-            (MayDiffer _links (given_to self) (sent_by send) (received_by recv)) }
+            (MayDiffer _links (given_to self) send.entry.account recv.entry.account) }
     {
-        match (self, send, recv) {
+        match (self, send.into_done(), recv.into_done()) {
             (AnyLink::Lock(link), AnySendDone::Lock(send), AnyRecvDone::Lock(recv)) => {
                 link.settle(send, recv)
             }

@@ -4,17 +4,17 @@ ghost use Rattle.std.specs.List.{AllZip};
 ghost use Rattle.std.specs.Prelude.{◌≡◌, ◌∷◌, ◌<◌, All, IfErr, IfOk, length, map};
 ghost use Rattle.stab_job.specs.JobValues.{network};
 ghost use Rattle.stab_ends.specs.Accounts.{new_receiver, new_sender};
-ghost use Rattle.stab_run.specs.AnyLinks.{IsOpenedBy, Receives, Sends};
+ghost use Rattle.stab_run.specs.AnyLinks.{HasReceived, HasSent, IsOpenedBy, Receives, Sends};
+ghost use Rattle.stab_run.specs.AnyLinks.{received_by, sent_by};
 ghost use Rattle.stab_run.specs.LinkRuns.{IsRun};
 ghost use Rattle.stab_run.specs.RunFaults.{HaveAsked, IsWorkersReason};
-ghost use Rattle.stab_acts.specs.Scripts.{receiver_half, sender_half};
+ghost use Rattle.stab_run.specs.Scripted.{plan};
 ghost use Rattle.stab_tree.specs.Links.{links_of};
-ghost use Rattle.stab_run.specs.AnyEnds.{any_recv_end, any_send_end};
 
 use crate::any_link::{AnyLink, AnyOpening};
-use crate::any_recv::AnyRecv;
-use crate::any_send::AnySend;
 use crate::run_fault::RunFault;
+use crate::scripted_recv::{ScriptedRecv, ScriptedRecvDone};
+use crate::scripted_send::{ScriptedSend, ScriptedSendDone};
 use stab_acts::Script;
 use stab_ends::{RecvSide, SendSide};
 use stab_job::Job;
@@ -32,43 +32,74 @@ fn take_first(openings: &mut VecDeque<AnyOpening>) -> AnyOpening
     openings.pop_front().unwrap()
 }
 
-/// The two ends of each link, which have made no call, with a copy of the link's script.
-pub(crate) fn split_all<'a, R>(
+/// The two ends of each link, which have made no call and follow the link's script, for so many
+/// turns.
+fn split_all<'a, 's, R>(
     alloc: Global,
     links: &'a [AnyLink],
     openings: Vec<AnyOpening>,
-    scripts: &[Script],
-) -> Result<(Vec<AnySend<'a, R>>, Vec<AnyRecv<'a, R>>), AllocError>
+    scripts: &'s [Script],
+    turns: u32,
+) -> Result<(Vec<ScriptedSend<'a, 's, R>>, Vec<ScriptedRecv<'a, 's, R>>), AllocError>
     requires scripts { length scripts.now ≡ length links.now }
     requires openings { AllZip IsOpenedBy links.now openings.items }
     ensures senders { IfOk result (λ ends.
         AllZip (λ link end. Sends link end) links.now ends.0.items) }
     ensures receivers { IfOk result (λ ends.
         AllZip (λ link end. Receives link end) links.now ends.1.items) }
-    ensures send_acts { IfOk result (λ ends.
-        map (λ end. (any_send_end end).acts) ends.0.items ≡ map sender_half scripts.now) }
-    ensures recv_acts { IfOk result (λ ends.
-        map (λ end. (any_recv_end end).acts) ends.1.items ≡ map receiver_half scripts.now) }
+    ensures send_plans { IfOk result (λ ends.
+        map (λ end. end.link.plan) ends.0.items ≡ map (plan turns) scripts.now) }
+    ensures recv_plans { IfOk result (λ ends.
+        map (λ end. end.link.plan) ends.1.items ≡ map (plan turns) scripts.now) }
     ensures new_senders { IfOk result (λ ends.
-        All (λ end. (any_send_end end).account ≡ new_sender) ends.0.items) }
+        All (λ end. end.account ≡ new_sender) ends.0.items) }
     ensures new_receivers { IfOk result (λ ends.
-        All (λ end. (any_recv_end end).account ≡ new_receiver) ends.1.items) }
+        All (λ end. end.account ≡ new_receiver) ends.1.items) }
 {
     let mut sends = Vec::with_capacity(alloc, links.len())?;
     let mut recvs = Vec::with_capacity(alloc, links.len())?;
     let mut openings = VecDeque::from(openings);
     'links: for place in 0..links.len() {
-        let script = scripts[place].copy(alloc)?;
         let opening = take_first(&mut openings);
-        let (send, recv) = links[place].split(alloc, opening, script)?;
+        let (send, recv) = links[place].split(alloc, opening, &scripts[place], turns)?;
         sends.push_reserved(send);
         recvs.push_reserved(recv);
     }
     Ok((sends, recvs))
 }
 
+/// Splits the links of a job and runs its workers over their ends, which follow its scripts.
+pub(crate) fn run_links<'j, R: Threads + Wait + Send + Sync, G: Gate + Sync>(
+    rt: &R,
+    alloc: Global,
+    job: &'j Job,
+    links: &[AnyLink],
+    openings: Vec<AnyOpening>,
+    gate: &G,
+) -> Result<Gathered<ScriptedRecvDone<'j>, ScriptedSendDone<'j>>, RunFault>
+    requires links { length links.now ≡ length (links_of job.now.tree.parents) }
+    requires openings { AllZip IsOpenedBy links.now openings.items }
+    ensures run { IfOk result (λ g. IsRun (network job.now)
+        g.received.items g.ended.items (map sent_by g.sends.items)
+        (map received_by g.recvs.items)) }
+    ensures sends { IfOk result (λ g. AllZip HasSent links.now g.sends.items) }
+    ensures recvs { IfOk result (λ g. AllZip HasReceived links.now g.recvs.items) }
+    ensures send_plans { IfOk result (λ g. map (λ done. done.link.plan) g.sends.items
+        ≡ map (plan job.now.turns) job.now.scripts) }
+    ensures recv_plans { IfOk result (λ g. map (λ done. done.link.plan) g.recvs.items
+        ≡ map (plan job.now.turns) job.now.scripts) }
+    ensures turns { IfOk result (λ g. HaveAsked (G.has_passed gate.now) (G.is_done gate.now)
+        (length job.now.tree.parents) job.now.turns g.ended.items) }
+    ensures refused { IfErr result (IsWorkersReason job.now
+        (G.has_passed gate.now) (G.may_refuse gate.now) (G.is_done gate.now)) }
+{
+    let (sends, recvs) = split_all::<R>(alloc, links, openings, job.scripts(), job.turns())?;
+    let gathered = run_ends(rt, rt, alloc, job, sends, recvs, gate)?;
+    Ok(gathered)
+}
+
 /// Runs the workers of a job over the ends of its links.
-pub(crate) fn run_ends<'e, R: Threads + Wait + Sync, P: Sync, U, D, G>(
+fn run_ends<'e, R: Threads + Wait + Sync, P: Sync, U, D, G>(
     rt: &'e R,
     pass: &'e P,
     alloc: Global,

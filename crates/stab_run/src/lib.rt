@@ -4,7 +4,8 @@
 //! one fact: the tree law holds at every node of the report that [`run_locked`] answers, over links
 //! behind locks, [`run_words`], over links of two words, and [`run_mixed`], over links of both
 //! kinds; [`report_text`] prints it. [`AnySend`] and [`AnyRecv`] are the ends of a link of either
-//! kind, and a finished one keeps its kind. The job and its reader, which are those of `stab_job`, can be
+//! kind, and a finished one keeps its kind. The ends that a run deals out are such ends, which also
+//! know the script that they follow. The job and its reader, which are those of `stab_job`, can be
 //! named here as well.
 #![tactic(auto)]
 
@@ -12,12 +13,16 @@ mod any_link;
 mod any_recv;
 mod any_send;
 mod ends;
+pub mod examples;
 pub mod laws;
 mod links;
+mod plan;
 mod report;
 mod run;
 mod run_fault;
 mod runs;
+mod scripted_recv;
+mod scripted_send;
 mod settle;
 mod starts;
 

@@ -11,15 +11,16 @@ ghost use Rattle.stab_run.specs.LinkKinds.{HaveOnePlace, kind_for};
 ghost use Rattle.stab_run.specs.LinkRuns.{IsRun};
 ghost use Rattle.stab_run.specs.RunFaults.{HaveAsked, IsRunReason, IsSettlingReason};
 ghost use Rattle.stab_run.specs.Runs.{IsReport};
+ghost use Rattle.stab_run.specs.Scripted.{plan};
 
 use crate::any_link::{AnyLink, KeptLinks};
-use crate::any_recv::AnyRecvDone;
-use crate::any_send::AnySendDone;
-use crate::ends::{run_ends, split_all};
+use crate::ends::run_links;
 use crate::laws;
 use crate::links::Links;
 use crate::report::Report;
 use crate::run_fault::RunFault;
+use crate::scripted_recv::ScriptedRecvDone;
+use crate::scripted_send::ScriptedSendDone;
 use crate::settle::settle_all;
 use crate::starts::{check_starts, make_links};
 use stab_job::Job;
@@ -49,8 +50,7 @@ pub(crate) fn run<R: Threads + Wait + Send + Sync, G: Gate + Sync>(
 {
     check_starts(job.params(), job.tree(), job.starts())?;
     let (links, openings) = make_links(alloc, which, job.params(), job.starts())?;
-    let (sends, recvs) = split_all::<R>(alloc, &links, openings, job.scripts())?;
-    let gathered = run_ends(rt, rt, alloc, job, sends, recvs, gate)?;
+    let gathered = run_links(rt, alloc, job, &links, openings, gate)?;
     let report = report_of(alloc, which, job, links, gathered)?;
     Ok(report)
 }
@@ -61,7 +61,7 @@ fn report_of(
     which: Links,
     job: &Job,
     links: Vec<AnyLink>,
-    gathered: Gathered<AnyRecvDone, AnySendDone>,
+    gathered: Gathered<ScriptedRecvDone<'_>, ScriptedSendDone<'_>>,
 ) -> Result<Report, RunFault>
     requires one_place { HaveOnePlace which job.now.params }
     requires given { map given_to links.items ≡ (network job.now).links }
@@ -73,11 +73,15 @@ fn report_of(
         (map received_by gathered.recvs.items) }
     requires sends { AllZip HasSent links.items gathered.sends.items }
     requires recvs { AllZip HasReceived links.items gathered.recvs.items }
+    requires send_plans { map (λ done. done.link.plan) gathered.sends.items
+        ≡ map (plan job.now.turns) job.now.scripts }
+    requires recv_plans { map (λ done. done.link.plan) gathered.recvs.items
+        ≡ map (plan job.now.turns) job.now.scripts }
     ensures report { IfOk result (IsReport which job.now) }
-    ensures ended { IfOk result (λ report. report.ended ≡ gathered.ended.items) }
+    ensures ended { IfOk result (λ report. report.ended ≡ gathered.entry.ended.items) }
     ensures refused { IfErr result (IsSettlingReason which job.now.tree.parents
-        (network job.now).links (map sent_by gathered.sends.items)
-        (map received_by gathered.recvs.items)) }
+        (network job.now).links (map sent_by gathered.entry.sends.items)
+        (map received_by gathered.entry.recvs.items)) }
 {
     let tree = job.tree();
     let Gathered {

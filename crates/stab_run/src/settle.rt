@@ -2,18 +2,19 @@
 
 ghost use Rattle.std.specs.List.{AllZip};
 ghost use Rattle.std.specs.Prelude.{◌≡◌, ◌<◌, ◌∷◌, All, IfErr, IfOk, OnOk, length, map};
-ghost use Rattle.stab_run.specs.AnyLinks.{HasReceived, HasSent, IsOneOf, MayDiffer, given_to};
-ghost use Rattle.stab_run.specs.AnyLinks.{received_by, sent_by};
-ghost use Rattle.stab_run.specs.LinkRuns.{AreSettled, HoldsOfFirst, IsFirstSettled, acked_of};
+ghost use Rattle.stab_run.specs.AnyLinks.{HasReceived, HasSent, IsFollowed, IsOneOf, MayDiffer};
+ghost use Rattle.stab_run.specs.AnyLinks.{given_to, received_by, sent_by};
+ghost use Rattle.stab_run.specs.LinkRuns.{AllOfEach, AreSettled, HoldsOfFirst, IsFirstSettled};
+ghost use Rattle.stab_run.specs.LinkRuns.{acked_of};
 ghost use Rattle.stab_run.specs.RunFaults.{IsSettlingReason};
 ghost use Rattle.stab_tree.specs.Links.{links_of};
 ghost use Rattle.stab_treecore.specs.ByChild.{by_child};
 
 use crate::any_link::AnyLink;
-use crate::any_recv::AnyRecvDone;
-use crate::any_send::AnySendDone;
 use crate::links::Links;
 use crate::run_fault::RunFault;
+use crate::scripted_recv::ScriptedRecvDone;
+use crate::scripted_send::ScriptedSendDone;
 use stab_ends::Settled;
 use stab_lock::SettleFault;
 use stab_tree::{NodeId, Tree};
@@ -23,8 +24,8 @@ use std::collections::VecDeque;
 /// Settles the first link with the first finished end of each side.
 fn settle_first(
     links: &mut VecDeque<AnyLink>,
-    sends: &mut VecDeque<AnySendDone>,
-    recvs: &mut VecDeque<AnyRecvDone>,
+    sends: &mut VecDeque<ScriptedSendDone<'_>>,
+    recvs: &mut VecDeque<ScriptedRecvDone<'_>>,
     which: Links,
 ) -> Result<Settled, SettleFault>
     requires links { 0 < length links.old.items }
@@ -39,6 +40,9 @@ fn settle_first(
         (map received_by recvs.old.items)
         (map given_to links.new.items) (map sent_by sends.new.items)
         (map received_by recvs.new.items)) }
+    ensures followed { OnOk result (
+        AllOfEach IsFollowed links.new.items sends.new.items recvs.new.items
+        → AllOfEach IsFollowed links.old.items sends.old.items recvs.old.items) }
     ensures refused { IfErr result (HoldsOfFirst (MayDiffer which) (map given_to links.old.items)
         (map sent_by sends.old.items) (map received_by recvs.old.items)) }
 {
@@ -62,19 +66,21 @@ pub(crate) fn settle_all(
     which: Links,
     tree: &Tree,
     links: Vec<AnyLink>,
-    sends: Vec<AnySendDone>,
-    recvs: Vec<AnyRecvDone>,
+    sends: Vec<ScriptedSendDone<'_>>,
+    recvs: Vec<ScriptedRecvDone<'_>>,
 ) -> Result<Vec<Option<u64>>, RunFault>
     requires links { length links.items ≡ length (links_of tree.now.parents) }
     requires one_of { All (IsOneOf which) links.items }
     requires sends { AllZip HasSent links.items sends.items }
     requires recvs { AllZip HasReceived links.items recvs.items }
     ensures acked { IfOk result (λ acked.
-        acked.items ≡ by_child tree.now.parents (map acked_of (map sent_by sends.items))) }
+        acked.items ≡ by_child tree.now.parents (map acked_of (map sent_by sends.entry.items))) }
     ensures settled { OnOk result (AreSettled (map given_to links.items)
-        (map sent_by sends.items) (map received_by recvs.items)) }
+        (map sent_by sends.entry.items) (map received_by recvs.entry.items)) }
+    ensures followed { OnOk result (
+        AllOfEach IsFollowed links.items sends.entry.items recvs.entry.items) }
     ensures refused { IfErr result (IsSettlingReason which tree.now.parents
-        (map given_to links.items) (map sent_by sends.items) (map received_by recvs.items)) }
+        (map given_to links.items) (map sent_by sends.entry.items) (map received_by recvs.entry.items)) }
 {
     let mut acked = Vec::with_capacity(alloc, usize::from(tree.len()))?;
     let mut links = VecDeque::from(links);

@@ -1,9 +1,8 @@
-use Rattle.std.proofs.Common.{◌≡◌, ◌<◌, ◌+◌, ◌∙◌, ap, length, arith}
+use Rattle.std.proofs.Common.{◌≡◌, ◌<◌, ◌+◌, ◌∙◌, ap, refl, length, arith}
 use Rattle.std.proofs.lemmas.List.Elements.{All-push}
 use Rattle.stab_ends.specs.Accounts.{new_receiver, new_sender}
-use Rattle.stab_acts.specs.Scripts.{receiver_half, sender_half}
-use Rattle.stab_run.specs.AnyEnds.{any_recv_end, any_send_end}
 use Rattle.stab_run.specs.AnyLinks.{IsOpenedBy, Receives, Sends}
+use Rattle.stab_run.specs.Scripted.{ScriptedRecvEnd, ScriptedSendEnd, plan}
 use Rattle.stab_run.proofs.Paired.{more_paired, next_paired, one_more_end, one_more_paired}
 use Rattle.stab_run.proofs.ends.split_all.Goals as goal
 
@@ -36,21 +35,21 @@ links-preserved g c =
           rw c.push_reserved-in-links.ensures.items
           (one_more_paired (λ link end. Receives link end) links c.links.recvs.items place link c.in_ok-send.recv in_links c.index-links-place.is
           c.links.invariant.receivers c.in_ok-send.ensures.receives);
-      send_acts =
+      send_plans =
           rw c.push_reserved.ensures.items
-          (one_more_end (λ end. (any_send_end end).acts) sender_half c.links.sends.items c.in_ok-send.send scripts place script c.in_ok-script.script in_scripts
-          c.index-scripts-place.is c.in_ok-script.ensures c.in_ok-send.ensures.send_acts c.links.invariant.send_acts);
-      recv_acts =
+          (one_more_end (λ (end : ScriptedSendEnd). end.link.plan) (plan c.args.turns) c.links.sends.items c.in_ok-send.send scripts place script
+          script in_scripts c.index-scripts-place.is refl c.in_ok-send.ensures.send_plan c.links.invariant.send_plans);
+      recv_plans =
           rw c.push_reserved-in-links.ensures.items
-          (one_more_end (λ end. (any_recv_end end).acts) receiver_half c.links.recvs.items c.in_ok-send.recv scripts place script c.in_ok-script.script in_scripts
-          c.index-scripts-place.is c.in_ok-script.ensures c.in_ok-send.ensures.recv_acts c.links.invariant.recv_acts);
+          (one_more_end (λ (end : ScriptedRecvEnd). end.link.plan) (plan c.args.turns) c.links.recvs.items c.in_ok-send.recv scripts place script
+          script in_scripts c.index-scripts-place.is refl c.in_ok-send.ensures.recv_plan c.links.invariant.recv_plans);
       new_senders =
           rw c.push_reserved.ensures.items
-          (All-push (λ end. (any_send_end end).account ≡ new_sender) c.links.sends.items _ c.links.invariant.new_senders
+          (All-push (λ (end : ScriptedSendEnd). end.account ≡ new_sender) c.links.sends.items _ c.links.invariant.new_senders
           c.in_ok-send.ensures.send_account);
       new_receivers =
           rw c.push_reserved-in-links.ensures.items
-          (All-push (λ end. (any_recv_end end).account ≡ new_receiver) c.links.recvs.items _ c.links.invariant.new_receivers
+          (All-push (λ (end : ScriptedRecvEnd). end.account ≡ new_receiver) c.links.recvs.items _ c.links.invariant.new_receivers
           c.in_ok-send.ensures.recv_account);
       openings = next.1;
     }

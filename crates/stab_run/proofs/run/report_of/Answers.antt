@@ -8,12 +8,13 @@ use Rattle.stab_treecore.specs.ByChild.{by_child}
 use Rattle.stab_treecore.specs.Network.{IsNetwork}
 use Rattle.stab_node.proofs.ForCallers.{at_error}
 use Rattle.stab_run.specs.AnyLinks.{given_to, kind_of, received_by, sent_by}
+use Rattle.stab_run.specs.ByScript.{AreByScript}
 use Rattle.stab_run.specs.LinkRuns.{AreSettled, acked_of}
 use Rattle.stab_run.specs.RunFaults.{IsSettlingReason}
 use Rattle.stab_run.specs.Reports.{OnePerNode, Reported}
 use Rattle.stab_run.specs.Runs.{AreExplained, HandsOn, RootHas}
 use Rattle.stab_run.proofs.Begun.{as_many_links}
-use Rattle.stab_run.proofs.Explained.{one_per_node, root_has, are_explained, hands_on}
+use Rattle.stab_run.proofs.Explained.{one_per_node, root_has, are_explained, hands_on, are_by_script}
 use Rattle.stab_run.proofs.run.report_of.Goals as goal
 
 pub settle_all-requires-clause-links : goal.settle_all-requires-clause-links
@@ -58,6 +59,11 @@ returns-clause-report c =
     let handed_on : HandsOn net.tree.parents report =
     subst (λ acked. HandsOn net.tree.parents (report_with acked)) counted
     (hands_on net ran.received.items ran.ended.items sent delivered kinds c.requires.run one_each settled) in
+    let made : length c.args.links.items ≡ length (links_of net.tree.parents) = as_many_links given_to c.args.links.items net.links c.requires.given ∙ one_each in
+    let scripts : AreByScript c.args.which job report =
+    subst (λ acked. AreByScript c.args.which job (report_with acked)) counted
+    (are_by_script c.args.which job c.args.links.items ran.received.items ran.ended.items ran.sends.items ran.recvs.items kinds c.requires.run
+    c.requires.given c.requires.one_of c.requires.send_plans c.requires.recv_plans made c.in_ok-acked.ensures.followed) in
     record {
       one_place = c.requires.one_place;
       nodes =
@@ -66,6 +72,7 @@ returns-clause-report c =
       root = root;
       edges = edges;
       kinds = ap (λ links. map kind_of links.items) c.of.ensures ∙ c.requires.kinds;
+      scripts = scripts;
       handed_on = handed_on;
       half_tree_law =
           c.explained_reports_obey_the_tree_law.ensures.half_tree_law net report is_network.tree is_network.openings_fit root edges;

@@ -1,24 +1,10 @@
 use Rattle.std.proofs.Common.{All}
 use Rattle.stab_core.specs.LinkSetup.{CanBegin}
 use Rattle.stab_job.specs.JobValues.{network}
-use Rattle.stab_run.specs.AnyEnds.{any_recv_end, any_recv_finished, any_send_end, any_send_finished}
 use Rattle.stab_node.proofs.ForCallers.{at_error}
-use Rattle.stab_run.specs.AnyLinks.{name_of}
 use Rattle.stab_run.specs.RunFaults.{IsRunReason}
-use Rattle.stab_run.proofs.Paired.{paired_named}
 use Rattle.stab_run.proofs.Reasons.{settling_refused, start_refused, workers_gave_up}
 use Rattle.stab_run.proofs.run.run.Goals as goal
-
--- the finished ends are those of the links, in their order
-pub report_of-requires-clause-sends : goal.report_of-requires-clause-sends
-report_of-requires-clause-sends g c =
-    paired_named name_of (λ end. (any_send_end end).link) (λ done. (any_send_finished done).link) c.in_ok-links.links.items c.in_ok-sends.sends.items
-    c.in_ok-gathered.gathered.sends.items (rw c.deref.ensures.value at c.in_ok-sends.ensures.senders) c.in_ok-gathered.ensures.sender_links
-
-pub report_of-requires-clause-recvs : goal.report_of-requires-clause-recvs
-report_of-requires-clause-recvs g c =
-    paired_named name_of (λ end. (any_recv_end end).link) (λ done. (any_recv_finished done).link) c.in_ok-links.links.items c.in_ok-sends.recvs.items
-    c.in_ok-gathered.gathered.recvs.items (rw c.deref.ensures.value at c.in_ok-sends.ensures.receivers) c.in_ok-gathered.ensures.receiver_links
 
 -- each part that fails fails for a reason of the run; what comes after the starts comes only where all links can begin
 pub returns-in_err-check_starts-clause-refused : goal.returns-in_err-check_starts-clause-refused

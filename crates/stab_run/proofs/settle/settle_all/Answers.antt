@@ -3,7 +3,7 @@ use Rattle.std.proofs.lemmas.List.{length-map}
 use Rattle.stab_tree.specs.Nodes.{parent_at}
 use Rattle.stab_run.specs.AnyLinks.{HasReceived, HasSent, MayDiffer, given_to, received_by, sent_by}
 use Rattle.stab_run.specs.LinkRuns.{IsFirstRefused}
-use Rattle.stab_run.proofs.Settlements.{none_settled, root_settled, child_settled, first_refused}
+use Rattle.stab_run.proofs.Settlements.{none_settled, root_settled, child_settled, first_refused, all_followed}
 use Rattle.stab_run.proofs.Paired.{as_many_paired}
 use Rattle.stab_run.proofs.settle.settle_all.Goals as goal
 use Rattle.stab_run.proofs.settle.settle_all.Goals.{in-None, in-Some+in-Ok}
@@ -22,6 +22,7 @@ nodes-init c =
           (length-map links given_to ∙ c.requires.links)
           (length-map sends sent_by ∙ (as_many_paired HasSent links sends c.requires.sends ∙ c.requires.links))
           (length-map recvs received_by ∙ (as_many_paired HasReceived links recvs c.requires.recvs ∙ c.requires.links)));
+      followed = rw (c.from-links.ensures.0, c.from-sends.ensures.0, c.from-recvs.ensures.0) (λ all. all);
       one_of = rw c.from-links.ensures.0 c.requires.one_of;
       senders = rw (c.from-links.ensures.0, c.from-sends.ensures.0) c.requires.sends;
       receivers = rw (c.from-links.ensures.0, c.from-recvs.ensures.0) c.requires.recvs;
@@ -46,6 +47,7 @@ nodes-preserved c =
                 rw (w.acked-is, w.links-is, w.sends-is, w.recvs-is, w.push_reserved.ensures.items)
                 (root_settled parents (given c.args.links.items) (sent c.args.sends.items) (received c.args.recvs.items) c.nodes.acked.items
                 (given c.nodes.links.items) (sent c.nodes.sends.items) (received c.nodes.recvs.items) place c.nodes.invariant.so_far within no_parent);
+            followed = rw (w.links-is, w.sends-is, w.recvs-is) c.nodes.invariant.followed;
             one_of = rw w.links-is c.nodes.invariant.one_of;
             senders = rw (w.links-is, w.sends-is) c.nodes.invariant.senders;
             receivers = rw (w.links-is, w.recvs-is) c.nodes.invariant.receivers;
@@ -64,11 +66,17 @@ nodes-preserved c =
                 (sent c.nodes.sends.items) (sent w.settle_first.new.sends.items) (received c.nodes.recvs.items)
                 (received w.settle_first.new.recvs.items) c.nodes.invariant.so_far within is_child first.settled first.the_link first.the_send
                 first.the_recv);
+            followed = rw (w.links-is, w.sends-is, w.recvs-is) (λ all. c.nodes.invariant.followed (w.in-Ok.ensures.followed all));
             one_of = rw w.links-is w.in-Ok.ensures.one_of;
             senders = rw (w.links-is, w.sends-is) w.in-Ok.ensures.senders;
             receivers = rw (w.links-is, w.recvs-is) w.in-Ok.ensures.receivers;
           }
     ]
+
+pub returns-clause-followed : goal.returns-clause-followed
+returns-clause-followed c =
+    all_followed c.args.tree.now.parents c.args.links.items c.args.sends.items c.args.recvs.items c.nodes.acked.items c.nodes.links.items
+    c.nodes.sends.items c.nodes.recvs.items c.nodes.place c.nodes.invariant.so_far c.nodes.invariant.followed (search rules)
 
 -- the link into this child, which is refused, is the first that is left
 pub returns-in-Err-clause-refused : goal.returns-in-Err-clause-refused
