@@ -21,12 +21,22 @@ enum Kind {
 }
 
 /// Both ends of a link, and what the link is.
-#[derive(Drop)]
 struct Ends<'p, S: SendSide, T: RecvSide<Pass = S::Pass>> {
     kind: Kind,
     pass: &'p S::Pass,
     send: S,
     recv: T,
+}
+
+impl<'p, S: SendSide, T: RecvSide<Pass = S::Pass>> Drop for Ends<'p, S, T> {
+    fn drop(self) {
+        let Ends {
+            kind: _,
+            pass: _,
+            send: _,
+            recv: _,
+        } = self;
+    }
 }
 
 impl<'p, S: SendSide, T: RecvSide<Pass = S::Pass>> Calls for Ends<'p, S, T> {

@@ -93,8 +93,7 @@ impl Made for Chain {
 
     fn new(alloc: Global, _given: ()) -> anyhow::Result<Chain> {
         let job = read_job(alloc, WORST_CHAIN.as_bytes())?;
-        let state = after(alloc, &job)?;
-        let steps = opened(alloc, &job)?;
+        let (state, steps) = states_of(alloc, &job)?;
         Ok(Chain {
             alloc,
             job,
@@ -122,6 +121,15 @@ impl Calls for Chain {
             ChainCall::Links => push_links(text, &self.steps),
         }
     }
+}
+
+/// The links of a job after its schedule, and at their opening.
+fn states_of(alloc: Global, job: &Job) -> Result<(TreeState, TreeState), TreeStartFault>
+    ensures { IfOk result (λ states. states.0.parents ≡ job.now.tree.parents) }
+{
+    let state = after(alloc, job)?;
+    let steps = opened(alloc, job)?;
+    Ok((state, steps))
 }
 
 /// The links of a job at their opening, with items of their own.
