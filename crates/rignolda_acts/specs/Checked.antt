@@ -15,11 +15,11 @@ use Rattle.stab_job.specs.JobValues.{JobValue, network}
 use Rattle.stab_json.specs.Values.{value_of}
 use Rattle.stab_judge.specs.Obeys.{Obeys}
 use Rattle.stab_judge.specs.Reports.{OnePerNode, ReportValue}
-use Rattle.stab_link_verdict.specs.LinkVerdicts.{ObeysLink, SaysLinkVerdict}
 use Rattle.stab_reports.specs.Texts.{IsTextOf}
 use Rattle.stab_script.specs.declared.link_job.LinkJob.{LinkJob}
 use Rattle.stab_task.specs.Answers.{IsFault}
 use Rattle.stab_task.specs.declared.fault.CliFault.{CliFault}
+use Rattle.stab_verdict.specs.LinkVerdicts.{ObeysLink, SaysLinkVerdict}
 use Rattle.stab_verdict.specs.Verdicts.{SaysVerdict}
 use Rattle.rignolda_acts.specs.Begun.{IsBegun, IsBegunLink}
 use Rattle.rignolda_acts.specs.Drawn.{task_of}

@@ -14,11 +14,10 @@ use crate::fault::{CheckFault, unread, unread_link};
 use crate::job::{begun_job, begun_link_job};
 use stab_findings::Kind;
 use stab_job::Job;
-use stab_link_verdict::{link_verdict, read_link_report};
 use stab_reports::read_text;
 use stab_script::LinkJob;
 use stab_task::{CliFault, load};
-use stab_verdict::verdict;
+use stab_verdict::{link_verdict, read_link_report, verdict};
 use std::alloc::Global;
 use std::io::{Read, Write};
 

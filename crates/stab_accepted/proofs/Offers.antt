@@ -11,7 +11,7 @@ use Rattle.stab_core.specs.Step.{step, open_step, after_front, receives_frame, r
 use Rattle.stab_core.proofs.Growing.{of_both}
 use Rattle.stab_judge.specs.Judged.{IsPicked}
 use Rattle.stab_judge.proofs.Greedy.{nothing_picked, itself_picked, picked_joined}
-use Rattle.stab_link_verdict.specs.LinkVerdicts.{offer_of, offers_of}
+use Rattle.stab_verdict.specs.LinkVerdicts.{offer_of, offers_of}
 
 -- the offered list is this one, and then items that are picked from these offers
 abbrev pub OffersMore : List ℕ → List ℕ → LinkState → Type 0

@@ -8,12 +8,12 @@ ghost use Rattle.stab_frames.specs.Parameters.{AreLawful};
 ghost use Rattle.stab_job.specs.JobValues.{JobValue, network};
 ghost use Rattle.stab_judge.specs.Obeys.{Obeys};
 ghost use Rattle.stab_judge.specs.Reports.{OnePerNode};
-ghost use Rattle.stab_link_verdict.specs.LinkVerdicts.{ObeysLink};
 ghost use Rattle.stab_run.specs.Reports.{Reported};
 ghost use Rattle.stab_run.specs.Runs.{IsReport};
 ghost use Rattle.stab_run.specs.declared.links.Links.{Links};
 ghost use Rattle.stab_script.specs.declared.link_job.LinkJob.{LinkJob};
 ghost use Rattle.stab_tree.specs.Nodes.{Nodes};
+ghost use Rattle.stab_verdict.specs.LinkVerdicts.{ObeysLink};
 
 /// The report of a run obeys, as a judge reads it, and has an entry for each node.
 pub fn runs_are_accepted()

@@ -1,2 +1,3 @@
 pub mod BoundsTexts
+pub mod LinkVerdicts
 pub mod Verdicts

@@ -1,15 +1,29 @@
-//! What a judge says, as text: the bounds of the nodes of a job, and the verdict of a report.
+//! What a judge says, as text: the bounds of the nodes of a job, and the verdict of a report, or of
+//! one link.
 //!
-//! The layer above uses two facts. [`bounds_text`] has the sums of the law for each node. And
+//! The layer above uses three facts. [`bounds_text`] has the sums of the law for each node.
 //! [`verdict`] answers true exactly where the report obeys the laws of the job's network, and its
-//! text names the first part that is broken where it does not.
+//! text names the first part that is broken where it does not. And [`link_verdict`] does the same of
+//! a link: it answers true exactly where the offered items are picked from those of the job and the
+//! link law holds. The link is one that [`read_link_report`] reads, which answers only what has
+//! exactly the text that `stab link` prints.
 #![tactic(auto)]
 
 mod bounds;
 mod broken;
 mod judged;
 mod law;
+mod link_broken;
+mod link_lists;
+mod link_read;
+mod link_report;
+mod link_text;
+mod link_verdicts;
 mod verdicts;
 
 pub use bounds::bounds_text;
+pub use link_read::read_link_report;
+pub use link_report::LinkReport;
+pub use link_text::link_report_text;
+pub use link_verdicts::link_verdict;
 pub use verdicts::verdict;

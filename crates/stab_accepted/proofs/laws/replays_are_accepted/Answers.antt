@@ -2,7 +2,7 @@ use Rattle.std.proofs.Common.{◌≡◌, ℕ, List, [], sym, subst}
 use Rattle.stab_core.specs.LinkState.{LinkState}
 use Rattle.stab_core.specs.Replay.{initial, replay}
 use Rattle.stab_judge.specs.Judged.{IsPicked}
-use Rattle.stab_link_verdict.specs.LinkVerdicts.{offers_of}
+use Rattle.stab_verdict.specs.LinkVerdicts.{offers_of}
 use Rattle.stab_accepted.proofs.Offers.{OffersMore, replay_offers}
 use Rattle.stab_accepted.proofs.laws.replays_are_accepted.Goals as goal
 

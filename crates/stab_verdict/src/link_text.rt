@@ -2,7 +2,7 @@ ghost use Rattle.std.specs.Prelude.{◌≡◌, ◌++◌, codes, string_bytes, If
 ghost use Rattle.stab_core.specs.Texts.{closed_line, frame_entry, frames_line, link_text};
 ghost use Rattle.stab_core.specs.Texts.{number_line, numbers_line};
 
-use crate::report::LinkReport;
+use crate::link_report::LinkReport;
 use stab_core::{push_items_line, push_number};
 use stab_frames::{Frame, Label};
 use std::alloc::{AllocError, Global};

@@ -2,12 +2,12 @@
 
 ghost use Rattle.std.specs.Prelude.{◌≡◌, ◌↔◌, string_bytes, IfOk, IsTrue};
 ghost use Rattle.stab_core.specs.Replay.{start_items};
-ghost use Rattle.stab_link_verdict.specs.LinkVerdicts.{AreOffered, ObeysLaw, ObeysLink};
-ghost use Rattle.stab_link_verdict.specs.LinkVerdicts.{SaysLinkVerdict, offers_of};
+ghost use Rattle.stab_verdict.specs.LinkVerdicts.{AreOffered, ObeysLaw, ObeysLink};
+ghost use Rattle.stab_verdict.specs.LinkVerdicts.{SaysLinkVerdict, offers_of};
 
-use crate::broken::{law_text, offered_text};
-use crate::lists::{offers_of, start_items};
-use crate::report::LinkReport;
+use crate::link_broken::{law_text, offered_text};
+use crate::link_lists::{offers_of, start_items};
+use crate::link_report::LinkReport;
 use stab_frames::Item;
 use stab_judge::{is_picked, obeys_link_law};
 use stab_script::LinkJob;

@@ -1,6 +1,6 @@
 use Rattle.std.proofs.Common.{◌≡◌, take}
-use Rattle.stab_link_verdict.specs.LinkVerdicts.{offers_of}
-use Rattle.stab_link_verdict.proofs.lists.offers_of.Given as goal
+use Rattle.stab_verdict.specs.LinkVerdicts.{offers_of}
+use Rattle.stab_verdict.proofs.link_lists.offers_of.Given as goal
 
 -- what the events so far offer
 abbrev pub invariant-loop-event : goal.invariant-loop-event

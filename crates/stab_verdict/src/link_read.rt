@@ -4,8 +4,8 @@
 ghost use Rattle.std.specs.Prelude.{◌≡◌, ⊤, IfOk};
 ghost use Rattle.stab_core.specs.Texts.{link_text};
 
-use crate::report::LinkReport;
-use crate::text::link_report_text;
+use crate::link_report::LinkReport;
+use crate::link_text::link_report_text;
 use stab_frames::{Frame, Item, Label, Sequence};
 use stab_reports::{ReportFault, count_of, cut_line, items_of, see_same};
 use std::alloc::{AllocError, Global};

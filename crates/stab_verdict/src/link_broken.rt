@@ -1,10 +1,10 @@
 //! The part of a link that is broken, as text.
 
 ghost use Rattle.std.specs.Prelude.{◌≡◌, ◌++◌, string_bytes, IfOk, OnOk};
-ghost use Rattle.stab_link_verdict.specs.LinkVerdicts.{acked_words, capacity_words, law_lists};
-ghost use Rattle.stab_link_verdict.specs.LinkVerdicts.{law_text, offered_text};
+ghost use Rattle.stab_verdict.specs.LinkVerdicts.{acked_words, capacity_words, law_lists};
+ghost use Rattle.stab_verdict.specs.LinkVerdicts.{law_text, offered_text};
 
-use crate::report::LinkReport;
+use crate::link_report::LinkReport;
 use stab_core::push_items_line;
 use stab_frames::Item;
 use std::alloc::{AllocError, Global};

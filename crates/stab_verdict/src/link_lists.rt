@@ -2,7 +2,7 @@
 
 ghost use Rattle.std.specs.Prelude.{◌≡◌, ◌++◌, IfOk, OnOk};
 ghost use Rattle.stab_core.specs.Replay.{start_items};
-ghost use Rattle.stab_link_verdict.specs.LinkVerdicts.{offer_of, offers_of};
+ghost use Rattle.stab_verdict.specs.LinkVerdicts.{offer_of, offers_of};
 
 use stab_core::{Event, Start};
 use stab_frames::{Item, Sequence};

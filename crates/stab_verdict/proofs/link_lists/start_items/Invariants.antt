@@ -1,5 +1,5 @@
 use Rattle.std.proofs.Common.{◌≡◌, map, take}
-use Rattle.stab_link_verdict.proofs.lists.start_items.Given as goal
+use Rattle.stab_verdict.proofs.link_lists.start_items.Given as goal
 
 -- the items of the frames so far
 abbrev pub invariant-loop-frame : goal.invariant-loop-frame
