@@ -1,1 +1,3 @@
 pub mod Begin
+pub mod Endings
+pub mod Offers

@@ -1,3 +1,4 @@
+pub mod AsJudged
 pub mod Begun
 pub mod Checked
 pub mod Drawn

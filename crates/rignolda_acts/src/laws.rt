@@ -2,7 +2,7 @@
 //! law.
 
 ghost use Rattle.std.specs.Prelude.{◌≡◌};
-ghost use Rattle.stab_accepted.specs.AsJudged.{as_judged, run_text, judged_text};
+ghost use Rattle.rignolda_acts.specs.AsJudged.{as_judged, run_text, judged_text};
 ghost use Rattle.stab_core.specs.Replay.{IsLawful, initial, replay};
 ghost use Rattle.stab_frames.specs.Parameters.{AreLawful};
 ghost use Rattle.stab_job.specs.JobValues.{JobValue, network};

@@ -1,13 +1,13 @@
 use Rattle.std.proofs.Common.{◌∙◌}
 use Rattle.std.proofs.lemmas.List.{length-map}
-use Rattle.stab_accepted.specs.AsJudged.{as_judged, is_upstream}
-use Rattle.stab_accepted.proofs.Endings.{ended_there}
+use Rattle.rignolda_acts.specs.AsJudged.{as_judged, is_upstream}
+use Rattle.rignolda_acts.proofs.Endings.{ended_there}
 use Rattle.stab_judge.specs.Reports.{OnePerNode}
 use Rattle.stab_run.specs.Reports.{Reported}
 use Rattle.stab_job.specs.JobValues.{JobValue, network}
 use Rattle.stab_run.specs.Runs.{IsReport}
 use Rattle.stab_run.specs.declared.links.Links.{Links}
-use Rattle.stab_accepted.proofs.laws.runs_are_accepted.Goals as goal
+use Rattle.rignolda_acts.proofs.laws.runs_are_accepted.Goals as goal
 
 -- there is an entry for each node
 all_entries : (links : Links) (job : JobValue) (report : Reported) → IsReport links job report

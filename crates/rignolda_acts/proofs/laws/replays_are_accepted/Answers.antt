@@ -3,8 +3,8 @@ use Rattle.stab_core.specs.LinkState.{LinkState}
 use Rattle.stab_core.specs.Replay.{initial, replay}
 use Rattle.stab_judge.specs.Judged.{IsPicked}
 use Rattle.stab_verdict.specs.LinkVerdicts.{offers_of}
-use Rattle.stab_accepted.proofs.Offers.{OffersMore, replay_offers}
-use Rattle.stab_accepted.proofs.laws.replays_are_accepted.Goals as goal
+use Rattle.rignolda_acts.proofs.Offers.{OffersMore, replay_offers}
+use Rattle.rignolda_acts.proofs.laws.replays_are_accepted.Goals as goal
 
 -- what is offered after nothing is picked
 all_picked : (offers : List ℕ) (s : LinkState) → OffersMore offers [] s → IsPicked s.offered offers

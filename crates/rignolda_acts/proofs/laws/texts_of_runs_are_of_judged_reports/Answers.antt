@@ -1,14 +1,14 @@
 use Rattle.std.proofs.Common.{◌≡◌, ◌++◌, ℕ, [], length, codes, None, ap, get_or}
 use Rattle.std.specs.List.{range_with_len}
-use Rattle.stab_accepted.specs.AsJudged.{as_judged}
-use Rattle.stab_accepted.proofs.Endings.{same_entry, same_parts}
+use Rattle.rignolda_acts.specs.AsJudged.{as_judged}
+use Rattle.rignolda_acts.proofs.Endings.{same_entry, same_parts}
 use Rattle.stab_core.specs.Texts.{newline, numbers_line}
 use Rattle.stab_reports.specs.Texts.{node_report as node_judged, report_text as text_judged, lines_of as lines_judged}
 use Rattle.stab_run.specs.Reports.{Reported, node_report as node_of_run, report_text as text_of_run, lines_of as lines_of_run}
 use Rattle.stab_tree.specs.Nodes.{Nodes}
 use Rattle.stab_tree.specs.Steps.{depth_of}
 use Rattle.stab_treecore.specs.Texts.{node_counts}
-use Rattle.stab_accepted.proofs.laws.texts_of_runs_are_of_judged_reports.Goals as goal
+use Rattle.rignolda_acts.proofs.laws.texts_of_runs_are_of_judged_reports.Goals as goal
 
 -- the lines of a node are the same
 same_lines : (nodes : Nodes) (report : Reported) (node : ℕ) → lines_of_run nodes report node ≡ lines_judged nodes (as_judged report) node
