@@ -1,9 +1,9 @@
 //! What each command of the program `rignolda` reads and writes, without its command line.
 //!
 //! The layer above uses one fact: what is written is the answer of the command, by the definitions
-//! of the layers below, or a fault says why there is none. And whatever holds of the report of a run,
-//! or of the link that `stab link` prints, is enough for a judge, so that none is refused for what it
-//! says ([`laws`]).
+//! of the layers below, or a fault says why there is none. And whatever holds of the report of a
+//! run, or of the link that `stab link` prints, is enough for a judge, so that none is refused for
+//! what it says ([`laws`]).
 #![tactic(auto)]
 
 mod answer;

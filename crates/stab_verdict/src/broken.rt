@@ -3,16 +3,18 @@
 ghost use Rattle.std.specs.Prelude.{◌≡◌, ◌++◌, ◌<◌, length, string_bytes, IfOk, OnOk};
 ghost use Rattle.stab_judge.specs.Obeys.{place_of};
 ghost use Rattle.stab_judge.specs.Reports.{OnePerNode};
+ghost use Rattle.stab_tree.specs.Nodes.{root_of};
 ghost use Rattle.stab_verdict.specs.Verdicts.{broken_text, ended_words, entries_text};
 ghost use Rattle.stab_verdict.specs.Verdicts.{handed_on_text, items_line, no_count_text};
 ghost use Rattle.stab_verdict.specs.Verdicts.{of_them_words, opening_text, own_lists};
 ghost use Rattle.stab_verdict.specs.Verdicts.{published_text, root_count_text};
 
-use crate::law::{list_above, name_above, push_link_law};
+use crate::law::push_link_law;
+use crate::of_node::{acked_of, items_of, list_above, name_above, name_of, opening_of};
 use stab_core::push_items_line;
 use stab_frames::Item;
 use stab_judge::{Broken, Judge, Report};
-use stab_tree::Tree;
+use stab_tree::{NodeId, Tree};
 use std::alloc::{AllocError, Global};
 
 /// What is said of a broken part of a report.
@@ -51,29 +53,76 @@ fn push_broken(
     ensures { OnOk result (string_bytes text.new
         ≡ string_bytes text.old ++ broken_text judge.now report.now broken) }
 {
-    let root = tree.root();
     match broken {
         Broken::Entries => push_entries(text),
-        Broken::Published => {
-            push_published(text, tree.name(root), published, report.received_at(root))
-        }
-        Broken::RootCount => push_root_count(text, tree.name(root)),
-        Broken::NoCount(child) => push_no_count(text, tree.name(child)),
-        Broken::Opening(child) => push_opening(
-            text,
-            tree.name(child),
-            judge.opening_at(child),
-            report.received_at(child),
-        ),
+        Broken::Published => push_other_items(text, judge, tree, published, report),
+        Broken::RootCount => push_root_count(text, name_of(judge, tree, tree.root())),
+        Broken::NoCount(child) => push_no_count(text, name_of(judge, tree, child)),
+        Broken::Opening(child) => push_other_opening(text, judge, tree, report, child),
         Broken::LinkLaw(child) => push_link_law(text, judge, tree, report, child),
-        Broken::HandedOn(child) => push_handed_on(
-            text,
-            tree.name(child),
-            name_above(judge, tree, child),
-            list_above(judge, tree, report, child).len() as u64,
-            report.acked_at(child).unwrap_or(0),
-        ),
+        Broken::HandedOn(child) => push_unfinished(text, judge, tree, report, child),
     }
+}
+
+/// Adds that the root of a tree has other items than the published ones.
+fn push_other_items(
+    text: &mut String,
+    judge: &Judge<'_>,
+    tree: &Tree,
+    published: &[Item],
+    report: &Report,
+) -> Result<(), AllocError>
+    requires same_tree { judge.now.tree ≡ tree.now }
+    requires same_items { judge.now.published ≡ published.now }
+    requires entries { OnePerNode tree.now.parents report.now }
+    requires known { root_of tree.now.parents < length tree.now.parents }
+    ensures { OnOk result (string_bytes text.new
+        ≡ string_bytes text.old ++ broken_text judge.now report.now Broken.Published) }
+{
+    let root = tree.root();
+    let name = name_of(judge, tree, root);
+    push_published(text, name, published, items_of(tree, report, root))
+}
+
+/// Adds that the list of this node does not begin with its opening.
+fn push_other_opening(
+    text: &mut String,
+    judge: &Judge<'_>,
+    tree: &Tree,
+    report: &Report,
+    child: NodeId,
+) -> Result<(), AllocError>
+    requires same_tree { judge.now.tree ≡ tree.now }
+    requires entries { OnePerNode tree.now.parents report.now }
+    requires known { child < length tree.now.parents }
+    ensures { OnOk result (string_bytes text.new
+        ≡ string_bytes text.old ++ broken_text judge.now report.now (Broken.Opening child)) }
+{
+    let name = name_of(judge, tree, child);
+    let opening = opening_of(judge, tree, child);
+    push_opening(text, name, opening, items_of(tree, report, child))
+}
+
+/// Adds that the parent of this node ended with its upstream, and not all of its items are
+/// acknowledged.
+fn push_unfinished(
+    text: &mut String,
+    judge: &Judge<'_>,
+    tree: &Tree,
+    report: &Report,
+    child: NodeId,
+) -> Result<(), AllocError>
+    requires same_tree { judge.now.tree ≡ tree.now }
+    requires entries { OnePerNode tree.now.parents report.now }
+    requires known { child < length tree.now.parents }
+    ensures { OnOk result (string_bytes text.new
+        ≡ string_bytes text.old ++ broken_text judge.now report.now (Broken.HandedOn child)) }
+{
+    let name = name_of(judge, tree, child);
+    let above = name_above(judge, tree, child);
+    let count = list_above(judge, tree, report, child).len() as u64;
+    let acked = acked_of(tree, report, child);
+    push_handed_on(text, name, above, count, acked)
 }
 
 /// Adds the line of the items of a node.

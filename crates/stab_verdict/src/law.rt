@@ -3,10 +3,11 @@
 ghost use Rattle.std.specs.Prelude.{◌≡◌, ◌++◌, ◌<◌, length, string_bytes, OnOk};
 ghost use Rattle.stab_judge.specs.Reports.{OnePerNode};
 ghost use Rattle.stab_verdict.specs.Verdicts.{acked_words, capacity_words, law_above, law_below};
-ghost use Rattle.stab_verdict.specs.Verdicts.{law_head, link_head, link_law_text, list_above};
-ghost use Rattle.stab_verdict.specs.Verdicts.{lists_above, name_above};
+ghost use Rattle.stab_verdict.specs.Verdicts.{law_head, link_head, link_law_text};
+ghost use Rattle.stab_verdict.specs.Verdicts.{lists_above};
 
 use crate::broken::{push_items, push_own_lists};
+use crate::of_node::{acked_of, items_of, list_above, name_above, name_of, opening_of};
 use stab_core::push_items_line;
 use stab_frames::Item;
 use stab_judge::{Judge, Report};
@@ -50,10 +51,10 @@ fn push_law_head(
 {
     push_link_head(
         text,
-        tree.name(child),
+        name_of(judge, tree, child),
         name_above(judge, tree, child),
         judge.capacity_into(child),
-        report.acked_at(child).unwrap_or(0),
+        acked_of(tree, report, child),
     )
 }
 
@@ -92,38 +93,9 @@ fn push_law_below(
     ensures { OnOk result (string_bytes text.new
         ≡ string_bytes text.old ++ law_below judge.now report.now child) }
 {
-    let opening = judge.opening_at(child);
-    push_own_lists(text, tree.name(child), opening, report.received_at(child))
-}
-
-/// The name of a node's parent; a root has none.
-pub(crate) fn name_above<'a>(judge: &Judge<'_>, tree: &'a Tree, node: NodeId) -> &'a str
-    requires same_tree { judge.now.tree ≡ tree.now }
-    requires known { node < length tree.now.parents }
-    ensures { result.now ≡ name_above judge.now node }
-{
-    match tree.parent(node) {
-        None => "",
-        Some(parent) => tree.name(parent),
-    }
-}
-
-/// The list of a node's parent; a root has none.
-pub(crate) fn list_above<'a>(
-    judge: &Judge<'_>,
-    tree: &Tree,
-    report: &'a Report,
-    node: NodeId,
-) -> &'a [Item]
-    requires same_tree { judge.now.tree ≡ tree.now }
-    requires known { node < length tree.now.parents }
-    requires entries { OnePerNode tree.now.parents report.now }
-    ensures { result.now ≡ list_above judge.now report.now node }
-{
-    match tree.parent(node) {
-        None => &[],
-        Some(parent) => report.received_at(parent),
-    }
+    let name = name_of(judge, tree, child);
+    let opening = opening_of(judge, tree, child);
+    push_own_lists(text, name, opening, items_of(tree, report, child))
 }
 
 /// Adds which link breaks the link law, its capacity, and its count.

@@ -3,10 +3,10 @@
 //!
 //! The layer above uses three facts. [`bounds_text`] has the sums of the law for each node.
 //! [`verdict`] answers true exactly where the report obeys the laws of the job's network, and its
-//! text names the first part that is broken where it does not. And [`link_verdict`] does the same of
-//! a link: it answers true exactly where the offered items are picked from those of the job and the
-//! link law holds. The link is one that [`read_link_report`] reads, which answers only what has
-//! exactly the text that `stab link` prints.
+//! text names the first part that is broken where it does not. [`link_verdict`] answers true
+//! exactly where the offered items of a link are picked from those of its job and the link law
+//! holds, and its text names the first of both that is broken; [`read_link_report`] reads only what
+//! has exactly the text of a link that `stab link` prints.
 #![tactic(auto)]
 
 mod bounds;
@@ -19,6 +19,7 @@ mod link_read;
 mod link_report;
 mod link_text;
 mod link_verdicts;
+mod of_node;
 mod verdicts;
 
 pub use bounds::bounds_text;
