@@ -5,8 +5,10 @@
 
 It proves the crate from nothing, one function after the other, over the libraries that `rt ci` has
 left in this folder (run ./gate first), and prints the seconds of the dearest functions. The first
-function of a run, and the first one to use a type, also pay for loading. With FOLDER it proves the
-sources that are there: a changed copy of crates/CRATE. It changes nothing and keeps nothing.
+function of a run, and the first one to use a type, also pay for loading. A long run is done in
+parts, so the first function of each part pays as well, up to 25 seconds; it has a mark. With FOLDER
+it proves the sources that are there: a changed copy of crates/CRATE. It changes nothing and keeps
+nothing.
 """
 
 import os
@@ -67,7 +69,7 @@ def main():
     root = next((it for it in ("src/lib.rt", "src/main.rt") if os.path.isfile(f"{folder}/{it}")), "")
     if not root:
         sys.exit(f"functions: {folder} has no src/lib.rt and no src/main.rt")
-    times, said = [], []
+    times, said, mark = [], [], " (first of its part)"
     with tempfile.TemporaryDirectory() as kept:
         words = command(crate, libraries, kept)
         began = last = time.monotonic()
@@ -76,8 +78,10 @@ def main():
             for line in running.stdout:
                 now = time.monotonic()
                 if found := re.match(r"checked (\S+),", line):
-                    times.append((now - last, found[1]))
-                    last = now
+                    times.append((now - last, found[1] + mark))
+                    last, mark = now, ""
+                elif line.startswith("so far:"):
+                    last, mark = now, " (first of its part)"
                 elif re.search("error|no proof|not proved|^logic=", line):
                     said.append(line.rstrip())
     for seconds, name in sorted(times, reverse=True)[:SHOWN]:
