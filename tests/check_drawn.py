@@ -11,8 +11,8 @@ cells of the printed run say. Its marks say what the printed run lets one see: v
 entry was received or lost, and * what comes from the start, or is a copy of a label from there.
 
 The program is the one that ./rignolda starts. Where none was released or built of these sources, it
-is the one that the gate has left in crates/rignolda/out; PROGRAM in the environment names another.
-The last line is 'N passed, M failed'.
+is the one that the gate has left in crates/rignolda/out; PROGRAM_RIGNOLDA in the environment names
+another. The last line is 'N passed, M failed'.
 """
 
 import json
@@ -25,7 +25,7 @@ from pathlib import Path
 # (nothing is to be left beside the sources)
 sys.dont_write_bytecode = True
 
-from rignolda.program import program
+from tables.program import program
 
 TOP = Path(__file__).resolve().parent.parent
 DATA = TOP / "crates/stab_checks/data"
@@ -238,7 +238,7 @@ def main():
     if sys.argv[1:] not in ([], ["--write"]):
         sys.exit("tests/check_drawn.py takes --write, or no words at all")
     with tempfile.TemporaryDirectory() as room:
-        drawer = program(room)
+        drawer = program("rignolda", room)
         if drawer is None:
             print("drawn: no rignolda was built of these sources: run ./release.sh, or ./gate")
             print("0 passed, 1 failed")

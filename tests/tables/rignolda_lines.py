@@ -1,6 +1,8 @@
 """Command lines: the texts of help, of the version and of mistakes."""
 
-from rignolda.rows import Like, Row
+from tables.rows import Like, Row
+
+PROGRAM = "rignolda"
 
 HELP = """\
 Makes and examines the jobs of stab

@@ -2,7 +2,9 @@
 
 import json
 
-from rignolda.rows import Like, Other, Printed, Row, Same
+from tables.rows import Like, Other, Printed, Row, Same
+
+PROGRAM = "rignolda"
 
 
 # ---- the worst link job

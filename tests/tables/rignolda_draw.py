@@ -1,6 +1,8 @@
 """The runs that `rignolda draw` draws, as text and as pictures."""
 
-from rignolda.rows import Like, Row
+from tables.rows import Like, Row
+
+PROGRAM = "rignolda"
 
 # A link job.
 JOB = """\

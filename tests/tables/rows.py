@@ -5,8 +5,8 @@ from dataclasses import dataclass, field
 
 @dataclass
 class Row:
-    """A run of the program. What is read is a text or bytes, or what another run `Printed`; what is
-    printed is a text, or a class below says what it is like."""
+    """A run of a program. What is read is a text or bytes, a long text that is `Repeated`, or what
+    another run `Printed`; what is printed is a text, or a class below says what it is like."""
 
     name: str
     words: list  # the command line, without the name of the program
@@ -25,15 +25,30 @@ class Printed:
 
 
 @dataclass
+class Repeated:
+    """A long text: this beginning, an entry as often as counted, and this end."""
+
+    begins: str
+    entry: str
+    count: int
+    ends: str
+
+    def text(self):
+        """The text itself."""
+        return self.begins + self.entry * self.count + self.ends
+
+
+@dataclass
 class Like:
-    """A text with this beginning, this end and these parts, which has none of the others, and no
-    line with more bytes."""
+    """A text with this beginning, this end and these parts, which has none of the others, no line
+    with more bytes, and as many lines."""
 
     begins: str = ""
     ends: str = ""
     parts: list = ()
     without: list = ()
     width: int = None
+    lines: int = None
 
     def fault(self, text, _printed):
         """What is wrong with a text, or None."""
@@ -49,6 +64,8 @@ class Like:
                 return f"it has {part!r}"
         if self.width and any(len(line.encode()) > self.width for line in text.splitlines()):
             return f"a line has more than {self.width} bytes"
+        if self.lines is not None and len(text.splitlines()) != self.lines:
+            return f"it does not have {self.lines} lines"
         return None
 
 

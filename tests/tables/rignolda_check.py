@@ -4,7 +4,9 @@ There is a job of a chain of three nodes with a report that obeys, and the worst
 with the text that `stab link` prints of it, and both with one part replaced. All is worked out by
 hand."""
 
-from rignolda.rows import Row, replaced
+from tables.rows import Row, replaced
+
+PROGRAM = "rignolda"
 
 # The chain r, a, b, where a begins with 50, and each link with a stray.
 JOB = """\

@@ -1,6 +1,8 @@
 """What `rignolda explain` says of mistakes that people make when they write a job."""
 
-from rignolda.rows import Row, replaced
+from tables.rows import Row, replaced
+
+PROGRAM = "rignolda"
 
 # A job of a chain of three nodes, with every member.
 JOB = """\

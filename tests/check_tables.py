@@ -1,0 +1,120 @@
+#!/usr/bin/env python3
+"""Runs the programs rignolda and stab on many command lines, and compares what they print.
+
+The files of tests/tables that are named below have a table of rows each: a command line with what
+it reads, and the status and the texts that it has to end with. There rows.py says what a row is.
+
+A program is the one that ./rignolda or ./stab starts. Where none was released or built of these
+sources, it is the one that the gate has left in crates/rignolda/out or crates/stab_cli/out;
+PROGRAM_RIGNOLDA and PROGRAM_STAB in the environment name others. Some rows run at the same time.
+The last line is 'N passed, M failed'.
+"""
+
+import subprocess
+import sys
+import tempfile
+from concurrent.futures import ThreadPoolExecutor
+from pathlib import Path
+
+# (nothing is to be left beside the sources)
+sys.dont_write_bytecode = True
+
+from tables import rignolda_check, rignolda_draw, rignolda_explain, rignolda_jobs, rignolda_lines
+from tables.program import program
+from tables.rows import Printed, Repeated
+
+TABLES = [
+    rignolda_lines, rignolda_explain, rignolda_check, rignolda_draw, rignolda_jobs,
+]
+# No run takes longer, in seconds.
+LONGEST = 60
+# How many rows run at the same time.
+THREADS = 4
+# How much is shown of a text that is wrong.
+SHOWN = 1000
+
+
+class Refused(Exception):
+    """A run that another one needs did not end well."""
+
+
+def run(called, file, words, given, folder):
+    """A run of a program: its status, and what it prints on the standard output and error."""
+    # (its help names the program as it was called, and a file that was kept has a longer name)
+    done = subprocess.run([called, *words], executable=file, input=given,
+                          capture_output=True, cwd=folder, timeout=LONGEST)
+    return done.returncode, done.stdout, done.stderr
+
+
+def fault_of(called, file, row, folder):
+    """What is wrong with the run of a row, or None."""
+
+    def printed(words):
+        """What a run with these words prints."""
+        status, out, err = run(called, file, words, b"", folder)
+        if status != 0 or err:
+            raise Refused(f"{' '.join(words)} ends with status {status}: {err.decode()}")
+        return out.decode()
+
+    for beside, text in row.files.items():
+        (Path(folder) / beside).write_bytes(text.encode())
+    given = row.given
+    if isinstance(given, Printed):
+        given = printed(given.words)
+    elif isinstance(given, Repeated):
+        given = given.text()
+    given = given.encode() if isinstance(given, str) else given
+    status, *texts = run(called, file, row.words, given, folder)
+    out, err = (text.decode() for text in texts)
+    if status != row.status:
+        return f"status {status}, and not {row.status}; it printed {(out + err)[:SHOWN]!r}"
+    for where, text, wanted in [("output", out, row.out), ("error", err, row.err)]:
+        if isinstance(wanted, str):
+            fault = None if text == wanted else f"it has to be {wanted!r}"
+        else:
+            fault = wanted.fault(text, printed)
+        if fault:
+            return f"standard {where}: {fault}; it is {text[:SHOWN]!r}"
+    return None
+
+
+def tried(called, file, row):
+    """The same in a folder of its own."""
+    with tempfile.TemporaryDirectory() as folder:
+        try:
+            return fault_of(called, file, row, folder)
+        except (Refused, ValueError, LookupError, OSError, subprocess.TimeoutExpired) as fault:
+            return f"{type(fault).__name__}: {fault}"
+
+
+def found(room):
+    """The files of the programs, by their names; of one that is missing it says so."""
+    files = {}
+    for name in sorted({table.PROGRAM for table in TABLES}):
+        file = program(name, room)
+        if file is None:
+            print(f"{name}: none was built of these sources: run ./release.sh, or ./gate")
+            print("0 passed, 1 failed")
+            sys.exit(1)
+        files[name] = file
+    return files
+
+
+def main():
+    if sys.argv[1:]:
+        sys.exit("tests/check_tables.py takes no words")
+    with tempfile.TemporaryDirectory() as room:
+        files = found(room)
+        runs = [(table.PROGRAM, row) for table in TABLES for row in table.ROWS]
+        passed = failed = 0
+        with ThreadPoolExecutor(THREADS) as threads:
+            faults = threads.map(lambda of: tried(of[0], files[of[0]], of[1]), runs)
+            for (called, row), fault in zip(runs, faults):
+                passed, failed = passed + (fault is None), failed + (fault is not None)
+                if fault:
+                    print(f"OTHER  {called}: {row.name}\n       {fault}")
+        print(f"{passed} passed, {failed} failed")
+        sys.exit(0 if failed == 0 else 1)
+
+
+main()
