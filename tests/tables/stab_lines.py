@@ -1,0 +1,143 @@
+"""Command lines of `stab`: the task that they name, its links and its file, and how they are
+refused.
+
+What is printed shows which task ran. A row that reads a file has an empty standard input, which
+would be refused as no JSON, and the others have no file. More command lines that are refused are
+examples of crates/stab_checks/data, in the folders refused and runs."""
+
+from tables.refusals import NOT_ONE, RUNS, TOO_MANY_FRAMES, refusals
+from tables.rows import Like, Row
+
+PROGRAM = "stab"
+
+WORST_START = """\
+{"capacity":1,"labels":4,"start":{"frames":[[2,99]],"acks":[0],"send":0,"recv":1},
+"events":[["offer",10],"recv_ack","send_ack",["offer",11],"recv_ack","recv_frame",
+"send_ack",["offer",12],"recv_ack",["offer",13],"send_frame","recv_frame"]}"""
+
+WORST_TEXT = """\
+delivered: 99 13
+offered: 10 11 12 13
+acked: 3
+send label: 3
+recv label: 3
+frames:
+acks:
+closed: no
+"""
+
+LONE_ROOT = '{"capacity":1,"labels":4,"tree":[{"name":"r"}],"items":[7,8]}'
+
+LONE_TEXT = "r depth 0 received 2 acked -\nitems: 7 8\n"
+
+# A link that begins with an acknowledgement of the first item, and loses everything that its ends
+# send. The root looks for an acknowledgement before it offers the item, and once more after it.
+EARLY_ACKNOWLEDGEMENT = """\
+{"capacity":1,"labels":4,"turns":4,"tree":[{"name":"r"},{"name":"a","parent":"r"}],
+"items":[7],"starts":[{"acks":[0],"send":0,"recv":1}],"scripts":[{"frames_out":"DDDDDDDD",
+"acks_out":"DDDDDDDD"}]}"""
+
+# The report of that job, whatever the threads do, where the first look leaves nothing behind: over
+# a link with a lock. Why the child ended is up to them.
+TAKEN_AT_ONCE = Like(
+    begins="""\
+r depth 0 received 1 acked - ended turns
+items: 7
+a depth 1 received 0 acked 0 ended """,
+    ends="\nitems:\n")
+
+# The same where the second look finds what the first one found: over a link of two words.
+FOUND_AGAIN = Like(
+    begins="""\
+r depth 0 received 1 acked - ended upstream
+items: 7
+a depth 1 received 0 acked 1 ended """,
+    ends="\nitems:\n")
+
+# A link that has no two words, and how the report of its tree begins elsewhere.
+WIDE = """\
+{"capacity":2,"labels":6,"tree":[{"name":"r"},{"name":"a","parent":"r"}],"items":[7,8]}"""
+
+WIDE_REPORT = Like(begins="r depth 0 received 2 acked - ended ",
+                   parts=["\na depth 1 received "], lines=4)
+
+# What each task prints: a job, the standard output and the standard error. Where there is an error
+# the status is 3.
+PLAIN = [(WORST_START, WORST_TEXT, "")]
+TRACED = [(WORST_START, WORST_TEXT + "origins: s0 i3\n", "")]
+TREE = [(LONE_ROOT, LONE_TEXT, "")]
+LOCKED = [(EARLY_ACKNOWLEDGEMENT, TAKEN_AT_ONCE, "")]
+WORDS = [(EARLY_ACKNOWLEDGEMENT, FOUND_AGAIN, ""), (WIDE, "", f"stab: {NOT_ONE}\n")]
+MIXED = [(EARLY_ACKNOWLEDGEMENT, FOUND_AGAIN, ""), (WIDE, WIDE_REPORT, "")]
+
+# Command lines, the task and the file that each names.
+TAKEN = [
+    ("", PLAIN, None),
+    ("--", PLAIN, None),
+    ("link", PLAIN, None),
+    ("link -", PLAIN, "-"),
+    ("link --trace job.json", TRACED, "job.json"),
+    ("link --trace", TRACED, None),
+    ("link job.json --trace", TRACED, "job.json"),
+    ("link -- --trace", PLAIN, "--trace"),
+    ("tree", TREE, None),
+    ("tree job.json", TREE, "job.json"),
+    ("run", LOCKED, None),
+    ("run job.json", LOCKED, "job.json"),
+    ("run --words", WORDS, None),
+    ("run job.json --words", WORDS, "job.json"),
+    ("run -- --words", LOCKED, "--words"),
+    ("run --mixed", MIXED, None),
+    ("run job.json --mixed", MIXED, "job.json"),
+    ("run --words -- --mixed", WORDS, "--mixed"),
+]
+
+# Command lines that name no task.
+REFUSED = [
+    "run --words --words",
+    "run --words=1",
+    "run --mixed job.json --words",
+    "run --mixed --mixed",
+    "run --mixed=1",
+    "--mixed",
+    "tree --mixed",
+    "run --trace",
+    "--words",
+    "link --words",
+    "--trace",
+    "job.json",
+    "link --trace=1",
+    "help",
+    "link --help",
+    "--version",
+    "link one.json two.json",
+]
+
+# A start that is not lawful.
+TWO_FRAMES = """\
+{"capacity":1,"labels":4,"tree":[{"name":"r"},{"name":"a","parent":"r"}],"items":[7],
+"starts":[{"frames":[[0,1],[1,2]],"send":0,"recv":1}]}"""
+
+
+def taken(line, task, file):
+    """Rows that show which task a command line names, and which file."""
+    return [
+        Row(f"takes a command word, a flag and a file: {line}{', a wide link' * (job == WIDE)}",
+            line.split(), "" if file else job, files={file: job} if file else {},
+            status=3 if err else 0, out=out, err=err)
+        for job, out, err in task
+    ]
+
+
+ROWS = [row for line, task, file in TAKEN for row in taken(line, task, file)]
+# (an empty name is not the standard input)
+ROWS += refusals("looks for a file with an empty name", WORST_START, "file: cannot be opened",
+                 [["link", ""]])
+ROWS += refusals("refuses a file that is not there", WORST_START, "file: cannot be opened",
+                 [["link", "there/is/no/such/file.json"]])
+ROWS += [
+    Row(f"refuses other words and help: {line}", line.split(), status=2,
+        err="stab: command line refused\n")
+    for line in REFUSED
+]
+ROWS += refusals("refuses a start that is not lawful", TWO_FRAMES, TOO_MANY_FRAMES, RUNS, status=3)
