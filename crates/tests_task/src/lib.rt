@@ -1,24 +1,30 @@
-//! Tests of what the program `stab` does, which use the public calls of `stab_task` alone: command
-//! lines, files, and what each task writes or refuses.
+//! Tests of what the program `stab` does, by public calls alone, where its command line does not show
+//! it: readers and writers that fail, what a job is read as, and the nodes and texts of faults. There
+//! are explanations and random jobs as well, as no command line of `rignolda` asks for them.
+//! `tests/check_tables.py` tries command lines and refused jobs.
 //!
-//! They stand apart from `stab_task`, so that the crate is not proved again with its tests.
+//! They stand apart from the crates that they test, so that those are not proved again with them.
 #![tactic(auto)]
 
 #[cfg(test)]
-mod bytes;
+mod explain;
 #[cfg(test)]
-mod files;
+mod faults;
 #[cfg(test)]
-mod limits;
+mod jobs;
 #[cfg(test)]
-mod per_link;
+mod nodes;
+#[cfg(test)]
+mod openings;
+#[cfg(test)]
+mod own_params;
+#[cfg(test)]
+mod parts;
+#[cfg(test)]
+mod random;
 #[cfg(test)]
 mod readers;
 #[cfg(test)]
-mod runs;
-#[cfg(test)]
 mod tasks;
-#[cfg(test)]
-mod words;
 #[cfg(test)]
 mod writers;

@@ -1,7 +1,7 @@
 //! Readers that fail, are interrupted, or give less or more than they are asked for.
 
-use crate::tasks::{PLAIN, WORKS, Work, assert_fault, assert_refused, not_json, outcome};
-use stab_task::{CliFault, Task, load};
+use crate::tasks::{WORKS, Work, assert_fault, not_json, outcome};
+use stab_task::{CliFault, load};
 use std::alloc::{AllocError, Global};
 use std::io::{self, ErrorKind, Read};
 use std::process::Abort;
@@ -226,26 +226,20 @@ fn readers_that_give_less_or_more(rt: HostRuntime) {
     }
 }
 
-/// Fails the test where bytes are not read in pieces, or are not refused as no JSON.
-fn assert_no_job<T: Threads + Wait + Send + Sync + Abort + Alloc<A = Global>>(
-    rt: &T,
-    bytes: &[u8],
-) {
+/// Fails the test where bytes are not read in pieces.
+fn assert_given<T: Abort + Alloc<A = Global>>(rt: &T, bytes: &[u8]) {
     for &most in &[1, 65_536] {
         let reader = Pieces { bytes, most };
         assert!(rt; gives(rt.alloc(), reader, bytes), "pieces of {most} bytes");
-    }
-    for &task in &[PLAIN, Task::Tree] {
-        assert_refused(rt, &[task], bytes, &not_json(task));
     }
 }
 
 #[test]
 fn readers_of_16777216_spaces(rt: HostRuntime) -> Result<(), AllocError> {
     let mut spaces = vec![in rt.alloc(); b' '; 16_777_216]?;
-    assert_no_job(&rt, &spaces);
+    assert_given(&rt, &spaces);
     spaces.push(b' ')?;
-    assert_refused(&rt, &[PLAIN, Task::Tree], &spaces, &CliFault::TooLong);
+    assert!(rt; loaded(rt.alloc(), spaces.as_slice()).err() == Some(CliFault::TooLong));
     assert!(rt; loaded(rt.alloc(), Endless).err() == Some(CliFault::TooLong));
     assert_fault(&rt, &CliFault::TooLong, 1, "file: too long")
 }

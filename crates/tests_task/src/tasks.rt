@@ -1,35 +1,29 @@
 //! What the tests of tasks share: jobs, the text that each task writes for them, and how a task ends.
 
-use stab_core::StartFault;
-use stab_node::NodeFault;
-use stab_run::{JobFault, RunFault};
+use stab_job::JobFault;
 use stab_script::LinkJobFault;
 use stab_task::{CliFault, Links, Task, act};
-use stab_tree::NodeId;
-use stab_treecore::{TreeStartFault, TreeStepFault};
 use std::alloc::{AllocError, Global};
 use std::io::Read;
 use std::process::Abort;
 use std::sync::Wait;
 use std::thread::Threads;
 
-pub(crate) const PLAIN: Task = Task::Link { trace: false };
+const PLAIN: Task = Task::Link { trace: false };
 
-pub(crate) const TRACED: Task = Task::Link { trace: true };
-
-pub(crate) const LOCKED: Task = Task::Run {
+const LOCKED: Task = Task::Run {
     links: Links::Locked,
 };
 
-pub(crate) const WORDS: Task = Task::Run {
+const WORDS: Task = Task::Run {
     links: Links::Words,
 };
 
-pub(crate) const MIXED: Task = Task::Run {
+const MIXED: Task = Task::Run {
     links: Links::Mixed,
 };
 
-pub(crate) const WORST_START: &str =
+const WORST_START: &str =
     r#"{"capacity":1,"labels":4,"start":{"frames":[[2,99]],"acks":[0],"send":0,"recv":1},
       "events":[["offer",10],"recv_ack","send_ack",["offer",11],"recv_ack","recv_frame",
       "send_ack",["offer",12],"recv_ack",["offer",13],"send_frame","recv_frame"]}"#;
@@ -44,8 +38,7 @@ const WORST_TEXT: &str = "\
      acks:\n\
      closed: no\n";
 
-pub(crate) const LONE_ROOT: &str =
-    r#"{"capacity":1,"labels":4,"tree":[{"name":"r"}],"items":[7,8]}"#;
+const LONE_ROOT: &str = r#"{"capacity":1,"labels":4,"tree":[{"name":"r"}],"items":[7,8]}"#;
 
 /// The tasks that read a job of a tree.
 pub(crate) const OF_TREES: &[Task] = &[Task::Tree, LOCKED, WORDS, MIXED];
@@ -140,38 +133,5 @@ pub(crate) fn assert_fault<T: Abort + Alloc<A = Global>>(
         fault.status() == status && its_text.as_str() == text,
         "{its_text}"
     );
-    Ok(())
-}
-
-/// Fails the test where one of these tasks does not refuse the job with this fault, or the fault
-/// has another status or another text.
-pub(crate) fn assert_fault_of<T: Threads + Wait + Send + Sync + Abort + Alloc<A = Global>>(
-    rt: &T,
-    tasks: &[Task],
-    job: &str,
-    fault: &CliFault,
-    status: u8,
-    text: &str,
-) -> Result<(), AllocError> {
-    assert_refused(rt, tasks, job.as_bytes(), fault);
-    assert_fault(rt, fault, status, text)
-}
-
-#[test]
-fn prints_out_of_memory_with_no_prefix(rt: HostRuntime) -> Result<(), AllocError> {
-    let faults = [
-        CliFault::Memory,
-        CliFault::LinkJob(LinkJobFault::Memory),
-        CliFault::Job(JobFault::Memory),
-        CliFault::Start(StartFault::Memory),
-        CliFault::Tree(TreeStartFault::Start(StartFault::Memory)),
-        CliFault::Tree(TreeStartFault::Step(TreeStepFault::Memory)),
-        CliFault::Run(RunFault::Memory),
-        CliFault::Run(RunFault::Start(NodeId::new(1), StartFault::Memory)),
-        CliFault::Run(RunFault::Node(NodeId::new(0), NodeFault::Memory)),
-    ];
-    for fault in &faults {
-        assert_fault(&rt, fault, 3, "out of memory")?;
-    }
     Ok(())
 }
