@@ -27,9 +27,9 @@ const TOO_MANY: ParamsFault = ParamsFault::LabelsTooMany;
 
 const CAPACITY: ParamsFault = ParamsFault::CapacityOutOfRange;
 
-/// How a job of these pieces is refused, or `None` where it is read.
-fn refusal_of(alloc: Global, pieces: &[&str]) -> Result<Option<JobFault>, AllocError> {
-    let text = pieces.concat(alloc)?;
+/// How a job that begins so and has these members is refused, or `None` where it is read.
+fn refusal_of(alloc: Global, before: &str, members: &str) -> Result<Option<JobFault>, AllocError> {
+    let text = [before, members, "}"].concat(alloc)?;
     Ok(read_job(alloc, text.as_bytes()).err())
 }
 
@@ -41,7 +41,7 @@ fn assert_links<T: Abort + Alloc<A = Global>>(
     rows: &[Link],
 ) -> Result<(), AllocError> {
     for &(members, child, fault) in rows {
-        let refused = refusal_of(rt.alloc(), &[before, members, "}"])?;
+        let refused = refusal_of(rt.alloc(), before, members)?;
         let want = JobFault::LinkParams(NodeId::new(child), fault);
         assert!(rt; refused == Some(want), "{members}: {refused:?}");
     }
