@@ -1,10 +1,10 @@
-"""How `stab` refuses each part of a job, and in which order, but for links and openings.
+"""How `stab` refuses each part of a job, and in which order, but for its tree, links and openings.
 
 Cases that are an example of crates/stab_checks/data, in the folder refused_trees, are not here."""
 
 from tables.refusals import (
-    CAPACITY, CYCLE, EVENT, NO_ROOT, NOT_JSON, OF_TREES, RATE, SCRIPT_COUNT, SHAPE, START_COUNT,
-    TOO_LONG_SCRIPT, TREE_SHAPE, TURNS, UNKNOWN_NODE, VERSION, each, refusals, refused,
+    CAPACITY, EVENT, NOT_JSON, OF_TREES, RATE, SCRIPT_COUNT, SHAPE, START_COUNT, TOO_LONG_SCRIPT,
+    TREE_SHAPE, TURNS, UNKNOWN_NODE, VERSION, each, refusals, refused,
 )
 from tables.rows import Row
 
@@ -21,9 +21,6 @@ FORK_WITH = """\
 {"capacity":1,"labels":4,"items":[7],
 "tree":[{"name":"r"},{"name":"a","parent":"r"},{"name":"b","parent":"r"}],"""
 
-# A job of two items, up to its tree.
-OF_TREE = '{"capacity":1,"labels":4,"items":[7,8],"tree":'
-
 # A job of one node, up to the second entry of its schedule; the first one names no node.
 UNKNOWN_NODE_AND = """\
 {"capacity":1,"labels":4,"tree":[{"name":"r"}],"items":[7,8],"schedule":[["x","close"],"""
@@ -38,13 +35,6 @@ SCRIPTS = [
 "scripts":[{"seed":[42,54],"length":100001,"loss":0,"repeat":0},
 {"seed":[42,54],"length":1,"loss":1001,"repeat":0}]""", TOO_LONG_SCRIPT),
     ('"scripts":[null,{"seed":[42,54],"length":1,"loss":1001,"repeat":0}]', RATE),
-]
-
-TREES = [
-    ('[{"name":"r"},{"name":"a","parent":"b"},{"name":"b","parent":"a"}]', CYCLE),
-    ("[]", NO_ROOT),
-    ("null", TREE_SHAPE),
-    ("[{}]", TREE_SHAPE),
 ]
 
 MISSHAPEN_MEMBERS = each([
@@ -118,7 +108,6 @@ ROWS = [
     for case in KNOWN_VERSIONS
 ]
 ROWS += refused("names the first faulty script", FORK_WITH, SCRIPTS)
-ROWS += refused("refuses values that are no tree", OF_TREE, TREES)
 ROWS += refused("refuses wrong shapes", LONE_ROOT_WITH, MISSHAPEN_MEMBERS)
 ROWS += refused("refuses wrong shapes", "", MISSHAPEN_JOBS, "")
 ROWS += refused("refuses unknown versions", '{"version":', VERSIONS)

@@ -69,6 +69,31 @@ def spaces(count):
     return Repeated("", " ", count, "")
 
 
+def letters(last):
+    """A job of two nodes, whose script has 100,000 letters in each list, and then this."""
+    outs, ins = "E" * 100_000, "K" * 100_000
+    return SCRIPTED + (f'{{"frames_out":"{outs}","frames_in":"{ins}",'
+                       f'"acks_out":"{outs}","acks_in":"{ins}{last}"}}]}}')
+
+
+def events(count, last):
+    """A link job with so many events, the last of which is this."""
+    before = '{"capacity":1,"labels":4,"start":{"send":0,"recv":3},"events":['
+    return Repeated(before, '"send_ack",', count - 1, last + "]}")
+
+
+# What is printed of a link that has room for the first of its acknowledgements, and is closed.
+CLOSED = """\
+delivered:
+offered:
+acked: 0
+send label: 0
+recv label: 3
+frames:
+acks: 3
+closed: yes
+"""
+
 # A stray that the last one of 1,000,000 steps delivers, and what is printed of its tree.
 LAST_STEP = Repeated(
     """\
@@ -88,8 +113,15 @@ ROWS += refusals("refuses 1000001 events", schedule("0", 1_000_001), TOO_MANY_EV
 ROWS += [
     Row("makes 1000000 steps", ["tree"], LAST_STEP, out=DELIVERED),
     Row("reads a script of 100000 acts", ["tree"], evicting(100_000), out=NO_ITEMS),
+    Row("reads a link job of 1000000 events", ["link"], events(1_000_000, '"close"'), out=CLOSED),
 ]
+ROWS += refusals("refuses a bad event after 999999 others", events(1_000_000, '"jump"'), EVENT,
+                 [["link"]])
+ROWS += refusals("refuses 1000001 events before a bad one", events(1_000_001, '"jump"'),
+                 TOO_MANY_EVENTS, [["link"]])
 ROWS += refusals("refuses a script of 100001 acts", evicting(100_001), TOO_LONG_SCRIPT, OF_TREES)
+ROWS += refusals("refuses 100001 letters", letters("T"), TOO_LONG_SCRIPT)
+ROWS += refusals("refuses 100001 letters and a wrong one among them", letters("X"), SHAPE)
 ROWS += refused("scripts at their limits", SCRIPTED, SCRIPTS, "]}", OF_TREES)
 ROWS += refusals("reads 16777216 bytes", spaces(16_777_216), NOT_JSON, [["link"], ["tree"]])
 ROWS += refusals("refuses 16777217 bytes", spaces(16_777_217), "file: too long",
