@@ -1,5 +1,5 @@
-//! Scripts and readers at the values of the worked examples: what each answers, and how each is
-//! refused.
+//! Scripts and readers at the values of the worked examples: what each answers, and how numbers
+//! and lists of acts are refused.
 
 mod link_jobs;
 mod parts;

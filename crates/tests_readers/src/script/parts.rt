@@ -1,7 +1,7 @@
 use crate::helpers::{filled, value};
 use stab_core::{Event, LinkAct, Start};
 use stab_frames::{Frame, Label};
-use stab_script::{LinkJobFault, PartFault, loss_act, plain_act, read_link_job, read_start};
+use stab_script::{loss_act, plain_act, read_link_job, read_start};
 use std::alloc::Global;
 use std::process::Abort;
 
@@ -38,71 +38,33 @@ fn a_start_without_lists_is_empty(rt: HostRuntime) {
     assert_start(&rt, &start(&rt, rt.alloc(), text), &[], &[], (65535, 7));
 }
 
-#[test]
-fn refuses_starts_of_another_shape(rt: HostRuntime) {
-    for row in &[
-        "[]",
-        r#"{"send":0}"#,
-        r#"{"recv":0}"#,
-        r#"{"send":0,"recv":65536}"#,
-        r#"{"send":-0,"recv":1}"#,
-        r#"{"send":0,"recv":1,"frames":null}"#,
-        r#"{"send":0,"recv":1,"acks":null}"#,
-        r#"{"send":0,"recv":1,"acks":["0"]}"#,
-        r#"{"send":0,"recv":1,"frames":[7,8]}"#,
-        r#"{"send":0,"recv":1,"frames":[[2]]}"#,
-        r#"{"send":0,"recv":1,"frames":[[2,99,0]]}"#,
-        r#"{"send":0,"recv":1,"frames":[[2,4294967296]]}"#,
-    ] {
-        let start = read_start(rt.alloc(), &value(&rt, rt.alloc(), row));
-        assert!(rt; start.err() == Some(PartFault::Shape), "{row}");
-    }
-}
-
 /// A link job with EVENT in the place of its events.
 const JOB: &str = r#"{"capacity":1,"labels":4,"start":{"send":0,"recv":3},"events":[EVENT]}"#;
 
-/// The event that a link job with this alone as its events has, or how the job is refused.
-fn event(rt: &impl Abort, alloc: Global, text: &str) -> Result<Event, LinkJobFault> {
+/// The event that a link job with this alone as its events has.
+fn event(rt: &impl Abort, alloc: Global, text: &str) -> Event {
     let job = filled(rt, alloc, JOB, "EVENT", text);
-    match read_link_job(alloc, job.as_bytes()) {
-        Ok(job) => Ok(
-            job.events
-                .as_slice()
-                .first()
-                .copied()
-                .expect(rt, "an event"),
-        ),
-        Err(fault) => Err(fault),
-    }
+    let job = read_link_job(alloc, job.as_bytes()).expect(rt, "a link job");
+    job.events
+        .as_slice()
+        .first()
+        .copied()
+        .expect(rt, "an event")
 }
 
 #[test]
 fn each_word_is_its_event(rt: HostRuntime) {
     for (row, want) in &[
-        (r#"["offer",4294967295]"#, Ok(Event::Offer(4294967295))),
-        (r#""send_frame""#, Ok(Event::SendFrame)),
-        (r#""recv_frame""#, Ok(Event::RecvFrame { keep: false })),
-        (r#""recv_frame_keep""#, Ok(Event::RecvFrame { keep: true })),
-        (r#""send_ack""#, Ok(Event::SendAck)),
-        (r#""recv_ack""#, Ok(Event::RecvAck { keep: false })),
-        (r#""recv_ack_keep""#, Ok(Event::RecvAck { keep: true })),
-        (r#"["lose_frame",5]"#, Ok(Event::LoseFrame(5))),
-        (r#"["lose_ack",65535]"#, Ok(Event::LoseAck(65535))),
-        (r#""close""#, Ok(Event::Close)),
-        (r#""jump""#, Err(LinkJobFault::Event)),
-        (r#""offer""#, Err(LinkJobFault::Event)),
-        (r#""lose_frame""#, Err(LinkJobFault::Event)),
-        (r#"["close"]"#, Err(LinkJobFault::Event)),
-        (r#"["close",1]"#, Err(LinkJobFault::Event)),
-        (r#"["offer",4294967296]"#, Err(LinkJobFault::Event)),
-        (r#"["offer",1.0]"#, Err(LinkJobFault::Event)),
-        (r#"["offer",1,2]"#, Err(LinkJobFault::Event)),
-        (r#"["lose_ack",65536]"#, Err(LinkJobFault::Event)),
-        (r#"[1,"offer"]"#, Err(LinkJobFault::Event)),
-        ("{}", Err(LinkJobFault::Event)),
-        ("null", Err(LinkJobFault::Event)),
-        ("7", Err(LinkJobFault::Event)),
+        (r#"["offer",4294967295]"#, Event::Offer(4294967295)),
+        (r#""send_frame""#, Event::SendFrame),
+        (r#""recv_frame""#, Event::RecvFrame { keep: false }),
+        (r#""recv_frame_keep""#, Event::RecvFrame { keep: true }),
+        (r#""send_ack""#, Event::SendAck),
+        (r#""recv_ack""#, Event::RecvAck { keep: false }),
+        (r#""recv_ack_keep""#, Event::RecvAck { keep: true }),
+        (r#"["lose_frame",5]"#, Event::LoseFrame(5)),
+        (r#"["lose_ack",65535]"#, Event::LoseAck(65535)),
+        (r#""close""#, Event::Close),
     ] {
         assert!(rt; event(&rt, rt.alloc(), row) == *want, "{row}");
     }

@@ -1,4 +1,3 @@
-use crate::helpers::check_texts;
 use rand_core::utils::NextWord;
 use rand_core::{Rng, utils};
 use rand_pcg::Pcg32;
@@ -325,14 +324,4 @@ fn a_script_without_acts_passes_and_takes(rt: HostRuntime) {
         &[InAct::Take],
     );
     assert_half(&rt, &mut recv, &[OutAct::Pass], &[InAct::Take]);
-}
-
-#[test]
-fn texts_of_refused_scripts(rt: HostRuntime) {
-    let texts = &[
-        (ScriptFault::TooLong, "job: script too long"),
-        (ScriptFault::RateOutOfRange, "job: rate out of range"),
-        (ScriptFault::Memory, "out of memory"),
-    ];
-    check_texts(&rt, rt.alloc(), texts);
 }
