@@ -178,21 +178,3 @@ fn a_sequence_grows_at_its_end(rt: HostRuntime) {
     let none: Sequence<u32> = Sequence::new(rt.alloc());
     assert!(rt; none.as_slice().is_empty());
 }
-
-/// The text of each refusal of parameters.
-static FAULTS: [(ParamsFault, &str); 3] = [
-    (
-        ParamsFault::CapacityOutOfRange,
-        "job: capacity out of range",
-    ),
-    (ParamsFault::LabelsTooFew, "job: too few labels"),
-    (ParamsFault::LabelsTooMany, "job: too many labels"),
-];
-
-#[test]
-fn texts_of_refused_parameters(rt: HostRuntime) {
-    for (fault, want) in &FAULTS {
-        let text = fault.to_string(rt.alloc()).expect(&rt, "a text");
-        assert!(rt; text.as_str() == *want);
-    }
-}

@@ -174,21 +174,6 @@ fn refuses_overfull_starts(rt: HostRuntime) {
     }
 }
 
-/// The text of each refusal of a start.
-static FAULTS: [(StartFault, &str); 3] = [
-    (StartFault::TooManyFrames, "start: too many frames"),
-    (StartFault::TooManyAcks, "start: too many acknowledgements"),
-    (StartFault::Memory, "out of memory"),
-];
-
-#[test]
-fn texts_of_refused_starts(rt: HostRuntime) {
-    for (fault, want) in &FAULTS {
-        let text = fault.to_string(rt.alloc()).expect(&rt, "a text");
-        assert!(rt; text.as_str() == *want);
-    }
-}
-
 /// Losses past the end of each queue, and then of what it holds.
 static LOSSES: [(Event, Effect); 4] = [
     (Event::LoseFrame(5), Effect::Nothing),

@@ -324,40 +324,9 @@ fn the_counts_of_a_node_are_a_line_without_its_end(rt: HostRuntime) {
     assert!(rt; text.as_str() == "a depth 1 received 5 acked 7");
 }
 
-/// The text of each refusal of a start or of a step.
-static FAULTS: [(TreeStartFault, &str); 5] = [
-    (TreeStartFault::StartCount, "start: wrong number of starts"),
-    (
-        TreeStartFault::Start(StartFault::TooManyFrames),
-        "start: too many frames",
-    ),
-    (TreeStartFault::Start(StartFault::Memory), "out of memory"),
-    (
-        TreeStartFault::Step(TreeStepFault::NoSuchLink),
-        "step: no such link",
-    ),
-    (TreeStartFault::Step(TreeStepFault::Memory), "out of memory"),
-];
-
-/// The text of each refusal of openings.
-static OPENING_FAULTS: [(OpeningFault, &str); 4] = [
-    (OpeningFault::HoldOutOfRange, "job: h out of range"),
-    (OpeningFault::OpeningCount, "job: wrong number of openings"),
-    (
-        OpeningFault::OpeningPlace,
-        "job: opening at the root or a leaf",
-    ),
-    (OpeningFault::OpeningTooLong, "job: opening too long"),
-];
-
+/// No program prints it, since the reader of a job counts its starts.
 #[test]
-fn each_fault_prints_its_text(rt: HostRuntime) {
-    for (fault, want) in &FAULTS {
-        let text = fault.to_string(rt.alloc()).expect(&rt, "a text");
-        assert!(rt; text.as_str() == *want, "{want}");
-    }
-    for (fault, want) in &OPENING_FAULTS {
-        let text = fault.to_string(rt.alloc()).expect(&rt, "a text");
-        assert!(rt; text.as_str() == *want, "{want}");
-    }
+fn prints_a_wrong_number_of_starts(rt: HostRuntime) {
+    let text = TreeStartFault::StartCount.to_string(rt.alloc());
+    assert!(rt; text.expect(&rt, "a text").as_str() == "start: wrong number of starts");
 }
