@@ -1,7 +1,7 @@
-//! Tests of what the program `stab` does, by public calls alone, where its command line does not show
-//! it: readers and writers that fail, what a job is read as, and the nodes and texts of faults. There
-//! are explanations and random jobs as well, as no command line of `rignolda` asks for them.
-//! `tests/check_tables.py` tries command lines and refused jobs.
+//! Tests of what the program `stab` does, by public calls alone, where its command line does not
+//! show it: readers and writers that fail, what a job is read as, and the nodes and texts of
+//! faults. There are explanations and random jobs as well, as no command line of `rignolda` asks
+//! for them. `tests/check_tables.py` tries command lines and refused jobs.
 //!
 //! They stand apart from the crates that they test, so that those are not proved again with them.
 #![tactic(auto)]
