@@ -2,7 +2,7 @@
 -- Example: The root published 7, 8, the link into a begins clean, and its script drops more frames
 -- than the job has turns. A report that a received 7 is explained by no steps that keep to the
 -- script: they store no frame, so a load shows none. Where the script drops the first frame alone,
--- and the job has 2 turns, one frame is stored, so a received 7 at most.
+-- and the job has 2 turns, one frame is stored at most, so a received 7 at most.
 -- Source: this project's own.
 use Rattle.std.specs.Prelude.{◌≡◌, ℕ, true, List, ◌++◌, Some}
 use Rattle.stab_core.specs.LinkSetup.{LinkSetup}
@@ -22,8 +22,8 @@ use Rattle.stab_run.specs.declared.links.Links.{Links}
 use mathlib.Core.List.{IsPrefix}
 
 -- Some steps of the two ends of the link into a child, interleaved, explain what the report says of
--- it. Each end stored what the acts of its half of this script let through, of the first acts in
--- their order, and took no more acts than the job has turns.
+-- it. Each end stored as often as the first acts of its half of this script let it, in their order,
+-- and took no more acts than the job has turns.
 pub record IsByScript (job : JobValue) (r : Reported) (link : LinkSetup) (script : Acts)
     (child parent : ℕ) : Type 0 where
   pub sent : List SendStep

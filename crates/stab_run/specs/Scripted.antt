@@ -67,8 +67,8 @@ ack_stores (recv_step.FrameLoad word ∷ steps) = ack_stores steps
 ack_stores (recv_step.FrameLook word ∷ steps) = ack_stores steps
 ack_stores (recv_step.AckStore label ∷ steps) = suc (ack_stores steps)
 
--- so many stores are those that the first acts of this half let through, and of these acts there
--- are no more than the turns
+-- the first acts of this half let so many stores through, and of these acts there are no more than
+-- the turns
 pub record IsLetThrough (half : ActsRemaining) (turns stores : ℕ) : Type 0 where
   pub taken : ℕ
   pub few : taken ≤ turns
@@ -133,7 +133,7 @@ steps_received (recv_done.Lock done) = []
 steps_received (recv_done.Word done) = done.steps
 
 -- both finished ends of a link of two words followed what they have to follow: their steps,
--- interleaved, explain their accounts, and they stored what the acts of their halves let through
+-- interleaved, explain their accounts, and each stored as often as the acts of its half let it
 pub record FollowPlans (link : LinkSetup) (send : ScriptedSendFinished) (recv : ScriptedRecvFinished)
     : Type 0 where
   pub explained : AnInterleavingExplains link send.steps send.account recv.steps recv.account

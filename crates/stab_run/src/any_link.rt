@@ -109,22 +109,20 @@ impl AnyLink {
         ensures send_plan { IfOk result (λ ends. ends.0.link.plan ≡ plan turns script.now) }
         ensures recv_plan { IfOk result (λ ends. ends.1.link.plan ≡ plan turns script.now) }
     {
-        let send_plan = Plan::new(script, turns);
-        let recv_plan = Plan::new(script, turns);
         let acts = script.copy(alloc)?;
         match (self, opening) {
             (AnyLink::Lock(link), AnyOpening::Lock) => {
                 let (send, recv) = link.split(acts);
                 Ok((
-                    ScriptedSend::new(AnySend::Lock(send), send_plan),
-                    ScriptedRecv::new(AnyRecv::Lock(recv), recv_plan),
+                    ScriptedSend::new(AnySend::Lock(send), Plan::new(script, turns)),
+                    ScriptedRecv::new(AnyRecv::Lock(recv), Plan::new(script, turns)),
                 ))
             }
             (AnyLink::Word(link), AnyOpening::Word(opening)) => {
                 let (send, recv) = link.split(alloc, opening, acts)?;
                 Ok((
-                    ScriptedSend::new(AnySend::Word(send), send_plan),
-                    ScriptedRecv::new(AnyRecv::Word(recv), recv_plan),
+                    ScriptedSend::new(AnySend::Word(send), Plan::new(script, turns)),
+                    ScriptedRecv::new(AnyRecv::Word(recv), Plan::new(script, turns)),
                 ))
             }
             _ => unreachable!(),
