@@ -14,6 +14,3 @@ mod history;
 mod packed;
 
 pub use history::History;
-
-#[cfg(test)]
-mod tests;

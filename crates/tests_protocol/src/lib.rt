@@ -1,5 +1,6 @@
-//! The tests of the protocol's layers without a thread: frames and queues, one link, all links of a
-//! tree under one schedule, and the judge of reports and their reader, by public calls alone.
+//! The tests of the protocol's layers without a thread: frames and queues, one link and the history
+//! of one, all links of a tree under one schedule, and the judge of reports and their reader, by
+//! public calls alone.
 //!
 //! There is one module for each crate below. Tests are crates of their own because a crate that has
 //! tests is proved twice, without them and with them: here nothing is proved again.
@@ -7,6 +8,8 @@
 
 #[cfg(test)]
 mod frames;
+#[cfg(test)]
+mod history;
 #[cfg(test)]
 mod judge;
 #[cfg(test)]

@@ -1,11 +1,8 @@
 //! A history beside the plain list that it stands for: whatever happens is pushed to both, and they
 //! are compared place by place.
 
-use super::*;
-use crate::digits::{DIGITS, pack_run};
-use crate::entry::Entry;
-use crate::packed::PackedRuns;
 use stab_core::Event;
+use stab_history::History;
 use std::alloc::{AllocError, Global};
 use std::process::Abort;
 use std::test::Fail;
@@ -79,51 +76,30 @@ fn assert_same<R: Abort>(rt: &R, history: &History, plain: &[Event]) {
     assert!(rt; history.get(u64::MAX).is_none(), "far past the end");
 }
 
-/// Compares both after these runs.
-fn compare<R: Abort>(rt: &R, alloc: Global, runs: &[(Event, u32)]) -> Result<(), AllocError> {
+/// Compares both after these runs, which come so often one after the other.
+fn compare<R: Abort>(
+    rt: &R,
+    alloc: Global,
+    runs: &[(Event, u32)],
+    rounds: u32,
+) -> Result<(), AllocError> {
     let mut history = History::new(alloc);
     let mut plain = Vec::new(alloc);
-    push_runs(&mut history, &mut plain, runs)?;
+    for _ in 0..rounds {
+        push_runs(&mut history, &mut plain, runs)?;
+    }
     assert_same(rt, &history, plain.as_slice());
     Ok(())
 }
 
+// With ten runs in each of the rounds, their entries fill many blocks.
 #[test]
-fn keeps_no_event(rt: HostRuntime) -> Result<(), Fail> {
-    compare(&rt, rt.alloc(), &[])?;
-    Ok(())
-}
-
-#[test]
-fn keeps_one_of_each(rt: HostRuntime) -> Result<(), Fail> {
-    compare(&rt, rt.alloc(), &ONE_OF_EACH)?;
-    Ok(())
-}
-
-#[test]
-fn keeps_runs_past_the_digit_borders(rt: HostRuntime) -> Result<(), Fail> {
-    compare(&rt, rt.alloc(), &DIGIT_BORDERS)?;
-    Ok(())
-}
-
-#[test]
-fn keeps_runs_that_come_in_parts(rt: HostRuntime) -> Result<(), Fail> {
-    compare(&rt, rt.alloc(), &IN_PARTS)?;
-    Ok(())
-}
-
-/// The rounds of `keeps_many_runs`: with ten runs in each, their entries fill many blocks.
-const ROUNDS: u32 = 100;
-
-#[test]
-fn keeps_many_runs(rt: HostRuntime) -> Result<(), Fail> {
-    let alloc = rt.alloc();
-    let mut history = History::new(alloc);
-    let mut plain = Vec::new(alloc);
-    for _ in 0..ROUNDS {
-        push_runs(&mut history, &mut plain, &ONE_OF_EACH)?;
-    }
-    assert_same(&rt, &history, plain.as_slice());
+fn keeps_what_is_pushed(rt: HostRuntime) -> Result<(), Fail> {
+    compare(&rt, rt.alloc(), &[], 1)?;
+    compare(&rt, rt.alloc(), &ONE_OF_EACH, 1)?;
+    compare(&rt, rt.alloc(), &ONE_OF_EACH, 100)?;
+    compare(&rt, rt.alloc(), &DIGIT_BORDERS, 1)?;
+    compare(&rt, rt.alloc(), &IN_PARTS, 1)?;
     Ok(())
 }
 
@@ -133,27 +109,6 @@ fn keeps_two_events_in_room_for_two(rt: HostRuntime) -> Result<(), Fail> {
     history.reserve(2)?;
     history.push_reserved(Event::LoseFrame(0));
     history.push_reserved(Event::SendFrame);
-    let plain = [Event::LoseFrame(0), Event::SendFrame];
-    assert_same(&rt, &history, &plain);
+    assert_same(&rt, &history, &[Event::LoseFrame(0), Event::SendFrame]);
     Ok(())
-}
-
-/// A count with four digits, the second of which is zero.
-const LONG: u64 = 0x0003_0000_0002_0001;
-
-#[test]
-fn keeps_a_run_of_four_digits(rt: HostRuntime) -> Result<(), Fail> {
-    let mut packed = PackedRuns::new(rt.alloc());
-    packed.reserve(DIGITS)?;
-    pack_run(&mut packed, Event::SendAck, LONG);
-    assert!(rt; packed.count() == LONG, "the count");
-    assert!(rt; packed.get(0) == Some(Event::SendAck), "the first");
-    assert!(rt; packed.get(LONG - 1) == Some(Event::SendAck), "the last");
-    assert!(rt; packed.get(LONG).is_none(), "past the end");
-    Ok(())
-}
-
-#[test]
-fn an_entry_takes_8_bytes(rt: HostRuntime) {
-    assert!(rt; size_of::<Entry>() == 8);
 }
