@@ -3,7 +3,6 @@ pub mod Depths
 pub mod Described
 pub mod ForCallers
 pub mod Links
-pub mod NameSet
 pub mod OwnNames
 pub mod Places
 pub mod Roots

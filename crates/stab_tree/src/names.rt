@@ -1,4 +1,4 @@
-ghost use Rattle.std.specs.Prelude.{◌≡◌, ◌≤◌, IfOk, false, length, map, string_bytes};
+ghost use Rattle.std.specs.Prelude.{◌≡◌, ◌≤◌, IfOk, length, map, position, string_bytes};
 ghost use Rattle.std.specs.List.{list_all, list_any};
 ghost use Rattle.std.specs.Str.{bytes_eq};
 ghost use Rattle.stab_tree.specs.Entry.{names_of};
@@ -8,7 +8,6 @@ ghost use Rattle.stab_tree.specs.Nodes.{most_nodes, place_of};
 use crate::entry::EntryRef;
 use crate::name;
 use crate::node::NodeId;
-use indexmap::IndexSet;
 use std::alloc::{AllocError, Global};
 
 /// The most nodes that a tree has.
@@ -50,26 +49,30 @@ pub(crate) fn have_same_name(entries: &[EntryRef<'_>]) -> bool
     false
 }
 
-/// The names of the entries, copied in file order. A name that occurs twice is kept once.
-pub(crate) fn copy_names(
-    alloc: Global,
-    entries: &[EntryRef<'_>],
-) -> Result<IndexSet<String>, AllocError>
-    ensures { has_same_name (names_of entries.now) ≡ false
-        → IfOk result (λ names. map string_bytes names.keys ≡ names_of entries.now) }
+/// The names of the entries, copied in file order.
+pub(crate) fn copy_names(alloc: Global, entries: &[EntryRef<'_>]) -> Result<Vec<String>, AllocError>
+    ensures { IfOk result (λ names. map string_bytes names.items ≡ names_of entries.now) }
 {
-    let mut names = IndexSet::with_capacity(alloc, entries.len())?;
+    let mut names = Vec::with_capacity(alloc, entries.len())?;
     for entry in entries {
-        names.insert(String::from_str(alloc, entry.name())?)?;
+        names.push(String::from_str(alloc, entry.name())?)?;
     }
     Ok(names)
 }
 
-/// The node of that name.
-pub(crate) fn find(names: &IndexSet<String>, name: &str) -> Option<NodeId>
-    requires { length names.now.keys ≤ most_nodes }
-    ensures { result ≡ place_of (map string_bytes names.now.keys) name.now }
+/// The place of the first of these names that is that one.
+fn first_place(names: &[String], name: &str) -> Option<usize>
+    ensures { result ≡ position (λ s. bytes_eq (string_bytes s) name.now) names.now }
 {
-    let place = names.get_index_of(name)?;
+    names.iter().position(|s| s.as_str() == name)
+}
+
+/// The node of that name. It is compared with one name after the other: there are 64 at most, and a
+/// hashed set in a tree makes every crate that has to do with trees dearer to prove.
+pub(crate) fn find(names: &[String], name: &str) -> Option<NodeId>
+    requires { length names.now ≤ most_nodes }
+    ensures { result ≡ place_of (map string_bytes names.now) name.now }
+{
+    let place = first_place(names, name)?;
     Some(NodeId::new(place as u16))
 }

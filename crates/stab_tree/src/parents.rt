@@ -7,13 +7,12 @@ ghost use Rattle.stab_tree.specs.Stored.{AreDepths};
 use crate::entry::EntryRef;
 use crate::names;
 use crate::node::NodeId;
-use indexmap::IndexSet;
 use std::alloc::{AllocError, Global};
 
 /// The parent of an entry, where it is the name of a node.
-fn find_parent(names: &IndexSet<String>, entry: &EntryRef<'_>) -> Option<Option<NodeId>>
-    requires { length names.now.keys ≤ most_nodes }
-    ensures { result ≡ parent_of (map string_bytes names.now.keys) entry.now }
+fn find_parent(names: &[String], entry: &EntryRef<'_>) -> Option<Option<NodeId>>
+    requires { length names.now ≤ most_nodes }
+    ensures { result ≡ parent_of (map string_bytes names.now) entry.now }
 {
     match entry.parent() {
         None => Some(None),
@@ -24,12 +23,12 @@ fn find_parent(names: &IndexSet<String>, entry: &EntryRef<'_>) -> Option<Option<
 /// The parents of the entries, where each is the name of a node.
 pub(crate) fn find_parents(
     alloc: Global,
-    names: &IndexSet<String>,
+    names: &[String],
     entries: &[EntryRef<'_>],
 ) -> Result<Option<Vec<Option<NodeId>>>, AllocError>
-    requires { length names.now.keys ≤ most_nodes }
+    requires { length names.now ≤ most_nodes }
     ensures { IfOk result (λ found. option_map (λ parents. parents.items) found
-        ≡ parents_of (map string_bytes names.now.keys) entries.now) }
+        ≡ parents_of (map string_bytes names.now) entries.now) }
 {
     let mut parents = Vec::with_capacity(alloc, entries.len())?;
     for entry in entries {

@@ -15,7 +15,6 @@ use crate::names::{self, MAX_NODES};
 use crate::node::NodeId;
 use crate::parents;
 use crate::tree::Tree;
-use indexmap::IndexSet;
 use serde_json::Value;
 use stab_json::read_entries;
 use std::alloc::Global;
@@ -48,7 +47,7 @@ fn tree_of_entries(alloc: Global, entries: &[EntryRef<'_>]) -> Result<Tree, Tree
 {
     check_names(entries)?;
     let names = names::copy_names(alloc, entries)?;
-    let parents = read_parents(alloc, &names, entries)?;
+    let parents = read_parents(alloc, names.as_slice(), entries)?;
     let depths = read_depths(alloc, parents.as_slice())?;
     let root = parents::first_root(parents.as_slice());
     Ok(Tree::from_parts(names, parents, depths, root))
@@ -78,15 +77,15 @@ fn check_names(entries: &[EntryRef<'_>]) -> Result<(), TreeFault>
 #[tactic(auto, unfolding(crate::specs::Read::tree_of))]
 fn read_parents(
     alloc: Global,
-    names: &IndexSet<String>,
+    names: &[String],
     entries: &[EntryRef<'_>],
 ) -> Result<Vec<Option<NodeId>>, TreeFault>
-    requires { length names.now.keys ≤ most_nodes }
+    requires { length names.now ≤ most_nodes }
     ensures ok { IfOk result (λ parents. AreParents
-        (map string_bytes names.now.keys) entries.now parents.items) }
+        (map string_bytes names.now) entries.now parents.items) }
     ensures err { IfErr result (λ fault. fault ≢ TreeFault.Memory
         → (d : Data) → entries_of d ≡ Some entries.now → AreNamed entries.now
-        → map string_bytes names.now.keys ≡ names_of entries.now → tree_of d ≡ Err fault) }
+        → map string_bytes names.now ≡ names_of entries.now → tree_of d ≡ Err fault) }
 {
     let Some(parents) = parents::find_parents(alloc, names, entries)? else {
         return Err(TreeFault::UnknownParent);

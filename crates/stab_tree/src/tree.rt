@@ -2,13 +2,12 @@ ghost use Rattle.std.specs.Prelude.{◌≡◌, ◌≢◌, ◌↔◌, ◌+◌, �
 
 use crate::names;
 use crate::node::NodeId;
-use indexmap::IndexSet;
 use std::marker::Model;
 
 /// The nodes of a tree, in file order. None of its calls takes memory.
 #[derive(Debug, Drop)]
 pub struct Tree {
-    names: IndexSet<String>,
+    names: Vec<String>,
     parents: Vec<Option<NodeId>>,
     depths: Vec<u16>,
     root: NodeId,
@@ -22,12 +21,12 @@ impl Model for Tree {
     ghost Value = { Nodes };
 
     ghost view = { λ t. record {
-      names = map string_bytes t.names.keys;
+      names = map string_bytes t.names.items;
       parents = t.parents.items;
     } };
 
     ghost invariant = { λ t. IsStored
-        (record { names = map string_bytes t.names.keys; parents = t.parents.items })
+        (record { names = map string_bytes t.names.items; parents = t.parents.items })
         t.depths.items t.root };
 }
 
@@ -40,16 +39,16 @@ impl Tree {
 
     /// The tree of these parts.
     pub(crate) fn from_parts(
-        names: IndexSet<String>,
+        names: Vec<String>,
         parents: Vec<Option<NodeId>>,
         depths: Vec<u16>,
         root: NodeId,
     ) -> Tree
         requires { IsStored
-            (record { names = map string_bytes names.keys; parents = parents.items })
+            (record { names = map string_bytes names.items; parents = parents.items })
             depths.items root }
         ensures { result
-            ≡ record { names = map string_bytes names.keys; parents = parents.items } }
+            ≡ record { names = map string_bytes names.items; parents = parents.items } }
     {
         Tree {
             names,
@@ -113,14 +112,14 @@ impl Tree {
         self.names[node.index()].as_str()
     }
 
-    /// The node of that name, where there is one. It is looked up by hash.
+    /// The node of that name, where there is one.
     pub fn find(&self, name: &str) -> Option<NodeId>
         ensures value { result ≡ place_of self.now.names name.now }
         ensures known { IfSome result (λ node. node < length self.now.parents) }
         ensures found { IfSome result (λ node. slice_get self.now.names node ≡ Some name.now) }
         ensures absent { IfNone result (All (λ s. s ≢ name.now) self.now.names) }
     {
-        names::find(&self.names, name)
+        names::find(self.names.as_slice(), name)
     }
 
     /// The number of links: one for each node but the root.
