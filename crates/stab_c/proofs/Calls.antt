@@ -5,7 +5,7 @@ use Rattle.stab_frames.specs.declared.frame.Frame.{Frame}
 use Rattle.stab_frames.specs.Parameters.{Parameters}
 use Rattle.stab_tree.specs.Nodes.{parent_at}
 use Rattle.stab_treecore.specs.Network.{Network}
-use Rattle.stab_treecore.specs.NodeOpenings.{opening_at}
+use Rattle.stab_tree.specs.NodeOpenings.{opening_at}
 use Rattle.stab_c.specs.Acts.{IsFrameReceived, IsPolled}
 use Rattle.stab_c.specs.Ends.{SenderEnd, ReceiverEnd, accepts}
 use Rattle.stab_c.specs.Line.{Line, LineAct, line_step, after_sending, with_taken}

@@ -11,9 +11,9 @@ use Rattle.stab_core.proofs.ForCallers.{prefix_of_grown, prefix_of_itself}
 use Rattle.stab_tree.specs.Nodes.{parent_at, root_of}
 use Rattle.stab_treecore.specs.Network.{Network, IsNetwork}
 use Rattle.stab_treecore.specs.NodeLaws.{capacity_into, garbage_into, LinkLawBetween, LinkLawInto, TreeLawAtNodes}
-use Rattle.stab_treecore.specs.NodeOpenings.{opening_at}
+use Rattle.stab_tree.specs.NodeOpenings.{opening_at}
 use Rattle.stab_treecore.proofs.AtNodes.{nodes_obey}
-use Rattle.stab_treecore.proofs.ForCallers.{holds_by_child}
+use Rattle.stab_tree.proofs.ForCallers.{holds_by_child}
 use Rattle.stab_c.specs.Ends.{delivers}
 use Rattle.stab_c.specs.Line.{Line, LineAct, line_step, with_taken, receives_frame, receives_ack}
 use Rattle.stab_c.specs.Line.{offer_item, frame_sent, frame_comes, ack_sent, ack_comes, frame_lost, ack_lost, sender_closes, receiver_closes}

@@ -9,7 +9,7 @@ use Rattle.stab_frames.specs.Parameters.{Parameters}
 use Rattle.stab_core.specs.LinkSetup.{LinkSetup}
 use Rattle.stab_tree.specs.Nodes.{parent_at}
 use Rattle.stab_treecore.specs.Network.{Network, setup_into}
-use Rattle.stab_treecore.specs.NodeOpenings.{opening_at}
+use Rattle.stab_tree.specs.NodeOpenings.{opening_at}
 use Rattle.stab_c.specs.Line.{Line, LineAct, held}
 use Rattle.stab_c.specs.Edge.{Edge, edge_step, new_edge, child_polled, on_line}
 

@@ -4,7 +4,7 @@ ghost use Rattle.stab_core.specs.Link.{IsReason, link_at};
 ghost use Rattle.stab_core.specs.Replay.{IsLawful, initial};
 ghost use Rattle.stab_core.specs.Step.{effect, step};
 ghost use Rattle.stab_treecore.specs.Network.{IsNetwork, network_of};
-ghost use Rattle.stab_treecore.specs.NodeOpenings.{FitTree};
+ghost use Rattle.stab_tree.specs.NodeOpenings.{FitTree};
 ghost use Rattle.stab_treecore.specs.Refusals.{IsScheduleReason, IsStartReason, NamesLink};
 ghost use Rattle.stab_treecore.specs.Refusals.{OnePerLink};
 ghost use Rattle.stab_treecore.specs.TreeReplay.{initial_tree};

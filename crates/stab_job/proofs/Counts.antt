@@ -13,7 +13,7 @@ use Rattle.stab_core.specs.declared.start.Start.{Start}
 use Rattle.stab_core.specs.Replay.{clean_start}
 use Rattle.stab_tree.specs.Nodes.{Nodes}
 use Rattle.stab_treecore.specs.declared.event.TreeEvent.{TreeEvent}
-use Rattle.stab_treecore.specs.NodeOpenings.{FitTree, OpeningsValue}
+use Rattle.stab_tree.specs.NodeOpenings.{FitTree, OpeningsValue}
 use Rattle.stab_job.specs.JobLinks.{are_miscounted, all_made, starts_of, scripts_of}
 use Rattle.stab_job.specs.JobMembers.{Members}
 use Rattle.stab_job.specs.JobValues.{IsJob, links, most_items, most_turns}

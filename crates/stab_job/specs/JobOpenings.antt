@@ -15,7 +15,7 @@ use Rattle.serde_json.specs.Find.{get}
 use Rattle.stab_json.specs.Checks.{◌>>◌}
 use Rattle.stab_json.specs.Values.{◌>>=◌, most_u16, whole, capped, item_number, list_of}
 use Rattle.stab_tree.specs.Nodes.{Nodes}
-use Rattle.stab_treecore.specs.NodeOpenings.{OpeningsValue, openings_fault}
+use Rattle.stab_tree.specs.NodeOpenings.{OpeningsValue, openings_fault}
 use Rattle.stab_job.specs.declared.fault.JobFault.{JobFault}
 use Rattle.stab_job.specs.declared.fault.JobFault.TheVariants as fault
 use Rattle.stab_job.specs.declared.version.Version.{Version}

@@ -9,7 +9,7 @@ use Rattle.stab_tree.specs.Links.{links_of}
 use Rattle.stab_tree.specs.Nodes.{Nodes}
 use Rattle.stab_treecore.specs.declared.event.TreeEvent.{TreeEvent}
 use Rattle.stab_treecore.specs.Network.{Network, network_of}
-use Rattle.stab_treecore.specs.NodeOpenings.{FitTree, OpeningsValue}
+use Rattle.stab_tree.specs.NodeOpenings.{FitTree, OpeningsValue}
 
 pub record JobValue : Type 0 where
   pub params : List Parameters

@@ -7,7 +7,7 @@ ghost use Rattle.serde_json.specs.View.{view};
 ghost use Rattle.stab_json.specs.Values.{item_number, list_of};
 ghost use Rattle.stab_job.specs.JobOpenings.{hold_of, lists_given, lists_of, openings_of};
 ghost use Rattle.stab_job.specs.Refusals.{is_of_value};
-ghost use Rattle.stab_treecore.specs.NodeOpenings.{FitTree};
+ghost use Rattle.stab_tree.specs.NodeOpenings.{FitTree};
 
 use crate::fault::JobFault;
 use crate::members::list_member;

@@ -12,9 +12,9 @@ use Rattle.stab_tree.specs.Steps.{ancestor, depth_of}
 use Rattle.stab_tree.proofs.ForCallers.{child_is_node, holds_at_every_depth}
 use Rattle.stab_treecore.specs.Network.{Network}
 use Rattle.stab_treecore.specs.NodeLaws.{capacity_into, garbage_into, LinkLawInto, TreeLawAtNodes}
-use Rattle.stab_treecore.specs.NodeOpenings.{FitTree, hold_at, opening_at}
+use Rattle.stab_tree.specs.NodeOpenings.{FitTree, hold_at, opening_at}
 use Rattle.stab_treecore.proofs.AtNodes.{sum_above-add}
-use Rattle.stab_treecore.proofs.ForCallers.{openings_fit}
+use Rattle.stab_tree.proofs.ForCallers.{openings_fit}
 use Rattle.stab_treecore.specs.Paths.{lists_above, sum_above}
 use Rattle.stab_treecore.specs.TreeLaw.{CompleteLaw}
 use Rattle.stab_judge.specs.Obeys.{AllAboveEnded, CompleteBelowEnded, HandsOn, LinkObeys, NodeObeys, RootObeys}

@@ -10,7 +10,7 @@ use Rattle.stab_core.specs.Replay.{start_items}
 use Rattle.stab_core.proofs.Setups.{as_many_setups, setup_at}
 use Rattle.stab_tree.specs.Links.{links_from, links_of}
 use Rattle.stab_tree.specs.Nodes.{parent_at}
-use Rattle.stab_treecore.specs.ByChild.{by_child}
+use Rattle.stab_tree.specs.ByChild.{by_child}
 
 -- the children counted from a place on are at this place or after it
 children_from : (v : ℕ) (parents : List (Option ℕ)) (k w : ℕ) → slice_get (links_from v parents) k ≡ Some w → v ≤ w

@@ -5,7 +5,7 @@ use Rattle.stab_core.specs.Replay.{start_items}
 use Rattle.stab_core.specs.declared.start.Start.{Start}
 use Rattle.stab_frames.specs.Parameters.{Parameters}
 use Rattle.stab_tree.specs.Nodes.{Nodes}
-use Rattle.stab_treecore.specs.NodeOpenings.{FitTree, OpeningsValue}
+use Rattle.stab_tree.specs.NodeOpenings.{FitTree, OpeningsValue}
 use Rattle.stab_treecore.specs.Refusals.{OnePerLink}
 
 -- there are parameters and a start for each link, the openings fit the tree, and beside each start

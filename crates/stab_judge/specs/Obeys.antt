@@ -13,7 +13,7 @@ use Rattle.stab_tree.specs.Steps.{ancestor}
 use Rattle.stab_treecore.specs.Network.{Network}
 use Rattle.stab_treecore.specs.NodeLaws.{capacity_into, garbage_into, path_garbage}
 use Rattle.stab_treecore.specs.NodeLaws.{most_missing, most_strays, TreeLawAtNodes}
-use Rattle.stab_treecore.specs.NodeOpenings.{opening_at}
+use Rattle.stab_tree.specs.NodeOpenings.{opening_at}
 use Rattle.stab_treecore.specs.TreeLaw.{CompleteLaw}
 use Rattle.stab_judge.specs.Judged.{LinkLawBelow}
 use Rattle.stab_judge.specs.Reports.{ReportValue, OnePerNode, received_at, acked_at, has_ended}

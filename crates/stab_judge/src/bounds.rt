@@ -1,5 +1,5 @@
 ghost use Rattle.std.specs.Prelude.{◌≡◌, ◌<◌, length};
-ghost use Rattle.stab_treecore.specs.NodeOpenings.{hold_at};
+ghost use Rattle.stab_tree.specs.NodeOpenings.{hold_at};
 ghost use Rattle.stab_judge.specs.NodeBounds.{AreBoundsAt};
 
 use crate::judge::Judge;

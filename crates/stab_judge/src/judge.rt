@@ -2,7 +2,7 @@ ghost use Rattle.std.specs.Prelude.{◌≡◌, ◌<◌, IfOk, length, map};
 ghost use Rattle.stab_core.specs.Replay.{start_items};
 ghost use Rattle.stab_treecore.specs.Network.{network_of};
 ghost use Rattle.stab_treecore.specs.NodeLaws.{capacity_into, garbage_into};
-ghost use Rattle.stab_treecore.specs.NodeOpenings.{FitTree, opening_at};
+ghost use Rattle.stab_tree.specs.NodeOpenings.{FitTree, opening_at};
 ghost use Rattle.stab_treecore.specs.Refusals.{OnePerLink};
 
 use stab_core::Start;

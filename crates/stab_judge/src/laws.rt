@@ -8,7 +8,7 @@ ghost use Rattle.stab_tree.specs.IsTree.{IsTree};
 ghost use Rattle.stab_tree.specs.Nodes.{parent_at, root_of};
 ghost use Rattle.stab_treecore.specs.EdgeLaw.{EdgeInto};
 ghost use Rattle.stab_treecore.specs.Network.{Network};
-ghost use Rattle.stab_treecore.specs.NodeOpenings.{FitTree};
+ghost use Rattle.stab_tree.specs.NodeOpenings.{FitTree};
 
 /// Where each node obeys, the tree law holds at each node, and the complete law below nodes that
 /// all ended with their upstream: nothing else is asked of a report.

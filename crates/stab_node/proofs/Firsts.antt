@@ -5,8 +5,8 @@ use Rattle.std.proofs.lemmas.List.Elements.{All-cons, All-head, All-nil, All-tai
 use Rattle.std.proofs.lemmas.Option.{none-some}
 use Rattle.std.specs.List.{range_with_len}
 use Rattle.stab_tree.specs.Nodes.{parent_at}
-use Rattle.stab_treecore.proofs.ForCallers.{openings_fit}
-use Rattle.stab_treecore.specs.NodeOpenings.{FitTree, OpeningsValue, opening_at}
+use Rattle.stab_tree.proofs.ForCallers.{openings_fit}
+use Rattle.stab_tree.specs.NodeOpenings.{FitTree, OpeningsValue, opening_at}
 use Rattle.stab_node.specs.InitialItems.{initial_at}
 
 -- numbers that are counted up stay below where they end

@@ -1,5 +1,5 @@
 -- For callers of the workers of a tree: what is one per link, beside the nodes, and back.
-pub use Rattle.stab_treecore.proofs.ForCallers.{holds_by_child, length-by_child}
+pub use Rattle.stab_tree.proofs.ForCallers.{holds_by_child, length-by_child}
 pub use Rattle.stab_node.proofs.Worked.{at_error}
 use Rattle.std.proofs.Common.{◌≡◌, ◌==◌, ◌<◌, ℕ, zero, suc, Bool, true, false, if◌then◌else◌, List, [], ◌∷◌, length, map, get_or, drop, is_some, Option, Some, None, option_map, All, refl, ap, sym, ◌∙◌, subst, eq-eqb, arith}
 use Rattle.std.proofs.lemmas.List.{length-map}
@@ -8,8 +8,8 @@ use Rattle.std.proofs.lemmas.Option.{none-some, same_Some}
 use mathlib.Core.List.{map-map}
 use Rattle.stab_tree.specs.Links.{links_from, links_of}
 use Rattle.stab_tree.specs.Nodes.{parent_at}
-use Rattle.stab_treecore.specs.ByChild.{by_child}
-use Rattle.stab_treecore.proofs.ForCallers.{linked_nodes, map-by_child, not_of_nothing}
+use Rattle.stab_tree.specs.ByChild.{by_child}
+use Rattle.stab_tree.proofs.ForCallers.{linked_nodes, map-by_child, not_of_nothing}
 use Rattle.stab_scatter.proofs.ForCallers.{by_parent_at, same_maps}
 use Rattle.stab_scatter.specs.Scattering.{by_parent, to_children}
 

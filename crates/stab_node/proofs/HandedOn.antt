@@ -1,5 +1,5 @@
 -- From the accounts of the nodes to what each node received and each link handed on.
-use Rattle.std.proofs.Common.{◌≡◌, ◌<◌, ◌≤◌, ◌+◌, ℕ, zero, suc, true, List, [], ◌∷◌, ◌++◌, length, map, get_or, Option, Some, None, option_map, IfSome, All, refl, ap, sym, ◌∙◌, subst, arith}
+use Rattle.std.proofs.Common.{◌≡◌, ◌<◌, ◌≤◌, ◌+◌, ℕ, zero, suc, true, List, [], ◌∷◌, ◌++◌, length, map, get_or, Option, Some, None, option_map, IfSome, All, ap, sym, ◌∙◌, subst, arith}
 use Rattle.std.proofs.lemmas.List.{length-map}
 use Rattle.std.proofs.lemmas.List.Elements.{All-nil}
 use Rattle.std.proofs.lemmas.Option.{none-some}
@@ -9,11 +9,11 @@ use Rattle.stab_node.specs.declared.account.Ended.TheVariants.{Turns, Upstream}
 use Rattle.stab_node.specs.Work.{HasAll, IsServed, IsWork, received_by}
 use Rattle.stab_tree.specs.Nodes.{parent_at, root_of}
 use Rattle.std.specs.List.{AllZip, range_with_len}
-use Rattle.stab_treecore.specs.ByChild.{by_child}
-use Rattle.stab_treecore.proofs.ForCallers.{length-by_child, no_link_into}
+use Rattle.stab_tree.specs.ByChild.{by_child}
+use Rattle.stab_tree.proofs.ForCallers.{length-by_child, no_link_into}
 use Rattle.stab_node.proofs.ForCallers.{holds_of_child}
 use Rattle.stab_node.proofs.Worked.{all_of_map}
-use Rattle.stab_treecore.specs.NodeOpenings.{opening_at}
+use Rattle.stab_tree.specs.NodeOpenings.{opening_at}
 use Rattle.stab_node.proofs.Firsts.{initial_at_child}
 use Rattle.stab_node.specs.InitialItems.{initial_at}
 use Rattle.stab_node.specs.ByNode.{ended_at, entry_into, received_at}

@@ -1,9 +1,9 @@
 -- The workers so far, and what the others are still to take.
-use Rattle.std.proofs.Common.{◌≡◌, ◌≤◌, ◌<◌, ◌+◌, ℕ, List, [], ◌∷◌, ◌++◌, length, get_or, drop, map, MatchOption, Option, Some, None, refl, ap, sym, ◌∙◌, append_assoc, arith}
+use Rattle.std.proofs.Common.{◌≡◌, ◌≤◌, ◌<◌, ◌+◌, ℕ, List, [], ◌∷◌, ◌++◌, length, get_or, drop, map, MatchOption, Option, Some, None, ap, sym, ◌∙◌, append_assoc, arith}
 use Rattle.std.proofs.lemmas.List.{append-nil, map-append, map-id, length-append, length-map, nil_from_length}
 use Rattle.std.proofs.lemmas.List.FromFn.{map-range_with_len_more}
 use Rattle.std.specs.List.{range_with_len}
-use Rattle.stab_treecore.specs.ByChild.{by_child}
+use Rattle.stab_tree.specs.ByChild.{by_child}
 use Rattle.stab_scatter.proofs.ForCallers.{next_parent}
 
 module _ {A : Type 0} (parents : List (Option ℕ)) (i : ℕ) (in_list : i < length parents) where

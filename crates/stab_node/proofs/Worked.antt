@@ -1,5 +1,5 @@
 -- From the answers of the workers, worker by worker, to the accounts of the nodes.
-use Rattle.std.proofs.Common.{◌≡◌, ◌≢◌, ◌==◌, ◌<◌, ◌≤◌, ◌+◌, inl, inr, ℕ, zero, suc, Bool, true, false, if◌then◌else◌, List, [], ◌∷◌, length, map, get_or, drop, Option, Some, None, option_map, Result, Ok, Err, IfErr, IfSome, IsErrAnd, All, refl, ap, sym, ◌∙◌, subst, arith}
+use Rattle.std.proofs.Common.{◌≡◌, ◌≢◌, ◌<◌, ◌≤◌, ◌+◌, inl, inr, ℕ, zero, suc, List, [], ◌∷◌, length, map, get_or, drop, Option, Some, None, option_map, Result, Ok, Err, IfErr, IfSome, IsErrAnd, All, refl, ap, sym, ◌∙◌, subst, arith}
 use Rattle.std.proofs.lemmas.Bool.{cases_lt}
 use Rattle.std.proofs.lemmas.List.{get_or-map, length-map}
 use Rattle.std.proofs.lemmas.List.Elements.{All-cons, All-head, All-map, All-nil, All-tail}
@@ -9,7 +9,7 @@ use Rattle.std.specs.List.{AllZip, range_with_len}
 use Rattle.stab_ends.specs.Accounts.{ReceiverAccount, SenderAccount, new_receiver, new_sender}
 use Rattle.stab_node.specs.declared.fault.NodeFault.{NodeFault}
 use Rattle.stab_node.specs.Work.{AreNew}
-use Rattle.stab_treecore.specs.ByChild.{by_child}
+use Rattle.stab_tree.specs.ByChild.{by_child}
 use Rattle.stab_node.specs.declared.workers_fault.WorkersFault.TheVariants.{Node, Thread}
 use Rattle.stab_scatter.proofs.ForCallers.{all_to_children}
 use Rattle.stab_scatter.specs.Scattering.{by_parent, to_children}

@@ -1,7 +1,7 @@
 -- What a run leaves, looked up by node and by link.
 -- Source: this project's profile.
 use Rattle.std.specs.Prelude.{ℕ, List, [], Option, None, slice_index_or}
-use Rattle.stab_treecore.specs.ByChild.{by_child}
+use Rattle.stab_tree.specs.ByChild.{by_child}
 use Rattle.stab_node.specs.declared.account.Ended.{Ended}
 use Rattle.stab_node.specs.declared.account.Ended.TheVariants.{Turns}
 

@@ -2,8 +2,7 @@ ghost use Rattle.std.specs.Prelude.{◌≡◌, ◌<◌, length};
 ghost use Rattle.stab_node.specs.InitialItems.{initial_at};
 
 use stab_frames::Item;
-use stab_tree::NodeId;
-use stab_treecore::Openings;
+use stab_tree::{NodeId, Openings};
 
 /// What a node begins with: the published items at the root, and its opening elsewhere.
 pub(crate) fn first_items<'e>(

@@ -1,6 +1,6 @@
 ghost use Rattle.std.specs.Prelude.{◌≡◌, IfOk, is_some, length, map};
 ghost use Rattle.stab_tree.specs.Links.{links_of};
-ghost use Rattle.stab_treecore.specs.ByChild.{by_child};
+ghost use Rattle.stab_tree.specs.ByChild.{by_child};
 ghost use Rattle.stab_scatter.specs.Scattering.{by_parent, child_counts};
 
 use crate::account::{Ended, NodeAccount};

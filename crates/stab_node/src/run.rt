@@ -6,7 +6,7 @@ ghost use Rattle.stab_node.specs.Turns.{IsOver, IsRefused};
 ghost use Rattle.stab_node.specs.Work.{HasAll, IsServed};
 ghost use Rattle.stab_tree.specs.Links.{links_of};
 ghost use Rattle.stab_tree.specs.Nodes.{parent_at, root_of};
-ghost use Rattle.stab_treecore.specs.NodeOpenings.{FitTree, opening_at};
+ghost use Rattle.stab_tree.specs.NodeOpenings.{FitTree, opening_at};
 ghost use Rattle.stab_node.specs.ByNode.{ended_at, entry_into, received_at};
 ghost use Rattle.stab_node.specs.FirstFault.{IsFirstToGiveUp, IsFirstUnstarted};
 
@@ -18,8 +18,7 @@ use crate::nodes::run_nodes;
 use crate::workers_fault::WorkersFault;
 use stab_ends::{RecvSide, SendSide};
 use stab_frames::Item;
-use stab_tree::Tree;
-use stab_treecore::Openings;
+use stab_tree::{Openings, Tree};
 use std::alloc::Global;
 use std::sync::Wait;
 use std::thread::Threads;

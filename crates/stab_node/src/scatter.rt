@@ -1,6 +1,6 @@
 ghost use Rattle.std.specs.Prelude.{◌≡◌, ◌<◌, ◌+◌, ◌∷◌, IfOk, drop, length, map};
 ghost use Rattle.std.specs.List.{range_with_len};
-ghost use Rattle.stab_treecore.specs.ByChild.{by_child};
+ghost use Rattle.stab_tree.specs.ByChild.{by_child};
 ghost use Rattle.stab_scatter.specs.Scattering.{by_parent};
 
 use crate::worker_ends::WorkerEnds;

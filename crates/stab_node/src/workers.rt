@@ -16,7 +16,7 @@ use crate::worker::work;
 use crate::worker_ends::WorkerEnds;
 use stab_ends::{RecvSide, SendSide};
 use stab_frames::Item;
-use stab_treecore::Openings;
+use stab_tree::Openings;
 use std::alloc::Global;
 use std::collections::VecDeque;
 use std::snapshot::Snapshot;

@@ -6,9 +6,9 @@ use Rattle.stab_core.specs.LinkSetup.{LinkSetup}
 use Rattle.stab_core.specs.Tracer.{TracerValue}
 use Rattle.stab_tree.specs.Nodes.{Nodes, parent_at}
 use Rattle.stab_tree.specs.Steps.{depth_of}
-use Rattle.stab_treecore.proofs.ForCallers.{map-by_child}
+use Rattle.stab_tree.proofs.ForCallers.{map-by_child}
 use Rattle.stab_treecore.specs.declared.event.TreeEvent.{TreeEvent}
-use Rattle.stab_treecore.specs.ByChild.{by_child}
+use Rattle.stab_tree.specs.ByChild.{by_child}
 use Rattle.stab_treecore.specs.NodeLaws.{capacity_into, most_missing, strays_bound}
 use Rattle.stab_treecore.specs.Paths.{path_sum, sum_above}
 use Rattle.stab_page.specs.TracedTree.{TracedTree, event_at, page_network, traced_after, traced_link, traced_initial_tree}

@@ -13,9 +13,9 @@ use Rattle.stab_core.specs.Step.{step}
 use Rattle.stab_core.specs.Trace.{Traced, traced_step}
 use Rattle.stab_core.specs.Tracer.{TracerValue}
 use Rattle.stab_tree.specs.Nodes.{Nodes, parent_at}
-use Rattle.stab_treecore.proofs.ForCallers.{map-by_child}
+use Rattle.stab_tree.proofs.ForCallers.{map-by_child}
 use Rattle.stab_treecore.specs.declared.event.TreeEvent.{TreeEvent}
-use Rattle.stab_treecore.specs.ByChild.{by_child}
+use Rattle.stab_tree.specs.ByChild.{by_child}
 use Rattle.stab_treecore.specs.Network.{Network}
 use Rattle.stab_treecore.specs.NodeLaws.{TreeLawAtNodes, most_missing, most_strays, path_garbage}
 use Rattle.stab_treecore.specs.TreeLaw.{TreeLaw}

@@ -5,7 +5,7 @@ use Rattle.std.proofs.lemmas.List.Elements.{All-cons, All-head, All-nil, All-set
 use Rattle.std.specs.List.{refill}
 use Rattle.stab_core.specs.Tracer.{TracerValue}
 use Rattle.stab_core.specs.LinkSetup.{LinkSetup}
-use Rattle.stab_treecore.specs.ByChild.{by_child}
+use Rattle.stab_tree.specs.ByChild.{by_child}
 use Rattle.stab_page.specs.TracedTree.{HasAtMost, traced_link}
 
 -- a list that is written over by one as long

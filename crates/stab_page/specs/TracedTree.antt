@@ -16,7 +16,7 @@ use Rattle.stab_core.specs.Trace.{traced_initial, traced_step}
 use Rattle.stab_core.specs.Tracer.{TracerValue, tracer_at}
 use Rattle.stab_tree.specs.Nodes.{Nodes, parent_at}
 use Rattle.stab_treecore.specs.declared.event.TreeEvent.{TreeEvent}
-use Rattle.stab_treecore.specs.ByChild.{by_child}
+use Rattle.stab_tree.specs.ByChild.{by_child}
 use Rattle.stab_treecore.specs.Network.{Network}
 use Rattle.stab_treecore.specs.WholeTree.{WholeTree}
 

@@ -5,7 +5,7 @@ ghost use Rattle.std.specs.Option.{option_map_or};
 ghost use Rattle.std.specs.Prelude.{◌≡◌, ℕ, ◌+◌, ◌≤◌, All, IsTrue, length, map, option_copied};
 ghost use Rattle.std.specs.Prelude.{option_map};
 ghost use Rattle.stab_tree.specs.Nodes.{parent_at};
-ghost use Rattle.stab_treecore.specs.ByChild.{by_child};
+ghost use Rattle.stab_tree.specs.ByChild.{by_child};
 ghost use Rattle.stab_page.specs.TracedTree.{HasAtMost, effect_after, list_above, list_at, next_at};
 ghost use Rattle.stab_page.specs.TracedTree.{traced_after, traced_into, traced_link};
 ghost use Rattle.stab_page.specs.TracedTree.{traced_tree_effect, traced_initial_tree};

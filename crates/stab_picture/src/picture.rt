@@ -2,7 +2,7 @@ ghost use Rattle.std.specs.Prelude.{All, IfErr, OnOk};
 ghost use Rattle.stab_core.specs.Link.{IsReason};
 ghost use Rattle.stab_core.specs.Replay.{IsLawful};
 ghost use Rattle.stab_treecore.specs.Network.{IsNetwork, network_of};
-ghost use Rattle.stab_treecore.specs.NodeOpenings.{FitTree};
+ghost use Rattle.stab_tree.specs.NodeOpenings.{FitTree};
 ghost use Rattle.stab_treecore.specs.Refusals.{IsScheduleReason, NamesLink};
 
 use crate::drawing::Drawing;

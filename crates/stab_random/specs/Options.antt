@@ -8,7 +8,7 @@ use Rattle.std.specs.Prelude.{Option, Some, None}
 use Rattle.stab_frames.specs.Parameters.{fault_of, most_labels}
 use Rattle.stab_job.specs.JobValues.{most_items, most_turns}
 use Rattle.stab_tree.specs.Nodes.{most_nodes}
-use Rattle.stab_treecore.specs.NodeOpenings.{most_hold}
+use Rattle.stab_tree.specs.NodeOpenings.{most_hold}
 use Rattle.stab_random.specs.declared.options.DrawOptions.{DrawOptions}
 use Rattle.stab_random.specs.declared.options.OptionsFault.{OptionsFault}
 use Rattle.stab_random.specs.declared.options.OptionsFault.TheVariants as fault

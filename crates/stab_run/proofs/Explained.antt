@@ -9,7 +9,7 @@ use Rattle.stab_job.specs.JobValues.{JobValue, network}
 use Rattle.stab_node.specs.declared.account.Ended.{Ended}
 use Rattle.stab_tree.specs.Links.{links_from, links_of}
 use Rattle.stab_tree.specs.Nodes.{parent_at, root_of}
-use Rattle.stab_treecore.specs.ByChild.{by_child}
+use Rattle.stab_tree.specs.ByChild.{by_child}
 use Rattle.stab_treecore.specs.EdgeLaw.{EdgeLaw}
 use Rattle.stab_treecore.specs.Network.{Network}
 use Rattle.stab_node.proofs.ForCallers.{holds_by_child, length-by_child}
@@ -27,7 +27,7 @@ use Rattle.stab_run.specs.declared.any_link.AnyLink.TheVariants.{Lock, Word}
 use Rattle.stab_run.specs.declared.links.Links.{Links}
 use Rattle.stab_run.proofs.OfKinds.{IsWord}
 use Rattle.stab_run.proofs.Paired.{entry_mapped, same_entry}
-use Rattle.stab_treecore.proofs.ForCallers.{no_link_into}
+use Rattle.stab_tree.proofs.ForCallers.{no_link_into}
 
 -- what holds of the link into a child and of its two finished ends
 pub record HoldsAtChild {L S R : Type 0} (P : L → S → R → Type 0) (parents : List (Option ℕ)) (links : List L) (sends : List S) (recvs : List R)

@@ -9,8 +9,8 @@ use Rattle.stab_lock.specs.declared.settle.SettleFault.{SettleFault}
 use Rattle.stab_tree.proofs.ForCallers.{links_counted_anywhere}
 use Rattle.stab_tree.specs.Links.{links_of}
 use Rattle.stab_tree.specs.Nodes.{parent_at}
-use Rattle.stab_treecore.proofs.ForCallers.{no_link_into}
-use Rattle.stab_treecore.specs.ByChild.{by_child}
+use Rattle.stab_tree.proofs.ForCallers.{no_link_into}
+use Rattle.stab_tree.specs.ByChild.{by_child}
 use Rattle.stab_node.specs.ByNode.{entry_into}
 use Rattle.stab_run.specs.AnyLinks.{IsFollowed, given_to, received_by, sent_by}
 use Rattle.stab_run.specs.Scripted.{ScriptedRecvFinished, ScriptedSendFinished}

@@ -10,7 +10,7 @@ use Rattle.stab_core.proofs.Setups.{as_many_setups, setup_at}
 use Rattle.stab_core.specs.Replay.{IsLawful}
 use Rattle.stab_frames.specs.Parameters.{Parameters}
 use Rattle.stab_tree.specs.Links.{links_from, links_of}
-use Rattle.stab_treecore.specs.ByChild.{by_child}
+use Rattle.stab_tree.specs.ByChild.{by_child}
 use Rattle.stab_run.specs.Runs.{IsFirstUnlawful}
 
 -- what there is of a link is what there is of the link into its child

@@ -10,7 +10,7 @@ use Rattle.stab_ends.specs.Accounts.{SenderAccount, ReceiverAccount}
 use Rattle.stab_acts.specs.Scripts.{Acts, receiver_half, sender_half}
 use Rattle.stab_job.specs.JobValues.{JobValue, network}
 use Rattle.stab_tree.specs.Nodes.{parent_at}
-use Rattle.stab_treecore.specs.NodeOpenings.{opening_at}
+use Rattle.stab_tree.specs.NodeOpenings.{opening_at}
 use Rattle.stab_word.specs.Interleaving.{AnInterleavingExplains}
 use Rattle.stab_word.specs.declared.view.SendStep.{SendStep}
 use Rattle.stab_word.specs.declared.view.RecvStep.{RecvStep}

@@ -8,7 +8,7 @@ ghost use Rattle.stab_run.specs.LinkRuns.{AllOfEach, AreSettled, HoldsOfFirst, I
 ghost use Rattle.stab_run.specs.LinkRuns.{acked_of};
 ghost use Rattle.stab_run.specs.RunFaults.{IsSettlingReason};
 ghost use Rattle.stab_tree.specs.Links.{links_of};
-ghost use Rattle.stab_treecore.specs.ByChild.{by_child};
+ghost use Rattle.stab_tree.specs.ByChild.{by_child};
 
 use crate::any_link::AnyLink;
 use crate::links::Links;

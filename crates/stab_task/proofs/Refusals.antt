@@ -17,7 +17,7 @@ use Rattle.stab_run.specs.declared.run_fault.RunFault.TheVariants as run
 use Rattle.stab_script.specs.declared.link_job.LinkJob.{LinkJob as OneLink}
 use Rattle.stab_script.specs.LinkJobs.{link_job}
 use Rattle.stab_tree.specs.Nodes.{parent_at}
-use Rattle.stab_treecore.proofs.ForCallers.{holds_by_child}
+use Rattle.stab_tree.proofs.ForCallers.{holds_by_child}
 use Rattle.stab_treecore.specs.Refusals.{IsFirstFault, IsOpeningReason, IsScheduleReason, NamesLink, NamesNoLink, ReachesEvent}
 use Rattle.stab_treecore.specs.TreeReplay.{initial_tree}
 use Rattle.stab_treecore.specs.TreeStep.{tree_step}

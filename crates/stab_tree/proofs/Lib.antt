@@ -1,8 +1,10 @@
 pub mod Checked
 pub mod Depths
 pub mod Described
+pub mod Fitting
 pub mod ForCallers
 pub mod Links
+pub mod Misplaced
 pub mod OwnNames
 pub mod Places
 pub mod Roots

@@ -1,9 +1,11 @@
+pub mod ByChild
 pub mod Depth
 pub mod Describes
 pub mod Entry
 pub mod IsTree
 pub mod Links
 pub mod Name
+pub mod NodeOpenings
 pub mod Nodes
 pub mod Parents
 pub mod Read

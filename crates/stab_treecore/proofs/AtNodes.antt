@@ -10,13 +10,13 @@ use Rattle.stab_tree.specs.Steps.{depth_of}
 use Rattle.stab_tree.proofs.ForCallers.{holds_at_every_depth}
 use Rattle.stab_treecore.specs.Network.{Network}
 use Rattle.stab_treecore.specs.NodeLaws.{capacity_into, garbage_into, most_missing, most_strays, path_garbage, strays_bound, LinkLawBetween, LinkLawInto, HalfTreeLawAtNodes, TreeLawAtNodes}
-use Rattle.stab_treecore.specs.NodeOpenings.{FitTree, hold_at, is_inner, opening_at}
-use Rattle.stab_treecore.proofs.Fitting.{openings_fit}
+use Rattle.stab_tree.specs.NodeOpenings.{FitTree, hold_at, is_inner, opening_at}
+use Rattle.stab_tree.proofs.Fitting.{openings_fit}
 use Rattle.std.proofs.lemmas.List.{nil_from_length}
 use Rattle.stab_core.specs.LinkSetup.{LinkSetup}
 use Rattle.stab_treecore.specs.Paths.{sum_above, path_sum, lists_above, path_lists}
 use Rattle.stab_treecore.specs.TreeLaw.{TreeLaw}
-use Rattle.stab_treecore.proofs.ForCallers.{holds_by_child, one_by_child}
+use Rattle.stab_tree.proofs.ForCallers.{holds_by_child, one_by_child}
 use Rattle.stab_treecore.proofs.Upwards.{larger_bounds, law_below, law_past_opening, root_law}
 
 -- the sum of two numbers beside each node is the sum of their sums

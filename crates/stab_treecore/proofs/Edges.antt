@@ -11,7 +11,7 @@ use Rattle.stab_tree.specs.Nodes.{parent_at, root_of}
 use Rattle.stab_treecore.specs.EdgeLaw.{EdgeLaw, EdgeInto}
 use Rattle.stab_treecore.specs.Network.{Network}
 use Rattle.stab_treecore.specs.NodeLaws.{capacity_into, garbage_into, LawBetween, LawInto, TreeLawAtNodes}
-use Rattle.stab_treecore.specs.NodeOpenings.{FitTree}
+use Rattle.stab_tree.specs.NodeOpenings.{FitTree}
 use Rattle.stab_treecore.specs.SharperLaw.{SharperTreeLawAtNodes}
 use Rattle.stab_treecore.proofs.AtNodes.{nodes_obey}
 use Rattle.stab_treecore.proofs.SharperNodes.{sharper_nodes}

@@ -11,6 +11,4 @@ pub mod Replayed
 pub mod Edges
 pub mod Refused
 pub mod Lines
-pub mod Misplaced
-pub mod Fitting
 pub mod Listed

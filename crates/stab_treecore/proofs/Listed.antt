@@ -7,7 +7,7 @@ use Rattle.stab_core.specs.declared.event.Effect.{Effect}
 use Rattle.stab_core.specs.Link.{LinkValue, Steps}
 use Rattle.stab_core.specs.Step.{effect}
 use Rattle.stab_treecore.specs.Fresh.{fresh_item, then_item}
-use Rattle.stab_treecore.specs.NodeOpenings.{opening_at}
+use Rattle.stab_tree.specs.NodeOpenings.{opening_at}
 use Rattle.stab_treecore.proofs.Stepped.{step_grown}
 
 -- the list beside a node with a link

@@ -1,5 +1,5 @@
 -- The links that have begun so far, and those that are still to begin; which start is refused.
-use Rattle.std.proofs.Common.{◌≡◌, ◌≢◌, ℕ, zero, suc, ◌+◌, ◌<◌, ◌≤◌, List, [], ◌∷◌, ◌++◌, length, get_or, take, drop, map, Option, Some, None, is_some, All, true, false, refl, ap, sym, ◌∙◌, subst, arith, append_assoc, inl, inr}
+use Rattle.std.proofs.Common.{◌≡◌, ◌≢◌, ℕ, zero, suc, ◌+◌, ◌<◌, ◌≤◌, List, [], ◌∷◌, ◌++◌, length, get_or, take, drop, map, Option, Some, None, All, refl, ap, sym, ◌∙◌, subst, arith, append_assoc, inl, inr}
 use Rattle.std.proofs.lemmas.List.{drop_more, drop_all, append-nil}
 use Rattle.std.proofs.lemmas.List.Elements.{All-head, All-tail}
 use Rattle.stab_frames.specs.Parameters.{Parameters}
@@ -9,8 +9,8 @@ use Rattle.stab_core.specs.declared.start.StartFault.TheVariants.{TooManyFrames,
 use Rattle.stab_core.specs.Link.{LinkValue, IsReason}
 use Rattle.stab_core.specs.LinkSetup.{CanBegin, LinkSetup, setup, setups}
 use Rattle.stab_tree.proofs.ForCallers.{links_counted_anywhere}
-use Rattle.stab_tree.specs.Links.{links_of, links_from}
-use Rattle.stab_treecore.specs.ByChild.{by_child}
+use Rattle.stab_tree.specs.Links.{links_of}
+use Rattle.stab_tree.specs.ByChild.{by_child}
 use Rattle.stab_treecore.specs.Refusals.{IsFirstFault, IsOpeningReason}
 use Rattle.stab_treecore.specs.TreeReplay.{opened}
 
@@ -102,11 +102,3 @@ pub lawful_refused : (links : List LinkSetup) (link : LinkSetup) (fault : StartF
 lawful_refused links link TooManyFrames all begins reason = absurd (omega (arith, begins.1.frames))
 lawful_refused links link TooManyAcks all begins reason = absurd (omega (arith, begins.1.acks, reason.1))
 lawful_refused links link Memory all begins reason = all
-
--- the nodes with a link are those with a parent
-pub linked_nodes : {A : Type 0} (parents : List (Option ℕ)) (xs : List A) (w : ℕ) → length xs ≡ length (links_from w parents)
-    → map is_some (by_child parents xs) ≡ map is_some parents
-linked_nodes [] xs w same = refl
-linked_nodes (None ∷ parents) xs w same = ap (λ bs. false ∷ bs) (linked_nodes parents xs (suc w) same)
-linked_nodes (Some parent ∷ parents) [] w same = absurd (omega arith)
-linked_nodes (Some parent ∷ parents) (x ∷ xs) w same = ap (λ bs. true ∷ bs) (linked_nodes parents xs (suc w) (omega arith))

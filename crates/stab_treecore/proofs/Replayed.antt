@@ -17,20 +17,20 @@ use Rattle.stab_core.specs.Step.{step}
 use Rattle.stab_tree.specs.Links.{links_of}
 use Rattle.stab_tree.specs.Nodes.{parent_at, root_of}
 use Rattle.stab_treecore.specs.declared.event.TreeEvent.{TreeEvent}
-use Rattle.stab_treecore.specs.ByChild.{by_child}
+use Rattle.stab_tree.specs.ByChild.{by_child}
 use Rattle.stab_treecore.specs.Network.{IsNetwork, Network, setup_into}
 use Rattle.stab_treecore.specs.NodeLaws.{capacity_into, garbage_into, LawInto, TreeLawAtNodes}
 use Rattle.stab_treecore.specs.SharperLaw.{SharperTreeLawAtNodes}
-use Rattle.stab_treecore.specs.NodeOpenings.{opening_at}
+use Rattle.stab_tree.specs.NodeOpenings.{opening_at}
 use mathlib.Core.List.{IsPrefix}
 use Rattle.stab_treecore.specs.TreeReplay.{opened, initial_tree, tree_replay}
 use Rattle.stab_treecore.specs.TreeStep.{next_item, event_on, link_after, tree_step}
 use Rattle.stab_treecore.specs.WholeTree.{WholeTree, link_into, received, source}
 use Rattle.stab_treecore.proofs.AtNodes.{nodes_obey}
 use Rattle.stab_treecore.proofs.SharperNodes.{sharper_nodes}
-use Rattle.stab_treecore.proofs.ForCallers.{holds_by_child, map-by_child}
+use Rattle.stab_tree.proofs.ForCallers.{holds_by_child, map-by_child}
 use Rattle.stab_treecore.proofs.Linked.{kind-set, same_kind}
-use Rattle.stab_treecore.proofs.Opened.{linked_nodes}
+use Rattle.stab_tree.proofs.ForCallers.{linked_nodes}
 use Rattle.stab_core.proofs.ForCallers.{prefix_of_itself, prefix_of_prefix}
 use Rattle.stab_treecore.proofs.Stepped.{after_delivers, act_offers}
 

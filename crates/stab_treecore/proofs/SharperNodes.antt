@@ -10,11 +10,11 @@ use Rattle.stab_tree.specs.Steps.{depth_of}
 use Rattle.stab_tree.proofs.ForCallers.{holds_at_every_depth}
 use Rattle.stab_treecore.specs.Network.{Network}
 use Rattle.stab_treecore.specs.NodeLaws.{capacity_into, garbage_into, most_missing, strays_bound, LawInto}
-use Rattle.stab_treecore.specs.NodeOpenings.{FitTree, hold_at, opening_at}
+use Rattle.stab_tree.specs.NodeOpenings.{FitTree, hold_at, opening_at}
 use Rattle.stab_treecore.specs.Paths.{sum_above, lists_above}
 use Rattle.stab_treecore.specs.SharperLaw.{SharperTreeLaw, SharperTreeLawAtNodes, missing_without_strays, fewest_missing, peak_above}
 use Rattle.stab_treecore.proofs.AtNodes.{sum_above-add, its_capacity}
-use Rattle.stab_treecore.proofs.Fitting.{openings_fit}
+use Rattle.stab_tree.proofs.Fitting.{openings_fit}
 use Rattle.stab_treecore.proofs.Upwards.{sharper_below, sharper_past_opening, sharper_root, sharper_larger}
 
 module _ (t : Nodes) (tree : IsTree t) (published : List ℕ) (received : ℕ → List ℕ)

@@ -15,7 +15,7 @@ use Rattle.stab_core.specs.declared.start.Start.{Start}
 use Rattle.stab_core.specs.LinkSetup.{CanBegin, LinkSetup}
 use Rattle.stab_core.specs.Replay.{initial, replay}
 use Rattle.stab_treecore.specs.Network.{Network, setup_into}
-use Rattle.stab_treecore.specs.NodeOpenings.{opening_at}
+use Rattle.stab_tree.specs.NodeOpenings.{opening_at}
 
 -- The replay of some events from the start is closed, has delivered this list, has so many items
 -- acknowledged, and was offered a prefix of the parent's list.

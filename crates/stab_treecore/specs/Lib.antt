@@ -1,9 +1,7 @@
-pub mod ByChild
 pub mod EdgeLaw
 pub mod Fresh
 pub mod Network
 pub mod NodeLaws
-pub mod NodeOpenings
 pub mod Paths
 pub mod Refusals
 pub mod SharperLaw

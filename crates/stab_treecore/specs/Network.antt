@@ -10,8 +10,8 @@ use Rattle.stab_core.specs.LinkSetup.{CanBegin, LinkSetup, setups}
 use Rattle.stab_tree.specs.IsTree.{IsTree}
 use Rattle.stab_tree.specs.Links.{links_of}
 use Rattle.stab_tree.specs.Nodes.{Nodes}
-use Rattle.stab_treecore.specs.ByChild.{by_child}
-use Rattle.stab_treecore.specs.NodeOpenings.{FitTree, OpeningsValue}
+use Rattle.stab_tree.specs.ByChild.{by_child}
+use Rattle.stab_tree.specs.NodeOpenings.{FitTree, OpeningsValue}
 
 pub record Network : Type 0 where
   pub tree : Nodes

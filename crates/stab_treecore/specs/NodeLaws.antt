@@ -9,7 +9,7 @@ use Rattle.std.specs.Option.{option_map_or}
 use Rattle.stab_core.specs.LinkLaw.{LinkLaw}
 use Rattle.stab_core.specs.Replay.{start_items}
 use Rattle.stab_treecore.specs.Network.{Network, setup_into}
-use Rattle.stab_treecore.specs.NodeOpenings.{hold_at, opening_at}
+use Rattle.stab_tree.specs.NodeOpenings.{hold_at, opening_at}
 use Rattle.stab_treecore.specs.Paths.{path_sum, path_lists}
 use mathlib.Core.List.{IsPrefix}
 use Rattle.stab_treecore.specs.TreeLaw.{HalfTreeLaw, TreeLaw}

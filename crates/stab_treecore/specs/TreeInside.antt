@@ -3,7 +3,7 @@
 use Rattle.std.specs.Prelude.{◌≡◌, ℕ, ◌<◌, List, [], ◌++◌, length, map, Some, is_some, slice_index_or}
 use Rattle.stab_core.specs.Link.{LinkValue}
 use Rattle.stab_tree.specs.Nodes.{parent_at}
-use Rattle.stab_treecore.specs.NodeOpenings.{opening_at}
+use Rattle.stab_tree.specs.NodeOpenings.{opening_at}
 use Rattle.stab_treecore.specs.WholeTree.{WholeTree, link_into}
 
 -- each node but the root has a link, and each parent is a node; beside each node with a link there

@@ -5,7 +5,7 @@ use Rattle.std.specs.Prelude.{ℕ, List, [], ◌++◌, Option, Some, None, slice
 use Rattle.std.specs.Option.{option_map_or}
 use Rattle.stab_core.specs.Link.{LinkValue}
 use Rattle.stab_tree.specs.Nodes.{parent_at}
-use Rattle.stab_treecore.specs.NodeOpenings.{opening_at}
+use Rattle.stab_tree.specs.NodeOpenings.{opening_at}
 
 pub record WholeTree : Type 0 where
   -- the items that the root publishes

@@ -18,7 +18,7 @@ ghost use Rattle.stab_treecore.specs.NodeLaws.{garbage_into, path_garbage, stray
 ghost use Rattle.stab_treecore.specs.NodeLaws.{most_strays, most_missing};
 ghost use Rattle.stab_treecore.specs.NodeLaws.{LinkLawBetween, LinkLawInto};
 ghost use Rattle.stab_treecore.specs.NodeLaws.{HalfTreeLawAtNodes, TreeLawAtNodes};
-ghost use Rattle.stab_treecore.specs.NodeOpenings.{FitTree};
+ghost use Rattle.stab_tree.specs.NodeOpenings.{FitTree};
 ghost use Rattle.stab_treecore.specs.Paths.{path_lists};
 ghost use Rattle.stab_treecore.specs.SharperLaw.{SharperTreeLaw, SharperTreeLawAtNodes};
 ghost use Rattle.stab_treecore.specs.SharperLaw.{fewest_missing, missing_without_strays};

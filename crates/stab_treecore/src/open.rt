@@ -6,15 +6,14 @@ ghost use Rattle.stab_core.specs.Link.{IsReason};
 ghost use Rattle.stab_core.specs.LinkSetup.{CanBegin, setups};
 ghost use Rattle.stab_core.specs.Replay.{IsLawful};
 ghost use Rattle.stab_frames.specs.Parameters.{AreLawful};
-ghost use Rattle.stab_treecore.specs.ByChild.{by_child};
-ghost use Rattle.stab_treecore.specs.NodeOpenings.{FitTree};
+ghost use Rattle.stab_tree.specs.ByChild.{by_child};
+ghost use Rattle.stab_tree.specs.NodeOpenings.{FitTree};
 ghost use Rattle.stab_treecore.specs.Refusals.{OnePerLink, IsOpeningReason};
 ghost use Rattle.stab_treecore.specs.TreeReplay.{opened};
 
-use crate::openings::Openings;
 use stab_core::{Link, Start, StartFault};
 use stab_frames::{Item, Params};
-use stab_tree::{NodeId, Tree};
+use stab_tree::{NodeId, Openings, Tree};
 use std::alloc::{AllocError, Global};
 
 /// Refuses a start that no link of these parameters can begin from.

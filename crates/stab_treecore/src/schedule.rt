@@ -2,7 +2,7 @@ ghost use Rattle.std.specs.Prelude.{◌≡◌, All, IfOk, IfErr, OnOk};
 ghost use Rattle.stab_core.specs.LinkSetup.{CanBegin, setups};
 ghost use Rattle.stab_treecore.specs.Network.{IsNetwork, network_of};
 ghost use Rattle.stab_treecore.specs.NodeLaws.{HalfTreeLawAtNodes, TreeLawAtNodes};
-ghost use Rattle.stab_treecore.specs.NodeOpenings.{FitTree};
+ghost use Rattle.stab_tree.specs.NodeOpenings.{FitTree};
 ghost use Rattle.stab_treecore.specs.Refusals.{OnePerLink, NamesLink, IsScheduleReason};
 ghost use Rattle.stab_treecore.specs.TreeReplay.{initial_tree, tree_replay};
 ghost use Rattle.stab_treecore.specs.WholeTree.{received};
@@ -10,11 +10,10 @@ ghost use Rattle.stab_treecore.specs.WholeTree.{received};
 use crate::event::TreeEvent;
 use crate::fault::TreeStartFault;
 use crate::laws;
-use crate::openings::Openings;
 use crate::state::TreeState;
 use stab_core::Start;
 use stab_frames::{Item, Params};
-use stab_tree::Tree;
+use stab_tree::{Openings, Tree};
 use std::alloc::Global;
 
 /// The whole tree after a schedule, from the starts of its links; each link has parameters of its

@@ -8,7 +8,7 @@ ghost use Rattle.stab_treecore.specs.WholeTree.{WholeTree, link_into, received, 
 ghost use Rattle.stab_core.specs.Step.{effect};
 ghost use Rattle.stab_treecore.specs.Fresh.{fresh_item};
 ghost use Rattle.stab_treecore.specs.Network.{network_of};
-ghost use Rattle.stab_treecore.specs.NodeOpenings.{FitTree};
+ghost use Rattle.stab_tree.specs.NodeOpenings.{FitTree};
 ghost use Rattle.stab_treecore.specs.Refusals.{OnePerLink, IsStartReason, NamesLink, NamesNoLink};
 ghost use Rattle.stab_treecore.specs.TreeReplay.{initial_tree};
 ghost use Rattle.stab_treecore.specs.TreeStep.{next_item, link_after, effect_on, tree_step};
@@ -17,10 +17,9 @@ ghost use Rattle.stab_treecore.specs.TreeStep.{tree_effect};
 use crate::event::TreeEvent;
 use crate::fault::{TreeStartFault, TreeStepFault};
 use crate::open;
-use crate::openings::Openings;
 use stab_core::{Effect, Event, Link, Start};
 use stab_frames::{Item, Params};
-use stab_tree::{NodeId, Tree};
+use stab_tree::{NodeId, Openings, Tree};
 use std::alloc::{AllocError, Global};
 use std::marker::Model;
 

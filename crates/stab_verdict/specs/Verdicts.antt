@@ -10,7 +10,7 @@ use Rattle.stab_core.specs.Texts.{numbers_line}
 use Rattle.stab_tree.specs.Nodes.{parent_at, root_of}
 use Rattle.stab_treecore.specs.Network.{Network}
 use Rattle.stab_treecore.specs.NodeLaws.{capacity_into, garbage_into}
-use Rattle.stab_treecore.specs.NodeOpenings.{opening_at}
+use Rattle.stab_tree.specs.NodeOpenings.{opening_at}
 use Rattle.stab_judge.specs.Obeys.{IsBroken, IsFirst}
 use Rattle.stab_judge.specs.Reports.{ReportValue, acked_at, received_at}
 use Rattle.stab_judge.specs.declared.broken.Broken.{Broken}

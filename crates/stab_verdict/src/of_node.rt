@@ -2,7 +2,7 @@
 
 ghost use Rattle.std.specs.Prelude.{◌≡◌, ◌<◌, length, unwrap_or};
 ghost use Rattle.stab_judge.specs.Reports.{OnePerNode, acked_at, received_at};
-ghost use Rattle.stab_treecore.specs.NodeOpenings.{opening_at};
+ghost use Rattle.stab_tree.specs.NodeOpenings.{opening_at};
 ghost use Rattle.stab_verdict.specs.BoundsTexts.{name_at};
 ghost use Rattle.stab_verdict.specs.Verdicts.{list_above, name_above};
 

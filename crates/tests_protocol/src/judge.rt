@@ -1,7 +1,7 @@
 //! A judge of a chain of three nodes, and reports of it with one part changed.
 
 ghost use Rattle.std.specs.Prelude.{IfOk};
-ghost use Rattle.stab_treecore.specs.NodeOpenings.{FitTree};
+ghost use Rattle.stab_tree.specs.NodeOpenings.{FitTree};
 
 mod lists;
 

@@ -2,7 +2,7 @@
 //! and what openings and steps answer.
 
 ghost use Rattle.std.specs.Prelude.{◌≡◌, IfOk, length};
-ghost use Rattle.stab_treecore.specs.NodeOpenings.{FitTree};
+ghost use Rattle.stab_tree.specs.NodeOpenings.{FitTree};
 
 use serde_json::Value;
 use stab_core::{Effect, Start, StartFault};

@@ -10,7 +10,7 @@ const CHAIN_WITH: &str = r#"{"capacity":1,"labels":4,"items":[7,8],
     "tree":[{"name":"r"},{"name":"a","parent":"r"},{"name":"b","parent":"a"}],"#;
 
 /// Whether there is a node at this place, and this is its opening.
-#[tactic(auto, using(stab_treecore::proofs::ForCallers::openings_fit))]
+#[tactic(auto, using(stab_tree::proofs::ForCallers::openings_fit))]
 fn has_opening(job: &Job, place: u16, want: &[Item]) -> bool {
     place < job.tree().len() && job.openings().list(NodeId::new(place)) == want
 }

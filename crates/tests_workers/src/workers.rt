@@ -3,7 +3,7 @@
 
 ghost use Rattle.std.specs.Prelude.{◌≡◌, ⊤, [], ◌∷◌, All};
 ghost use Rattle.stab_ends.specs.Accounts.{new_sender, new_receiver};
-ghost use Rattle.stab_treecore.specs.NodeOpenings.{FitTree};
+ghost use Rattle.stab_tree.specs.NodeOpenings.{FitTree};
 
 use serde_json::Value;
 use stab_acts::Script;

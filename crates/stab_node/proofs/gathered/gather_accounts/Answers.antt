@@ -1,5 +1,5 @@
 use Rattle.std.proofs.Common.{length, ap, ◌∙◌}
-use Rattle.stab_treecore.specs.ByChild.{by_child}
+use Rattle.stab_tree.specs.ByChild.{by_child}
 use Rattle.stab_node.proofs.Gathering.{uppers_by_child, uppers_counted}
 use Rattle.stab_node.proofs.gathered.gather_accounts.Goals as goal
 

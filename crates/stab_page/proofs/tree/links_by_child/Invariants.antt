@@ -1,6 +1,6 @@
 use Rattle.std.specs.List.{list_all}
 use Rattle.std.proofs.Common.{◌≡◌, ◌++◌, length, map, drop, IsTrue}
-use Rattle.stab_treecore.specs.ByChild.{by_child}
+use Rattle.stab_tree.specs.ByChild.{by_child}
 use Rattle.stab_page.specs.TracedTree.{traced_link}
 use Rattle.stab_page.specs.TreeCodes.{fits, setup_of}
 use Rattle.stab_page.proofs.tree.links_by_child.Given as goal

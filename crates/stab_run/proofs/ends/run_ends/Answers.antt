@@ -4,7 +4,7 @@ use Rattle.stab_job.specs.JobValues.{network}
 use Rattle.stab_node.specs.Work.{HasAll, IsServed}
 use Rattle.stab_tree.specs.Links.{links_of}
 use Rattle.stab_tree.specs.Nodes.{root_of}
-use Rattle.stab_treecore.specs.NodeOpenings.{opening_at}
+use Rattle.stab_tree.specs.NodeOpenings.{opening_at}
 use Rattle.stab_node.proofs.ForCallers.{at_error}
 use Rattle.stab_node.specs.ByNode.{received_at}
 use Rattle.stab_run.specs.LinkRuns.{IsRun}

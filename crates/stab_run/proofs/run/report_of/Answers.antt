@@ -4,7 +4,7 @@ use Rattle.stab_job.specs.JobValues.{network}
 use Rattle.stab_tree.specs.IsTree.{IsTree}
 use Rattle.stab_tree.specs.Links.{links_of}
 use Rattle.stab_tree.specs.Nodes.{parent_at, root_of}
-use Rattle.stab_treecore.specs.ByChild.{by_child}
+use Rattle.stab_tree.specs.ByChild.{by_child}
 use Rattle.stab_treecore.specs.Network.{IsNetwork}
 use Rattle.stab_node.proofs.ForCallers.{at_error}
 use Rattle.stab_run.specs.AnyLinks.{given_to, kind_of, received_by, sent_by}

@@ -3,7 +3,7 @@ use Rattle.stab_tree.specs.Nodes.{Nodes, parent_at}
 use Rattle.stab_tree.specs.Steps.{depth_of}
 use Rattle.stab_treecore.specs.Network.{Network}
 use Rattle.stab_treecore.specs.NodeLaws.{capacity_into, held_bound, most_missing, strays_bound}
-use Rattle.stab_treecore.specs.NodeOpenings.{hold_at}
+use Rattle.stab_tree.specs.NodeOpenings.{hold_at}
 use Rattle.stab_judge.proofs.Climbing.{Climbing, climbed}
 use Rattle.stab_judge.proofs.judge.Judge.bounds_at.Goals as goal
 

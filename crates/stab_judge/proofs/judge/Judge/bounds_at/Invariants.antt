@@ -1,7 +1,7 @@
 use Rattle.std.proofs.Common.{◌≡◌, ◌<◌, ◌≤◌, ◌+◌, ◌-◌, ◌*◌, length}
 use Rattle.stab_tree.specs.Steps.{depth_of}
 use Rattle.stab_treecore.specs.NodeLaws.{capacity_into, held_bound, most_missing, strays_bound}
-use Rattle.stab_treecore.specs.NodeOpenings.{hold_at}
+use Rattle.stab_tree.specs.NodeOpenings.{hold_at}
 use Rattle.stab_judge.proofs.Climbing.{Climbing}
 use Rattle.stab_judge.proofs.judge.Judge.bounds_at.Given as goal
 

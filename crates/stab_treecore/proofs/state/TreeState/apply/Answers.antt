@@ -3,7 +3,7 @@ use Rattle.std.proofs.lemmas.List.{get_or_read, get_or-map, length-map, length-s
 use Rattle.std.proofs.lemmas.Result.{on_ok_weaker}
 use Rattle.stab_tree.specs.Nodes.{parent_at}
 use Rattle.stab_treecore.specs.WholeTree.{link_into}
-use Rattle.stab_treecore.specs.NodeOpenings.{opening_at}
+use Rattle.stab_tree.specs.NodeOpenings.{opening_at}
 use Rattle.stab_treecore.proofs.Linked.{kind-set, same_kind}
 use Rattle.stab_treecore.proofs.Listed.{IsListed, as_before, listed_after}
 use Rattle.stab_treecore.proofs.state.TreeState.apply.Goals as goal

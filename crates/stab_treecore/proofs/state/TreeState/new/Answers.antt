@@ -1,12 +1,12 @@
 use Rattle.std.proofs.Common.{◌∙◌, map, sym, arith}
 use Rattle.std.proofs.lemmas.List.{length-map}
 use Rattle.stab_treecore.specs.Network.{network_of}
-use Rattle.stab_treecore.specs.NodeOpenings.{opening_at}
+use Rattle.stab_tree.specs.NodeOpenings.{opening_at}
 use Rattle.stab_treecore.specs.TreeReplay.{opened}
-use Rattle.stab_treecore.proofs.Fitting.{openings_fit}
-use Rattle.stab_treecore.proofs.ForCallers.{length-by_child}
+use Rattle.stab_tree.proofs.Fitting.{openings_fit}
+use Rattle.stab_tree.proofs.ForCallers.{length-by_child}
 use Rattle.stab_core.proofs.Setups.{as_many_setups}
-use Rattle.stab_treecore.proofs.Opened.{linked_nodes}
+use Rattle.stab_tree.proofs.ForCallers.{linked_nodes}
 use Rattle.stab_treecore.proofs.Replayed.{opened_listed}
 use Rattle.stab_treecore.proofs.state.TreeState.new.Goals as goal
 

@@ -1,7 +1,7 @@
 -- Whether a list among those to come is at no inner node.
 use Rattle.std.proofs.Common.{◌≡◌, ◌<◌, ◌+◌, ◌∷◌, ℕ, List, true, false, not, nat_lt, ◌&&◌, ◌||◌, length, get_or, drop, Option, refl, ap, sym, ◌∙◌}
 use Rattle.std.proofs.lemmas.List.{drop_more}
-use Rattle.stab_treecore.specs.NodeOpenings.{is_inner, is_misplaced}
+use Rattle.stab_tree.specs.NodeOpenings.{is_inner, is_misplaced}
 
 module _ (parents : List (Option ℕ)) (lists : List (List ℕ)) (place : ℕ) (list : List ℕ) (here : place < length lists)
     (read : list ≡ get_or lists place list) where

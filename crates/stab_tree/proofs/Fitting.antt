@@ -6,9 +6,9 @@ use Rattle.std.proofs.lemmas.List.{length-replicate, nil_from_length}
 use Rattle.std.proofs.lemmas.Option.{none-some}
 use Rattle.std.specs.List.{list_any}
 use Rattle.stab_tree.specs.Nodes.{parent_at}
-use Rattle.stab_treecore.specs.declared.fault.OpeningFault.{OpeningFault}
-use Rattle.stab_treecore.specs.declared.fault.OpeningFault.TheVariants as fault
-use Rattle.stab_treecore.specs.NodeOpenings.{OpeningsValue, FitTree, has_child, hold_at, is_inner, is_misplaced, most_hold, opening_at, openings_fault}
+use Rattle.stab_tree.specs.declared.opening_fault.OpeningFault.{OpeningFault}
+use Rattle.stab_tree.specs.declared.opening_fault.OpeningFault.TheVariants as fault
+use Rattle.stab_tree.specs.NodeOpenings.{OpeningsValue, FitTree, has_child, hold_at, is_inner, is_misplaced, most_hold, opening_at, openings_fault}
 
 -- what is not false
 not_false : (b : Bool) → not b ≡ false → b ≡ true

@@ -12,8 +12,8 @@ use Rattle.std.specs.Option.{option_map_or}
 use Rattle.std.specs.Prelude.{◌≡◌, ℕ, ◌+◌, ◌==◌, ◌&&◌, ◌||◌, Bool, false, not, nat_lt, if◌then◌else◌}
 use Rattle.std.specs.Prelude.{List, [], ◌∷◌, length, slice_index_or, Option, Some, None, is_some}
 use Rattle.stab_tree.specs.Nodes.{parent_at}
-use Rattle.stab_treecore.specs.declared.fault.OpeningFault.{OpeningFault}
-use Rattle.stab_treecore.specs.declared.fault.OpeningFault.TheVariants as fault
+use Rattle.stab_tree.specs.declared.opening_fault.OpeningFault.{OpeningFault}
+use Rattle.stab_tree.specs.declared.opening_fault.OpeningFault.TheVariants as fault
 
 -- the most items that any opening may have
 abbrev pub most_hold : ℕ

@@ -1,11 +1,12 @@
 ghost use Rattle.std.specs.List.{list_any};
 ghost use Rattle.std.specs.Prelude.{◌≡◌, ◌<◌, ◌&&◌, [], IfErr, IfOk, Some, length, nat_lt, not, replicate};
-ghost use Rattle.stab_treecore.specs.NodeOpenings.{FitTree, has_child, is_inner, is_misplaced};
-ghost use Rattle.stab_treecore.specs.NodeOpenings.{opening_at, openings_fault};
+ghost use Rattle.stab_tree.specs.NodeOpenings.{FitTree, has_child, is_inner, is_misplaced};
+ghost use Rattle.stab_tree.specs.NodeOpenings.{opening_at, openings_fault};
 
-use crate::fault::OpeningFault;
+use crate::node::NodeId;
+use crate::opening_fault::OpeningFault;
+use crate::tree::Tree;
 use stab_frames::{Item, Sequence};
-use stab_tree::{NodeId, Tree};
 use std::alloc::{AllocError, Global};
 use std::marker::Model;
 
@@ -23,7 +24,7 @@ pub struct Openings {
 }
 
 impl Model for Openings {
-    ghost use Rattle.stab_treecore.specs.NodeOpenings.{OpeningsValue};
+    ghost use Rattle.stab_tree.specs.NodeOpenings.{OpeningsValue};
 
     ghost Value = { OpeningsValue };
 

@@ -1,5 +1,5 @@
 use Rattle.std.proofs.Common.{◌≡◌, [], length, replicate, vec_len, vec_capacity}
-use Rattle.stab_treecore.proofs.openings.Openings.none.Given as goal
+use Rattle.stab_tree.proofs.openings.Openings.none.Given as goal
 
 -- the lists so far are empty, and there is room for all
 abbrev pub invariant-nodes : goal.invariant-nodes

@@ -1,6 +1,6 @@
 use Rattle.std.proofs.Common.{◌≡◌, drop}
-use Rattle.stab_treecore.specs.NodeOpenings.{is_misplaced}
-use Rattle.stab_treecore.proofs.openings.is_misplaced.Given as goal
+use Rattle.stab_tree.specs.NodeOpenings.{is_misplaced}
+use Rattle.stab_tree.proofs.openings.is_misplaced.Given as goal
 
 -- what the lists to come show, all of them show
 abbrev pub invariant-nodes : goal.invariant-nodes
