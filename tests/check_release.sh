@@ -9,7 +9,7 @@ work=$(mktemp -d) || exit 1
 trap 'rm -rf -- "$work"' EXIT
 unset CDPATH TMPDIR
 house="$work/a house"
-made=$house/crates/stab_cli/out/stab_cli
+made=$house/crates/stab_cli/out/stab_cli.by-rattle
 passed=0
 failed=0
 
@@ -39,26 +39,37 @@ esac
 printf '%s\n' "$*" >>"$WORK/calls"
 mkdir -p out
 case $1 in
-    lib) cat src/lib.rt >"out/lib${PWD##*/}.a"; exit ;;
-    run) cd ../.. && echo 'rt: running it' ;;
+    lib) cat src/lib.rt >"out/lib${PWD##*/}.a" ;;
+    run) cat src/main.rt >"out/${PWD##*/}" && echo 'rt: running it' ;;
+    ci)
+        for file in crates/*/src/main.rt; do
+            [ -e "$file" ] || continue
+            mkdir -p "${file%src/*}out"
+            crate=${file#*/}
+            cat "$file" >"${file%src/*}out/${crate%%/*}.by-rattle"
+        done
+        ! grep -q 'not done' crates/*/src/*
+        ;;
 esac
-for file in crates/*/src/main.rt; do
-    crate=${file#crates/}
-    crate=${crate%%/*}
-    mkdir -p "crates/$crate/out"
-    cat "$file" >"crates/$crate/out/$crate"
-done
-grep -q proved crates/stab_cli/src/main.rt
 END
 cat >"$work/a kit/bin/rattle" <<'END'
 #!/usr/bin/env bash
 echo "$*" >"$WORK/compiled"
-[ -z "${NOT_PROVED-}" ] || exit 1
-cat src/lib.rt >"${!#}"
-[ -z "${OTHER-}" ] || echo other >>"${!#}"
+[ -z "${NOT_PROVED-}" ] && ! grep -q 'not done' src/*.rt || exit 1
+while [ "$1" != -o ]; do
+    shift
+done
+cat src/*.rt >"$2"
+[ -z "${OTHER-}" ] || echo other >>"$2"
 END
-chmod +x "$work/a kit/bin/rattle"
-chmod +x "$work/bin/rt"
+cat >"$work/a kit/bin/rattle-link" <<'END'
+#!/usr/bin/env bash
+while [ "$1" != -o ]; do
+    shift
+done
+cp "$3" "$2"
+END
+chmod +x "$work/bin/rt" "$work/a kit/bin"/*
 echo 'kit-1 logic 1' >"$work/kit"
 
 # A house of two crates, the pages and the examples.

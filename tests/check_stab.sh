@@ -1,6 +1,6 @@
 #!/usr/bin/env bash
-# Tests the scripts ./stab and ./rignolda in a copy of their own, with a small command in the place
-# of rt.
+# Tests the scripts ./stab and ./rignolda in a copy of their own, with small commands in the place
+# of rt and of the compiler that it finds.
 #
 # Nothing is proved, and nothing of this repository is touched. The test takes some seconds. Its
 # last line is 'N passed, M failed'.
@@ -29,60 +29,102 @@ holds() {
     fi
 }
 
-# A command like rt. Its programs print the text of their source, their words and their input, and
-# end with status 7. They are the same however they are built, unless the text says that it differs.
+# A command like rt, and the compiler that it finds. Programs print the text of their source, their
+# words and their input, and end with status 7. They are the same however they are built, unless the
+# text says that it differs.
 write_rt() {
-    mkdir -p "$work/bin"
+    mkdir -p "$work/bin" "$work/a kit/bin"
+    cat >"$work/do" <<'END'
+# Does what the text of sources asks for.
+do_as() {
+    case $1 in
+        *broken*) echo "not proved"; exit 1 ;;
+        *slow*)
+            pwd >"$WORK/place"
+            trap 'kill $!; echo ended >"$WORK/ended"; exit 1' TERM
+            sleep 600 &
+            echo started >"$WORK/started"
+            wait
+            ;;
+        *waits*) sleep 1 ;;
+        *changes*) echo after >"$WORK/a house/crates/stab_cli/src/main.rt" ;;
+        *rewrites*) echo "'" >"$WORK/a house/stab" ;;
+    esac
+}
+
+# Makes a program of the text in src/main.rt: how, and the file.
+make() {
+    local text
+    text=$(cat src/main.rt)
+    case $text in
+        *differs*) text="$text $1" ;;
+    esac
+    printf '#!/bin/sh\necho "%s; $*; $(cat)"\nexit 7\n' "$text" >"$2"
+}
+END
     cat >"$work/bin/rt" <<'END'
 #!/usr/bin/env bash
 case $1 in
     version) cat "$WORK/kit"; exit ;;
+    doc) echo "$WORK/a kit/START-HERE.md"; exit ;;
     ci) at=. ;;
-    run) at=../.. crates=${PWD##*/} ;;
+    run) at=../.. ;;
     *) exit 9 ;;
 esac
 printf '%s\n' "$*" >>"$WORK/calls"
+. "$WORK/do"
 pwd >"$WORK/place"
-: "${crates=$(cd "$at/crates" && echo */src/main.rt)}"
 (cd "$at" && find . -type f | LC_ALL=C sort) >"$WORK/files"
 cat "$at/crates.txt" >"$WORK/lines"
-case $(cat "$at"/crates/*/src/*) in
-    *broken*) echo "not proved"; exit 1 ;;
-    *slow*)
-        trap 'kill $!; echo ended >"$WORK/ended"; exit 1' TERM
-        sleep 600 &
-        echo started >"$WORK/started"
-        wait
-        ;;
-    *waits*) sleep 1 ;;
-    *changes*) echo after >"$WORK/a house/crates/stab_cli/src/main.rt" ;;
-    *rewrites*) echo "'" >"$WORK/a house/stab" ;;
-esac
-for crate in $crates; do
-    crate=${crate%%/*}
-    text=$(cat "$at/crates/$crate/src/main.rt")
-    case $text in
-        *differs*) text="$text $1" ;;
-    esac
-    made=$at/crates/$crate/out/$crate
-    mkdir -p "${made%/*}"
-    printf '#!/bin/sh\necho "%s; $*; $(cat)"\nexit 7\n' "$text" >"$made"
-    chmod +x "$made"
-done
+do_as "$(cat "$at"/crates/*/src/*)"
+if [ "$1" = run ]; then
+    mkdir -p out
+    make run "out/${PWD##*/}"
+    chmod +x "out/${PWD##*/}"
+    echo 'rt: running out/it; to give it other input, run that file yourself' >&2
+else
+    for file in crates/*/src/main.rt; do
+        [ ! -e "$file" ] || (
+            cd "${file%/src*}" && mkdir out && make ci "out/${PWD##*/}.by-rattle" &&
+                chmod +x "out/${PWD##*/}.by-rattle"
+        )
+    done
+fi
 sed -n 's/^\([a-z_]*\).*:.*/rt: \1 proved/p' "$at/crates.txt"
-[ "$1" = ci ] || echo 'rt: running out/it; to give it other input, run that file yourself' >&2
 echo '5 passed, 0 failed'
 END
-    chmod +x "$work/bin/rt"
+    cat >"$work/a kit/bin/rattle" <<'END'
+#!/usr/bin/env bash
+printf '%s\n' "$*" >>"$WORK/compiled"
+. "$WORK/do"
+do_as "$(cat src/*)"
+while [ "$1" != -o ]; do
+    shift
+done
+if [ -e src/main.rt ]; then
+    make build "$2"
+else
+    : >"$2"
+fi
+END
+    cat >"$work/a kit/bin/rattle-link" <<'END'
+#!/usr/bin/env bash
+while [ "$1" != -o ]; do
+    shift
+done
+[ -z "${NOT_LINKED-}" ] || exit 1
+cp "$3" "$2" && chmod +x "$2"
+END
+    chmod +x "$work/bin/rt" "$work/a kit/bin"/*
     echo kit-1 >"$work/kit"
 }
 
-# A house of five crates, of which the program needs four: two at the bottom, one over the first,
-# and its own. One has tests.
+# A house of six crates, of which the program needs five: two at the bottom, one over the first, one
+# over all of these, and its own. One has tests.
 write_house() {
     local crate
     rm -rf -- "$house"
-    for crate in low other mid unused; do
+    for crate in low other mid top unused; do
         mkdir -p "$house/crates/$crate/src" "$house/crates/$crate/specs"
         echo "$crate" >"$house/crates/$crate/src/lib.rt"
     done
@@ -92,8 +134,8 @@ write_house() {
     echo 'a test' | tee "$house/crates/mid/src/plain.rt" "$house/crates/mid/src/tests.rt" \
         "$house/crates/mid/src/tests/more.rt" >"$house/crates/mid/src/part.rt"
     echo input >"$house/crates/stab_cli/stdin"
-    printf '%s\n' '# crates' 'low: itoa' 'other:' 'mid: low itoa' 'unused: low' '' \
-        'stab_cli may_wait=4: low mid other clap' >"$house/crates.txt"
+    printf '%s\n' '# crates' 'low: itoa' 'other:' 'mid: low itoa' 'top: other mid' 'unused: low' \
+        '' 'stab_cli may_wait=4: low top clap' >"$house/crates.txt"
     echo 'Handles allowed: none.' >"$house/HANDLES"
     mkdir -p "$house/tools"
     cp -- "$top/stab" "$top/rignolda" "$top/release.sh" "$house/"
@@ -165,25 +207,31 @@ release() {
     run "$house/release.sh" "$@"
 }
 
-# Whether the copy for rt had just what the program needs, with no tests in it.
+# Whether the copy for rt had just the files of three crates, without tests, and these more, and
+# just their lines in crates.txt: the further files, 'and', and the lines.
 copied() {
-    local wanted
-    wanted=$(printf './%s\n' HANDLES crates.txt crates/low/src/lib.rt crates/mid/src/lib.rt \
-        crates/mid/src/part.rt crates/other/src/lib.rt crates/stab_cli/src/main.rt \
-        crates/stab_cli/stdin | LC_ALL=C sort)
-    [ "$(cat "$work/files")" = "$wanted" ] &&
-        [ "$(cat "$work/lines")" = "$(printf '%s\n' 'low: itoa' 'mid: low itoa' 'other:' \
-            'stab_cli may_wait=4: low mid other clap')" ]
+    local files=()
+    while [ "$1" != and ]; do
+        files+=("$1")
+        shift
+    done
+    shift
+    [ "$(cat "$work/files")" = "$(printf './%s\n' HANDLES crates.txt crates/low/src/lib.rt \
+        crates/mid/src/lib.rt crates/mid/src/part.rt crates/other/src/lib.rt \
+        ${files[@]+"${files[@]}"} | LC_ALL=C sort)" ] &&
+        [ "$(LC_ALL=C sort "$work/lines")" = "$(printf '%s\n' 'low: itoa' 'mid: low itoa' \
+            'other:' "$@" | LC_ALL=C sort)" ]
 }
 
-# Starts a build that does not end by itself, and sends it a signal.
+# Starts a build that does not end by itself because of a crate, and sends it a signal: the signal,
+# the crate, and the words of the build.
 interrupt() {
-    write_text mid slow
+    write_text "$2" slow
     rm -f "$work/started" "$work/ended"
     # (a signal that is ignored here, as INT is in what runs in the background and HUP under nohup,
     # would be ignored there)
     WORK=$work PATH=$work/bin:$PATH env --default-signal=INT,TERM,HUP "$house/stab" \
-        </dev/null >"$work/out" 2>"$work/err" &
+        "${@:3}" </dev/null >"$work/out" 2>"$work/err" &
     local pid=$! count
     for ((count = 0; count < 100; count++)); do
         [ ! -s "$work/started" ] || break
@@ -212,9 +260,22 @@ write_house
 run "$house/stab" one 'two words'
 holds 'the first use builds, and hands on words, input and status' \
     all gave 'stab_cli; one two words; in' 1 and said 'there is no release'
-holds 'it says how far it is' said 'stab_cli is proved: 4 of 4 crates'
-holds 'what it builds is what the program needs, without tests' copied
+holds 'it says how far it is' said 'stab_cli is proved: 5 of 5 crates'
+holds 'what it builds is what the program needs, without tests' \
+    copied crates/{top/src/lib.rt,stab_cli/{src/main.rt,stdin}} and \
+    'top: other mid' 'stab_cli may_wait=4: low top clap'
 holds 'the folder of the build is gone' [ ! -e "$(cat "$work/place")" ]
+run "$house/stab" --prove
+holds 'with --prove all is built again' all gave 'stab_cli; ; in' 1 and
+    said 'stab_cli is proved: 5 of 5 crates' and said 'there is no release'
+holds 'what can be proved side by side by rt' copied and
+compiled=$(sed -E 's/^build --crate-name (\w+) .* -o .*\/(out\/\S+) (\S+) .*/\1 \2 \3/' \
+    "$work/compiled")
+holds 'and what is over all of that by the compiler' [ "$compiled" = \
+    $'top out/rlib/top.rlib --statements\nstab_cli out/stab_cli.by-rattle.o --backend' ]
+holds 'which gets what rt has left, and the libraries of the kit' grep -qE -- \
+    '--extern low=/.*/out/rlib/low.rlib .*--extern clap=/.*/a kit/rlibs/clap.rlib ' "$work/compiled"
+holds 'and its folder is gone as well' [ ! -e "$(cat "$work/place")" ]
 run "$house/stab"
 holds 'the second use builds nothing' gave 'stab_cli; ; in' 0
 holds 'and says nothing' [ ! -s "$work/err" ]
@@ -273,11 +334,19 @@ holds 'of two at once the second waits' said 'another build runs here: waiting f
 holds 'and uses what the first has built' cmp -s "$work/out_of_first" "$work/out_of_second"
 holds 'which is built once' calls 1
 for signal in TERM:143 INT:130 HUP:129; do
-    interrupt "${signal%:*}"
+    interrupt "${signal%:*}" mid
     holds "a build ends at the signal ${signal%:*}, with all that it started" \
         given_up "${signal#*:}"
 done
 write_text mid mid
+interrupt TERM top --prove
+holds 'and one from nothing with what the compiler does' given_up 143
+write_text top broken
+run "$house/stab" --prove
+holds 'what the compiler does not prove does not run' refused 'the program was not built'
+write_text top top
+NOT_LINKED=1 run "$house/stab" --prove
+holds 'nor does what cannot be linked' refused 'the program was not built'
 write_text stab_cli again
 run "$house/stab"
 holds 'the use after an interrupt builds' gave 'again; ; in' 1
@@ -286,7 +355,7 @@ write_text stab_cli kept
 run "$house/stab"
 holds 'over what checks have kept, the program is built in its folder' \
     all gave 'kept; ; in' 1 and said 'over what was kept' and
-    [ "$(cat "$work/calls")" = 'run --backend llvm' ]
+    [ "$(cat "$work/calls")" = 'run --backend rattle' ]
 rm -r "$house/crates/stab_cli/out"
 run env CDPATH="$work:/" bash -c 'cd -- "$0/.." && "./a house/stab" one' "$house"
 holds 'CDPATH changes nothing' gave 'kept; one; in' 0
@@ -383,7 +452,7 @@ run "$house/stab"
 holds 'the release runs, whatever it is' gave 'differs run; ; in' 0
 run "$house/stab" --prove
 holds 'what differs from the release is said, and what was built runs' \
-    all gave 'differs ci; ; in' 1 and said 'the release is ANOTHER program'
+    all gave 'differs build; ; in' 1 and said 'the release is ANOTHER program'
 write_text stab_cli released
 release
 rm -rf "$house/out" "$house/crates/stab_cli/out"
