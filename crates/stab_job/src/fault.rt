@@ -22,10 +22,10 @@ pub enum JobFault {
     #[error("job: wrong shape")]
     Shape,
     /// The job's own capacity and number of labels are no parameters of a link.
-    #[error("{0}")]
+    #[error(transparent)]
     Params(ParamsFault),
     /// The value of the member `tree` is no tree.
-    #[error("{0}")]
+    #[error(transparent)]
     Tree(TreeFault),
     /// There are more than 10,000 items.
     #[error("job: too many items")]
@@ -40,7 +40,7 @@ pub enum JobFault {
     #[error("job: wrong number of scripts")]
     ScriptCount,
     /// An entry of the scripts makes no script; of several such entries the first is named.
-    #[error("{0}")]
+    #[error(transparent)]
     Script(ScriptFault),
     /// The number of turns is 0 or over 1,000,000.
     #[error("job: turns out of range")]
@@ -59,7 +59,7 @@ pub enum JobFault {
     #[error("{1}")]
     LinkParams(NodeId, ParamsFault),
     /// The openings are none of this tree.
-    #[error("{0}")]
+    #[error(transparent)]
     Opening(OpeningFault),
     /// Memory was refused.
     #[error("out of memory")]

@@ -1,8 +1,10 @@
-ghost use Rattle.std.specs.Prelude.{◌≡◌, ◌≢◌, IfErr, true, MatchResult, Ok, Err, option_map};
+ghost use Rattle.std.specs.Prelude.{◌≡◌, ◌≢◌, IfErr, true, MatchResult, Ok, Err, option_map, option_and_then};
 ghost use Rattle.serde_json.specs.View.{view, items_view};
+ghost use Rattle.serde_json.specs.Find.{as_str};
+ghost use Rattle.stab_script.specs.Events.{plain_act, loss_act};
 ghost use Rattle.stab_job.specs.Jobs.{schedule};
 ghost use Rattle.stab_job.specs.Refusals.{is_of_value};
-ghost use Rattle.stab_job.specs.ScheduleEntries.{NamedAct, named_act, act_of_items};
+ghost use Rattle.stab_job.specs.ScheduleEntries.{NamedAct, named_act, act_of_items, on_child};
 
 use crate::fault::JobFault;
 use serde_json::Value;
@@ -28,10 +30,32 @@ fn act_of(values: &[Value]) -> Option<(&str, LinkAct)>
         ≡ act_of_items (items_view values.now) }
 {
     match values {
-        [child, word] => Some((child.as_str()?, plain_act(word.as_str()?)?)),
-        [child, word, place] => Some((child.as_str()?, loss_act(word.as_str()?, place)?)),
+        [child, word] => on_child(child, plain_of(word)),
+        [child, word, place] => on_child(child, loss_of(word, place)),
         _ => None,
     }
+}
+
+/// The act that a value names by itself.
+fn plain_of(word: &Value) -> Option<LinkAct>
+    ensures { result ≡ option_and_then plain_act (as_str (view word.now)) }
+{
+    plain_act(word.as_str()?)
+}
+
+/// The loss that a value names, of what is at a place.
+fn loss_of(word: &Value, place: &Value) -> Option<LinkAct>
+    ensures { result ≡ option_and_then (λ its_word. loss_act its_word (view place.now)) (as_str (view word.now)) }
+{
+    loss_act(word.as_str()?, place)
+}
+
+/// An act on the link into the node that a value names, if there is one.
+fn on_child(child: &Value, act: Option<LinkAct>) -> Option<(&str, LinkAct)>
+    ensures { option_map (λ p. record { child = p.0.now; act = p.1 }) result
+        ≡ on_child (view child.now) act }
+{
+    Some((child.as_str()?, act?))
 }
 
 /// The events of a schedule over the nodes of a tree, or the first check that it fails over all of

@@ -4,5 +4,6 @@ pub mod Taken
 pub mod Firsts
 pub mod Gathering
 pub mod ForCallers
+pub mod Joined
 pub mod Worked
 pub mod HandedOn

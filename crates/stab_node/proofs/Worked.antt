@@ -1,19 +1,16 @@
--- From the answers of the workers, worker by worker, to the accounts of the nodes.
-use Rattle.std.proofs.Common.{◌≡◌, ◌≢◌, ◌<◌, ◌≤◌, ◌+◌, inl, inr, ℕ, zero, suc, List, [], ◌∷◌, length, map, get_or, drop, Option, Some, None, option_map, Result, Ok, Err, IfErr, IfSome, IsErrAnd, All, refl, ap, sym, ◌∙◌, subst, arith}
+-- From the accounts of the workers, worker by worker, to those of the nodes.
+use Rattle.std.proofs.Common.{◌≡◌, ◌<◌, ◌≤◌, ◌+◌, inl, inr, ℕ, zero, suc, List, [], ◌∷◌, length, map, get_or, drop, Option, Some, None, option_map, Result, Ok, Err, IfErr, IfSome, IsErrAnd, All, refl, ap, sym, ◌∙◌, subst, arith}
 use Rattle.std.proofs.lemmas.Bool.{cases_lt}
 use Rattle.std.proofs.lemmas.List.{get_or-map, length-map}
 use Rattle.std.proofs.lemmas.List.Elements.{All-cons, All-head, All-map, All-nil, All-tail}
 use Rattle.std.proofs.lemmas.Simd.{map-map}
-use Rattle.std.proofs.lemmas.List.FromFn.{length-range_with_len}
 use Rattle.std.specs.List.{AllZip, range_with_len}
 use Rattle.stab_ends.specs.Accounts.{ReceiverAccount, SenderAccount, new_receiver, new_sender}
-use Rattle.stab_node.specs.declared.fault.NodeFault.{NodeFault}
 use Rattle.stab_node.specs.Work.{AreNew}
 use Rattle.stab_tree.specs.ByChild.{by_child}
-use Rattle.stab_node.specs.declared.workers_fault.WorkersFault.TheVariants.{Node, Thread}
 use Rattle.stab_scatter.proofs.ForCallers.{all_to_children}
 use Rattle.stab_scatter.specs.Scattering.{by_parent, to_children}
-use Rattle.stab_node.specs.FirstFault.{StopsAt, first_fault}
+use Rattle.stab_node.specs.FirstFault.{IsFirstOf, StopsAt}
 
 -- ---- what the workers get
 
@@ -52,32 +49,16 @@ new_at_workers received sent up downs workers parents recvs sends ups_scattered 
 
 -- ---- from the workers to the accounts
 
--- lists whose elements are related one by one are as long
-pub as_many : {A B : Type 0} (R : A → B → Type 0) (xs : List A) (ys : List B) → AllZip R xs ys → length ys ≡ length xs
-as_many R [] [] zipped = refl
-as_many R [] (y ∷ ys) zipped = absurd zipped
-as_many R (x ∷ xs) [] zipped = absurd zipped
-as_many R (x ∷ xs) (y ∷ ys) zipped = ap (λ n. suc n) (as_many R xs ys zipped.1)
+-- the accounts are those of the workers that were moved, and stay so in another list
+pub of_workers : {S A : Type 0} (R : S → A → Type 0) (workers moved : List S) (accounts all : List A)
+    → AllZip R moved accounts → moved ≡ workers → all ≡ accounts → AllZip R workers all
+of_workers R workers moved accounts all zipped same_workers same_accounts =
+    subst (λ xs. AllZip R xs all) same_workers (subst (λ ys. AllZip R moved ys) (sym same_accounts) zipped)
 
--- as many elements are numbered as there are numbers
-pub as_many_numbered : {S : Type 0} (number : S → ℕ) (workers : List S) (start n : ℕ) → map number workers ≡ range_with_len start n → length workers ≡ n
-as_many_numbered number workers start n numbers = sym (length-map workers number) ∙ (ap length numbers ∙ length-range_with_len start n)
-
--- the answers are those of the workers that were moved
-pub of_workers : {S A F : Type 0} (R : S → Result A F → Type 0) (workers moved : List S) (answers : List (Result A F))
-    → AllZip R moved answers → moved ≡ workers → AllZip R workers answers
-of_workers R workers moved answers zipped same = subst (λ xs. AllZip R xs answers) same zipped
-
--- answers of which none is a fault are those of the accounts
-pub of_accounts : {S A F : Type 0} (R : S → Result A F → Type 0) (workers moved : List S) (answers all : List (Result A F)) (accounts : List A)
-    → AllZip R moved answers → moved ≡ workers → all ≡ answers → map Ok accounts ≡ all → AllZip R workers (map Ok accounts)
-of_accounts R workers moved answers all accounts zipped same_workers same_answers are =
-    subst (λ xs. AllZip R xs (map Ok accounts)) same_workers (subst (λ rs. AllZip R moved rs) (sym (are ∙ same_answers)) zipped)
-
-module _ {S A F : Type 0} (R : S → Result A F → Type 0) where
+module _ {S A : Type 0} (R : S → A → Type 0) where
   -- where each account is as its worker, all accounts are as all workers
-  pub carried : {B : Type 0} (f : A → B) (g : S → B) (workers : List S) (accounts : List A) → ((s : S) (a : A) → R s (Ok a) → f a ≡ g s)
-      → AllZip R workers (map Ok accounts) → map f accounts ≡ map g workers
+  pub carried : {B : Type 0} (f : A → B) (g : S → B) (workers : List S) (accounts : List A) → ((s : S) (a : A) → R s a → f a ≡ g s)
+      → AllZip R workers accounts → map f accounts ≡ map g workers
   carried f g [] [] each zipped = refl
   carried f g [] (a ∷ accounts) each zipped = absurd zipped
   carried f g (s ∷ workers) [] each zipped = absurd zipped
@@ -88,8 +69,8 @@ module _ {S A F : Type 0} (R : S → Result A F → Type 0) where
 
   -- where each account has a part that is read as that of its worker, these parts are read as what the workers got
   pub read_alike : {X Y L : Type 0} (f : X → L) (g : Y → L) (part : A → X) (scattered : S → Y) (workers : List S) (accounts : List A) (all : List Y)
-      → ((s : S) (a : A) → R s (Ok a) → f (part a) ≡ g (scattered s))
-      → AllZip R workers (map Ok accounts) → map scattered workers ≡ all → map f (map part accounts) ≡ map g all
+      → ((s : S) (a : A) → R s a → f (part a) ≡ g (scattered s))
+      → AllZip R workers accounts → map scattered workers ≡ all → map f (map part accounts) ≡ map g all
   read_alike f g part scattered workers accounts all each zipped are =
       map-map f part accounts
       ∙ (carried (λ a. f (part a)) (λ s. g (scattered s)) workers accounts each zipped
@@ -97,8 +78,8 @@ module _ {S A F : Type 0} (R : S → Result A F → Type 0) where
 
   -- what each account has by its worker and by a part of it, all have
   all_worked : {B : Type 0} (part : S → B) (N : S → Type 0) (P : B → A → Type 0) (workers : List S) (accounts : List A)
-      → ((s : S) (a : A) → R s (Ok a) → N s → P (part s) a)
-      → AllZip R workers (map Ok accounts) → All N workers → AllZip P (map part workers) accounts
+      → ((s : S) (a : A) → R s a → N s → P (part s) a)
+      → AllZip R workers accounts → All N workers → AllZip P (map part workers) accounts
   all_worked part N P [] [] each zipped all = tt
   all_worked part N P [] (a ∷ accounts) each zipped all = absurd zipped
   all_worked part N P (s ∷ workers) [] each zipped all = absurd zipped
@@ -107,15 +88,15 @@ module _ {S A F : Type 0} (R : S → Result A F → Type 0) where
 
   -- the same with these parts in a list
   pub worked : {B : Type 0} (part : S → B) (N : S → Type 0) (P : B → A → Type 0) (workers : List S) (accounts : List A) (parts : List B)
-      → ((s : S) (a : A) → R s (Ok a) → N s → P (part s) a)
-      → AllZip R workers (map Ok accounts) → map part workers ≡ parts → All N workers → AllZip P parts accounts
+      → ((s : S) (a : A) → R s a → N s → P (part s) a)
+      → AllZip R workers accounts → map part workers ≡ parts → All N workers → AllZip P parts accounts
   worked part N P workers accounts parts each zipped are all =
       subst (λ xs. AllZip P xs accounts) are (all_worked part N P workers accounts each zipped all)
 
   -- what holds of each worker's number and a part of its account holds at each node
   pub at_numbers : {X : Type 0} (number : S → ℕ) (part : A → X) (default : X) (T : ℕ → X → Type 0) (workers : List S) (accounts : List A)
-      (start n node place : ℕ) → ((s : S) (a : A) → R s (Ok a) → T (number s) (part a))
-      → AllZip R workers (map Ok accounts) → map number workers ≡ range_with_len start n → node < n → place ≡ start + node
+      (start n node place : ℕ) → ((s : S) (a : A) → R s a → T (number s) (part a))
+      → AllZip R workers accounts → map number workers ≡ range_with_len start n → node < n → place ≡ start + node
       → T place (get_or (map part accounts) node default)
   at_numbers number part default T workers accounts start zero node place each zipped numbers inside is = absurd (omega (arith, inside))
   at_numbers number part default T [] accounts start (suc n) node place each zipped numbers inside is = absurd (omega (arith, ap length numbers))
@@ -132,68 +113,42 @@ pub at_error : {T E : Type 0} (r : Result T E) (e : E) (Q : E → Type 0) → Is
 at_error (Ok x) e Q is holds = tt
 at_error (Err y) e Q is holds = subst Q (sym is) holds
 
--- the first fault is that of the worker of its node
-pub refused_at : {S A : Type 0} (R : S → Result A NodeFault → Type 0) (number : S → ℕ) (T : ℕ → NodeFault → Type 0) (workers : List S)
-    (answers : List (Result A NodeFault)) (start n node : ℕ) (fault : NodeFault) → ((s : S) (f : NodeFault) → R s (Err f) → T (number s) f)
-    → AllZip R workers answers → map number workers ≡ range_with_len start n → first_fault start answers ≡ Some (Node node fault) → T node fault
-refused_at R number T [] [] start n node fault each zipped numbers first = cc
-refused_at R number T [] (r ∷ answers) start n node fault each zipped numbers first = absurd zipped
-refused_at R number T (s ∷ workers) [] start n node fault each zipped numbers first = absurd zipped
-refused_at R number T (s ∷ workers) (r ∷ answers) start zero node fault each zipped numbers first = absurd (omega (arith, ap length numbers))
-refused_at R number T (s ∷ workers) (Ok a ∷ answers) start (suc n) node fault each zipped numbers first =
-    refused_at R number T workers answers (start + 1) n node fault each zipped.1 (ap (λ xs. drop 1 xs) numbers) first
-refused_at R number T (s ∷ workers) (Err f ∷ answers) start (suc n) node fault each zipped numbers first =
-    let is_first : number s ≡ start = ap (λ xs. get_or xs 0 0) numbers in
-    let here : start ≡ node = cc in
-    let same_fault : f ≡ fault = cc in
-    let same : number s ≡ node = is_first ∙ here in
-    subst (λ k. T k fault) same (subst (T (number s)) same_fault (each s f zipped.0))
+-- where all nodes are done, each is
+pub each_done : (is_done : ℕ → Type 0) (numbers : List ℕ) (start n node place : ℕ) → numbers ≡ range_with_len start n → All is_done numbers
+    → node < n → place ≡ start + node → is_done place
+each_done is_done numbers start zero node place are all inside is = absurd (omega (arith, inside))
+each_done is_done [] start (suc n) node place are all inside is = absurd (omega (arith, ap length are))
+each_done is_done (x ∷ xs) start (suc n) zero place are all inside is =
+    let first : x ≡ start = ap (λ ks. get_or ks 0 0) are in
+    subst is_done (omega (arith, first, is)) (All-head is_done x xs all)
+each_done is_done (x ∷ xs) start (suc n) (suc node) place are all inside is =
+    each_done is_done xs (start + 1) n node place (ap (λ ks. drop 1 ks) are) (All-tail is_done x xs all) (omega (arith, inside)) (omega (arith, is))
 
--- a fault that is found among the answers is that of a node
-pub never_unstarted : {A : Type 0} (answers : List (Result A NodeFault)) (start node : ℕ) → first_fault start answers ≢ Some (Thread node)
-never_unstarted [] start node = λ found. cc
-never_unstarted (Ok a ∷ answers) start node = never_unstarted answers (start + 1) node
-never_unstarted (Err f ∷ answers) start node = λ found. cc
-
-module _ {S A : Type 0} (R : S → Result A NodeFault → Type 0) (number : S → ℕ) where
-  -- where each answer says that its node is done, all are
-  pub all_done : (is_done : ℕ → Type 0) (workers : List S) (answers : List (Result A NodeFault)) (start n node place : ℕ)
-      → ((s : S) (r : Result A NodeFault) → R s r → is_done (number s)) → AllZip R workers answers
-      → map number workers ≡ range_with_len start n → node < n → place ≡ start + node → is_done place
-  all_done is_done workers answers start zero node place each zipped numbers inside is = absurd (omega (arith, inside))
-  all_done is_done [] answers start (suc n) node place each zipped numbers inside is = absurd (omega (arith, ap length numbers))
-  all_done is_done (s ∷ workers) [] start (suc n) node place each zipped numbers inside is = absurd zipped
-  all_done is_done (s ∷ workers) (r ∷ answers) start (suc n) zero place each zipped numbers inside is =
-      let first : number s ≡ start = ap (λ xs. get_or xs 0 0) numbers in
-      let same : number s ≡ place = omega (arith, first, is) in
-      subst is_done same (each s r zipped.0)
-  all_done is_done (s ∷ workers) (r ∷ answers) start (suc n) (suc node) place each zipped numbers inside is =
-      all_done is_done workers answers (start + 1) n node place each zipped.1 (ap (λ xs. drop 1 xs) numbers) (omega (arith, inside)) (omega (arith, is))
-
-  -- the node of the first fault is one of the nodes, and each before it answered with an account
-  pub answered_before : (T : ℕ → Type 0) (workers : List S) (answers : List (Result A NodeFault)) (start n node : ℕ) (fault : NodeFault)
-      → ((s : S) (a : A) → R s (Ok a) → T (number s)) → AllZip R workers answers → map number workers ≡ range_with_len start n
-      → first_fault start answers ≡ Some (Node node fault)
-      → (node < start + n) × ((earlier : ℕ) → start ≤ earlier → earlier < node → T earlier)
-  answered_before T [] [] start n node fault each zipped numbers first = cc
-  answered_before T [] (r ∷ answers) start n node fault each zipped numbers first = absurd zipped
-  answered_before T (s ∷ workers) [] start n node fault each zipped numbers first = absurd zipped
-  answered_before T (s ∷ workers) (r ∷ answers) start zero node fault each zipped numbers first = absurd (omega (arith, ap length numbers))
-  answered_before T (s ∷ workers) (Err f ∷ answers) start (suc n) node fault each zipped numbers first =
-      let here : start ≡ node = cc in
-      (omega (arith, here), λ earlier above below. absurd (omega (arith, here, above, below)))
-  answered_before T (s ∷ workers) (Ok a ∷ answers) start (suc n) node fault each zipped numbers first =
-      let is_first : number s ≡ start = ap (λ xs. get_or xs 0 0) numbers in
-      let rest = answered_before T workers answers (start + 1) n node fault each zipped.1 (ap (λ xs. drop 1 xs) numbers) first in (
-        omega (arith, rest.0),
-        λ earlier above below.
-            elim (cases_lt start earlier) [
-              | inl later ↦ rest.1 earlier (omega (arith, later)) below
-              | inr not_later ↦
-                  let same : number s ≡ earlier = omega (arith, is_first, above, not_later) in
-                  subst T same (each s a zipped.0)
-            ],
-      )
+-- the first of some nodes is one of them, what is said of it holds, and what is said of those before it as well
+pub first_of_numbers : (before here : ℕ → Type 0) (numbers : List ℕ) (start n node : ℕ) → numbers ≡ range_with_len start n
+    → IsFirstOf before here numbers node
+    → (node < start + n) × ((earlier : ℕ) → start ≤ earlier → earlier < node → before earlier) × here node
+first_of_numbers before here [] start n node are is_first = absurd is_first
+first_of_numbers before here (x ∷ xs) start zero node are is_first = absurd (omega (arith, ap length are))
+first_of_numbers before here (x ∷ xs) start (suc n) node are (inl is) =
+    let first : x ≡ start = ap (λ ks. get_or ks 0 0) are in (
+      omega (arith, is.0, first),
+      λ earlier above below. absurd (omega (arith, is.0, first, above, below)),
+      subst here (sym is.0) is.1,
+    )
+first_of_numbers before here (x ∷ xs) start (suc n) node are (inr later) =
+    let first : x ≡ start = ap (λ ks. get_or ks 0 0) are in
+    let rest = first_of_numbers before here xs (start + 1) n node (ap (λ ks. drop 1 ks) are) later.1 in (
+      omega (arith, rest.0),
+      λ earlier above below.
+          elim (cases_lt start earlier) [
+            | inl after ↦ rest.1 earlier (omega (arith, after)) below
+            | inr not_after ↦
+                let same : x ≡ earlier = omega (arith, first, above, not_after) in
+                subst before same later.0
+          ],
+      rest.2,
+    )
 
 -- the node whose worker was not started is one of the nodes, and those before it are done
 pub started_before : (is_done : ℕ → Type 0) (numbers : List ℕ) (start n node : ℕ) → numbers ≡ range_with_len start n → StopsAt is_done numbers node

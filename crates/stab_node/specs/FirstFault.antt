@@ -1,26 +1,44 @@
 -- The fault that the workers of a tree give up with: the first of them.
--- Example: Of the answers Ok, Gate, Memory of the nodes 0, 1 and 2 the first fault is that of node
--- 1, Gate.
+-- Example: Where the gate refuses node 1, memory is refused at node 2, and node 0 has its account,
+-- node 1 gives up with Gate.
 -- Source: this project's profile.
-use Rattle.std.specs.Prelude.{◌≡◌, ◌<◌, ◌⊎◌, ℕ, ◌+◌, List, [], ◌∷◌, Option, Some, None}
-use Rattle.std.specs.Prelude.{Result, Ok, Err}
+use Rattle.std.specs.Prelude.{◌≡◌, ◌<◌, ◌⊎◌, ℕ, List, [], ◌∷◌, All}
 use Rattle.stab_node.specs.declared.account.Ended.{Ended}
 use Rattle.stab_node.specs.declared.fault.NodeFault.{NodeFault}
-use Rattle.stab_node.specs.Turns.{IsOver}
+use Rattle.stab_node.specs.declared.fault.NodeFault.TheVariants.{Gate}
+use Rattle.stab_node.specs.Turns.{IsOver, IsRefused}
 use Rattle.stab_node.specs.declared.workers_fault.WorkersFault.{WorkersFault}
 use Rattle.stab_node.specs.declared.workers_fault.WorkersFault.TheVariants.{Node}
 
--- the first answer that is a fault, with its node; the first answer is that of the node `node`
-abbrev pub first_fault : {A : Type 0} → ℕ → List (Result A NodeFault) → Option WorkersFault
-first_fault node [] = None
-first_fault node (Ok account ∷ answers) = first_fault (node + 1) answers
-first_fault node (Err fault ∷ answers) = Some (Node node fault)
+-- the fault of a node, put before what those after it came to: before faults of nodes, and not
+-- before others
+abbrev pub first_of : WorkersFault → WorkersFault → WorkersFault
+first_of own (Node node why) = own
+first_of own later = later
 
 -- of these nodes, whose workers are started one after the other, this is the one whose worker was
 -- not started; those before it are done
 abbrev pub StopsAt : (ℕ → Type 0) → List ℕ → ℕ → Type 0
 StopsAt is_done [] node = ⊥
 StopsAt is_done (first ∷ nodes) node = (node ≡ first) ⊎ (is_done first × StopsAt is_done nodes node)
+
+-- of these nodes this is the first of which the second holds, and the first holds of each before it
+abbrev pub IsFirstOf : (ℕ → Type 0) → (ℕ → Type 0) → List ℕ → ℕ → Type 0
+IsFirstOf before here [] node = ⊥
+IsFirstOf before here (first ∷ nodes) node =
+    ((node ≡ first) × here first) ⊎ (before first × IsFirstOf before here nodes node)
+
+-- the turns of the worker of a node are over
+abbrev pub AreOver : (ℕ → ℕ → Type 0) → ℕ → ℕ → Type 0
+AreOver has_passed turns node = (ended : Ended) × IsOver (has_passed node) turns ended
+
+-- Of these nodes this is the first whose worker gave up, and for this reason: the turns of those
+-- before it are over, where its gate refused it did so at some turn, and all nodes are done.
+pub record GivesUp (has_passed may_refuse : ℕ → ℕ → Type 0) (is_done : ℕ → Type 0) (turns : ℕ)
+    (nodes : List ℕ) (node : ℕ) (why : NodeFault) : Type 0 where
+  pub first : IsFirstOf (AreOver has_passed turns)
+      (λ k. why ≡ Gate → IsRefused (has_passed k) (may_refuse k) turns) nodes node
+  pub done : All is_done nodes
 
 -- of so many nodes this is the first whose worker was not started: those before it are done
 pub record IsFirstUnstarted (count : ℕ) (is_done : ℕ → Type 0) (node : ℕ) : Type 0 where

@@ -15,7 +15,6 @@
 #![tactic(auto)]
 
 mod account;
-mod accounts;
 mod columns;
 mod downs;
 mod fault;

@@ -13,7 +13,6 @@ ghost use Rattle.stab_node.specs.FirstFault.{IsFirstToGiveUp, IsFirstUnstarted};
 ghost use Rattle.stab_node.specs.InitialItems.{initial_at};
 
 use crate::account::NodeAccount;
-use crate::accounts::take_accounts;
 use crate::fault::NodeFault;
 use crate::gate::Gate;
 use crate::scatter::scatter;
@@ -78,24 +77,10 @@ where
     let _count = tree.len();
     let root = tree.root().place();
     let workers = scatter(alloc, tree, sends, recvs)?;
-    let room = Vec::with_capacity(alloc, workers.len())?;
-    let room_for_answers = VecDeque::with_capacity(alloc, workers.len())?;
+    let room = VecDeque::with_capacity(alloc, workers.len())?;
     let workers = VecDeque::from(workers);
-    let answers = match run_each(
-        rt,
-        pass,
-        alloc,
-        workers,
-        root,
-        published,
-        openings,
-        turns,
-        gate,
-        room_for_answers,
-    ) {
-        Ok(answers) => Vec::from(answers),
-        Err(node) => return Err(WorkersFault::Thread(node)),
-    };
-    let accounts = take_accounts(answers, room)?;
-    Ok(accounts)
+    let accounts = run_each(
+        rt, pass, alloc, workers, root, published, openings, turns, gate, room,
+    )?;
+    Ok(Vec::from(accounts))
 }

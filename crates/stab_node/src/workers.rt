@@ -1,11 +1,12 @@
 ghost use Rattle.std.specs.List.{AllZip};
 ghost use Rattle.std.specs.Thread.{IsSend, IsSync};
-ghost use Rattle.std.specs.Prelude.{◌≡◌, ◌≤◌, ◌<◌, ◌+◌, [], ◌∷◌, All, IfErr, IfOk, MatchResult};
+ghost use Rattle.std.specs.Prelude.{◌≡◌, ◌≤◌, ◌<◌, ◌+◌, [], ◌∷◌, All, Err, IfErr, IfOk, MatchResult};
 ghost use Rattle.std.specs.Prelude.{length, map, ℕ};
 ghost use Rattle.std.specs.VecDeque.{deque_capacity, deque_len};
 ghost use Rattle.stab_node.specs.Turns.{IsRefused};
 ghost use Rattle.stab_node.specs.Answers.{HasWorked, node_ends};
-ghost use Rattle.stab_node.specs.FirstFault.{StopsAt};
+ghost use Rattle.stab_node.specs.FirstFault.{GivesUp, StopsAt, first_of};
+ghost use Rattle.stab_node.specs.declared.fault.NodeFault.{NodeFault};
 ghost use Rattle.stab_node.specs.InitialItems.{initial_at};
 
 use crate::account::NodeAccount;
@@ -14,6 +15,7 @@ use crate::first::first_items;
 use crate::gate::Gate;
 use crate::worker::work;
 use crate::worker_ends::WorkerEnds;
+use crate::workers_fault::WorkersFault;
 use stab_ends::{RecvSide, SendSide};
 use stab_frames::Item;
 use stab_tree::Openings;
@@ -25,10 +27,7 @@ use std::thread;
 use std::thread::{Promise, Threads};
 
 /// What a worker answers.
-pub(crate) type Answer<U, D> = Result<
-    NodeAccount<<U as RecvSide>::Done, <D as SendSide>::Done>,
-    NodeFault,
->;
+type Answer<U, D> = Result<NodeAccount<<U as RecvSide>::Done, <D as SendSide>::Done>, NodeFault>;
 
 /// The promise of a worker: it answers for the ends that it took what `work` answers.
 #[derive(Drop)]
@@ -57,8 +56,9 @@ impl<'e, U: RecvSide, D: SendSide, G: Gate> Promise<
         × G.is_done p.gate.now p.ends.value.node };
 }
 
-/// Starts a worker for each of these, in their order, and waits for all. An error is the node whose
-/// worker could not be started; those after it are not started.
+/// Starts a worker for each of these, in their order, waits for all, and answers their accounts. An
+/// error is the first node whose worker could not be started, after which none is, or else the first
+/// one whose worker gave up. The list that is given has room for the accounts.
 pub(crate) fn run_each<'e, R: Threads + Wait + Sync, P: Sync, U, D, G>(
     rt: &'e R,
     pass: &'e P,
@@ -69,8 +69,8 @@ pub(crate) fn run_each<'e, R: Threads + Wait + Sync, P: Sync, U, D, G>(
     openings: &'e Openings,
     turns: u32,
     gate: &'e G,
-    answers: VecDeque<Answer<U, D>>,
-) -> Result<VecDeque<Answer<U, D>>, u16>
+    accounts: VecDeque<NodeAccount<U::Done, D::Done>>,
+) -> Result<VecDeque<NodeAccount<U::Done, D::Done>>, WorkersFault>
 where
     U: RecvSide<Pass = P> + Send,
     D: SendSide<Pass = P> + Send,
@@ -80,54 +80,60 @@ where
     requires turns { 1 ≤ turns }
     requires known { All (λ node. node < length openings.now.lists)
         (map (λ s. s.node) workers.items) }
-    requires none { answers.items ≡ [] }
-    requires room { deque_len workers ≤ deque_capacity answers }
+    requires none { accounts.items ≡ [] }
+    requires room { deque_len workers ≤ deque_capacity accounts }
     requires kinds { IsSync R.row × IsSync P.row × IsSend U.row × IsSend D.row × IsSync G.row
         × IsSend U.Done.row × IsSend D.Done.row }
-    ensures answers { IfOk result (λ answers. AllZip (λ s r. MatchResult r
-        (λ a. HasWorked (G.has_passed gate.now s.node) turns
+    ensures accounts { IfOk result (λ accounts. AllZip (λ s a.
+        HasWorked (G.has_passed gate.now s.node) turns
         (initial_at root published.now openings.now.lists s.node)
         (node_ends U.received U.link D.sent D.link s.up s.downs.items)
         (node_ends U.done_received U.done_link D.done_sent D.done_link a.up a.downs.items)
-        a.received.items a.ended)
-        (λ fault. fault ≡ NodeFault.Gate → IsRefused (G.has_passed gate.now s.node)
-        (G.may_refuse gate.now s.node) turns)
-        × G.is_done gate.now s.node) workers.items answers.items) }
-    ensures len { IfOk result (λ answers. deque_len answers ≡ deque_len workers) }
-    ensures room { IfOk result (λ new. deque_capacity new ≡ deque_capacity answers) }
-    ensures unstarted { IfErr result
-        (StopsAt (G.is_done gate.now) (map (λ s. s.node) workers.items)) }
+        a.received.items a.ended
+        × G.is_done gate.now s.node) workers.items accounts.items) }
+    ensures len { IfOk result (λ accounts. deque_len accounts ≡ deque_len workers) }
+    ensures room { IfOk result (λ new. deque_capacity new ≡ deque_capacity accounts) }
+    ensures unstarted { IfErr result (λ fault. (node : ℕ) → fault ≡ WorkersFault.Thread node
+        → StopsAt (G.is_done gate.now) (map (λ s. s.node) workers.items) node) }
+    ensures gave_up { IfErr result (λ fault. (node : ℕ) (why : NodeFault)
+        → fault ≡ WorkersFault.Node node why
+        → GivesUp (G.has_passed gate.now) (G.may_refuse gate.now) (G.is_done gate.now) turns
+        (map (λ s. s.node) workers.items) node why) }
 {
     let Some(ends) = workers.pop_front() else {
-        return Ok(answers);
+        return Ok(accounts);
     };
     thread::scope(
         thread::scope_env(),
         rt,
-        move |scope| -> Result<VecDeque<Answer<U, D>>, u16>
+        move |scope| -> Result<VecDeque<NodeAccount<U::Done, D::Done>>, WorkersFault>
             requires turns { 1 ≤ turns }
             requires node { ends.node < length openings.now.lists }
             requires known { All (λ node. node < length openings.now.lists)
                 (map (λ s. s.node) workers.items) }
-            requires none { answers.items ≡ [] }
-            requires room { deque_len workers + 1 ≤ deque_capacity answers }
+            requires none { accounts.items ≡ [] }
+            requires room { deque_len workers + 1 ≤ deque_capacity accounts }
             requires kinds { IsSync R.row × IsSync P.row × IsSend U.row × IsSend D.row
                 × IsSync G.row × IsSend U.Done.row × IsSend D.Done.row }
-            ensures answers { IfOk result (λ answers. AllZip (λ s r. MatchResult r
-                (λ a. HasWorked (G.has_passed gate.entry.now s.node) turns
+            ensures accounts { IfOk result (λ accounts. AllZip (λ s a.
+                HasWorked (G.has_passed gate.entry.now s.node) turns
                 (initial_at root published.entry.now openings.entry.now.lists s.node)
                 (node_ends U.received U.link D.sent D.link s.up s.downs.items)
                 (node_ends U.done_received U.done_link D.done_sent D.done_link
                 a.up a.downs.items)
-                a.received.items a.ended)
-                (λ fault. fault ≡ NodeFault.Gate
-                → IsRefused (G.has_passed gate.entry.now s.node)
-                (G.may_refuse gate.entry.now s.node) turns)
-                × G.is_done gate.entry.now s.node) (ends ∷ workers.items) answers.items) }
-            ensures len { IfOk result (λ answers. deque_len answers ≡ deque_len workers + 1) }
-            ensures room { IfOk result (λ new. deque_capacity new ≡ deque_capacity answers) }
-            ensures unstarted { IfErr result (StopsAt (G.is_done gate.entry.now)
-                (ends.node ∷ map (λ s. s.node) workers.items)) }
+                a.received.items a.ended
+                × G.is_done gate.entry.now s.node) (ends ∷ workers.items) accounts.items) }
+            ensures len { IfOk result (λ accounts. deque_len accounts ≡ deque_len workers + 1) }
+            ensures room { IfOk result (λ new. deque_capacity new ≡ deque_capacity accounts) }
+            ensures unstarted { IfErr result (λ fault. (node : ℕ)
+                → fault ≡ WorkersFault.Thread node
+                → StopsAt (G.is_done gate.entry.now)
+                (ends.node ∷ map (λ s. s.node) workers.items) node) }
+            ensures gave_up { IfErr result (λ fault. (node : ℕ) (why : NodeFault)
+                → fault ≡ WorkersFault.Node node why
+                → GivesUp (G.has_passed gate.entry.now) (G.may_refuse gate.entry.now)
+                (G.is_done gate.entry.now) turns
+                (ends.node ∷ map (λ s. s.node) workers.items) node why) }
         {
             let node = ends.node;
             let first = first_items(root, published, openings, node);
@@ -158,15 +164,45 @@ where
                 },
             ) {
                 Ok(worker) => worker,
-                Err(_) => return Err(node),
+                Err(_) => return Err(WorkersFault::Thread(node)),
             };
             let rest = run_each(
-                rt, pass, alloc, workers, root, published, openings, turns, gate, answers,
+                rt, pass, alloc, workers, root, published, openings, turns, gate, accounts,
             );
-            let answer = worker.join(rt);
-            let mut answers = rest?;
-            answers.push_front_reserved(answer);
-            Ok(answers)
+            put_first(node, worker.join(rt), rest)
         },
     )
+}
+
+/// What a worker answered, put before what those of the nodes after it came to. Its own fault goes
+/// before those of other nodes, but not before that of a worker that could not be started.
+fn put_first<A: Drop, B: Drop>(
+    node: u16,
+    answer: Result<NodeAccount<A, B>, NodeFault>,
+    rest: Result<VecDeque<NodeAccount<A, B>>, WorkersFault>,
+) -> Result<VecDeque<NodeAccount<A, B>>, WorkersFault>
+    requires room { IfOk rest (λ others. deque_len others < deque_capacity others) }
+    ensures accounts { IfOk result (λ accounts. MatchResult answer
+        (λ account. MatchResult rest
+        (λ others. (accounts.items ≡ account ∷ others.items)
+        × (deque_len accounts ≡ deque_len others + 1)
+        × (deque_capacity accounts ≡ deque_capacity others))
+        (λ _. ⊥))
+        (λ _. ⊥)) }
+    ensures fault { IfErr result (λ fault. MatchResult answer
+        (λ _. rest ≡ Err fault)
+        (λ why. MatchResult rest
+        (λ _. fault ≡ WorkersFault.Node node why)
+        (λ later. fault ≡ first_of (WorkersFault.Node node why) later))) }
+{
+    match (answer, rest) {
+        (Ok(account), Ok(mut accounts)) => {
+            accounts.push_front_reserved(account);
+            Ok(accounts)
+        }
+        (Err(fault), Ok(_) | Err(WorkersFault::Node(_, _))) => {
+            Err(WorkersFault::Node(node, fault))
+        }
+        (_, Err(fault)) => Err(fault),
+    }
 }

@@ -1,5 +1,10 @@
-use Rattle.std.proofs.Common.{ap, length, map, rules}
+use Rattle.std.proofs.Common.{ap, length, map, rules, deque_len, deque_capacity}
 use Rattle.stab_node.proofs.Firsts.{known_first}
+use Rattle.stab_node.specs.Answers.{HasWorked, node_ends}
+use Rattle.stab_node.specs.InitialItems.{initial_at}
+use Rattle.stab_node.specs.declared.account.NodeAccount.{NodeAccount}
+use Rattle.stab_node.specs.declared.worker_ends.WorkerEnds.{WorkerEnds}
+use Rattle.stab_node.proofs.Joined.{accounts_joined, gave_up_joined, one_more_joined, same_room_joined, unstarted_joined}
 use Rattle.stab_node.proofs.workers.+fn-run_each-scope+run_each.Goals as goal
 
 -- the promise remembers the ends that the worker took
@@ -8,14 +13,37 @@ scope-spawn_with-requires-clause-keeps g t c κs within = λ r holds. rw c.of.en
 
 -- the worker's answer goes before those of the workers after it
 pub scope-returns : goal.scope-returns
-scope-returns g t c = record {
-  answers =
-      rw c.push_front_reserved.ensures.items
-      (rw c.first_items-first.ensures at (rw c.of.ensures at (rw c.in-Ok.ensures.ok at c.join-answer.ensures)), c.in_ok-answers.ensures.answers);
-  len = search rules;
-  room = search rules;
-  unstarted = tt;
-}
+scope-returns g t c =
+    let gate = c.captures.gate.now in
+    let has_passed = g.G.Gate.has_passed gate in
+    let may_refuse = g.G.Gate.may_refuse gate in
+    let is_done = g.G.Gate.is_done gate in
+    let turns = c.captures.turns in
+    let worked : WorkerEnds _ _ → NodeAccount _ _ → Type 0 =
+        λ s a. HasWorked (has_passed s.node) turns
+        (initial_at c.captures.root c.captures.published.now c.captures.openings.now.lists s.node)
+        (node_ends g.U.RecvSide.received g.U.RecvSide.link g.D.SendSide.sent g.D.SendSide.link s.up s.downs.items)
+        (node_ends g.U.RecvSide.done_received g.U.RecvSide.done_link g.D.SendSide.done_sent g.D.SendSide.done_link a.up a.downs.items)
+        a.received.items a.ended in
+    let answer = c.join.result in
+    let others = c.run_each-rest.result in
+    let result = c.put_first.result in
+    let kept = rw c.first_items-first.ensures at (rw c.of.ensures at (rw c.in-Ok.ensures.ok at c.join.ensures)) in
+    let rest = c.run_each-rest.ensures in
+    let joined = c.put_first.ensures in
+    record {
+      accounts =
+          accounts_joined (λ v. v.items) deque_len deque_capacity (λ s. s.node) has_passed may_refuse is_done turns worked c.captures.ends
+          c.captures.workers.items answer others result kept rest.accounts joined.accounts;
+      len = one_more_joined (λ v. v.items) deque_len deque_capacity (deque_len c.captures.workers) answer others result rest.len joined.accounts;
+      room = same_room_joined (λ v. v.items) deque_len deque_capacity (deque_capacity c.captures.accounts) answer others result rest.room joined.accounts;
+      unstarted =
+          unstarted_joined (λ v. v.items) deque_len deque_capacity (λ s. s.node) has_passed may_refuse is_done turns worked c.captures.ends
+          c.captures.workers.items answer others result kept rest.unstarted joined.fault;
+      gave_up =
+          gave_up_joined (λ v. v.items) deque_len deque_capacity (λ s. s.node) has_passed may_refuse is_done turns worked c.captures.ends
+          c.captures.workers.items answer others result (λ a done. (a.ended, done.over)) kept rest.accounts rest.gave_up joined.fault;
+    }
 
 -- the closure may be called as it is: what it asks is what this asks
 pub fn::run_each::scope+FnOnce::call_once-scope-requires :
@@ -116,8 +144,11 @@ scoped-requires g t c = record {
       );
 }
 
-pub returns-clause-answers : goal.returns-clause-answers
-returns-clause-answers g t c = rw c.in-Some.ensures.items c.scoped.ensures.1.0
+pub returns-clause-accounts : goal.returns-clause-accounts
+returns-clause-accounts g t c = rw c.in-Some.ensures.items c.scoped.ensures.1.0
+
+pub returns-clause-gave_up : goal.returns-clause-gave_up
+returns-clause-gave_up g t c = rw c.in-Some.ensures.items c.scoped.ensures.1.1.1.1.1
 
 pub returns-clause-len : goal.returns-clause-len
 returns-clause-len g t c = rw (← c.in-Some.ensures.cases) c.scoped.ensures.1.1.0
