@@ -403,9 +403,15 @@ def check_stab(check, room, program, all_examples):
                 f"{of} in {which}", command, input, is_report_of(job), what, limits, must_refuse)
 
 
+def built_stab():
+    """The program that a release would have: rt ci makes it by Rattle's own compiler as well."""
+    built = f"{TOP}/crates/stab_cli/out/stab_cli"
+    return f"{built}.by-rattle" if os.path.isfile(f"{built}.by-rattle") else built
+
+
 def main():
     parser = argparse.ArgumentParser(description="refuses memory and threads to the built programs")
-    parser.add_argument("--stab", default=f"{TOP}/crates/stab_cli/out/stab_cli")
+    parser.add_argument("--stab", default=built_stab())
     parser.add_argument("--checks", default=f"{TOP}/crates/stab_checks/out/stab_checks")
     parser.add_argument("--lanes", type=int, default=4, help="how many programs run at a time")
     parser.add_argument("--all", action="store_true", help="every example, and not some of them")

@@ -7,8 +7,11 @@ from pathlib import Path
 
 TOP = Path(__file__).resolve().parent.parent.parent
 
-# Where the gate leaves each program.
-BUILT = {"rignolda": "crates/rignolda/out/rignolda", "stab": "crates/stab_cli/out/stab_cli"}
+# Where the gate leaves each program, as a release would have it.
+BUILT = {
+    "rignolda": "crates/rignolda/out/rignolda.by-rattle",
+    "stab": "crates/stab_cli/out/stab_cli.by-rattle",
+}
 
 # Prints the program that was built of these sources, or `release` where that of release/ was.
 LOOK = """. "$0/tools/launch"; speaker=tests; read_table "$1"; find_sources
