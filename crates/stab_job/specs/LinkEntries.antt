@@ -1,7 +1,7 @@
 -- Link entries: what a JSON value says of the parameters of one link.
 -- Source: this project's profile.
 use Rattle.std.specs.Prelude.{codes, Option, Some, None}
-use Rattle.serde_json.specs.Data.{Data, null, boolean, number, string, array, object}
+use Rattle.serde_json.specs.Data.{Data, null, object}
 use Rattle.serde_json.specs.Find.{get}
 use Rattle.stab_json.specs.Values.{◌>>=◌, most_u16, capped}
 use Rattle.stab_job.specs.declared.link_entry.LinkEntry.{LinkEntry}
