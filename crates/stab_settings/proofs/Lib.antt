@@ -1,0 +1,3 @@
+pub mod Suffixes
+pub mod Overwritten
+pub mod Tables

@@ -1,0 +1,2 @@
+pub mod Refreshes
+pub mod Tables
