@@ -109,7 +109,8 @@ check() {
     trap 'interrupted INT' INT
     trap 'interrupted TERM' TERM
     trap 'interrupted HUP' HUP
-    mkdir -p -- "$kept" && : >"$log" || fail "the file $log cannot be written"
+    make_kept
+    : >"$log" || fail "the file $log cannot be written"
     holds 'release/ has its files' "it has not exactly MANIFEST and a file for ${artefacts[*]}" \
         has_its_files
     holds 'the manifest is one' "$release/MANIFEST is missing or spoiled, or lists other files" \
@@ -181,6 +182,7 @@ archive() {
     version=${version/ /-}
     folder=rignolda-$version-x86_64-linux
     to=$kept/$folder.tar.xz
+    make_kept
     mkdir -p -- "$kept" "$work/$folder" ||
         fail "the folders $kept and $work cannot be written to"
     pack_artefacts "$work/$folder"

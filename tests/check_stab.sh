@@ -187,6 +187,29 @@ said() {
     grep -qF -- "$1" "$work/err"
 }
 
+# Plants a program that only says so, in out/: the beginning of its name, to which its digest is
+# added unless the name ends with a digest already.
+plant() {
+    local text=$'#!/bin/sh\necho planted' name=$1
+    [[ $name =~ [0-9a-f]{64}$ ]] || name+=-$(printf '%s\n' "$text" | sha256sum | cut -d' ' -f1)
+    mkdir -p "$house/out"
+    rm -rf -- "$house/out/$name"
+    printf '%s\n' "$text" >"$house/out/$name"
+    chmod 755 "$house/out/$name"
+}
+
+# The beginning of the name of what is built here of the present sources by kit-2.
+name_of_built() {
+    # shellcheck source=tools/launch
+    (. "$house/tools/launch" && read_table stab && find_sources &&
+        printf 'stab-%s-kit-2\n' "${sources[stab]}")
+}
+
+# The modes and kinds of out/ and the programs in it.
+modes() {
+    find "$house/out" -maxdepth 1 \( -name out -o -name 'stab-*' \) -printf '%y %m\n' | sort -u
+}
+
 # Whether several commands hold; they stand apart by the word 'and'.
 all() {
     local words=()
@@ -374,6 +397,76 @@ run env PATH="$work/without" "$house/stab"
 holds 'without rt nothing is built' \
     refused 'there is no release: the command rt of the Rattle kit is needed'
 
+# What others could have put into out/, without a release.
+rm -rf "$house/out"
+(umask 000; run "$house/stab")
+holds 'with a umask of 000 nobody else may write to out/ and what is built in it' \
+    [ "$(modes)" = $'d 755\nf 755' ]
+run "$house/stab"
+holds 'so it is kept' gave 'new; ; in' 0
+write_text stab_cli planted_for
+planted=$(name_of_built)
+for mode in 777 775; do
+    plant "$planted"
+    chmod "$mode" "$house/out"
+    run "$house/stab"
+    holds "nothing of an out/ that others may write to runs, and nothing is built in it ($mode)" \
+        all refused 'to which nobody else may write; delete it' and calls 0
+    rm -r "$house/out"
+done
+plant "$planted"
+mv "$house/out" "$work/elsewhere"
+ln -s "$work/elsewhere" "$house/out"
+run "$house/stab"
+holds 'and nothing of a folder to which out is a link' \
+    all refused 'to which nobody else may write; delete it' and calls 0
+rm -r "$house/out" "$work/elsewhere"
+for mode in 777 775 757; do
+    plant "$planted"
+    chmod "$mode" "$house/out/$planted"*
+    run "$house/stab"
+    holds "a program that others may write to is built again ($mode)" gave 'planted_for; ; in' 1
+    rm -r "$house/out"
+done
+plant "$planted"
+mv "$house/out/$planted"* "$work/planted"
+ln -s "$work/planted" "$house/out/$planted-$(sha256sum <"$work/planted" | cut -d' ' -f1)"
+run "$house/stab"
+holds 'and so is one that is a link' gave 'planted_for; ; in' 1
+if [ "$(id -u)" -eq 0 ]; then
+    # (only root can give files to others)
+    rm -r "$house/out"
+    plant "$planted"
+    chown 65534 "$house/out/$planted"*
+    run "$house/stab"
+    holds 'and one that another user owns' gave 'planted_for; ; in' 1
+    plant "$planted"
+    chown -h 65534 "$house/out"
+    run "$house/stab"
+    holds 'nothing of an out/ that another user owns runs' \
+        all refused 'to which nobody else may write; delete it' and calls 0
+fi
+rm -r "$house/out"
+run "$house/stab"
+mv "$house/out" "$work/elsewhere"
+mkdir "$house/out"
+: | tee "$house/out/new-stab" >"$work/target"
+chmod 777 "$house/out/new-stab"
+write_text stab_cli kept_anew
+run "$house/stab"
+holds 'what is built is not written into a file that was there' [ "$(modes)" = $'d 755\nf 755' ]
+rm "$house/out"/stab-*
+ln -s "$work/target" "$house/out/new-stab"
+run "$house/stab"
+holds 'nor through a link' all gave 'kept_anew; ; in' 1 and [ ! -s "$work/target" ]
+file=$(echo "$house/out"/stab-*)
+rm "$file"
+mkdir "$file"
+run "$house/stab"
+holds 'where a folder has the name of what is built, that is said' \
+    refused "stab cannot be kept as $file"
+rm -r "$house/out" "$work/elsewhere"
+
 # With a release.
 write_text stab_cli released
 release
@@ -405,6 +498,77 @@ printf '#!/bin/sh\ncase $3 in *house*) ;; *) exec %s "$@" ;; esac\n' "$(type -P 
 chmod +x "$work/no_run/chmod"
 run env PATH="$work/no_run" "$house/stab"
 holds 'where no file of out/ can be run, it runs from elsewhere' gave 'released; ; in' 0
+
+# What others could have put into out/, beside a release.
+file=$house/out/stab-release-$(sed -n 's/^stab sha256 \([0-9a-f]*\) .*/\1/p' \
+    "$house/release/MANIFEST")
+rm -rf "$house/out"
+(umask 000; run env PATH="$work/without" "$house/stab")
+holds 'with a umask of 000 nobody else may write to what is unpacked' \
+    [ "$(modes)" = $'d 755\nf 755' ]
+# At the last command before a program of out/ starts, another one gets its place.
+cp -r "$work/without" "$work/swaps"
+for tool in touch sha256sum; do
+    printf '#!/bin/bash\n%s "$@"\nstatus=$?\n[ ! -w "%s" ] || {\n%s\n}\nexit "$status"\n' \
+        "$(type -P "$tool")" "$file" \
+        "printf '#!/bin/sh\necho swapped\n' >'$work/swap'; chmod 755 '$work/swap'
+        cp -f '$work/swap' '$file.new' && mv -f '$file.new' '$file'" >"$work/swaps/$tool.new"
+    chmod +x "$work/swaps/$tool.new"
+    mv -f "$work/swaps/$tool.new" "$work/swaps/$tool"
+done
+run env PATH="$work/swaps" "$house/stab"
+holds 'a swap between the look at a program and its start is one of who may write to out/' \
+    [ "$(cat "$work/out")" = swapped ]
+for mode in 777 775 757 1777; do
+    rm -rf "$house/out"
+    run env PATH="$work/without" "$house/stab"
+    chmod "$mode" "$house/out"
+    run env PATH="$work/swaps" "$house/stab"
+    holds "and changes nothing where others may ($mode)" gave 'released; ; in' 0
+done
+rm -rf "$house/out"
+plant "${file##*/}"
+run env PATH="$work/without" "$house/stab"
+holds 'a planted file with the name of the program does not run' gave 'released; ; in' 0
+chmod 777 "$file"
+run env PATH="$work/without" "$house/stab"
+holds 'a program that others may write to is unpacked again' \
+    all gave 'released; ; in' 0 and [ "$(modes)" = $'d 755\nf 755' ]
+if [ "$(id -u)" -eq 0 ]; then
+    chown 65534 "$file"
+    run env PATH="$work/without" "$house/stab"
+    holds 'and so is one that another user owns' \
+        all gave 'released; ; in' 0 and [ "$(stat -c %u "$file")" -eq 0 ]
+    chown 65534 "$house/out"
+    run env PATH="$work/swaps" "$house/stab"
+    holds 'and nothing is run from an out/ of another user' gave 'released; ; in' 0
+    chown 0 "$house/out"
+fi
+rm "$file"
+mkdir "$file"
+for count in first second; do
+    run env PATH="$work/without" "$house/stab"
+    holds "with a folder in the place of the program it runs from elsewhere ($count time)" \
+        gave 'released; ; in' 0
+done
+holds 'and the folder stays' [ -z "$(ls -A "$file")" ]
+rm -r "$house/out"
+: >"$house/out"
+mkdir -p "$work/near/a folder"
+for place in "$work/near/a folder" 'a folder' .; do
+    run env -C "$work/near" PATH="$work/without" TMPDIR="$place" "$house/stab"
+    holds "it runs from the temporary folder '${place#"$work"}', and leaves nothing" \
+        all gave 'released; ; in' 0 and [ -z "$(ls -A "$work/near/a folder")" ]
+done
+rm "$house/out"
+mkdir -p "$work/hostile/tools" "$work/hostile/out"
+printf '#!/bin/sh\necho hostile\n' | tee "$work/hostile"/{find,bash,tools/launch,-type,--} \
+    "$work/hostile/out/${file##*/}" >"$work/hostile/stab"
+chmod -R +x "$work/hostile"
+run env -C "$work/hostile" PATH="$work/without" "$house/stab" '*' -type
+holds 'what lies in the current folder does not matter' gave 'released; * -type; in' 0
+run env -C "$work/hostile" PATH="$work/without" "$work/bin/linked" ..
+holds 'nor with a link to the launcher' gave 'released; ..; in' 0
 for count in 1 2 3 4 5 6 7 8; do
     (printf in | PATH=$work/without "$house/stab" "$count" >"$work/out_$count" 2>&1
         echo "$?" >>"$work/out_$count") &
