@@ -37,7 +37,8 @@ def read(path):
 def edits_in(folder):
     """The edits in a folder, by their names, each the path of a file and its pairs of texts."""
     found = {}
-    for name in sorted(os.listdir(folder)) if os.path.isdir(folder) else []:
+    names = os.listdir(folder) if os.path.isdir(folder) else []
+    for name in sorted(it for it in names if it.endswith(".edit")):
         file, pairs = "", []
         for line in read(f"{folder}/{name}").splitlines():
             key, _, text = line.partition(": ")
@@ -45,7 +46,7 @@ def edits_in(folder):
                 file = text
             elif key == "old":
                 pairs.append((text, ""))
-            elif key in ("new", "new:"):
+            elif key in ("new", "new:") and pairs:
                 pairs[-1] = (pairs[-1][0], text)
         found[name.removesuffix(".edit")] = file, pairs
     return found
@@ -194,4 +195,5 @@ def main(words):
     return 1 if failed else 0
 
 
-sys.exit(main(sys.argv[1:]))
+if __name__ == "__main__":
+    sys.exit(main(sys.argv[1:]))

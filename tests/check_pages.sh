@@ -1,5 +1,6 @@
 #!/usr/bin/env bash
-# Tests the script tests/pages.py in a small house of its own, and touches nothing else.
+# Tests the scripts tests/pages.py and tests/check_stale_edits.py in a small house of its own, and
+# touches nothing else.
 #
 # The last line is 'N passed, M failed'.
 set -u
@@ -28,7 +29,7 @@ holds() {
 make_house() {
     rm -rf -- "$house"
     mkdir -p "$house"/{tests,docs} "$house/crates/low"/{src,specs,proofs,must-fail}
-    cp -- "$top/tests/pages.py" "$house/tests/"
+    cp -- "$top"/tests/{pages,check_edits,check_stale_edits}.py "$house/tests/"
     printf '# crates\nlow may_wait=1: thiserror\n' >"$house/crates.txt"
     cat >"$house/crates/low/src/lib.rt" <<'END'
 //! The lowest layer.
@@ -166,6 +167,95 @@ holds 'a heading that is not there is found' \
     finds '[x](docs/CLAIMS.md#high)' 'no heading docs/CLAIMS.md#high'
 "$house/tests/pages.py" --other 2>"$work/said"
 holds 'another word is refused' [ "$?" -eq 1 ]
+
+# Writes an edit of the crate low: its folder and name, and pairs of an old and a new text.
+edit() {
+    local place=$house/$1.edit
+    mkdir -p "${place%/*}"
+    printf 'file: %s\n' "$file" >"$place"
+    shift
+    while [ "$#" -gt 0 ]; do
+        printf 'old: %s\nnew: %s\n' "$1" "$2" >>"$place"
+        shift 2
+    done
+}
+
+# Whether the edits are looked at with this status, and all that is said is this.
+looked_at() {
+    local status
+    "$house/tests/check_stale_edits.py" >"$work/said" 2>&1
+    status=$?
+    [ "$status" -eq "$1" ] && [ "$(cat "$work/said")" = "$2" ]
+}
+
+# Whether one fault is said of the edits, at this place, beside so many that are well. Then the
+# edits are as they were.
+stale() {
+    looked_at 1 "$1: $2"$'\n'"$3 passed, 1 failed" || return
+    make_edits
+}
+
+# The edits of the house: one of the gate, of two pairs, and two by hand, of which one has a control.
+make_edits() {
+    make_house
+    rm -rf "$house"/crates/low/must-fail/* "$house"/tests/{more_edits,controls}
+    file=src/cup.rt
+    edit crates/low/must-fail/never_pours 'self.pour(by)' 'self.pour(0)' 'pour(0)' 'pour(1)'
+    edit tests/more_edits/low/pours_nothing '        true' '        false'
+    edit tests/more_edits/low/cup_without_level '    level: u16' '    level: u32'
+    mkdir -p "$house/crates/low/proofs/cup/Cup+pour"
+    : >"$house/crates/low/proofs/cup/Cup+pour/returns.antt"
+    edit tests/controls/low/pours_nothing '        true' '        !false'
+}
+
+bugs=crates/low/must-fail
+more=tests/more_edits/low
+make_edits
+holds 'edits that fit the code are well' looked_at 0 '7 passed, 0 failed'
+sed -i 's/pour(by)/pour(by + 0)/' "$house/crates/low/src/cup.rt"
+holds 'one whose text is gone is found' stale $bugs/never_pours.edit \
+    'src/cup.rt has this text 0 times, and not once: self.pour(by)' 6
+printf '// pour(0)\n' >>"$house/crates/low/src/cup.rt"
+holds 'and one whose second text is there twice, after the first pair' stale \
+    $bugs/never_pours.edit 'src/cup.rt has this text 2 times, and not once: pour(0)' 6
+edit $bugs/never_pours 'Fills the cup' 'Fills it'
+holds 'and one that changes a comment alone' stale $bugs/never_pours.edit \
+    'it changes no code of src/cup.rt' 6
+edit $bugs/never_pours 'self.pour(by)' 'self.pour( by )'
+holds 'or spaces' stale $bugs/never_pours.edit 'it changes no code of src/cup.rt' 6
+file=src/saucer.rt
+edit $bugs/never_pours 'self.pour(by)' 'self.pour(0)'
+holds 'and one of a file that is not there' stale $bugs/never_pours.edit \
+    'src/saucer.rt is no file of src/ or specs/ in this crate' 6
+file=must-fail/never_pours.edit
+edit $bugs/never_pours 'file' 'files'
+holds 'or is no code' stale $bugs/never_pours.edit \
+    'must-fail/never_pours.edit is no file of src/ or specs/ in this crate' 6
+for lines in 'new: x' 'old: self.pour(by)' 'also: x' ''; do
+    printf '%s\n' 'file: src/cup.rt' "$lines" >"$house/$bugs/never_pours.edit"
+    holds "and one that cannot be read ($lines)" stale $bugs/never_pours.edit \
+        "it is not a line 'file: ' and then pairs of lines 'old: ' and 'new: '" 6
+done
+edit $more/never_pours 'self.pour(by)' 'self.pour(2)'
+holds 'and one with the name of another' stale $more/never_pours.edit \
+    'a planted bug of the gate has this name' 7
+rm "$house/tests/controls/low/pours_nothing.edit"
+holds 'and one that lacks a control' stale $more/pours_nothing.edit \
+    'pour has a file in proofs/, so a control is needed in tests/controls' 5
+edit tests/controls/low/pours_nothing 'self.pour(by)' 'self.pour(by + 0)'
+holds 'and a control of another function' stale $more/pours_nothing.edit \
+    'its control is not of the same function, pour in src/cup.rt' 6
+edit tests/controls/low/pours_nothing '    false' '    true'
+holds 'and a control whose text is gone, once' stale tests/controls/low/pours_nothing.edit \
+    'src/cup.rt has this text 0 times, and not once:     false' 6
+edit tests/controls/low/pours_all '        true' '        !false'
+holds 'and a control of no planted bug' stale tests/controls/low/pours_all.edit \
+    'there is no planted bug of this name' 7
+mv "$house/$more/cup_without_level.edit" "$house/$more/cup_without_level"
+holds 'and a file that nobody tries' stale $more \
+    'cup_without_level is no edit: nobody tries it' 5
+mkdir "$house/tests/more_edits/high"
+holds 'and a folder of no crate' stale tests/more_edits/high 'crates.txt lists no such crate' 7
 
 printf '%s passed, %s failed\n' "$passed" "$failed"
 [ "$failed" -eq 0 ]
