@@ -25,7 +25,7 @@ holds() {
     fi
 }
 
-# Makes the house anew: a crate with a type, a trait, a law and a private function, and two pages.
+# Makes the house anew: a crate with a type, a trait, laws and a private function, and two pages.
 make_house() {
     rm -rf -- "$house"
     mkdir -p "$house"/{tests,docs} "$house/crates/low"/{src,specs,proofs,must-fail}
@@ -61,6 +61,11 @@ impl Cup {
         self.pour(by)
     }
 
+    /// How full it is.
+    pub fn level(&self) -> u16 {
+        self.level
+    }
+
     /// Nobody else calls it.
     fn pour(&mut self, by: u16) -> bool
         ensures hidden { ⊤ }
@@ -73,19 +78,19 @@ impl Cup {
 pub trait Pours {
     /// Pours once.
     fn once(&self)
-        ensures poured { ⊤ };
+        ensures poured { 1 ≡ 1 };
 }
 
 impl Pours for Cup {
     fn once(&self)
-        ensures more { ⊤ }
+        ensures more { 1 ≡ 1 }
     {}
 }
 END
     printf '/// Fills a cup from C.\n#[unsafe(no_mangle)]\npub extern "C" fn %s\n%s\n{}\n' \
-        'low_fill(cup: &mut Cup)' '    ensures filled { ⊤ }' >"$house/crates/low/src/export.rt"
-    printf '/// A law.\npub fn cups_are_cups()\n    ensures { ⊤ }\n{}\n' \
-        >"$house/crates/low/src/laws.rt"
+        'low_fill(cup: &mut Cup)' '    ensures filled { 1 ≡ 1 }' >"$house/crates/low/src/export.rt"
+    printf '/// A law%s.\npub fn cups_are_%s()\n    ensures { %s }\n{}\n' '' cups '1 ≡ 1' \
+        ' that says nothing' round '⊤' >"$house/crates/low/src/laws.rt"
     printf '%s\n' '-- What a cup is.' "-- Source: this project's own; it is round." 'use X' '' \
         'pub record IsFull : Type where' '  pub level : ⊤' >"$house/crates/low/specs/Cups.antt"
     printf '%s\n' '-- Of cups.' >"$house/crates/low/proofs/Lib.antt"
@@ -130,11 +135,13 @@ The lowest layer.
 | `Cup` | A cup, which `Cup::fill` fills. |
 | `Cup::fill` `.full` | Fills the cup. Requires `by ≤ 3`. |
 | `.kept` | A refusal changes nothing. |
+| `Cup::level` *no clause, tested* | How full it is. |
 | `Pours` | What pours. |
 | `Pours::once` `.poured` | Pours once. |
 | `Cup::once` `.more` | As `Pours` says. |
 | `low_fill` `.filled` | Fills a cup from C. |
 | `laws::cups_are_cups` | A law. |
+| `laws::cups_are_round` *no clause, tested* | A law that says nothing. |
 
 | Definitions | What they say |
 |---|---|
@@ -146,7 +153,7 @@ Planted bugs: `cup_without_bottom`.
 
 After it.
 END
-holds 'it has what is public, its clauses and their comments' \
+holds 'it has what is public, its clauses and their comments, and says where there is none' \
     cmp -- "$work/wanted" "$house/docs/CLAIMS.md"
 sed -i 's/Fills the cup/Fills it/' "$house/crates/low/src/cup.rt"
 holds 'a comment that changed is found' says 1 \
@@ -165,6 +172,59 @@ holds 'a file that is not there is found' \
 holds 'a page that is not there is found' finds '[x](docs/NO.md)' 'no file docs/NO.md'
 holds 'a heading that is not there is found' \
     finds '[x](docs/CLAIMS.md#high)' 'no heading docs/CLAIMS.md#high'
+
+# Adds a function of the crate low that may be refused, with a page of the proof: the function, its
+# clauses, and a line of the page.
+prove() {
+    make_house
+    printf '%s\n    ensures { %s }\n{}\n' "/// Washes.
+pub fn $1" "$2" >"$house/crates/low/src/wash.rt"
+    sed -i 's/^mod cup;$/&\nmod wash;\npub use wash::wash;/' "$house/crates/low/src/lib.rt"
+    "$house/tests/pages.py"
+    printf '%s\n' '# Proof' "$3" >"$house/docs/PROOF.md"
+}
+
+why='**No clause says why**'
+stays='**No clause says what a refusal leaves**'
+changes='wash(cup: &mut Cup, by: u16) -> Result<(), AllocError>'
+refuses='wash(by: u16) -> Result<u16, WashFault>'
+silent='write the clause, or name it there'
+for clause in 'OnErr result (cup.new ≡ cup.old)' 'cup.new ≡ washed cup.old result'; do
+    prove "$changes" "$clause" 'All is said.'
+    holds "a clause says what a refusal leaves ($clause)" says 0 '4 passed, 0 failed'
+done
+for clause in 'OnOk result (cup.new ≡ cup.old)' 'cup.new.level ≡ cup.old.level' '1 ≡ 1'; do
+    prove "$changes" "$clause" 'All is said.'
+    holds "and where none does, the proof has to say so ($clause)" says 1 "docs/PROOF.md:0: \
+low::wash: no clause says what a refusal leaves of what it is lent, and the sentence $stays does \
+not name it: $silent"$'\n3 passed, 1 failed'
+    for name in wash low::wash 'wa*'; do
+        prove "$changes" "$clause" "$stays of \`$name\`. And \`Cup::fill\`."
+        holds "by its name ($name; $clause)" says 0 '4 passed, 0 failed'
+    done
+done
+for clause in 'MatchResult result (λ _. ⊤) (λ fault. 1 ≡ 1)' 'IfErr result (IsReason by)' \
+    'IfErr result (λ fault. fault ≢ WashFault.Memory → wash by ≡ Err fault)' 'result ≡ wash by' \
+    'IfErr result (λ fault. (fault ≡ WashFault.Write) ⊎ (fault ≡ WashFault.Memory))' \
+    'IfErr result (λ fault. IsFault by fault)'; do
+    prove "$refuses" "$clause" 'All is said.'
+    holds "a clause says why ($clause)" says 0 '4 passed, 0 failed'
+done
+for clause in 'IfOk result (λ done. done ≡ by)' 'IfErr result (λ fault. fault ≢ WashFault.Other)' \
+    'result ≡ Err WashFault.Memory → 0 < by' \
+    'IfErr result (λ fault. (fault ≡ WashFault.Other) ⊎ (fault ≡ WashFault.Memory))'; do
+    prove "$refuses" "$clause" "$why \`Cup::fill\` fails."
+    holds "and where none does, the proof has to say so ($clause)" says 1 "docs/PROOF.md:2: \
+Cup::fill: take it out of the sentence $why, since there is no such public function, or nothing \
+for a clause to say
+docs/PROOF.md:2: low::wash: no clause says of every refusal which one it is, and the sentence $why \
+does not name it: $silent"$'\n3 passed, 2 failed'
+    prove "$refuses" "$clause" "$why \`wash\` fails."
+    holds "by its name ($clause)" says 0 '4 passed, 0 failed'
+done
+prove "$refuses" 'IfErr result (IsReason by)' "$why \`wash\` fails."
+holds 'and it may not say so where a clause does' says 1 "docs/PROOF.md:2: low::wash has a clause on \
+it now: take wash out of the sentence $why"$'\n3 passed, 1 failed'
 "$house/tests/pages.py" --other 2>"$work/said"
 holds 'another word is refused' [ "$?" -eq 1 ]
 

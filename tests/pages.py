@@ -7,12 +7,15 @@
 The lists have, crate by crate: the comment of the crate; its public types and functions, with the
 names of their clauses, the comments at them and what they require; the first comments of the files
 of definitions and of lemmas; and the names of the planted bugs. A comment of `//` lines between
-the clauses of a function speaks of those after it, up to the next comment or empty line.
+the clauses of a function speaks of those after it, up to the next comment or empty line. Where a
+function has no clause, or none but `⊤`, which says nothing, the lists say that it is tested alone.
 
 The check sees that the lists are those of the sources, and that in every page of the repository
 each link leads to a file and a heading that exist. In the pages that speak of these sources each
-clause that is cited must exist, and so must each file and each name that is in backticks. The last
-line is 'N passed, M failed'.
+clause that is cited must exist, and so must each file and each name that is in backticks. And
+docs/PROOF.md must name those public functions of which no clause says what it says of all others,
+in sentences that begin a paragraph with the words of GAPS: these functions and no others, by name
+or with a star at the end. The last line is 'N passed, M failed'.
 """
 
 import re
@@ -34,6 +37,22 @@ OTHERS = {"conflicts_with", "in_room", "sched_autogroup_enabled", "F_SETPIPE_SZ"
           "O_NONBLOCK"}
 
 
+# In a clause on each refusal, what says which one it is: a definition of the fault, or of what holds
+# where it is that one, or that it is of no check.
+WHY = re.compile(r"≡ (Some|Err) fault|\bIs\w+ ([^()→⊎×]+ )?fault\b|fault ≡ .* → Is\w+ "
+                 r"|λ fault\. (\(fault ≡ \w+\.(Write|Memory)\)( ⊎ )?)+\)$")
+PROOF = "docs/PROOF.md"
+# What docs/PROOF.md says of every public function but those that it names: the words before these
+# names, whether a function is one of them (None where there is nothing to say), and what is wrong
+# if it is not named.
+GAPS = [
+    ("**No clause says what a refusal leaves**", lambda it: it.is_silent_on_what_stays(),
+     "no clause says what a refusal leaves of what it is lent"),
+    ("**No clause says why**", lambda it: it.is_silent_on_why(),
+     "no clause says of every refusal which one it is"),
+]
+
+
 class Function:
     """A function with what it requires and ensures, or a type, which has no clauses."""
 
@@ -42,14 +61,45 @@ class Function:
         # each group: what is said of it, and the names of its clauses, of which one may be none
         self.groups = [(doc, [])]
         self.requires = []
+        # the text of what it ensures, clause by clause, and what is before its clauses; of a type
+        # there is none
+        self.ensures, self.signature = [], ""
         # (what C calls is exported, whatever lib.rt names)
         self.for_c = False
+        # (of a trait that another type has, the clauses are at the trait)
+        self.of_trait = False
 
     def path(self):
         return f"{self.owner}::{self.name}" if self.owner else self.name
 
     def clauses(self):
         return [clause for _, clauses in self.groups for clause in clauses]
+
+    def is_tested_alone(self):
+        """Whether it is a function, and no clause says anything of it."""
+        return bool(self.signature) and not self.of_trait and set(self.ensures) <= {"⊤"}
+
+    def is_silent_on_what_stays(self):
+        """Whether no clause says of all that it is lent to change what that is after a refusal, or
+        None where it is lent nothing, or nothing is refused."""
+        lent, _, answer = self.signature.partition("->")
+        if "&mut" not in lent or "Result<" not in answer:
+            return None
+        return not any(
+            re.search(r"\b\w+\.new\b(?!\.)", text) and not re.match(r"(OnOk|IfOk)\b", text)
+            for text in self.ensures)
+
+    def is_silent_on_why(self):
+        """Whether no clause says of every refusal which one it is: what the whole answer is, or of
+        which refusals a definition holds. None where nothing is refused but memory."""
+        refusal = re.search(r"-> Result<.*, (?:\w+::)*(\w+)>$", self.signature)
+        if not refusal or refusal[1] == "AllocError":
+            return None
+        return not any(
+            re.match(r"MatchResult result|result ≡ (?!Err\b)|IfErr result \([A-Z]", text)
+            or re.match(r"IfErr result \(λ", text) and re.search(WHY, text)
+            or re.match(r"IsErrOf result \S+ ↔", text)
+            for text in self.ensures)
 
 
 def in_one_line(lines):
@@ -77,6 +127,7 @@ def read_head(function, lines, at):
             if clause[1] == "requires":
                 function.requires.append(text[:text.rindex("}")].strip())
             else:
+                function.ensures.append(text[:text.rindex("}")].strip())
                 if notes:
                     group = (in_one_line(notes), [])
                     function.groups.append(group)
@@ -88,8 +139,10 @@ def read_head(function, lines, at):
             notes.append(line[3:])
         elif not line:
             group = function.groups[0]
-        elif line.endswith(("{", "}", ";")):
-            return
+        else:
+            function.signature += line.rstrip(" {};") + " "
+            if line.endswith(("{", "}", ";")):
+                return
         at += 1
 
 
@@ -115,7 +168,9 @@ def functions(path):
             module = path.stem if path.stem in ("laws", "examples") else None
             function = Function(owner or module, fn[4], bool(fn[2] or trait), said)
             function.for_c = bool(fn[3])
+            function.of_trait = bool(trait and trait != owner)
             read_head(function, lines, at)
+            function.signature = re.split(r" where\b", function.signature)[0].strip(" ,")
             found.append(function)
         if line.strip().startswith("///"):
             doc.append(line.strip()[3:].strip())
@@ -150,25 +205,31 @@ def first_comment(path, mark="--"):
     return re.sub(r" Source: [^.;]*[.;]( \w)?", lambda found: (found[1] or "").upper(), text)
 
 
-def claims(crate):
-    """The rows of a crate's claims: its clauses, and what its comments say of them."""
-    names, rows = exported(crate), []
+def public_functions(crate):
+    """The functions and types of a crate that other crates can use."""
+    names = exported(crate)
     for path in sorted((TOP / "crates" / crate / "src").glob("*.rt"), key=lambda p: p.stem):
         for function in functions(path):
             known = function.owner or function.name
-            said = function.groups[0][0]
-            exported_here = function.public and (known in names or function.for_c)
-            if not exported_here or not (function.clauses() or said):
-                continue
-            if not function.clauses() and said.startswith("As `"):
-                continue
-            said += "".join(f" Requires `{text}`." for text in function.requires)
-            for at, (text, clauses) in enumerate(function.groups):
-                shown = ", ".join(f"`.{clause}`" for clause in clauses if clause)
-                if at == 0:
-                    shown = f"`{function.path()}` {shown}".strip()
-                if at == 0 or clauses:
-                    rows.append(f"| {shown} | {said if at == 0 else text} |")
+            if function.public and (known in names or function.for_c):
+                yield function
+
+
+def claims(crate):
+    """The rows of a crate's claims: its clauses, and what its comments say of them."""
+    rows = []
+    for function in public_functions(crate):
+        said = function.groups[0][0]
+        if not function.clauses() and (not said or said.startswith("As `")):
+            continue
+        said += "".join(f" Requires `{text}`." for text in function.requires)
+        for at, (text, clauses) in enumerate(function.groups):
+            shown = ", ".join(f"`.{clause}`" for clause in clauses if clause)
+            if at == 0:
+                shown = f"`{function.path()}` {shown}".strip()
+                shown += " *no clause, tested*" if function.is_tested_alone() else ""
+            if at == 0 or clauses:
+                rows.append(f"| {shown} | {said if at == 0 else text} |")
     return rows
 
 
@@ -178,14 +239,18 @@ def files(crate, folder):
     return [f"| `{path.name}` | {first_comment(path)} |" for path in paths if path.stem != "Lib"]
 
 
+def libraries():
+    """The crates that others use, without those of tests."""
+    return [crate for crate in listed_crates() if not crate.startswith("tests_")
+            and (TOP / "crates" / crate / "src/lib.rt").exists()]
+
+
 def lists():
     """The lines of the lists."""
     lines = []
-    for crate in listed_crates():
+    for crate in libraries():
         home = TOP / "crates" / crate
         root = home / "src/lib.rt"
-        if not root.exists() or crate.startswith("tests_"):
-            continue
         lines += [f"## `{crate}`", "", first_comment(root, "//!"), ""]
         tables = [("Claim", "What it says", claims(crate)),
                   ("Definitions", "What they say", files(crate, "specs")),
@@ -255,6 +320,36 @@ def bad_links(path):
                 yield number, f"no file {place}"
             elif heading and heading not in headings(there):
                 yield number, f"no heading {target}"
+
+
+def gaps():
+    """What is wrong with the sentences of docs/PROOF.md that name functions without a clause."""
+    page = TOP / PROOF
+    lines = page.read_text().splitlines() if page.exists() else []
+    public = [(crate, function) for crate in libraries() for function in public_functions(crate)
+              if function.signature and not function.of_trait]
+    for words, is_gap, fault in GAPS:
+        number = next((at for at, line in enumerate(lines, 1) if line.startswith(words)), 0)
+        sentence = re.split(r"\.(?: |$)", lines[number - 1])[0] if number else ""
+        named = re.findall(r"`([^`]+)`", sentence)
+        met = set()
+        for crate, function in public:
+            paths = (function.name, function.path(), f"{crate}::{function.path()}")
+            covering = {name for name in named if any(
+                path == name or name.endswith("*") and path.startswith(name[:-1])
+                for path in paths)}
+            gap = is_gap(function)
+            # (a star may stand for functions of which there is nothing to say)
+            met |= covering if gap is not None else set()
+            if gap and not covering:
+                yield number, (f"{crate}::{function.path()}: {fault}, and the sentence {words} "
+                               "does not name it: write the clause, or name it there")
+            elif covering and gap is False:
+                yield number, (f"{crate}::{function.path()} has a clause on it now: take "
+                               f"{', '.join(sorted(covering))} out of the sentence {words}")
+        for name in sorted(set(named) - met):
+            yield number, (f"{name}: take it out of the sentence {words}, since there is no such "
+                           "public function, or nothing for a clause to say")
 
 
 class Sources:
@@ -352,6 +447,8 @@ def check():
         found = list(bad_links(path))
         if name not in UNCITED:
             found += sources.missing(path)
+        if name == PROOF:
+            found += gaps()
         if not found:
             passed += 1
         wrong += [f"{name}:{number}: {what}" for number, what in sorted(found)]
