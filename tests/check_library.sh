@@ -63,6 +63,44 @@ closed() {
     ! nm --extern-only --defined-only -- "$library" | grep ' ' | grep -v ' rignolda_'
 }
 
+# Whether agents/run_tree refuses these words, and its last line ends with this text.
+refuses() {
+    local said status
+    said=$(agents/run_tree --agent /bin/sh "${@:2}" 2>&1)
+    status=$?
+    printf '%s\n' "$said"
+    [ "$status" -eq 2 ] && [[ $said == *"run_tree: error: "*"$1" ]]
+}
+
+# What is said to somebody who gives other words to agents/run_tree than it takes.
+agents_refuse() {
+    holds 'agents: a capacity of 3' refuses 'for a power of two of messages: 1, 2, 4, 8, 16, 32, 64' \
+        --capacity 3
+    holds 'agents: too few labels' refuses 'with a capacity of 4 a link has 10 to 1000 labels' \
+        --capacity 4 --labels 9
+    holds 'agents: no agents' refuses 'a tree has 1 to 64 agents' --agents 0
+    holds 'agents: a folder that is there' refuses 'and a run is kept in a new folder' \
+        --keep "$work"
+    holds 'agents: a folder that cannot be made' refuses "Not a directory: '$work/said/it'" \
+        --keep "$work/said/it"
+    holds 'agents: no program' refuses 'is no program: `make -C agents run` builds one' \
+        --agent "$work/none"
+}
+
+# Whether spoiled agents are caught, and what is said of it says so.
+are_caught() {
+    make -s -C agents INCLUDE="$include" LIBRARY="$library" spoiled >"$work/spoiled" 2>&1
+    local status=$?
+    cat -- "$work/spoiled"
+    [ "$status" -eq 0 ] && [ "$(grep -c ': caught, as it has to be' "$work/spoiled")" -eq 3 ] &&
+        [ "$(wc -l <"$work/spoiled")" -eq 4 ]
+}
+
+# Whether make says what it can make.
+helps() {
+    make -s -C agents LIBRARY= help | grep -qE '^ +make spoiled +the same agents'
+}
+
 gate() {
     local kit words
     kit=$(dirname -- "$(readlink -f -- "$(type -P rt)")")/../toolchain
@@ -74,6 +112,7 @@ gate() {
         "$library")
     in_c 'the kit' '20000 1' 300 "${words[@]}"
     holds 'the checker of reports' tests/library/try_check_report.py
+    agents_refuse
     holds 'all of the archive needs nothing else' "$kit/bin/clang" -nostdlib -static \
         -fuse-ld=lld -Wl,--whole-archive "$library" -Wl,-e,rignolda_params_check -o "$work/alone"
 }
@@ -105,10 +144,11 @@ whole() {
             "$work/cargo/release/examples/link" 10000
     fi
     holds 'the checker of reports' tests/library/try_check_report.py
+    agents_refuse
+    holds 'agents: what make can do' helps
     holds 'agents: a tree' make -s -C agents INCLUDE="$include" LIBRARY="$library" run
     holds 'agents: 20 drawn trees' agents/trials runs 20
-    holds 'agents: spoiled ones are found out' make -s -C agents INCLUDE="$include" \
-        LIBRARY="$library" spoiled
+    holds 'agents: spoiled ones are caught' are_caught
 }
 
 case ${1-} in
