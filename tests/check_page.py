@@ -13,7 +13,9 @@ In each browser it looks that
   gives the text of `stab tree`; the strays and missing items of each node are those that an own
   count finds in this text, and within bounds that are added up here;
 - each job that the program refuses is refused, and no other, but for trees that are too large;
-- each exercise is refused with too few events, and solved with the events that are given here;
+- each exercise is refused with too few events, and solved with the events that are given here, and
+  what is said of events that only seem to solve it is right;
+- what is said of missing items fits the number of labels, and of an item whose frame is under way;
 - the buttons, the slider, the keys and the address do what they say;
 
 and with --pictures it keeps pictures, light and dark, wide and narrow. The last line is
@@ -333,6 +335,23 @@ SOLVED = [
     WORST + one_round(13),
 ]
 
+# events that only seem to solve an exercise, by its number, or after which it cannot be solved, and
+# how what the page says of them begins
+LOST = [offered(7), "send_frame", ["lose_frame", 0]]
+UNSOLVED = [
+    (2, one_round(6), "No frame was lost"),
+    (2, one_round(6) + LOST, "The item of the lost frame has to be delivered"),
+    (2, LOST + ["send_frame", "recv_frame", "send_ack", ["lose_ack", 0]], "This item has to be"),
+    (5, SOLVED[4][:4] + LATE[:-2], "Such an item is acknowledged, but its frame is still under way"),
+    (5, SOLVED[4][:4] + LATE, "No such item is missing so far"),
+    (5, WORST, "From here none can go missing any more"),
+    (5, WORST + one_round(13)[:2], "From here none can go missing any more"),
+    (5, [event for item in range(5) for event in one_round(item)], "From here none can go missing"),
+    (6, [event for item in range(4) for event in one_round(item)], "So far 1 of 3 items are missing"),
+    (6, WORST, "Item number 3 is not acknowledged so far"),
+    (6, WORST + one_round(13)[:3], "Item number 3 is not acknowledged so far"),
+]
+
 # the same for the exercises of a tree: the node, and what happens on the link into it
 WORST_ON = ["offer", "recv_ack", "send_ack", "offer", "recv_ack", "recv_frame", "send_ack", "offer", "recv_ack"]
 ROUND = ["offer", "send_frame", "recv_frame", "send_ack", "recv_ack"]
@@ -449,6 +468,34 @@ class Checks:
             self.see(f"{name}: exercise {i + 1} from another start",
                      browser.run("return checkTask(args[0], RUNS['Two clean rounds']);", i) != "")
 
+        for exercise, events, wanted in UNSOLVED:
+            said = browser.run(body, exercise - 1, events)
+            self.see(f"{name}: what seems to solve exercise {exercise}", said.startswith(wanted), said)
+
+    def labels(self, browser, name):
+        """What is said of missing items, by the number of labels, and of one that is under way."""
+        body = """show({...RUNS['Two labels are too few'], labels: args[0], capacity: args[1]}, 'x', args[2]);
+            return ['missing', 'missing-say', 'happened'].map(id => $(id).textContent)
+                .concat([...$('offered').children].map(item => item.className));"""
+        for labels, capacity, missing, why in [
+                (4, 1, "of at most 3", "only among the first 3 items"),
+                (3, 1, "of at most 3", "The bound holds with 3 labels; the program asks for one more"),
+                (2, 1, "Missing: ", "with 2 labels there is no bound: with capacity 1 it needs 3"),
+                (6, 2, "of at most 5", "only among the first 5 items"),
+                (5, 2, "of at most 5", "The bound holds with 5 labels"),
+                (4, 2, "Missing: ", "with 4 labels there is no bound: with capacity 2 it needs 5")]:
+            said = browser.run(body, labels, capacity, 23)
+            self.see(f"{name}: {labels} labels with capacity {capacity}", missing in said[0] and why in said[1]
+                     and ("at most" in said[0]) == (labels > 2 * capacity)
+                     and ("one more" in said[1]) == (labels < 2 * capacity + 2), said)
+        said = browser.run(body, 2, 1, 7)
+        self.see(f"{name}: an item under way", said[2].endswith("is acknowledged, though its frame is still under way.")
+                 and said[3:] == ["gone", "late"], said)
+        said = browser.run(body, 2, 1, 9)
+        self.see(f"{name}: and it comes", "item number 1" in said[2] and said[3:] == ["gone", "sent"], said)
+        said = browser.run(body, 2, 1, 23)
+        self.see(f"{name}: an item that was lost", said[2].endswith("is acknowledged, and it was never delivered."), said)
+
     def hands(self, browser, name):
         """Buttons, slider, keys and the address."""
         state = "return [at, job.events.length, $('happened').textContent, $('strays').textContent];"
@@ -556,6 +603,7 @@ def main():
                     checks.see(f"{name}: ready in time", min(times) < MOST_MILLISECONDS, times)
                     checks.texts(browser, name, jobs, wanted)
                     checks.exercises(browser, name)
+                    checks.labels(browser, name)
                     checks.hands(browser, name)
                     checks.trees(browser, name, trees, wanted_trees)
                     checks.tree_exercises(browser, name)
