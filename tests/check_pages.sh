@@ -206,12 +206,16 @@ done
 for clause in 'MatchResult result (λ _. ⊤) (λ fault. 1 ≡ 1)' 'IfErr result (IsReason by)' \
     'IfErr result (λ fault. fault ≢ WashFault.Memory → wash by ≡ Err fault)' 'result ≡ wash by' \
     'IfErr result (λ fault. (fault ≡ WashFault.Write) ⊎ (fault ≡ WashFault.Memory))' \
-    'IfErr result (λ fault. IsFault by fault)'; do
+    'IfErr result (λ fault. IsFault by fault)' 'OnErr result (by ≢ 1)' \
+    'IfErr result (λ fault. fault ≢ WashFault.Memory → (at : ℕ) → wash by ≢ at)' \
+    'IfErr result (λ fault. (at : ℕ) → fault ≡ WashFault.Other at → IsDirty at)'; do
     prove "$refuses" "$clause" 'All is said.'
     holds "a clause says why ($clause)" says 0 '4 passed, 0 failed'
 done
 for clause in 'IfOk result (λ done. done ≡ by)' 'IfErr result (λ fault. fault ≢ WashFault.Other)' \
-    'result ≡ Err WashFault.Memory → 0 < by' \
+    'result ≡ Err WashFault.Memory → 0 < by' 'OnErr result (by.new ≡ by.old)' \
+    'IfErr result (λ fault. (at more : ℕ) → fault ≢ WashFault.Other at more)' \
+    'IfErr result (λ fault. fault ≢ WashFault.Write → Keeps by)' \
     'IfErr result (λ fault. (fault ≡ WashFault.Other) ⊎ (fault ≡ WashFault.Memory))'; do
     prove "$refuses" "$clause" "$why \`Cup::fill\` fails."
     holds "and where none does, the proof has to say so ($clause)" says 1 "docs/PROOF.md:2: \

@@ -37,10 +37,6 @@ OTHERS = {"conflicts_with", "in_room", "sched_autogroup_enabled", "F_SETPIPE_SZ"
           "O_NONBLOCK"}
 
 
-# In a clause on each refusal, what says which one it is: a definition of the fault, or of what holds
-# where it is that one, or that it is of no check.
-WHY = re.compile(r"≡ (Some|Err) fault|\bIs\w+ ([^()→⊎×]+ )?fault\b|fault ≡ .* → Is\w+ "
-                 r"|λ fault\. (\(fault ≡ \w+\.(Write|Memory)\)( ⊎ )?)+\)$")
 PROOF = "docs/PROOF.md"
 # What docs/PROOF.md says of every public function but those that it names: the words before these
 # names, whether a function is one of them (None where there is nothing to say), and what is wrong
@@ -90,16 +86,28 @@ class Function:
             for text in self.ensures)
 
     def is_silent_on_why(self):
-        """Whether no clause says of every refusal which one it is: what the whole answer is, or of
-        which refusals a definition holds. None where nothing is refused but memory."""
+        """Whether no clause says of every refusal which one it is: what the whole answer is, of
+        which refusals a definition holds, or what of that which is given makes the only one. None
+        where nothing is refused but memory."""
         refusal = re.search(r"-> Result<.*, (?:\w+::)*(\w+)>$", self.signature)
         if not refusal or refusal[1] == "AllocError":
             return None
-        return not any(
-            re.match(r"MatchResult result|result ≡ (?!Err\b)|IfErr result \([A-Z]", text)
-            or re.match(r"IfErr result \(λ", text) and re.search(WHY, text)
-            or re.match(r"IsErrOf result \S+ ↔", text)
-            for text in self.ensures)
+        return not any(says_why(text) for text in self.ensures)
+
+
+def says_why(text):
+    """Whether a clause says of each refusal which one it is, and not only what it leaves, or which
+    ones there are. Where they are all of memory or of writing, that is enough."""
+    if re.search(r"\.new\b|\bKeeps\b", text):
+        return False
+    if re.match(r"MatchResult result|result ≡ (?!Err\b)|IsErrOf result \S+ ↔|OnErr result", text):
+        return True
+    body = re.match(r"IfErr result \((?:λ fault\.)?(.*)\)$", text)
+    if not body or re.fullmatch(r"( ?⊎? ?\(fault ≡ \w+\.(Write|Memory)\))+", body[1]):
+        return bool(body)
+    # (without the names that it binds, and what it compares the fault with)
+    rest = re.sub(r"\([\w ]+ : [^()]*\)|\bfault [≡≢] [\w.]+( \w+)*", "", body[1])
+    return bool(re.search(r"\w", rest))
 
 
 def in_one_line(lines):
