@@ -74,8 +74,8 @@ refuses() {
 
 # What is said to somebody who gives other words to agents/run_tree than it takes.
 agents_refuse() {
-    holds 'agents: a capacity of 3' refuses 'for a power of two of messages: 1, 2, 4, 8, 16, 32, 64' \
-        --capacity 3
+    holds 'agents: a capacity of 3' refuses \
+        'has room for a power of two of messages: 1, 2, 4, 8, 16, 32, 64' --capacity 3
     holds 'agents: too few labels' refuses 'with a capacity of 4 a link has 10 to 1000 labels' \
         --capacity 4 --labels 9
     holds 'agents: no agents' refuses 'a tree has 1 to 64 agents' --agents 0

@@ -227,8 +227,8 @@ does not name it: $silent"$'\n3 passed, 2 failed'
     holds "by its name ($clause)" says 0 '4 passed, 0 failed'
 done
 prove "$refuses" 'IfErr result (IsReason by)' "$why \`wash\` fails."
-holds 'and it may not say so where a clause does' says 1 "docs/PROOF.md:2: low::wash has a clause on \
-it now: take wash out of the sentence $why"$'\n3 passed, 1 failed'
+holds 'and it may not say so where a clause does' says 1 "docs/PROOF.md:2: low::wash has a clause \
+on it now: take wash out of the sentence $why"$'\n3 passed, 1 failed'
 "$house/tests/pages.py" --other 2>"$work/said"
 holds 'another word is refused' [ "$?" -eq 1 ]
 
@@ -259,7 +259,7 @@ stale() {
     make_edits
 }
 
-# The edits of the house: one of the gate, of two pairs, and two by hand, of which one has a control.
+# The edits of the house: one of the gate, of two pairs, and two by hand, one with a control.
 make_edits() {
     make_house
     rm -rf "$house"/crates/low/must-fail/* "$house"/tests/{more_edits,controls}

@@ -6,7 +6,7 @@ and of those that only tests/more_edits/try and tests/check_edits.py try, by han
 it. So of each edit in crates/CRATE/must-fail, tests/more_edits/CRATE and tests/controls/CRATE it
 sees that
 
-- it is read as `rt must-fail` reads it: a line 'file: ', and then pairs of lines 'old: ' and 'new: ';
+- `rt must-fail` can read it: a line 'file: ', and then pairs of lines 'old: ' and 'new: ';
 - its file is one of src/, or of specs/ where that is what a law is shown by, and has each old text
   once, also after the pairs before it;
 - what it changes is code, and no comment alone;
