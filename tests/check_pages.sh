@@ -204,6 +204,7 @@ not name it: $silent"$'\n3 passed, 1 failed'
     done
 done
 for clause in 'MatchResult result (λ _. ⊤) (λ fault. 1 ≡ 1)' 'IfErr result (IsReason by)' \
+    'let much = by in IfErr result (IsReason much)' \
     'IfErr result (λ fault. fault ≢ WashFault.Memory → wash by ≡ Err fault)' 'result ≡ wash by' \
     'IfErr result (λ fault. (fault ≡ WashFault.Write) ⊎ (fault ≡ WashFault.Memory))' \
     'IfErr result (λ fault. IsFault by fault)' 'OnErr result (by ≢ 1)' \

@@ -135,7 +135,9 @@ def read_head(function, lines, at):
             if clause[1] == "requires":
                 function.requires.append(text[:text.rindex("}")].strip())
             else:
-                function.ensures.append(text[:text.rindex("}")].strip())
+                # (what comes before `in` gives names alone)
+                said = re.sub(r"^(let .*? in )+", "", text[:text.rindex("}")].strip())
+                function.ensures.append(said)
                 if notes:
                     group = (in_one_line(notes), [])
                     function.groups.append(group)
