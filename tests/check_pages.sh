@@ -296,7 +296,7 @@ file=must-fail/never_pours.edit
 edit $bugs/never_pours 'file' 'files'
 holds 'or is no code' stale $bugs/never_pours.edit \
     'must-fail/never_pours.edit is no file of src/ or specs/ in this crate' 6
-for lines in 'new: x' 'old: self.pour(by)' 'also: x' ''; do
+for lines in 'new: x' 'old: self.pour(by)' 'also: x' '' $'old:\nnew: x'; do
     printf '%s\n' 'file: src/cup.rt' "$lines" >"$house/$bugs/never_pours.edit"
     holds "and one that cannot be read ($lines)" stale $bugs/never_pours.edit \
         "it is not a line 'file: ' and then pairs of lines 'old: ' and 'new: '" 6

@@ -22,7 +22,8 @@ import os
 import re
 import sys
 
-from check_edits import TOP, edits_in, function_of, has_answers, read
+sys.dont_write_bytecode = True
+from check_edits import TOP, edits_in, function_of, has_answers, read  # noqa: E402
 
 # The folders of a crate's edits: those of the gate, those that are tried by hand, and controls.
 FOLDERS = ("crates/{}/must-fail", "tests/more_edits/{}", "tests/controls/{}")
@@ -30,8 +31,7 @@ FOLDERS = ("crates/{}/must-fail", "tests/more_edits/{}", "tests/controls/{}")
 
 def fault_of_form(text):
     """What is wrong with the lines of an edit, or None."""
-    kinds = " ".join(re.sub(r"^(file|old|new):( .*)?$", r"\1", line) for line in text.splitlines())
-    if not re.fullmatch(r"file( old new)+", kinds):
+    if not re.fullmatch(r"file: .+\n(old: .+\nnew:( .*)?(\n|$))+", text):
         return "it is not a line 'file: ' and then pairs of lines 'old: ' and 'new: '"
     return None
 
