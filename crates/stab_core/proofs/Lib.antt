@@ -17,6 +17,9 @@ pub mod Kept
 pub mod Events
 pub mod LinkLaws
 pub mod FewerLabels
+pub mod Bounded
+pub mod Shifted
+pub mod PassedOn
 pub mod CounterExamples
 pub mod WorstStart
 pub mod TooFewLabels

@@ -3,6 +3,8 @@ pub use Rattle.stab_frames.specs.Queue
 pub mod LinkState
 pub mod Step
 pub mod Replay
+pub mod Since
+pub mod Faults
 pub mod Picks
 pub mod LinkLaw
 pub mod Trace

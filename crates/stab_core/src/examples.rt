@@ -1,13 +1,17 @@
 //! Examples of the definitions, worked out: a law with an empty body.
 
-ghost use Rattle.std.specs.Prelude.{◌≡◌, [], ◌∷◌, Some, None, true, false};
+ghost use Rattle.std.specs.Prelude.{◌≡◌, [], ◌∷◌, Some, None, true, false, drop};
+ghost use Rattle.stab_frames.specs.Parameters.{Parameters};
 ghost use Rattle.stab_core.specs.CounterExamples.{four_labels, take_frame};
 ghost use Rattle.stab_core.specs.CounterExamples.{worst_start, worst_events};
+ghost use Rattle.stab_core.specs.Faults.{struck, sender_anew, receiver_anew};
 ghost use Rattle.stab_core.specs.Halves.{SenderState, waits_for};
 ghost use Rattle.stab_core.specs.Link.{IsReason};
 ghost use Rattle.stab_core.specs.LinkActs.{event_of};
 ghost use Rattle.stab_core.specs.LinkState.{LinkState, is_holding, current_frame};
 ghost use Rattle.stab_core.specs.Picks.{Picks};
+ghost use Rattle.stab_core.specs.Replay.{initial, replay};
+ghost use Rattle.stab_core.specs.Since.{start_at, offered_since, acked_since, delivered_since};
 ghost use Rattle.stab_core.specs.Step.{step, effect};
 ghost use Rattle.stab_core.specs.Trace.{traced_initial, traced_replay};
 ghost use Rattle.stab_core.specs.declared.act.LinkAct.{LinkAct};
@@ -74,4 +78,83 @@ pub fn worked_out()
     } in
         IsReason four_labels start StartFault.TooManyFrames
         × ¬ IsReason four_labels start StartFault.TooManyAcks }
+{}
+
+/// The holding link of the example above, hit by faults, and counted from there.
+pub fn faults_worked_out()
+    // A strike leaves the three lists, the count and so the item 13 that the sender holds.
+    ensures strike { let s : LinkState = record {
+      frames = [];
+      acks = [];
+      send_label = 3;
+      offered = 10 ∷ 11 ∷ 12 ∷ 13 ∷ [];
+      acked = 3;
+      recv_label = 2;
+      delivered = 99 ∷ [];
+      closed = false;
+    } in
+        let start : Start = record {
+      frames = record { label = 2; item = 98 } ∷ [];
+      acks = 0 ∷ [];
+      send_label = 0;
+      recv_label = 1;
+    } in
+        (start_at (struck start s) ≡ start)
+        × (struck start s ≡ record s {
+          frames = record { label = 2; item = 98 } ∷ [];
+          acks = 0 ∷ [];
+          send_label = 0;
+          recv_label = 1;
+        })
+        × (is_holding (struck start s) ≡ true)
+        × (current_frame (struck start s) ≡ record { label = 0; item = 13 }) }
+    // Counted from the strike the sender was offered 13 at once. The front acknowledgement counts
+    // for it, the stray 98 is delivered, and 14 is offered: 13 and 14 were offered since, 1 of them
+    // is acknowledged, and 98 was delivered.
+    ensures since { let s : LinkState = record {
+      frames = record { label = 2; item = 98 } ∷ [];
+      acks = 0 ∷ [];
+      send_label = 0;
+      offered = 10 ∷ 11 ∷ 12 ∷ 13 ∷ [];
+      acked = 3;
+      recv_label = 1;
+      delivered = 99 ∷ [];
+      closed = false;
+    } in
+        let t = replay four_labels s
+        (Event.RecvAck false ∷ take_frame ∷ Event.Offer 14 ∷ []) in
+        (offered_since s t ≡ 13 ∷ 14 ∷ []) × (acked_since s t ≡ 1)
+        × (delivered_since s t ≡ 98 ∷ []) }
+    // A sender that begins anew holds nothing, and a receiver that does has delivered nothing.
+    ensures anew { let s : LinkState = record {
+      frames = [];
+      acks = [];
+      send_label = 3;
+      offered = 12 ∷ 13 ∷ [];
+      acked = 1;
+      recv_label = 2;
+      delivered = 99 ∷ [];
+      closed = false;
+    } in
+        (is_holding (sender_anew s) ≡ false) × ((sender_anew s).send_label ≡ 3)
+        × ((sender_anew s).delivered ≡ 99 ∷ [])
+        × (receiver_anew s ≡ record s { delivered = [] }) }
+    // With 2c + 1 acknowledged items a link need not pass on exactly yet. At capacity 2 this link
+    // has acknowledged 5, from 10 to 14, and the next item that it delivers is 12.
+    ensures one_fewer { let start : Start = record {
+      frames = record { label = 3; item = 98 } ∷ record { label = 4; item = 99 } ∷ [];
+      acks = 0 ∷ 1 ∷ [];
+      send_label = 0;
+      recv_label = 2;
+    } in
+        let p : Parameters = record { capacity = 2; labels = 6 } in
+        let s = initial start in
+        let middle = replay p s
+        (Event.Offer 10 ∷ Event.RecvAck false ∷ Event.Offer 11 ∷ Event.RecvAck false
+        ∷ Event.SendAck ∷ Event.Offer 12 ∷ take_frame ∷ Event.SendFrame ∷ Event.RecvAck false
+        ∷ Event.SendAck ∷ Event.Offer 13 ∷ Event.RecvAck false ∷ take_frame
+        ∷ Event.SendAck ∷ Event.Offer 14 ∷ Event.RecvAck false ∷ []) in
+        let t = replay p middle (take_frame ∷ []) in
+        (acked_since s middle ≡ 5) × (drop middle.acked t.offered ≡ [])
+        × (delivered_since middle t ≡ 12 ∷ []) }
 {}

@@ -16,6 +16,8 @@ ghost use Rattle.stab_core.specs.LinkLaw.{HalfLaw, LinkLaw, LinkLawWithin, Sharp
 ghost use Rattle.stab_core.specs.LinkState.{LinkState};
 ghost use Rattle.stab_core.specs.Reachable.{IsReachable};
 ghost use Rattle.stab_core.specs.Replay.{IsLawful, initial, replay, start_items};
+ghost use Rattle.stab_core.specs.Since.{IsBounded, PassesOn, start_at};
+ghost use Rattle.stab_core.specs.Since.{offered_since, acked_since, delivered_since};
 ghost use Rattle.stab_core.specs.Step.{step};
 ghost use Rattle.stab_core.specs.Trace.{Explains, traced_initial, traced_replay};
 ghost use Rattle.stab_core.specs.declared.event.Event.{Event};
@@ -105,6 +107,47 @@ pub fn every_replay_obeys_the_half_law()
     ensures { (p : Parameters) (start : Start) (events : List Event)
         → IsLawful p start → let s = replay p (initial start) events in
         HalfLaw p.capacity (start_items start) s.offered s.acked s.delivered }
+{}
+
+/// Every event keeps a link within its bounds.
+pub fn replays_stay_bounded()
+    ensures { (p : Parameters) (s : LinkState) (events : List Event)
+        → IsBounded p s → IsBounded p (replay p s events) }
+{}
+
+/// The half law from any state: it holds of what was offered, acknowledged and delivered since.
+pub fn half_law_from_any_state()
+    ensures { (p : Parameters) (s : LinkState) (events : List Event)
+        → IsBounded p s → let t = replay p s events in
+        HalfLaw p.capacity (start_items (start_at s))
+        (offered_since s t) (acked_since s t) (delivered_since s t) }
+{}
+
+/// The link law from any state, whatever its labels, and whether or not its sender holds an item:
+/// since then at most `c` strays were delivered, which are in the queued frames, and then what was
+/// offered since; of what was acknowledged since only some among the first `2c + 1` can be missing.
+pub fn link_law_from_any_state()
+    ensures { (p : Parameters) (s : LinkState) (events : List Event)
+        → AreLawful p → IsBounded p s → let t = replay p s events in
+        LinkLaw p.capacity (start_items (start_at s))
+        (offered_since s t) (acked_since s t) (delivered_since s t) }
+{}
+
+/// The sharper link law from any state.
+pub fn sharper_link_law_from_any_state()
+    ensures { (p : Parameters) (s : LinkState) (events : List Event)
+        → AreLawful p → IsBounded p s → let t = replay p s events in
+        SharperLinkLaw p.capacity (start_items (start_at s))
+        (offered_since s t) (acked_since s t) (delivered_since s t) }
+{}
+
+/// Once `2c + 2` items were acknowledged since any state, a link passes on exactly what it is
+/// offered: no stray comes any more, and no acknowledged item is missing.
+pub fn links_pass_on_exactly()
+    ensures { (p : Parameters) (s : LinkState) (before after : List Event)
+        → AreLawful p → IsBounded p s → let middle = replay p s before in
+        2 * p.capacity + 2 ≤ acked_since s middle
+        → PassesOn middle (replay p middle after) }
 {}
 
 /// Two labels are too few: from a lawful start this event list breaks the link law, since an item

@@ -12,6 +12,7 @@ pub mod examples;
 pub mod laws;
 mod link;
 mod origin;
+mod queues;
 mod receiver;
 mod replay;
 mod sender;

@@ -1,12 +1,14 @@
 ghost use Rattle.std.specs.Prelude.{◌≡◌, ◌+◌, ◌≤◌, false, length, slice_get, if◌then◌else◌};
-ghost use Rattle.std.specs.Prelude.{IfOk, IfErr, OnErr};
+ghost use Rattle.std.specs.Prelude.{◌≢◌, IfOk, IfErr, OnOk, OnErr};
 ghost use Rattle.stab_frames.specs.Queue.{queue};
+ghost use Rattle.stab_core.specs.Faults.{struck, sender_anew, receiver_anew};
 ghost use Rattle.stab_core.specs.LinkState.{LinkState, is_idle};
 ghost use Rattle.stab_core.specs.Step.{step, effect, open_step, open_effect};
 ghost use Rattle.stab_core.specs.Replay.{initial, IsLawful};
 ghost use Rattle.stab_core.specs.Link.{link_at, Steps, Grows, IsReason};
 
 use crate::event::{Effect, Event};
+use crate::queues::refill;
 use crate::receiver::Receiver;
 use crate::sender::Sender;
 use crate::start::{Start, StartFault};
@@ -94,6 +96,50 @@ impl Link {
             Event::LoseAck(place) => Ok(self.lose_ack(place)),
             Event::Close => Ok(self.close()),
         }
+    }
+
+    /// A fault strikes the link: its queues and labels become these, whatever they were. An item that
+    /// the sender holds stays, and so do the lists. It takes no memory.
+    ///
+    /// A start with too many frames is refused, then one with too many acknowledgements.
+    pub fn strike(&mut self, start: &Start) -> Result<(), StartFault>
+        ensures struck { OnOk result
+            (self.new ≡ link_at self.old.params (struck start.now self.old.state)) }
+        ensures lawful { OnOk result (IsLawful self.old.params start.now) }
+        ensures refused { IfErr result (IsReason self.old.params start.now) }
+        ensures no_memory { IfErr result (λ fault. fault ≢ StartFault.Memory) }
+        ensures unchanged { OnErr result (self.new ≡ self.old) }
+    {
+        let capacity = usize::from(self.params.capacity());
+        if start.frames.len() > capacity {
+            return Err(StartFault::TooManyFrames);
+        }
+        if start.acks.len() > capacity {
+            return Err(StartFault::TooManyAcks);
+        }
+        refill(&mut self.frames, start.frames.as_slice());
+        refill(&mut self.acks, start.acks.as_slice());
+        self.sender.relabel(start.send_label);
+        self.receiver = Receiver::new(start.recv_label);
+        Ok(())
+    }
+
+    /// The sender begins anew, under its label: it was offered nothing, and holds nothing. It takes
+    /// no memory.
+    pub fn begin_sender_anew(&mut self)
+        ensures { self.new ≡ link_at self.old.params (sender_anew self.old.state) }
+    {
+        self.sender = Sender::new(self.sender.label());
+        self.offered.clear();
+        self.acked = 0;
+    }
+
+    /// The receiver begins anew, with the label that it remembers: it delivered nothing. It takes no
+    /// memory.
+    pub fn begin_receiver_anew(&mut self)
+        ensures { self.new ≡ link_at self.old.params (receiver_anew self.old.state) }
+    {
+        self.delivered.clear();
     }
 
     /// The sender holds the item, where it is idle.

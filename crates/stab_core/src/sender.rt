@@ -70,6 +70,13 @@ impl Sender {
         }
     }
 
+    /// Gives the sender another label. An item that it holds stays.
+    pub fn relabel(&mut self, label: Label)
+        ensures { self.new ≡ record self.old { label = label } }
+    {
+        self.label = label;
+    }
+
     /// The sender's label.
     pub fn label(&self) -> Label
         ensures { result ≡ self.now.label }

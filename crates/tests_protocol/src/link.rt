@@ -296,3 +296,106 @@ fn an_act_becomes_an_event(rt: HostRuntime) {
         assert!(rt; act.event(item) == want, "{act:?}");
     }
 }
+
+/// The same link after a strike and further events, by its text.
+///
+/// The sender holds 12, its third item. The strike leaves it, and gives it the label 0; the
+/// acknowledgement in it then counts for 12, and the stray 99 is delivered.
+#[test]
+fn a_struck_link_keeps_its_item(rt: HostRuntime) {
+    let mut link = link_after(&rt, &CLEAN, &rounds(&rt, &[10, 11]));
+    assert_steps(
+        &rt,
+        &mut link,
+        &[
+            (Event::Offer(12), Effect::Held),
+            (Event::SendFrame, Effect::Sent),
+        ],
+    );
+    link.strike(&start(&rt, &WORST)).expect(&rt, "it fits");
+    assert_text(&rt, &link, STRUCK);
+    assert_steps(
+        &rt,
+        &mut link,
+        &[
+            (TAKE_ACK, Effect::Acked),
+            (TAKE_FRAME, Effect::Fresh(99)),
+            (Event::Offer(13), Effect::Held),
+        ],
+    );
+    assert_text(&rt, &link, AFTER_THE_STRIKE);
+}
+
+/// The link that was struck.
+const STRUCK: &str = "\
+delivered: 10 11
+offered: 10 11 12
+acked: 2
+send label: 0
+recv label: 1
+frames: 2=99
+acks: 0
+closed: no
+";
+
+/// The link some events later.
+const AFTER_THE_STRIKE: &str = "\
+delivered: 10 11 99
+offered: 10 11 12 13
+acked: 3
+send label: 1
+recv label: 2
+frames:
+acks:
+closed: no
+";
+
+#[test]
+fn an_overfull_strike_changes_nothing(rt: HostRuntime) {
+    for (opening, fault) in &OVERFULL {
+        let mut link = link_after(&rt, &CLEAN, &rounds(&rt, &[7, 8]));
+        let before = link_text(rt.alloc(), &link).expect(&rt, "a text");
+        let refused = link.strike(&start(&rt, opening));
+        assert!(rt; refused == Err(*fault), "{refused:?}");
+        assert_text(&rt, &link, before.as_str());
+    }
+}
+
+/// Both ends of the same link begin anew: the labels stay, and the queues.
+#[test]
+fn ends_begin_anew(rt: HostRuntime) {
+    let mut link = link_after(&rt, &CLEAN, &rounds(&rt, &[10, 11]));
+    assert_steps(
+        &rt,
+        &mut link,
+        &[
+            (Event::Offer(12), Effect::Held),
+            (Event::SendFrame, Effect::Sent),
+        ],
+    );
+    link.begin_sender_anew();
+    assert_text(&rt, &link, SENDER_ANEW);
+    link.begin_receiver_anew();
+    assert!(rt; link.delivered().is_empty());
+    assert_steps(
+        &rt,
+        &mut link,
+        &[
+            (Event::SendFrame, Effect::Nothing),
+            (TAKE_FRAME, Effect::Fresh(12)),
+            (Event::Offer(50), Effect::Held),
+        ],
+    );
+}
+
+/// The link whose sender began anew: what it sent before is still on its way.
+const SENDER_ANEW: &str = "\
+delivered: 10 11
+offered:
+acked: 0
+send label: 2
+recv label: 1
+frames: 2=12
+acks:
+closed: no
+";

@@ -1,0 +1,168 @@
+#!/usr/bin/env python3
+"""reference.py: a tree of links with faults in plain Python, from the rules in docs/PROTOCOL.md,
+and a search over random trees for a node that breaks the law counted from its last fault.
+
+    tests/faults/reference.py [N]     N random trees (10,000 by default), and how near the bounds came
+
+It is an independent program: the expected values of the tests of `stab_faults` are its values, and
+nothing of it is made from the crates."""
+import random, sys
+
+class Link:
+    def __init__(s, capacity, labels, frames=(), acks=(), send=0, recv=65535):
+        s.capacity, s.labels = capacity, labels
+        s.offered, s.acked, s.delivered = [], 0, []
+        s.strike(frames, acks, send, recv)
+
+    def strike(s, frames, acks, send, recv):
+        """The queues and labels become these; an item that the sender holds stays."""
+        assert len(frames) <= s.capacity and len(acks) <= s.capacity
+        s.frames, s.acks, s.send, s.recv = list(frames), list(acks), send, recv
+
+    def holds(s):
+        return len(s.offered) == s.acked + 1
+
+    def act(s, act, above, place=0):
+        """One act: offers come from the list above."""
+        if act == 'offer':
+            if not s.holds() and len(s.offered) < len(above):
+                s.offered.append(above[len(s.offered)])
+        elif act == 'send_frame':
+            if s.holds() and len(s.frames) < s.capacity:
+                s.frames.append((s.send, s.offered[s.acked]))
+        elif act in ('recv_frame', 'recv_frame_keep'):
+            if s.frames:
+                label, item = s.frames[0]
+                if act == 'recv_frame':
+                    s.frames.pop(0)
+                if label != s.recv:
+                    s.recv = label
+                    s.delivered.append(item)
+        elif act == 'send_ack':
+            if len(s.acks) < s.capacity:
+                s.acks.append(s.recv)
+        elif act in ('recv_ack', 'recv_ack_keep'):
+            if s.acks:
+                label = s.acks[0]
+                if act == 'recv_ack':
+                    s.acks.pop(0)
+                if s.holds() and label == s.send:
+                    s.acked += 1
+                    s.send = (s.send + 1) % s.labels
+        elif act == 'lose_frame':
+            del s.frames[place:place + 1]
+        elif act == 'lose_ack':
+            del s.acks[place:place + 1]
+
+class Tree:
+    def __init__(s, parents, links, published):
+        """A node's parent is the place of it, and None at the root; links are by child."""
+        s.parents, s.links, s.published = parents, links, list(published)
+        s.openings = [[] for _ in parents]
+
+    def list_of(s, node):
+        return s.openings[node] + s.links[node].delivered if s.links[node] else s.published
+
+    def act(s, child, act, place=0):
+        s.links[child].act(act, s.list_of(s.parents[child]), place)
+
+    def restart(s, node, items):
+        """The node's list becomes these, and its senders begin anew."""
+        if s.links[node]:
+            s.openings[node], s.links[node].delivered = list(items), []
+        else:
+            s.published = list(items)
+        for child, parent in enumerate(s.parents):
+            if parent == node:
+                s.links[child].offered, s.links[child].acked = [], 0
+
+    def path(s, node):
+        """The node and all nodes above it but the root, from the node up."""
+        while s.parents[node] is not None:
+            yield node
+            node = s.parents[node]
+
+    def backlog(s, child):
+        link, above = s.links[child], s.list_of(s.parents[child])
+        return link.offered[link.acked:] + above[len(link.offered):]
+
+class Count:
+    """What is counted of each node from a moment on."""
+    def __init__(s, tree):
+        s.had = [len(tree.list_of(n)) for n in range(len(tree.parents))]
+        inner = [n for n in range(len(tree.parents)) if tree.parents[n] is not None]
+        s.backlog = {n: list(tree.backlog(n)) for n in inner}
+
+    def of(s, tree, node):
+        """Its bounds on strays and missing items, what is published for it, what it received."""
+        way = list(tree.path(node))
+        strays = sum(tree.links[n].capacity for n in way)
+        strays += sum(len(s.backlog[n]) for n in way[:-1])
+        missing = sum(2 * tree.links[n].capacity + 1 for n in way)
+        return strays, missing, s.backlog[way[-1]] + tree.published[s.had[0]:], \
+            tree.list_of(node)[s.had[node]:]
+
+    def slack(s, tree, node):
+        """How far below its bounds the node is, with as few strays as explain what it received."""
+        strays, missing, published, got = s.of(tree, node)
+        for cut in range(min(strays, len(got)) + 1):
+            if not set(got[cut:]) <= set(published):
+                continue
+            places = [published.index(item) for item in got[cut:]]
+            gone = [k for k in range(places[-1]) if k not in places] if places else []
+            if places == sorted(set(places)) and all(k < missing for k in gone):
+                return strays - cut, missing - len(gone)
+        raise AssertionError((node, strays, missing, published, got))
+
+ACTS = ['offer', 'send_frame', 'recv_frame', 'send_ack', 'recv_ack'] * 4 + [
+    'recv_frame_keep', 'recv_ack_keep', 'lose_frame', 'lose_ack']
+
+def random_tree(rng):
+    parents, links = [None], [None]
+    for node in range(1, rng.randint(2, 5)):
+        capacity = rng.randint(1, 2)
+        parents.append(rng.randrange(node))
+        links.append(Link(capacity, 2 * capacity + 2 + rng.randint(0, 1)))
+    return Tree(parents, links, [])
+
+def strike_at_random(rng, link, new):
+    labels = list(range(link.labels)) + [65535]
+    some = lambda: rng.choice(labels)
+    frames = [(some(), next(new)) for _ in range(rng.randint(0, link.capacity))]
+    link.strike(frames, [some() for _ in range(rng.randint(0, link.capacity))], some(), some())
+
+def search(seed):
+    """Random changes; then each node is counted from the last fault that hits it."""
+    rng = random.Random(seed)
+    tree = random_tree(rng)
+    nodes = range(1, len(tree.parents))
+    published, new = iter(range(10 ** 6)), iter(range(10 ** 6, 10 ** 7))
+    counts, faults = {node: Count(tree) for node in nodes}, rng.randint(0, 6)
+    for _ in range(rng.randint(50, 260)):
+        x, node = rng.random(), rng.choice(nodes)
+        if x < 0.04:
+            tree.published.append(next(published))
+        elif x < 0.08 and faults:
+            faults -= 1
+            if rng.random() < 0.6:
+                strike_at_random(rng, tree.links[node], new)
+            else:
+                tree.restart(node, [next(new) for _ in range(rng.randint(0, 2))])
+            moment = Count(tree)
+            counts.update({n: moment for n in nodes if node in tree.path(n)})
+        else:
+            tree.act(node, rng.choice(ACTS), rng.randint(0, 1))
+    return [counts[node].slack(tree, node) for node in nodes]
+
+def main():
+    number = int(sys.argv[1]) if len(sys.argv) > 1 else 10000
+    nearest, nodes = [10 ** 9, 10 ** 9], 0
+    for seed in range(number):
+        for strays, missing in search(seed):
+            nodes += 1
+            nearest = [min(nearest[0], strays), min(nearest[1], missing)]
+    print(f'{number} trees, {nodes} nodes counted from their last fault, all within the bounds;')
+    print(f'the strays came within {nearest[0]} of theirs, the missing items within {nearest[1]}')
+
+if __name__ == '__main__':
+    main()
