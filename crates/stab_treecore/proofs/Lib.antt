@@ -12,3 +12,5 @@ pub mod Edges
 pub mod Refused
 pub mod Lines
 pub mod Listed
+pub mod Happened
+pub mod ForChanges

@@ -44,3 +44,18 @@ follows_nothing (Ok had) before after e steps unchanged none first list is =
     ap (λ l. l.state.delivered) steps.0 ∙ (step_grown before.params before.state e ∙ ap (then_item before.state.delivered) none) in
     is ∙ ap (λ xs. first ++ xs) (sym delivered)
 follows_nothing (Err refused) before after e steps unchanged none first list is = is ∙ ap (λ l. first ++ l.state.delivered) (sym unchanged)
+
+-- a link is written anew that delivered what is beside it
+pub listed_struck : (openings : List (List ℕ)) (links : List (Option LinkValue)) (lists : List (List ℕ)) (place : ℕ) (after : Option LinkValue)
+    → place < length links → IsListed openings links lists
+    → ((link : LinkValue) → after ≡ Some link → opening_at openings place ++ link.state.delivered ≡ get_or lists place [])
+    → IsListed openings (set links place after) lists
+listed_struck openings links lists place after in_links listed written node link is =
+    elim (cases_eq node place) [
+      | inl same ↦
+          let link_there : after ≡ Some link = sym (get_or-set_same links place after None in_links) ∙ (ap (λ w. get_or (set links place after) w None) (sym same) ∙ is) in
+          ap (λ w. get_or lists w []) same
+          ∙ (sym (written link link_there) ∙ ap (λ w. opening_at openings w ++ link.state.delivered) (sym same))
+      | inr other ↦
+          listed node link (sym (get_or-set_other links place node after None other) ∙ is)
+    ]

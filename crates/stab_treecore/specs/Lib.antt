@@ -1,4 +1,5 @@
 pub mod EdgeLaw
+pub mod Faults
 pub mod Fresh
 pub mod Network
 pub mod NodeLaws

@@ -5,17 +5,24 @@
 -- are lawful. A schedule of acknowledgements alone makes no list grow, so no reason of memory at a
 -- step exists for it.
 -- Source: this project's own.
-use Rattle.std.specs.Prelude.{◌≡◌, ◌⊎◌, ℕ, List, [], ◌∷◌, length, Option, All, IsSome, IsNone}
+use Rattle.std.specs.Prelude.{◌≡◌, ◌≢◌, ◌⊎◌, ℕ, ◌<◌, ◌≤◌, List, [], ◌∷◌, length, Option, Some, None}
+use Rattle.std.specs.Prelude.{All, IsSome, IsNone}
 use Rattle.stab_frames.specs.Parameters.{Parameters}
 use Rattle.stab_core.specs.declared.start.Start.{Start}
 use Rattle.stab_core.specs.declared.start.StartFault.{StartFault}
 use Rattle.stab_core.specs.declared.start.StartFault.TheVariants.{TooManyFrames, TooManyAcks}
 use Rattle.stab_core.specs.declared.start.StartFault.TheVariants.{Memory}
-use Rattle.stab_core.specs.Link.{Grows, IsReason}
+use Rattle.stab_core.specs.Link.{Grows, IsReason, LinkValue}
 use Rattle.stab_core.specs.LinkSetup.{CanBegin, LinkSetup, setups}
 use Rattle.stab_tree.specs.Links.{links_of}
 use Rattle.stab_tree.specs.Nodes.{parent_at}
 use Rattle.stab_treecore.specs.declared.event.TreeEvent.{TreeEvent}
+use Rattle.stab_treecore.specs.declared.fault.RestartFault.{RestartFault}
+use Rattle.stab_treecore.specs.declared.fault.RestartFault.TheVariants.{NoSuchNode}
+use Rattle.stab_treecore.specs.declared.fault.RestartFault.TheVariants.{Memory as RestartMemory}
+use Rattle.stab_treecore.specs.declared.fault.StrikeFault.{StrikeFault}
+use Rattle.stab_treecore.specs.declared.fault.StrikeFault.TheVariants.{NoSuchLink as NoLinkStruck}
+use Rattle.stab_treecore.specs.declared.fault.StrikeFault.TheVariants.{Start as StrikeRefused}
 use Rattle.stab_treecore.specs.declared.fault.TreeStartFault.{TreeStartFault}
 use Rattle.stab_treecore.specs.declared.fault.TreeStartFault.TheVariants.{StartCount}
 use Rattle.stab_treecore.specs.declared.fault.TreeStartFault.TheVariants.{Start as StartRefused}
@@ -26,7 +33,7 @@ use Rattle.stab_treecore.specs.declared.fault.TreeStepFault.TheVariants.{Memory 
 use Rattle.stab_treecore.specs.Network.{Network}
 use Rattle.stab_treecore.specs.TreeReplay.{initial_tree}
 use Rattle.stab_treecore.specs.TreeStep.{tree_step, tree_effect}
-use Rattle.stab_treecore.specs.WholeTree.{WholeTree}
+use Rattle.stab_treecore.specs.WholeTree.{WholeTree, link_into}
 
 -- there is one entry for each link
 abbrev pub OnePerLink : {A : Type 0} → List (Option ℕ) → List A → Type 0
@@ -84,3 +91,19 @@ IsScheduleReason params starts net events (Step fault) =
     OnePerLink net.tree.parents params × OnePerLink net.tree.parents starts
     × All CanBegin net.links
     × IsStepReason (initial_tree net) events fault
+
+-- why a fault cannot strike a link: there is none, or what is to be in it does not fit; never memory
+abbrev pub IsStrikeReasonOf : Option LinkValue → Start → StrikeFault → Type 0
+IsStrikeReasonOf link start NoLinkStruck = IsNone link
+IsStrikeReasonOf None start (StrikeRefused fault) = ⊥
+IsStrikeReasonOf (Some link) start (StrikeRefused fault) =
+    IsReason link.params start fault × (fault ≢ Memory)
+
+-- why a fault cannot strike the link into a node
+abbrev pub IsStrikeReason : WholeTree → ℕ → Start → StrikeFault → Type 0
+IsStrikeReason t child = IsStrikeReasonOf (link_into t child)
+
+-- why a node cannot restart: there is no such node, or memory where there is one
+abbrev pub IsRestartReason : List (Option ℕ) → ℕ → RestartFault → Type 0
+IsRestartReason parents node NoSuchNode = length parents ≤ node
+IsRestartReason parents node RestartMemory = node < length parents

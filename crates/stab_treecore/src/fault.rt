@@ -13,6 +13,28 @@ pub enum TreeStepFault {
     Memory,
 }
 
+/// Why a fault cannot strike a link of a tree, in the order of the checks.
+#[derive(Clone, Copy, Debug, PartialEq, Eq, Error)]
+pub enum StrikeFault {
+    /// The fault names the root or no node.
+    #[error("strike: no such link")]
+    NoSuchLink,
+    /// What is to be in the link does not fit it; it is never memory.
+    #[error("{0}")]
+    Start(StartFault),
+}
+
+/// Why a node of a tree cannot restart, in the order of the checks.
+#[derive(Clone, Copy, Debug, PartialEq, Eq, Error)]
+pub enum RestartFault {
+    /// There is no such node.
+    #[error("restart: no such node")]
+    NoSuchNode,
+    /// Memory was refused.
+    #[error("out of memory")]
+    Memory,
+}
+
 /// Why a whole tree cannot begin, or cannot be run to the end of a schedule, in the order of the
 /// checks.
 #[derive(Clone, Copy, Debug, PartialEq, Eq, Error)]
@@ -27,6 +49,28 @@ pub enum TreeStartFault {
     /// An event of the schedule was refused.
     #[error("{0}")]
     Step(TreeStepFault),
+}
+
+impl From<StartFault> for StrikeFault {
+    ghost use Rattle.std.specs.Prelude.{◌≡◌};
+    ghost use Rattle.stab_treecore.specs.declared.fault.StrikeFault.TheVariants.{Start};
+
+    ghost from_gives = { λ refused fault. fault ≡ Start refused };
+
+    fn from(fault: StartFault) -> StrikeFault {
+        StrikeFault::Start(fault)
+    }
+}
+
+impl From<AllocError> for RestartFault {
+    ghost use Rattle.std.specs.Prelude.{◌≡◌};
+    ghost use Rattle.stab_treecore.specs.declared.fault.RestartFault.TheVariants.{Memory};
+
+    ghost from_gives = { λ _ fault. fault ≡ Memory };
+
+    fn from(_error: AllocError) -> RestartFault {
+        RestartFault::Memory
+    }
 }
 
 impl From<AllocError> for TreeStepFault {

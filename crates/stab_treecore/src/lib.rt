@@ -11,6 +11,7 @@
 
 mod event;
 mod fault;
+mod hit;
 pub mod laws;
 mod open;
 mod schedule;
@@ -18,7 +19,7 @@ mod state;
 mod text;
 
 pub use event::TreeEvent;
-pub use fault::{TreeStartFault, TreeStepFault};
+pub use fault::{RestartFault, StrikeFault, TreeStartFault, TreeStepFault};
 pub use schedule::run_schedule;
 pub use stab_core::LinkAct;
 pub use stab_tree::{OpeningFault, Openings, is_inner};

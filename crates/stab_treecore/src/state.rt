@@ -1,21 +1,26 @@
 ghost use Rattle.std.specs.Prelude.{◌≡◌, ◌↔◌, ◌<◌, length, is_some, option_copied, option_map, All};
+ghost use Rattle.std.specs.Prelude.{if◌then◌else◌};
 ghost use Rattle.std.specs.Prelude.{ℕ, List, ◌++◌, Some, IsSome, IsNone, IfOk, IfErr, OnOk, OnErr, IsErrOf};
 ghost use Rattle.std.specs.Option.{option_map_or};
 ghost use Rattle.stab_core.specs.Link.{Grows, LinkValue, Steps};
 ghost use Rattle.stab_core.specs.LinkSetup.{CanBegin, setups};
+ghost use Rattle.stab_core.specs.Replay.{IsLawful};
 ghost use Rattle.stab_tree.specs.Nodes.{parent_at};
 ghost use Rattle.stab_treecore.specs.WholeTree.{WholeTree, link_into, received, source};
 ghost use Rattle.stab_core.specs.Step.{effect};
+ghost use Rattle.stab_treecore.specs.Faults.{published_more, restarted_tree, struck_tree};
 ghost use Rattle.stab_treecore.specs.Fresh.{fresh_item};
 ghost use Rattle.stab_treecore.specs.Network.{network_of};
 ghost use Rattle.stab_tree.specs.NodeOpenings.{FitTree};
 ghost use Rattle.stab_treecore.specs.Refusals.{OnePerLink, IsStartReason, NamesLink, NamesNoLink};
+ghost use Rattle.stab_treecore.specs.Refusals.{IsRestartReason, IsStrikeReason};
 ghost use Rattle.stab_treecore.specs.TreeReplay.{initial_tree};
 ghost use Rattle.stab_treecore.specs.TreeStep.{next_item, link_after, effect_on, tree_step};
 ghost use Rattle.stab_treecore.specs.TreeStep.{tree_effect};
 
 use crate::event::TreeEvent;
-use crate::fault::{TreeStartFault, TreeStepFault};
+use crate::fault::{RestartFault, StrikeFault, TreeStartFault, TreeStepFault};
+use crate::hit;
 use crate::open;
 use stab_core::{Effect, Event, Link, Start};
 use stab_frames::{Item, Params};
@@ -118,6 +123,59 @@ impl TreeState {
         step(&mut self.links[place], &mut self.received[place], event)
     }
 
+    /// The root publishes more items, after those that it has. Where memory is refused, the whole
+    /// tree is as it was.
+    pub fn publish(&mut self, items: &[Item]) -> Result<(), AllocError>
+        ensures published { OnOk result (self.new ≡ published_more self.old items.now) }
+        ensures unchanged { OnErr result (self.new ≡ self.old) }
+    {
+        self.published.extend_from_slice(items)
+    }
+
+    /// A fault strikes the link into a node: its queues and labels become these. It takes no memory;
+    /// where it is refused, the whole tree is as it was.
+    pub fn strike(&mut self, child: NodeId, start: &Start) -> Result<(), StrikeFault>
+        ensures struck { OnOk result (self.new ≡ struck_tree self.old child start.now) }
+        ensures named { OnOk result (IsSome (link_into self.old child)) }
+        ensures lawful { OnOk result ((link : LinkValue) → link_into self.old child ≡ Some link
+            → IsLawful link.params start.now) }
+        ensures refused { IfErr result (IsStrikeReason self.old child start.now) }
+        ensures unchanged { OnErr result (self.new ≡ self.old) }
+    {
+        let place = child.index();
+        if place >= self.links.len() {
+            return Err(StrikeFault::NoSuchLink);
+        }
+        hit::strike(&mut self.links[place], start)
+    }
+
+    /// A node restarts: its list becomes this one, and its senders hold nothing and begin with the
+    /// first item of it; at the root it is what is published. Where it is refused, the whole tree is
+    /// as it was.
+    pub fn restart(
+        &mut self,
+        alloc: Global,
+        node: NodeId,
+        list: &[Item],
+    ) -> Result<(), RestartFault>
+        ensures restarted { OnOk result (self.new ≡ restarted_tree self.old node list.now) }
+        ensures refused { IfErr result (IsRestartReason self.old.parents node) }
+        ensures unchanged { OnErr result (self.new ≡ self.old) }
+    {
+        let place = node.index();
+        if place >= self.links.len() {
+            return Err(RestartFault::NoSuchNode);
+        }
+        let opening = Vec::from_slice(alloc, list)?;
+        let received = Vec::from_slice(alloc, list)?;
+        let published = Vec::from_slice(alloc, list)?;
+        replace_unless(self.links[place].is_some(), &mut self.published, published);
+        self.received[place] = received;
+        self.openings[place] = opening;
+        hit::restart(node, &self.parents, &mut self.links);
+        Ok(())
+    }
+
     /// What a node received: its opening, and then what the link into it delivered; at the root
     /// each published item.
     pub fn received(&self, node: NodeId) -> &[Item]
@@ -154,6 +212,15 @@ impl TreeState {
     {
         let link = self.link(child)?;
         self.source(child).get(link.offered().len()).copied()
+    }
+}
+
+/// A list is replaced, unless it is to be kept.
+fn replace_unless(keep: bool, list: &mut Vec<Item>, by: Vec<Item>)
+    ensures { list.new.items ≡ (if keep then list.old.items else by.items) }
+{
+    if !keep {
+        *list = by;
     }
 }
 

@@ -26,6 +26,9 @@ invariant_of-self c =
     record {
       linked = kind-set links place c.step.new.link (c.step.ensures.kind ∙ ap is_some stepped) ∙ c.self.invariant.linked;
       known_parents = c.self.invariant.known_parents;
+      root_has_none = c.self.invariant.root_has_none;
+      one_root = c.self.invariant.one_root;
+      one_opening_each = c.self.invariant.one_opening_each ∙ sym (length-set links place c.step.new.link);
       one_list_each =
           omega (
             arith,
