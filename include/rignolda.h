@@ -11,7 +11,9 @@
  *     back and keeps no pointer;
  *   - takes pointers that are not null and are aligned; none of one call points into what another
  *     of them points at; a struct or number that a call may write was given some value before;
- *   - may run at once with any other call that uses other structs and other buffers.
+ *   - may run at once with another call, as long as neither may write a struct, number or buffer
+ *     that the other uses. What a pointer to const points at is only read, so several calls may
+ *     read it at once.
  * A call that returns bool returns true if it did what it is for. Where it returns false, it wrote
  * nothing but the counts that it names.
  *
@@ -19,7 +21,16 @@
  *   - a label may be any uint16_t, as after a restart with whatever lay in memory;
  *   - holding and closed are true at any value but 0;
  *   - the item of a sender counts only while it is holding;
- *   - a length or a count of offered items past the end of a list is read as its end.
+ *   - a length past the end of the buffer is read as the buffer's. Where a child's count of offered
+ *     items is past the end of the list, it is offered nothing until the list is longer than that.
+ *
+ * A count of a link is what the laws are about: all that happens on it from a moment that you
+ * choose, whatever the structs and the line hold then. From its beginning to its end a link has one
+ * struct of a sender and one of a receiver. A count ends where a rignolda_.._init writes one of
+ * them, where one is put back from a copy, and where a second copy is used: what was delivered
+ * before may come again. Begin a new count then. What a node received before is no part of it, but
+ * for its backlog (rignolda_node_backlog) for its child on a path: that is the node's opening, with
+ * which its list begins.
  *
  * The laws (functions of the module laws of stab_c):
  *   - two_ends_on_a_line_are_a_link: two ends on a line that is first in first out, holds at most
@@ -36,7 +47,10 @@
  *     most C + E strays and after them published items in their order, each at most once; and
  *     before its last one only some among the first M can be missing. When the count begins, a
  *     child was offered nothing yet, or its sender holds the first item of the list; what lies
- *     before that item in the buffer is not counted.
+ *     before that item in the buffer is not counted. Where the children of a node are at different
+ *     items then, this is no one list. The law holds of each path by itself, as of a tree that is
+ *     this path alone: there the list of a node begins with the first item that its child on the
+ *     path has not acknowledged.
  *   - calls_of_nodes_are_acts_of_the_tree: what the calls do makes up what these laws are about.
  *     Each call that steps an end, or says what to send, has a clause `act`, which says what step
  *     of the laws' own definitions it is.
@@ -56,7 +70,7 @@ extern "C" {
 #endif
 
 /*
- * What a link is set up with: the same two numbers at both ends.
+ * What a link is set up with: the same two numbers at both ends, and in every call of one sender.
  * They are lawful if 1 <= capacity <= 64 and 2 * capacity + 2 <= labels <= 1000.
  */
 typedef struct rignolda_params {
@@ -199,16 +213,19 @@ void rignolda_node_init(rignolda_node *node, uint16_t label, uint32_t opening);
 void rignolda_child_init(rignolda_child *child, uint16_t label);
 
 /*
- * Puts an item at the end of the list: what the root does to publish. True: it is there. False: the
- * list is full (size items, or 4294967295 of them); node and list stay as they were.
+ * Puts an item at the end of the list: what the root does to publish. True: it is there, and what
+ * lies behind it in the buffer stays as it was. False: the list is full (size items, or 4294967295
+ * of them); node and list stay as they were.
+ * Call it at the root alone: no law speaks of an item that another node puts into its list.
  */
 bool rignolda_node_publish(rignolda_node *node, uint32_t *list, size_t size, uint32_t item);
 
 /*
  * Gives the node a frame from its parent. True: the frame is fresh, and its item is now the last of
- * the list. False, and the list, its length and the receiver stay as they were: the frame is old
- * (then old_frames is one more), or the receiver is closed, or the list is full. A fresh frame that
- * finds the list full is lost, as on the line.
+ * the list; what lies behind it in the buffer stays as it was. False, and the buffer, the length
+ * and the receiver stay as they were: the frame is old (then old_frames is one more), or the
+ * receiver is closed, or the list is full. A fresh frame that finds the list full is lost, as on
+ * the line.
  * So the list is its opening and then what the receiver delivered.
  * Law: it is at most C + E strays, then published items in their order.
  */

@@ -155,9 +155,9 @@ static void try_sender(void) {
     must(takes ? as_wanted(*sender, wanted) : same_sender(*sender, before), "the next label");
     part = "sender_close";
     *sender = wanted = before;
-    wanted.closed = 1;
     rignolda_sender_close(sender);
-    must(sender->closed && as_wanted(*sender, wanted), "closed, and nothing else");
+    wanted.closed = sender->closed;
+    must(sender->closed && same_sender(*sender, wanted), "closed, and nothing else");
     part = "sender_init";
     rignolda_sender_init(sender, *label);
     must(sender->label == *label && !sender->holding && !sender->closed, "idle, open, its label");

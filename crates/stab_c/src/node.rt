@@ -1,4 +1,4 @@
-ghost use Rattle.std.specs.Prelude.{◌≡◌, ◌&&◌, true, false, length, if◌then◌else◌};
+ghost use Rattle.std.specs.Prelude.{◌≡◌, ◌&&◌, true, false, drop, length, if◌then◌else◌};
 ghost use Rattle.stab_c.specs.Acts.{IsFrameReceived};
 ghost use Rattle.stab_c.specs.Ends.{after_frame, delivers, new_receiver};
 ghost use Rattle.stab_c.specs.Line.{with_taken};
@@ -44,6 +44,7 @@ pub extern "C" fn rignolda_node_publish(node: &mut Node, list: &mut [u32], item:
     ensures had_place { result ≡ has_place node.old list.old }
     ensures list { list_in list.new node.new ≡ with_taken result (list_in list.old node.old) item }
     ensures size { length list.new ≡ length list.old }
+    ensures behind { drop node.new.length list.new ≡ drop node.new.length list.old }
     ensures receiver { node.new.above ≡ node.old.above }
     ensures count { node.new.old_frames ≡ node.old.old_frames }
     ensures refused { result ≡ false → node.new ≡ node.old }
@@ -70,6 +71,7 @@ pub extern "C" fn rignolda_node_on_frame(
     ensures list { list_in list.new node.new ≡
         with_taken result (list_in list.old node.old) frame.now.item }
     ensures size { length list.new ≡ length list.old }
+    ensures behind { drop node.new.length list.new ≡ drop node.new.length list.old }
     ensures receiver { receiver_end node.new.above ≡
         (if result then after_frame (receiver_end node.old.above) (frame_of frame.now)
         else receiver_end node.old.above) }

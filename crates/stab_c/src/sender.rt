@@ -121,6 +121,7 @@ pub extern "C" fn rignolda_sender_on_ack(
 #[unsafe(no_mangle)]
 pub extern "C" fn rignolda_sender_close(sender: &mut SenderHalf)
     ensures step { sender_end sender.new ≡ closed_sender (sender_end sender.old) }
+    ensures kept { sender.new ≡ record sender.old { closed = sender.new.closed } }
     ensures act { IsSenderClosed (sender_end sender.old) (sender_end sender.new) }
 {
     sender.closed = 1;

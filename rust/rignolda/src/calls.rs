@@ -21,7 +21,7 @@ pub(crate) struct Frame {
 
 /// `rignolda_sender`.
 #[repr(C)]
-#[derive(Clone, Debug, Default)]
+#[derive(Debug, Default)]
 pub(crate) struct Sender {
     pub(crate) item: u32,
     pub(crate) label: u16,
@@ -31,7 +31,7 @@ pub(crate) struct Sender {
 
 /// `rignolda_receiver`.
 #[repr(C)]
-#[derive(Clone, Debug, Default)]
+#[derive(Debug, Default)]
 pub(crate) struct Receiver {
     pub(crate) label: u16,
     pub(crate) closed: u16,
@@ -39,7 +39,7 @@ pub(crate) struct Receiver {
 
 /// `rignolda_node`.
 #[repr(C)]
-#[derive(Clone, Debug, Default)]
+#[derive(Debug, Default)]
 pub(crate) struct Node {
     pub(crate) above: Receiver,
     pub(crate) length: u32,
@@ -48,7 +48,7 @@ pub(crate) struct Node {
 
 /// `rignolda_child`.
 #[repr(C)]
-#[derive(Clone, Debug, Default)]
+#[derive(Debug, Default)]
 pub(crate) struct Child {
     pub(crate) sender: Sender,
     pub(crate) offered: u32,

@@ -37,6 +37,15 @@
 //! assert_eq!(sender.frame(), None);
 //! # Ok::<(), rignolda::ParamsError>(())
 //! ```
+//!
+//! # A count
+//!
+//! The laws hold within one count of a link, in which it has one [`Sender`] or [`Child`] and one
+//! [`Receiver`] or [`Node`]. It begins with them, and ends where one of them is made again: what
+//! was delivered before may then come again. A copy of an end would break the laws, since a
+//! receiver that took items 7 and 8 takes 7 once more from a sender of before. So no end can be
+//! cloned. Where the children of a node begin at different items, the law of the tree holds of each
+//! path by itself.
 #![no_std]
 #![warn(missing_docs)]
 
@@ -140,8 +149,15 @@ impl Frame {
 
 /// The sender's end of a link: a label, and at most one item.
 ///
-/// Nothing of it has to be saved: after a restart it may begin with any label.
-#[derive(Clone, Debug)]
+/// Nothing of it has to be saved: after a restart it may begin with any label. It cannot be cloned,
+/// [since a link has one](crate#a-count):
+///
+/// ```compile_fail,E0599
+/// let sender = rignolda::Sender::new(rignolda::Params::new(1, 4)?, 2);
+/// let copy = sender.clone();
+/// # Ok::<(), rignolda::ParamsError>(())
+/// ```
+#[derive(Debug)]
 pub struct Sender {
     raw: calls::Sender,
     params: Params,
@@ -195,7 +211,8 @@ impl Sender {
     }
 }
 
-/// The receiver's end of a link: the label that it remembers.
+/// The receiver's end of a link: the label that it remembers. It cannot be cloned,
+/// [since a link has one](crate#a-count).
 ///
 /// ```
 /// use rignolda::{Frame, Receiver};
@@ -207,7 +224,7 @@ impl Sender {
 /// assert_eq!(receiver.on_frame(Frame { label: 1, item: 9 }), None);
 /// assert_eq!(receiver.ack(), None);
 /// ```
-#[derive(Clone, Debug)]
+#[derive(Debug)]
 pub struct Receiver {
     raw: calls::Receiver,
 }

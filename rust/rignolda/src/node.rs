@@ -42,7 +42,8 @@ impl<'a> Node<'a> {
         Node { raw, list }
     }
 
-    /// At the root: puts an item at the back of the list. Whether there was room.
+    /// At the root: puts an item at the back of the list. Whether there was room. No law speaks of
+    /// an item that another node puts into its list.
     pub fn publish(&mut self, item: u32) -> bool {
         let (list, size) = (self.list.as_mut_ptr(), self.list.len());
         // SAFETY: the call has this node and its list for itself, which has `size` items.
@@ -101,8 +102,9 @@ impl<'a> Node<'a> {
 
 /// A link to a child, at its sender's end: what of the node's list it was offered.
 ///
-/// It belongs to one node: polled by another, it is offered that one's list from where it is.
-#[derive(Clone, Debug)]
+/// It belongs to one node: polled by another, it is offered that one's list from where it is. It
+/// cannot be cloned, [since a link has one](crate#a-count).
+#[derive(Debug)]
 pub struct Child {
     raw: calls::Child,
     params: Params,
