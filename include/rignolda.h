@@ -209,7 +209,10 @@ void rignolda_receiver_close(rignolda_receiver *receiver);
  */
 void rignolda_node_init(rignolda_node *node, uint16_t label, uint32_t opening);
 
-/* Makes a child that was offered nothing, with an idle and open sender of this label. */
+/*
+ * Makes a child that was offered nothing, with an idle and open sender of this label. Where it is
+ * one that is added again, it is offered the list from its front once more, in a new count.
+ */
 void rignolda_child_init(rignolda_child *child, uint16_t label);
 
 /*
