@@ -1,6 +1,6 @@
 """What `rignolda explain` says of mistakes that people make when they write a job."""
 
-from tables.rows import Row, replaced
+from tables.rows import Like, Repeated, Row, replaced
 
 PROGRAM = "rignolda"
 
@@ -268,6 +268,17 @@ stab link: job: not JSON
 """),
 ]
 
+# A link job with so many events that are none, and its last line but one: of what is found a hundred
+# are written, and the others are counted, up to a million.
+UNKNOWN = '{"capacity":1,"labels":4,"start":{"send":0,"recv":1},"events":["x"', ',"x"', "]}"
+COUNTED = [
+    (100, 'events[99]: "x" is no event', "bad event"),
+    (101, "and 1 more", "bad event"),
+    (1100, "and 1000 more", "bad event"),
+    (1_000_000, "and 999900 more", "bad event"),
+    (1_000_200, "and at least 1000000 more", "too many events"),
+]
+
 ROWS = [
     Row("finds nothing in a whole job", ["explain"], JOB, out="stab tree: accepted\n"),
     Row("finds nothing in a whole link job", ["explain"], LINK_JOB, out="stab link: accepted\n"),
@@ -282,4 +293,10 @@ ROWS += [
 ROWS += [
     Row(f"says what the first bytes show: {name}", ["explain"], given, status=1, out=said)
     for name, given, said in BYTES
+]
+ROWS += [
+    Row(f"counts what it does not write: {count} events",
+        ["explain"], Repeated(UNKNOWN[0], UNKNOWN[1], count - 1, UNKNOWN[2]), status=1,
+        out=Like(ends=f"\n{said}\nstab link: job: {fault}\n", lines=101 + (count > 100)))
+    for count, said, fault in COUNTED
 ]
