@@ -1,10 +1,13 @@
-ghost use Rattle.std.specs.Prelude.{◌≡◌, ◌≢◌, ◌≤◌, All, Err, IfOk, IsTrue, None, OnOk, Some};
-ghost use Rattle.std.specs.Prelude.{string_bytes};
+ghost use Rattle.std.specs.Prelude.{◌≡◌, ◌≢◌, ◌↔◌, ◌≤◌, All, Err, IfOk, IfSome, IsTrue, None, Ok};
+ghost use Rattle.std.specs.Prelude.{OnOk, Some, string_bytes};
+ghost use Rattle.stab_job.specs.JobValues.{JobValue};
+ghost use Rattle.stab_job.specs.Jobs.{job};
 ghost use Rattle.stab_random.specs.Options.{options_fault};
 ghost use Rattle.stab_random.specs.RandomJobs.{IsAsAsked, IsRandomText, IsReplayed};
 
 use crate::options::{DrawOptions, OptionsFault};
 use crate::parts::job_text;
+use crate::scripts::check_scripts;
 use stab_core::StartFault;
 use stab_frames::Params;
 use stab_job::{Job, JobFault, read_job};
@@ -56,13 +59,26 @@ pub fn random_text(alloc: Global, options: &DrawOptions) -> Result<String, Rando
     Ok(text)
 }
 
-/// Refuses a text that is read as no job by the options.
+/// Refuses a text that is no job by the options, or whose scripts are not.
 fn check_text(alloc: Global, options: &DrawOptions, text: &[u8]) -> Result<(), RandomFault>
     ensures job { OnOk result (IsRandomText options.now text.now) }
+    ensures unlike { result ≡ Err RandomFault.Unlike → ¬ IsRandomText options.now text.now }
+    ensures fault { (fault : OptionsFault) → result ≢ Err (RandomFault.Options fault) }
+{
+    check_scripts(alloc, options, text)?;
+    let job = read_back(alloc, text)?;
+    check_job(alloc, options, &job)
+}
+
+/// The job that a text is read as.
+fn read_back(alloc: Global, text: &[u8]) -> Result<Job, RandomFault>
+    ensures read { IfOk result (λ its_job. job text.now ≡ Ok its_job) }
+    ensures unlike { result ≡ Err RandomFault.Unlike
+        → (its_job : JobValue) → job text.now ≢ Ok its_job }
     ensures fault { (fault : OptionsFault) → result ≢ Err (RandomFault.Options fault) }
 {
     match read_job(alloc, text) {
-        Ok(job) => check_job(alloc, options, &job),
+        Ok(job) => Ok(job),
         Err(JobFault::Memory) => Err(RandomFault::Memory),
         Err(_) => Err(RandomFault::Unlike),
     }
@@ -72,6 +88,8 @@ fn check_text(alloc: Global, options: &DrawOptions, text: &[u8]) -> Result<(), R
 fn check_job(alloc: Global, options: &DrawOptions, job: &Job) -> Result<(), RandomFault>
     ensures asked { OnOk result (IsAsAsked options.now job.now) }
     ensures replayed { OnOk result (IsReplayed job.now) }
+    ensures unlike { result ≡ Err RandomFault.Unlike
+        → IsAsAsked options.now job.now → ¬ IsReplayed job.now }
     ensures fault { (fault : OptionsFault) → result ≢ Err (RandomFault.Options fault) }
 {
     if !is_as_asked(options, job) {
@@ -80,9 +98,10 @@ fn check_job(alloc: Global, options: &DrawOptions, job: &Job) -> Result<(), Rand
     replay(alloc, job)
 }
 
-/// Whether a job has as many of everything as the options ask for.
+/// Whether a job has as many of everything that is counted as the options ask for, and its links as
+/// many labels.
 fn is_as_asked(options: &DrawOptions, job: &Job) -> bool
-    ensures { IsTrue result → IsAsAsked options.now job.now }
+    ensures { IsTrue result ↔ IsAsAsked options.now job.now }
 {
     let steps = if options.nodes == 1 { 0 } else { options.steps };
     job.tree().len() == options.nodes
@@ -91,20 +110,35 @@ fn is_as_asked(options: &DrawOptions, job: &Job) -> bool
         && job.openings().hold() == options.hold
         && job.schedule().len() == steps as usize
         && are_small(job.params(), options.capacity)
+        && have_labels(job.params(), options.labels)
 }
 
 /// Whether no link has a greater capacity than this.
 fn are_small(params: &[Params], greatest: u16) -> bool
-    ensures { IsTrue result → All (λ p. p.capacity ≤ greatest) params.now }
+    ensures { IsTrue result ↔ All (λ p. p.capacity ≤ greatest) params.now }
 {
     params
         .iter()
         .all(|its_params| its_params.capacity() <= greatest)
 }
 
+/// Whether each link has so many labels, where it is said how many.
+fn have_labels(params: &[Params], wanted: Option<u16>) -> bool
+    ensures { IsTrue result ↔ IfSome wanted (λ labels. All (λ p. p.labels ≡ labels) params.now) }
+{
+    match wanted {
+        None => true,
+        Some(labels) => params
+            .iter()
+            .all(|its_params| its_params.labels() == labels),
+    }
+}
+
 /// Replays the schedule of a job, whose links have to begin.
+#[tactic(auto, using(crate::proofs::Replayed::memory_alone))]
 fn replay(alloc: Global, job: &Job) -> Result<(), RandomFault>
     ensures replayed { OnOk result (IsReplayed job.now) }
+    ensures unlike { result ≡ Err RandomFault.Unlike → ¬ IsReplayed job.now }
     ensures fault { (fault : OptionsFault) → result ≢ Err (RandomFault.Options fault) }
 {
     match run_schedule(
