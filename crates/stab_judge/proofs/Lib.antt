@@ -9,3 +9,4 @@ pub mod Enough
 pub mod Edges
 pub mod Climbing
 pub mod Parts
+pub mod First

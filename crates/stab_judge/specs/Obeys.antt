@@ -6,7 +6,7 @@
 -- with 4 acknowledged, `LinkLaw` would be broken at a, since 13 is acknowledged and missing. Had r
 -- ended with its upstream, `HandedOn` would be broken at a, since 3 is not 5.
 -- Source: this project's own.
-use Rattle.std.specs.Prelude.{◌≡◌, ℕ, suc, ◌<◌, true, List, ◌++◌, length, Some, None}
+use Rattle.std.specs.Prelude.{◌≡◌, ◌⊎◌, ℕ, suc, ◌<◌, true, List, ◌++◌, length, Some, None}
 use Rattle.std.specs.Prelude.{IsSome, MatchOption}
 use Rattle.stab_tree.specs.Nodes.{parent_at, root_of}
 use Rattle.stab_tree.specs.Steps.{ancestor}
@@ -107,3 +107,24 @@ place_of net (broken.HandedOn child) = child
 abbrev pub IsFirst : Network → ReportValue → Broken → Type 0
 IsFirst net r part =
     (earlier : ℕ) → earlier < place_of net part → NodeObeys net r earlier
+
+-- which part of one node is looked at first: the parts in their order
+abbrev pub turn_of : Broken → ℕ
+turn_of broken.Entries = 0
+turn_of broken.Published = 1
+turn_of broken.RootCount = 2
+turn_of (broken.NoCount child) = 3
+turn_of (broken.Opening child) = 4
+turn_of (broken.LinkLaw child) = 5
+turn_of (broken.HandedOn child) = 6
+
+-- a part is looked at before another one: at an earlier node, or earlier at the same node
+abbrev pub IsBefore : Network → Broken → Broken → Type 0
+IsBefore net part other =
+    (place_of net part < place_of net other)
+    ⊎ ((place_of net part ≡ place_of net other) × (turn_of part < turn_of other))
+
+-- FIRST BROKEN: this part is broken, and none that is looked at before it
+pub record IsFirstBroken (net : Network) (r : ReportValue) (part : Broken) : Type 0 where
+  pub broken : IsBroken net r part
+  pub first : (earlier : Broken) → IsBefore net earlier part → ¬ IsBroken net r earlier

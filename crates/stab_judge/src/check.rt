@@ -1,5 +1,7 @@
 ghost use Rattle.std.specs.Prelude.{◌≡◌, ◌<◌, ◌↔◌, IfSome, IsNone, IsTrue, Some, length};
-ghost use Rattle.stab_judge.specs.Obeys.{HandsOn, IsBroken, IsFirst, LinkObeys, NodeObeys};
+ghost use Rattle.stab_judge.specs.JudgeInside.{AreWholeBefore};
+ghost use Rattle.stab_judge.specs.Obeys.{HandsOn, IsBroken, IsFirst, IsFirstBroken};
+ghost use Rattle.stab_judge.specs.Obeys.{LinkObeys, NodeObeys};
 ghost use Rattle.stab_judge.specs.Obeys.{Obeys, RootObeys, place_of};
 ghost use Rattle.stab_judge.specs.Reports.{OnePerNode};
 ghost use Rattle.stab_judge.specs.Judged.{LinkLawBelow};
@@ -36,9 +38,10 @@ impl<'a> Judge<'a> {
     /// The first part of a report that is broken, in the order that [`Broken`] says, and nothing
     /// where the report obeys the laws. The tree law and the complete law are not looked at: they
     /// hold where nothing else is broken.
+    #[tactic(auto, using(crate::proofs::First::broken_first, crate::proofs::First::entries_first))]
     pub fn first_broken(&self, report: &Report) -> Option<Broken>
         ensures none { IsNone result ↔ Obeys self.now report.now }
-        ensures broken { IfSome result (IsBroken self.now report.now) }
+        ensures broken { IfSome result (IsFirstBroken self.now report.now) }
         ensures first { IfSome result (IsFirst self.now report.now) }
         ensures known { IfSome result
             (λ broken. place_of self.now broken < length self.now.tree.parents) }
@@ -62,6 +65,7 @@ impl<'a> Judge<'a> {
         requires known { node < length self.now.tree.parents }
         ensures none { IsNone result ↔ NodeObeys self.now report.now node }
         ensures broken { IfSome result (IsBroken self.now report.now) }
+        ensures whole { IfSome result (AreWholeBefore self.now report.now) }
         ensures there { IfSome result (λ broken. place_of self.now broken ≡ node) }
     {
         match self.tree.parent(node) {
@@ -77,6 +81,7 @@ impl<'a> Judge<'a> {
         requires root { root ≡ root_of self.now.tree.parents }
         ensures none { IsNone result ↔ RootObeys self.now report.now root }
         ensures broken { IfSome result (IsBroken self.now report.now) }
+        ensures whole { IfSome result (AreWholeBefore self.now report.now) }
         ensures there { IfSome result (λ broken. place_of self.now broken ≡ root) }
     {
         if report.received_at(root) != self.published {
@@ -97,6 +102,7 @@ impl<'a> Judge<'a> {
         ensures none { IsNone result
             ↔ (LinkObeys self.now report.now child parent × HandsOn report.now child parent) }
         ensures broken { IfSome result (IsBroken self.now report.now) }
+        ensures whole { IfSome result (AreWholeBefore self.now report.now) }
         ensures there { IfSome result (λ broken. place_of self.now broken ≡ child) }
     {
         let Some(acked) = report.acked_at(child) else {

@@ -2,8 +2,10 @@
 //! law.
 
 ghost use Rattle.std.specs.Prelude.{◌≡◌, ◌<◌, ℕ, Some, length};
-ghost use Rattle.stab_judge.specs.Obeys.{HandsOn, LinkObeys, NodeObeys, Obeys, RootObeys};
+ghost use Rattle.stab_judge.specs.Obeys.{HandsOn, IsFirstBroken, LinkObeys, NodeObeys};
+ghost use Rattle.stab_judge.specs.Obeys.{Obeys, RootObeys};
 ghost use Rattle.stab_judge.specs.Reports.{OnePerNode, ReportValue, acked_at, received_at};
+ghost use Rattle.stab_judge.specs.declared.broken.Broken.{Broken};
 ghost use Rattle.stab_tree.specs.IsTree.{IsTree};
 ghost use Rattle.stab_tree.specs.Nodes.{parent_at, root_of};
 ghost use Rattle.stab_treecore.specs.EdgeLaw.{EdgeInto};
@@ -47,3 +49,9 @@ pub fn explained_reports_obey()
     stab_core::laws::every_replay_obeys_the_link_law();
     nodes_that_obey_are_enough();
 }
+
+/// One part at most is broken first.
+pub fn one_part_is_broken_first()
+    ensures { (net : Network) (report : ReportValue) (part other : Broken)
+        → IsFirstBroken net report part → IsFirstBroken net report other → part ≡ other }
+{}

@@ -11,7 +11,7 @@ use Rattle.stab_tree.specs.Nodes.{parent_at, root_of}
 use Rattle.stab_treecore.specs.Network.{Network}
 use Rattle.stab_treecore.specs.NodeLaws.{capacity_into, garbage_into}
 use Rattle.stab_tree.specs.NodeOpenings.{opening_at}
-use Rattle.stab_judge.specs.Obeys.{IsBroken, IsFirst}
+use Rattle.stab_judge.specs.Obeys.{IsFirst, IsFirstBroken}
 use Rattle.stab_judge.specs.Reports.{ReportValue, acked_at, received_at}
 use Rattle.stab_judge.specs.declared.broken.Broken.{Broken}
 use Rattle.stab_judge.specs.declared.broken.Broken.TheVariants as broken
@@ -121,8 +121,9 @@ broken_text net r (broken.HandedOn child) =
     handed_on_text (name_at net child) (name_above net child)
     (length (list_above net r child)) (unwrap_or (acked_at r child) 0)
 
--- the text says that the report obeys, or which part is broken before which no node is
+-- the text says that the report obeys, or which part is broken first; each node before it obeys
 abbrev pub SaysVerdict : Network → ReportValue → Bool → List ℕ → Type 0
 SaysVerdict net r true text = text ≡ codes "obeys\n"
 SaysVerdict net r false text =
-    (part : Broken) × IsBroken net r part × IsFirst net r part × (text ≡ broken_text net r part)
+    (part : Broken) × IsFirstBroken net r part × IsFirst net r part
+    × (text ≡ broken_text net r part)
