@@ -170,6 +170,82 @@ LINK_JOBS = [
 ]
 
 
+# Reports with two broken parts, of which the first is named.
+TWO_BROKEN = [
+    (REPORT.replace("acked -", "acked 7").replace("items: 10 11", "items: 11 10"), """\
+r: its items are not the published ones
+published: 10 11 12 13 14 15 16
+items of r: 11 10 12 13 14 15 16
+"""),
+    (REPORT.replace("acked 7", "acked -").replace("items: 50 99", "items: 99 50"),
+     "a: it has no count of acknowledged items\n"),
+    (REPORT.replace("acked 7", "acked 6").replace("items: 50 99", "items: 99 50"), """\
+a: its items do not begin with its opening
+opening: 50
+items of a: 99 50 13 14 15 16
+"""),
+    (REPORT.replace("acked 7", "acked 6").replace("99 13 14", "99 14 13"), """\
+a: what it has after its opening is not what the link law allows
+the link from r has capacity 1 and 6 acknowledged items
+frames: 99
+items of r: 10 11 12 13 14 15 16
+opening: 50
+items of a: 50 99 14 13 15 16
+"""),
+    (REPORT.replace("acked 7", "acked 6").replace("acked 6 ended upstream\nitems: 98",
+                                                  "acked - ended upstream\nitems: 98"),
+     "a: r ended upstream with 7 items, and 6 of them are acknowledged\n"),
+]
+
+# A tree of one node, and reports of it.
+LONE_JOB = '{"version":1,"capacity":1,"labels":4,"tree":[{"name":"r"}],"items":[7,8],"starts":[]}'
+
+LONE_REPORTS = [
+    ("r depth 0 received 2 acked - ended upstream\nitems: 7 8\n", 0, "obeys\n"),
+    ("r depth 0 received 2 acked - ended turns\nitems: 7 8\n", 0, "obeys\n"),
+    ("r depth 0 received 2 acked -\nitems: 7 8\n", 0, "obeys\n"),
+    ("r depth 0 received 1 acked -\nitems: 7\n", 1, """\
+r: its items are not the published ones
+published: 7 8
+items of r: 7
+"""),
+    ("r depth 0 received 3 acked -\nitems: 7 8\n", 1,
+     "not a report: line 1 is not as a report of this tree has it"),
+]
+
+# Many items, as a job, an offer for each and lines have them; the texts have some 70,000 bytes.
+MANY = range(1000000, 1003000)
+MANY_WORDS = "".join(f" {item}" for item in MANY)
+MANY_ITEMS = ",".join(str(item) for item in MANY)
+
+LONG_JOB = f"""\
+{{"version":1,"capacity":1,"labels":4,"tree":[{{"name":"r"}},{{"name":"a","parent":"r"}}],
+"items":[{MANY_ITEMS}],
+"starts":[{{"frames":[],"acks":[],"send":0,"recv":1}}]}}"""
+
+LONG_REPORT = f"""\
+r depth 0 received 3000 acked - ended upstream
+items:{MANY_WORDS}
+a depth 1 received 3000 acked 3000 ended upstream
+items:{MANY_WORDS}
+"""
+
+LONG_LINK_JOB = f"""\
+{{"capacity":1,"labels":4,"start":{{"frames":[],"acks":[],"send":0,"recv":1}},
+"events":[{",".join(f'["offer",{item}]' for item in MANY)}]}}"""
+
+LONG_LINK = f"""\
+delivered:{MANY_WORDS}
+offered:{MANY_WORDS}
+acked: 3000
+send label: 0
+recv label: 3
+frames:
+acks:
+closed: no
+"""
+
+
 def said_of(name, words, files, status, said):
     """A row whose files are beside the program: a verdict is printed, or a fault."""
     is_fault = not said.endswith("\n")
@@ -211,4 +287,19 @@ ROWS += [
     said_of(f"has no bounds of a job that is refused: {instead or 'no ' + part}",
             ["bounds", "job"], {"job": replaced(JOB, part, instead)}, status, said)
     for part, instead, status, said in JOBS
+]
+ROWS += [
+    checked(f"names the first of two broken parts: {said.splitlines()[0]}", JOB, report, 1, said)
+    for report, said in TWO_BROKEN
+]
+ROWS += [
+    checked(f"reads a report of a lone root: {report.splitlines()[0]}", LONE_JOB, report, status,
+            said)
+    for report, status, said in LONE_REPORTS
+]
+ROWS += [
+    checked("reads a long report", LONG_JOB, LONG_REPORT, 0, "obeys\n"),
+    checked("reads a long text of a tree", LONG_JOB, LONG_REPORT.replace(" ended upstream", ""), 0,
+            "obeys\n"),
+    checked("reads a long text of a link", LONG_LINK_JOB, LONG_LINK, 0, "obeys\n"),
 ]
