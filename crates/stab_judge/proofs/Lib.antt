@@ -10,3 +10,4 @@ pub mod Edges
 pub mod Climbing
 pub mod Parts
 pub mod First
+pub mod Shown

@@ -1,6 +1,9 @@
 -- A report to judge: what somebody says of each node of a tree, in file order.
 -- Source: this project's own.
-use Rattle.std.specs.Prelude.{◌≡◌, ℕ, Bool, false, List, [], length, Option, None, slice_index_or}
+use Rattle.std.specs.Prelude.{◌≡◌, ℕ, Bool, false, List, [], length, map, Option, None}
+use Rattle.std.specs.Prelude.{slice_index_or}
+use Rattle.std.specs.List.{range_with_len}
+use Rattle.stab_treecore.specs.WholeTree.{WholeTree, acked_of, received}
 
 -- what each node received, how many items are acknowledged on the link into it, and whether it
 -- ended with its upstream
@@ -26,3 +29,13 @@ acked_at r node = slice_index_or r.acked node None
 -- whether a node ended with its upstream: its upstream was closed, and everything was handed on
 abbrev pub has_ended : ReportValue → ℕ → Bool
 has_ended r node = slice_index_or r.ended_upstream node false
+
+-- what a schedule leaves, as a report: no node of it ended with its upstream
+abbrev pub report_of : WholeTree → ReportValue
+report_of t =
+    let nodes = range_with_len 0 (length t.parents) in
+    record {
+      received = map (received t) nodes;
+      acked = map (acked_of t) nodes;
+      ended_upstream = map (λ node. false) nodes;
+    }

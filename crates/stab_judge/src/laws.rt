@@ -1,15 +1,18 @@
 //! Laws over the definitions alone: each is a function with an empty body, and its contract is the
 //! law.
 
-ghost use Rattle.std.specs.Prelude.{◌≡◌, ◌<◌, ℕ, Some, length};
+ghost use Rattle.std.specs.Prelude.{◌≡◌, ◌<◌, ℕ, List, Some, length};
 ghost use Rattle.stab_judge.specs.Obeys.{HandsOn, IsFirstBroken, LinkObeys, NodeObeys};
 ghost use Rattle.stab_judge.specs.Obeys.{Obeys, RootObeys};
 ghost use Rattle.stab_judge.specs.Reports.{OnePerNode, ReportValue, acked_at, received_at};
+ghost use Rattle.stab_judge.specs.Reports.{report_of};
 ghost use Rattle.stab_judge.specs.declared.broken.Broken.{Broken};
 ghost use Rattle.stab_tree.specs.IsTree.{IsTree};
 ghost use Rattle.stab_tree.specs.Nodes.{parent_at, root_of};
 ghost use Rattle.stab_treecore.specs.EdgeLaw.{EdgeInto};
-ghost use Rattle.stab_treecore.specs.Network.{Network};
+ghost use Rattle.stab_treecore.specs.Network.{IsNetwork, Network};
+ghost use Rattle.stab_treecore.specs.TreeReplay.{initial_tree, tree_replay};
+ghost use Rattle.stab_treecore.specs.declared.event.TreeEvent.{TreeEvent};
 ghost use Rattle.stab_tree.specs.NodeOpenings.{FitTree};
 
 /// Where each node obeys, the tree law holds at each node, and the complete law below nodes that
@@ -55,3 +58,15 @@ pub fn one_part_is_broken_first()
     ensures { (net : Network) (report : ReportValue) (part other : Broken)
         → IsFirstBroken net report part → IsFirstBroken net report other → part ≡ other }
 {}
+
+/// What a schedule leaves obeys, as a report in which no node ended with its upstream.
+pub fn schedules_obey()
+    ensures obeys { (net : Network) (events : List TreeEvent) → IsNetwork net
+        → Obeys net (report_of (tree_replay (initial_tree net) events)) }
+    ensures entries { (net : Network) (events : List TreeEvent) → IsNetwork net
+        → OnePerNode net.tree.parents (report_of (tree_replay (initial_tree net) events)) }
+{
+    stab_core::laws::reachable_steps();
+    stab_core::laws::every_replay_obeys_the_link_law();
+    explained_reports_obey();
+}
