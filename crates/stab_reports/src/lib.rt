@@ -4,10 +4,12 @@
 //! compares it with the text byte by byte. So what is accepted is exactly the text of the report
 //! that is answered, with the names and depths of the tree. [`read_tree_text`] does the same of the
 //! text of a tree, and [`read_text`] looks which of both a text is. Readers of other texts use the
-//! pieces [`cut_line`], [`items_of`], [`count_of`] and [`see_same`].
+//! pieces [`cut_line`], [`items_of`], [`count_of`] and [`see_same`], and know what the first three read
+//! of lines that are printed.
 #![tactic(auto)]
 
 mod fault;
+pub mod laws;
 mod lines;
 mod read;
 mod text;

@@ -1,16 +1,25 @@
 //! What the lines of a text say. Nothing is checked here: what is read is printed again and
 //! compared.
 
-ghost use Rattle.std.specs.Prelude.{⊤};
+ghost use Rattle.std.specs.Prelude.{◌≡◌, ◌==◌, ⊤, ℕ, List, ◌++◌, Option, IfOk, OnOk};
+ghost use Rattle.std.specs.List.{position};
+ghost use Rattle.stab_core.specs.Texts.{newline};
+ghost use Rattle.stab_treecore.specs.Texts.{acked_entry};
+ghost use Rattle.stab_reports.specs.Lines.{IsCount, IsOneLine, Shows};
+ghost use Rattle.stab_reports.specs.LinesInside.{ended_item, number_after};
 
 use stab_frames::{Item, Sequence};
 use std::alloc::{AllocError, Global};
 
+/// How many items there are: what is larger than all of them is cut.
+const ITEMS: u64 = 1 << 32;
+
 /// The first line of a text, without its newline, and what is after it.
 pub fn cut_line(text: &[u8]) -> (&[u8], &[u8])
-    ensures { ⊤ }
+    ensures { (line rest : List ℕ) → IsOneLine line → text.now ≡ line ++ newline ++ rest
+        → (result.0.now ≡ line) × (result.1.now ≡ rest) }
 {
-    match text.iter().position(|byte| *byte == b'\n') {
+    match line_end(text) {
         None => text.split_at(text.len()),
         Some(end) => {
             let (line, rest) = text.split_at(end);
@@ -19,46 +28,66 @@ pub fn cut_line(text: &[u8]) -> (&[u8], &[u8])
     }
 }
 
+/// The place of the first newline.
+fn line_end(text: &[u8]) -> Option<usize>
+    ensures { result ≡ position (λ byte. byte == 10) text.now }
+{
+    text.iter().position(|byte| *byte == b'\n')
+}
+
 /// The numbers of a line of items, whatever else is in it.
 pub fn items_of(alloc: Global, line: &[u8]) -> Result<Sequence<Item>, AllocError>
-    ensures { ⊤ }
+    ensures { IfOk result (λ items. (numbers : List ℕ)
+        → Shows line.now numbers → items ≡ numbers) }
 {
     let mut items = Vec::new(alloc);
-    let mut item: Item = 0;
-    let mut is_number = false;
+    let mut number: Option<u64> = None;
     for byte in line {
-        if byte.is_ascii_digit() {
-            item = item
-                .wrapping_mul(10)
-                .wrapping_add(Item::from(byte.wrapping_sub(b'0')));
-            is_number = true;
-        } else if is_number {
-            items.push(item)?;
-            item = 0;
-            is_number = false;
-        }
+        let next = number_after(number, *byte);
+        push_ended(&mut items, number, next)?;
+        number = next;
     }
-    if is_number {
-        items.push(item)?;
-    }
+    push_ended(&mut items, number, None)?;
     Ok(Sequence::from_vec(items))
 }
 
-/// The count that a line ends with, which of a node's first line is before why its worker ended; none
-/// where the last word is no number.
+/// The count that a line ends with, which of a node's first line is before why its worker ended;
+/// none where the last word is no number.
 pub fn count_of(counts: &[u8]) -> Option<u64>
-    ensures { ⊤ }
+    ensures { (front : List ℕ) (acked : Option ℕ) → IsCount acked
+        → counts.now ≡ front ++ acked_entry acked → result ≡ acked }
 {
     let mut count: Option<u64> = None;
     for byte in counts {
-        count = if byte.is_ascii_digit() {
-            let digit = u64::from(byte.wrapping_sub(b'0'));
-            Some(count.unwrap_or(0).wrapping_mul(10).wrapping_add(digit))
-        } else {
-            None
-        };
+        count = number_after(count, *byte);
     }
     count
+}
+
+/// The number that a text ends with after this byte, where it ended with that one before; what is
+/// too large is cut.
+fn number_after(number: Option<u64>, byte: u8) -> Option<u64>
+    ensures { result ≡ number_after number byte }
+{
+    if !byte.is_ascii_digit() {
+        return None;
+    }
+    let digit = u64::from(byte.wrapping_sub(b'0'));
+    Some(number.unwrap_or(0).wrapping_mul(10).wrapping_add(digit))
+}
+
+/// Adds the number that ended, where the next byte is no digit of it.
+fn push_ended(
+    items: &mut Vec<Item>,
+    number: Option<u64>,
+    next: Option<u64>,
+) -> Result<(), AllocError>
+    ensures { OnOk result (items.new.items ≡ items.old.items ++ ended_item number next) }
+{
+    if let (Some(number), None) = (number, next) {
+        items.push((number % ITEMS) as Item)?;
+    }
+    Ok(())
 }
 
 /// A node's first line without its end, and whether the end says that it ended with its upstream.
