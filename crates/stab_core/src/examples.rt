@@ -94,11 +94,11 @@ pub fn faults_worked_out()
       closed = false;
     } in
         let start : Start = record {
-      frames = record { label = 2; item = 98 } ∷ [];
-      acks = 0 ∷ [];
-      send_label = 0;
-      recv_label = 1;
-    } in
+          frames = record { label = 2; item = 98 } ∷ [];
+          acks = 0 ∷ [];
+          send_label = 0;
+          recv_label = 1;
+        } in
         (start_at (struck start s) ≡ start)
         × (struck start s ≡ record s {
           frames = record { label = 2; item = 98 } ∷ [];

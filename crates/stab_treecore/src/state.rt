@@ -20,8 +20,7 @@ ghost use Rattle.stab_treecore.specs.TreeStep.{tree_effect};
 
 use crate::event::TreeEvent;
 use crate::fault::{RestartFault, StrikeFault, TreeStartFault, TreeStepFault};
-use crate::hit;
-use crate::open;
+use crate::{hit, open};
 use stab_core::{Effect, Event, Link, Start};
 use stab_frames::{Item, Params};
 use stab_tree::{NodeId, Openings, Tree};
