@@ -1,5 +1,5 @@
-ghost use Rattle.std.specs.Prelude.{◌≡◌, ◌+◌, ◌<◌, ◌≤◌, length, take, ◌++◌, Some, Err};
-ghost use Rattle.std.specs.Prelude.{MatchOption, IfOk, IfErr, OnOk};
+ghost use Rattle.std.specs.Prelude.{◌≡◌, ◌≢◌, ◌+◌, ◌<◌, ◌≤◌, length, take, ◌++◌, Some, Err};
+ghost use Rattle.std.specs.Prelude.{true, false, MatchOption, IfOk, IfErr, IsErr, OnOk};
 ghost use Rattle.std.specs.Io.KnownBytes.{Consumes, IsAtEnd, Keeps};
 ghost use Rattle.stab_task.specs.Loading.{IsWhole, IsLoadFault, IsUnloaded};
 
@@ -49,27 +49,46 @@ pub fn load<R: Read>(alloc: Global, reader: &mut R) -> Result<Vec<u8>, CliFault>
     ensures whole { IfOk result (λ bytes. IsWhole (R.remaining reader.old) bytes.items) }
     ensures faults { IfErr result (IsUnloaded (R.remaining reader.old)) }
 {
-    let bytes = read_all(alloc, reader)?;
+    let mut troubles = Troubles {
+        interruptions: 0,
+        failed: false,
+    };
+    let bytes = read_all(alloc, reader, &mut troubles)?;
     Ok(bytes)
 }
 
-/// All bytes of a reader, or why they cannot be loaded.
-fn read_all<R: Read>(alloc: Global, reader: &mut R) -> Result<Vec<u8>, LoadFault>
+/// What went wrong in the reads of one file.
+#[derive(Clone, Copy)]
+struct Troubles {
+    /// How many of them were interrupted.
+    interruptions: usize,
+    /// Whether one failed in another way.
+    failed: bool,
+}
+
+/// All bytes of a reader, or why they cannot be loaded. Reading is given up where a read failed, or
+/// the interruptions are more than the most.
+fn read_all<R: Read>(
+    alloc: Global,
+    reader: &mut R,
+    troubles: &mut Troubles,
+) -> Result<Vec<u8>, LoadFault>
+    requires { troubles.old.interruptions ≡ 0 }
     ensures whole { IfOk result (λ bytes. IsWhole (R.remaining reader.old) bytes.items) }
     ensures faults { IfErr result (IsLoadFault (R.remaining reader.old)) }
+    ensures given_up { result ≡ Err LoadFault.Read →
+        troubles.new.failed ≡ false → MAX_INTERRUPTIONS < troubles.new.interruptions }
 {
     let mut chunk = zeros(alloc, CHUNK)?;
     let mut bytes = Vec::new(alloc);
-    let mut interruptions = 0;
     for _turn in 0..MAX_TURNS {
-        match read_chunk(reader, &mut chunk)? {
+        match read_chunk(reader, &mut chunk, troubles)? {
             Some(0) => return Ok(bytes),
             Some(count) => append(&mut bytes, &chunk[..count])?,
             None => {
-                if interruptions == MAX_INTERRUPTIONS {
+                if troubles.interruptions > MAX_INTERRUPTIONS {
                     return Err(LoadFault::Read);
                 }
-                interruptions += 1;
             }
         }
     }
@@ -89,6 +108,7 @@ fn append(bytes: &mut Vec<u8>, more: &[u8]) -> Result<(), LoadFault>
     ensures appended { OnOk result (bytes.new.items ≡ bytes.old.items ++ more.now) }
     ensures not_too_long { OnOk result (length bytes.new.items ≤ MAX_BYTES) }
     ensures faults { IfErr result (IsLoadFault (Some (bytes.old.items ++ more.now))) }
+    ensures was_read { IfErr result (λ fault. fault ≢ LoadFault.Read) }
     ensures too_long { MAX_BYTES < length bytes.old.items + length more.now
         → result ≡ Err LoadFault.TooLong }
 {
@@ -103,8 +123,13 @@ fn append(bytes: &mut Vec<u8>, more: &[u8]) -> Result<(), LoadFault>
 ///
 /// A reader's contract does not say when it fails, so no clause can forbid a fault of this call;
 /// the tests do.
-fn read_chunk<R: Read>(reader: &mut R, chunk: &mut [u8]) -> Result<Option<usize>, LoadFault>
-    requires { 0 < length chunk.old }
+fn read_chunk<R: Read>(
+    reader: &mut R,
+    chunk: &mut [u8],
+    troubles: &mut Troubles,
+) -> Result<Option<usize>, LoadFault>
+    requires some_room { 0 < length chunk.old }
+    requires not_too_often { troubles.old.interruptions ≤ MAX_INTERRUPTIONS }
     ensures room { IfOk result (λ given. MatchOption given (Unit {0})
         (λ count. count ≤ length chunk.new)) }
     ensures bytes { IfOk result (λ given. MatchOption given
@@ -114,13 +139,19 @@ fn read_chunk<R: Read>(reader: &mut R, chunk: &mut [u8]) -> Result<Option<usize>
     ensures end { IfOk result (λ given. MatchOption given (Unit {0})
         (λ count. count ≡ 0 → IsAtEnd (R.remaining reader.new))) }
     ensures fault { IfErr result (λ fault. fault ≡ LoadFault.Read) }
+    ensures counted { IfOk result (λ given. MatchOption given
+        (troubles.new.interruptions ≡ troubles.old.interruptions + 1)
+        (λ _. troubles.new.interruptions ≡ troubles.old.interruptions)) }
+    ensures failed { IsErr result → troubles.new.failed ≡ true }
 {
     match reader.read(chunk) {
         Ok(count) => Ok(Some(count)),
         Err(error) => {
             if error.kind() == ErrorKind::Interrupted {
+                troubles.interruptions += 1;
                 Ok(None)
             } else {
+                troubles.failed = true;
                 Err(LoadFault::Read)
             }
         }

@@ -9,7 +9,7 @@ invariant-loop-turn g l =
     record {
       given : Consumes (g.R.Read.remaining l.initial.reader) (g.R.Read.remaining l.reader) l.bytes.items;
       not_too_long : length l.bytes.items ≤ most_bytes;
-      not_too_often : l.interruptions ≤ most_interruptions;
-      in_time : l._turn ≤ length l.bytes.items + l.interruptions;
+      not_too_often : l.troubles.interruptions ≤ most_interruptions;
+      in_time : l._turn ≤ length l.bytes.items + l.troubles.interruptions;
       some_room : 0 < length l.chunk.items;
     }
