@@ -1,5 +1,5 @@
 -- A job that is replayed is refused for memory alone.
-use Rattle.std.proofs.Common.{◌≡◌, ◌≢◌, ◌⊎◌, List, [], ◌∷◌, All, IsSome, refl, ap, inl, inr, arith}
+use Rattle.std.proofs.Common.{◌≢◌, List, [], ◌∷◌, All, IsSome, refl, ap, inl, inr, arith}
 use Rattle.std.proofs.lemmas.List.Elements.{All-head, All-tail}
 use Rattle.stab_core.specs.declared.start.StartFault.{StartFault}
 use Rattle.stab_core.specs.declared.start.StartFault.TheVariants.{TooManyFrames, TooManyAcks, Memory as no_memory_at_start}
