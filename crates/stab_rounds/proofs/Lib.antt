@@ -1,0 +1,10 @@
+pub mod Entries
+pub mod Levels
+pub mod Steps
+pub mod Midway
+pub mod Counted
+pub mod Receipts
+pub mod ReadRounds
+pub mod Ignored
+pub mod Slowest
+pub mod Played
