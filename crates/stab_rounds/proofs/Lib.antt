@@ -8,3 +8,14 @@ pub mod ReadRounds
 pub mod Ignored
 pub mod Slowest
 pub mod Played
+pub mod Coming
+pub mod Links
+pub mod TreeSteps
+pub mod Drains
+pub mod Most
+pub mod Complete
+pub mod Arrives
+pub mod Final
+pub mod Plays
+pub mod ReadTrees
+pub mod ReadArrives

@@ -4,3 +4,6 @@ pub mod Receipts
 pub mod Ignored
 pub mod Slowest
 pub mod Played
+pub mod TreeRounds
+pub mod TreeReadingRounds
+pub mod TreePlayed

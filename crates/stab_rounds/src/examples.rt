@@ -1,15 +1,21 @@
 //! Examples of the definitions, worked out: a law with an empty body.
 
-ghost use Rattle.std.specs.Prelude.{◌≡◌, ◌++◌, [], ◌∷◌, false};
+ghost use Rattle.std.specs.Prelude.{◌≡◌, ◌++◌, [], ◌∷◌, None, Some, false};
 ghost use Rattle.stab_core.specs.CounterExamples.{four_labels, worst_events, worst_start};
-ghost use Rattle.stab_core.specs.Replay.{initial, replay};
+ghost use Rattle.stab_core.specs.LinkSetup.{LinkSetup};
+ghost use Rattle.stab_core.specs.Replay.{clean_start, initial, replay};
+ghost use Rattle.stab_core.specs.declared.act.LinkAct.{LinkAct};
 ghost use Rattle.stab_core.specs.declared.event.Event.{Event};
+ghost use Rattle.stab_treecore.specs.Network.{Network};
 ghost use Rattle.stab_rounds.specs.Ignored.{ignored_among};
 ghost use Rattle.stab_rounds.specs.Played.{reading_round_with, round_with, rounds_with};
 ghost use Rattle.stab_rounds.specs.ReadingRounds.{reading_rounds};
 ghost use Rattle.stab_rounds.specs.Receipts.{acks_received, frames_received};
 ghost use Rattle.stab_rounds.specs.Rounds.{rounds_of};
 ghost use Rattle.stab_rounds.specs.Slowest.{fewest_labels_of, slow_rounds, slow_start};
+ghost use Rattle.stab_rounds.specs.TreePlayed.{act_on, play};
+ghost use Rattle.stab_rounds.specs.TreeReadingRounds.{reading_rounds_below};
+ghost use Rattle.stab_rounds.specs.TreeRounds.{acts_on, rounds_below};
 
 /// The definitions of this crate on small values.
 pub fn worked_out()
@@ -37,4 +43,25 @@ pub fn worked_out()
     // Capacity 2: nineteen of the slowest rounds acknowledge three items, one each five.
     ensures slowest { (replay (fewest_labels_of 2) (initial (slow_start 2)) (slow_rounds 10 19)).acked
         ≡ 3 }
+    // Of a chain of two links and one round of all: the upper link's five acts, and then the lower
+    // one's.
+    ensures chain { let parents = None ∷ Some 0 ∷ Some 1 ∷ [] in
+        (acts_on 2 (play parents 1) ≡ LinkAct.Offer ∷ LinkAct.SendFrame ∷ LinkAct.RecvFrame false
+        ∷ LinkAct.SendAck ∷ LinkAct.RecvAck false ∷ [])
+        × (acts_on 1 (act_on 2 LinkAct.Offer ∷ act_on 1 LinkAct.SendAck ∷ []) ≡ LinkAct.SendAck ∷ []) }
+    // Three items in that chain, with capacity 1 and a hold of 2 at the inner node: below the root 4
+    // reading rounds or 3 * 4 rounds are enough. The inner node can have 3 items and 3 strays, so
+    // below it 8 reading rounds, or 3 * 7 + 1 rounds.
+    ensures enough { let own : LinkSetup = record { params = fewest_labels_of 1; start = clean_start } in
+        let net : Network = record {
+          tree = record {
+            names = [];
+            parents = None ∷ Some 0 ∷ Some 1 ∷ [];
+          };
+          links = own ∷ own ∷ [];
+          openings = record { hold = 2; lists = [] ∷ [] ∷ [] ∷ [] };
+          published = 10 ∷ 11 ∷ 12 ∷ [];
+        } in
+        (reading_rounds_below net 0 ≡ 4) × (rounds_below net 1 0 ≡ 12)
+        × (reading_rounds_below net 1 ≡ 8) × (rounds_below net 1 1 ≡ 22) }
 {}

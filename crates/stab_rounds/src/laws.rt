@@ -1,6 +1,7 @@
-//! Laws of arrival on one link, over the definitions alone.
+//! Laws of arrival, on one link and in a tree, over the definitions alone.
 
-ghost use Rattle.std.specs.Prelude.{◌≡◌, ℕ, ◌+◌, ◌*◌, ◌≤◌, List, ◌++◌, length, Contains, false};
+ghost use Rattle.std.specs.Prelude.{◌≡◌, ℕ, ◌+◌, ◌*◌, ◌≤◌, List, ◌++◌, length};
+ghost use Rattle.std.specs.Prelude.{All, Contains, Some, false};
 ghost use Rattle.stab_core.specs.LinkLaw.{HalfLawAt};
 ghost use Rattle.stab_core.specs.LinkState.{LinkState};
 ghost use Rattle.stab_core.specs.Replay.{IsLawful, initial, replay, start_items};
@@ -12,6 +13,16 @@ ghost use Rattle.stab_rounds.specs.ReadingRounds.{reading_rounds};
 ghost use Rattle.stab_rounds.specs.Receipts.{acks_received, frames_received};
 ghost use Rattle.stab_rounds.specs.Rounds.{rounds_of, IsWithin};
 ghost use Rattle.stab_rounds.specs.Slowest.{slow_rounds, slow_start};
+ghost use Rattle.stab_rounds.specs.TreePlayed.{play};
+ghost use Rattle.stab_rounds.specs.TreeReadingRounds.{ReadingRounds, reading_rounds_below};
+ghost use Rattle.stab_rounds.specs.TreeRounds.{IsHandedOn, IsOpen, TreeRounds, rounds_below};
+ghost use Rattle.stab_tree.specs.Nodes.{parent_at};
+ghost use Rattle.stab_treecore.specs.Network.{IsNetwork, Network};
+ghost use Rattle.stab_treecore.specs.NodeLaws.{most_missing, most_strays, path_garbage};
+ghost use Rattle.stab_treecore.specs.TreeLaw.{CompleteLaw};
+ghost use Rattle.stab_treecore.specs.TreeReplay.{initial_tree, tree_replay};
+ghost use Rattle.stab_treecore.specs.WholeTree.{received};
+ghost use Rattle.stab_treecore.specs.declared.event.TreeEvent.{TreeEvent};
 
 /// From any state, with any labels in its queues, each `2c + 1` rounds acknowledge an item, whatever
 /// happens between the events of a round, but for a close.
@@ -73,3 +84,86 @@ pub fn fewer_rounds_are_not_enough()
         → (replay p (initial (slow_start p.capacity)) (slow_rounds item (2 * p.capacity))).acked
         ≡ 0 }
 {}
+
+/// Arrival in a tree. Whatever was in the links and nodes at the start, and whatever else happens but
+/// a close: after so many rounds of all links, everything is handed on, for good.
+pub fn everything_arrives()
+    // All that the parent has is acknowledged, and no frame is on its way to the child.
+    ensures handed_on { (net : Network) (events : List TreeEvent) (capacity rounds child parent : ℕ)
+        → IsNetwork net → All (λ link. link.params.capacity ≤ capacity) net.links
+        → let t = tree_replay (initial_tree net) events in
+        IsOpen t → TreeRounds net.tree.parents rounds events
+        → parent_at net.tree.parents child ≡ Some parent
+        → rounds_below net capacity parent ≤ rounds
+        → IsHandedOn t child parent }
+    // No published item is missing at the child, except among the first.
+    ensures complete { (net : Network) (events : List TreeEvent) (capacity rounds child parent : ℕ)
+        → IsNetwork net → All (λ link. link.params.capacity ≤ capacity) net.links
+        → let t = tree_replay (initial_tree net) events in
+        IsOpen t → TreeRounds net.tree.parents rounds events
+        → parent_at net.tree.parents child ≡ Some parent
+        → rounds_below net capacity parent ≤ rounds
+        → CompleteLaw (most_strays net child) (most_missing net child) (path_garbage net child)
+        net.published (received t child) }
+    // And whatever comes then, this stays so, and the child receives nothing more.
+    ensures for_good { (net : Network) (events more : List TreeEvent) (capacity rounds child parent : ℕ)
+        → IsNetwork net → All (λ link. link.params.capacity ≤ capacity) net.links
+        → let t = tree_replay (initial_tree net) events in
+        IsOpen t → TreeRounds net.tree.parents rounds events
+        → parent_at net.tree.parents child ≡ Some parent
+        → rounds_below net capacity parent ≤ rounds
+        → IsHandedOn (tree_replay t more) child parent
+        × (received (tree_replay t more) child ≡ received t child) }
+{
+    stab_core::laws::every_replay_obeys_the_link_law();
+}
+
+/// The same of reading rounds, of which one for each item is enough.
+pub fn everything_arrives_where_all_is_read()
+    // All that the parent has is acknowledged, and no frame is on its way to the child.
+    ensures handed_on { (net : Network) (events : List TreeEvent) (rounds child parent : ℕ)
+        → IsNetwork net
+        → let t = tree_replay (initial_tree net) events in
+        IsOpen t → ReadingRounds net rounds events
+        → parent_at net.tree.parents child ≡ Some parent
+        → reading_rounds_below net parent ≤ rounds
+        → IsHandedOn t child parent }
+    // No published item is missing at the child, except among the first.
+    ensures complete { (net : Network) (events : List TreeEvent) (rounds child parent : ℕ)
+        → IsNetwork net
+        → let t = tree_replay (initial_tree net) events in
+        IsOpen t → ReadingRounds net rounds events
+        → parent_at net.tree.parents child ≡ Some parent
+        → reading_rounds_below net parent ≤ rounds
+        → CompleteLaw (most_strays net child) (most_missing net child) (path_garbage net child)
+        net.published (received t child) }
+    // And whatever comes then, this stays so, and the child receives nothing more.
+    ensures for_good { (net : Network) (events more : List TreeEvent) (rounds child parent : ℕ)
+        → IsNetwork net
+        → let t = tree_replay (initial_tree net) events in
+        IsOpen t → ReadingRounds net rounds events
+        → parent_at net.tree.parents child ≡ Some parent
+        → reading_rounds_below net parent ≤ rounds
+        → IsHandedOn (tree_replay t more) child parent
+        × (received (tree_replay t more) child ≡ received t child) }
+{
+    stab_core::laws::every_replay_obeys_the_link_law();
+}
+
+/// The same of a schedule that is made of so many rounds and nothing else, of which nothing is asked.
+pub fn rounds_bring_everything()
+    ensures handed_on { (net : Network) (capacity rounds child parent : ℕ)
+        → IsNetwork net → All (λ link. link.params.capacity ≤ capacity) net.links
+        → parent_at net.tree.parents child ≡ Some parent
+        → rounds_below net capacity parent ≤ rounds
+        → IsHandedOn (tree_replay (initial_tree net) (play net.tree.parents rounds)) child parent }
+    ensures complete { (net : Network) (capacity rounds child parent : ℕ)
+        → IsNetwork net → All (λ link. link.params.capacity ≤ capacity) net.links
+        → parent_at net.tree.parents child ≡ Some parent
+        → rounds_below net capacity parent ≤ rounds
+        → CompleteLaw (most_strays net child) (most_missing net child) (path_garbage net child)
+        net.published
+        (received (tree_replay (initial_tree net) (play net.tree.parents rounds)) child) }
+{
+    stab_core::laws::every_replay_obeys_the_link_law();
+}

@@ -1,0 +1,204 @@
+-- Where a node has all that it will ever have.
+use Rattle.std.proofs.Common.{◌≡◌, ◌⊎◌, inl, inr, ℕ, zero, suc, ◌-◌, ◌≤◌, true, false, List, [], ◌∷◌, ◌++◌, length, slice_get, Option, Some, None, All, refl, sym, ◌∙◌, ap, subst, arith}
+use Rattle.std.proofs.lemmas.Bool.{cases_eq}
+use Rattle.std.proofs.lemmas.List.{nil_from_length}
+use Rattle.stab_frames.specs.Parameters.{Parameters}
+use Rattle.stab_core.specs.declared.act.LinkAct.{LinkAct}
+use Rattle.stab_core.specs.declared.act.LinkAct.TheVariants as act
+use Rattle.stab_core.specs.Link.{link_at}
+use Rattle.stab_core.specs.LinkActs.{event_of}
+use Rattle.stab_core.specs.LinkSetup.{CanBegin}
+use Rattle.stab_core.specs.LinkState.{LinkState}
+use Rattle.stab_tree.specs.Nodes.{parent_at}
+use Rattle.stab_tree.specs.NodeOpenings.{opening_at}
+use Rattle.stab_treecore.specs.declared.event.TreeEvent.{TreeEvent}
+use Rattle.stab_treecore.specs.Network.{Network}
+use Rattle.stab_treecore.specs.TreeReplay.{tree_replay}
+use Rattle.stab_treecore.specs.TreeStep.{tree_step}
+use Rattle.stab_treecore.specs.WholeTree.{WholeTree, received}
+use Rattle.stab_treecore.proofs.Replayed.{IsRun, run_root}
+use Rattle.stab_rounds.specs.declared.round.Awaited.{Awaited}
+use Rattle.stab_rounds.specs.declared.round.Awaited.TheVariants as next
+use Rattle.stab_rounds.specs.Rounds.{rounds_from}
+use Rattle.stab_rounds.specs.TreeRounds.{acts_on, IsOpen}
+use Rattle.stab_rounds.proofs.Links.{after_event, quiet_after, fewer_taken}
+use Rattle.stab_rounds.proofs.TreeSteps.{At, step_other, step_at, acts_own, acts_other, known, child_of, offered_few, keeps, open_before, of_link}
+
+-- the next item of a list that was offered is none
+offered_all : (xs : List ℕ) (i : ℕ) → length xs ≤ i → slice_get xs i ≡ None
+offered_all [] i past = refl
+offered_all (x ∷ xs) zero past = absurd (omega arith)
+offered_all (x ∷ xs) (suc i) past = offered_all xs i (omega arith)
+
+-- a frame is taken among these acts
+abbrev pub Takes : List LinkAct → Type 0
+Takes [] = ⊥
+Takes (act.RecvFrame false ∷ acts) = Unit {0}
+Takes (a ∷ acts) = Takes acts
+
+abbrev Before : Awaited → Type 0
+Before next.SendAck = ⊥
+Before next.RecvAck = ⊥
+Before v = Unit {0}
+
+-- so it is in each round
+pub round_takes : (v : Awaited) (acts : List LinkAct) → Before v → 1 ≤ rounds_from v acts → Takes acts
+round_takes v [] before one = absurd (omega arith)
+round_takes v (act.RecvFrame false ∷ acts) before one = tt
+round_takes next.Offer (act.Offer ∷ acts) before one = round_takes next.SendFrame acts tt (omega arith)
+round_takes next.Offer (act.SendFrame ∷ acts) before one = round_takes next.Offer acts tt (omega arith)
+round_takes next.Offer (act.RecvFrame true ∷ acts) before one = round_takes next.Offer acts tt (omega arith)
+round_takes next.Offer (act.SendAck ∷ acts) before one = round_takes next.Offer acts tt (omega arith)
+round_takes next.Offer (act.RecvAck keep ∷ acts) before one = round_takes next.Offer acts tt (omega arith)
+round_takes next.Offer (act.LoseFrame place ∷ acts) before one = round_takes next.Offer acts tt (omega arith)
+round_takes next.Offer (act.LoseAck place ∷ acts) before one = round_takes next.Offer acts tt (omega arith)
+round_takes next.Offer (act.Close ∷ acts) before one = round_takes next.Offer acts tt (omega arith)
+round_takes next.SendFrame (act.Offer ∷ acts) before one = round_takes next.SendFrame acts tt (omega arith)
+round_takes next.SendFrame (act.SendFrame ∷ acts) before one = round_takes next.RecvFrame acts tt (omega arith)
+round_takes next.SendFrame (act.RecvFrame true ∷ acts) before one = round_takes next.SendFrame acts tt (omega arith)
+round_takes next.SendFrame (act.SendAck ∷ acts) before one = round_takes next.SendFrame acts tt (omega arith)
+round_takes next.SendFrame (act.RecvAck keep ∷ acts) before one = round_takes next.SendFrame acts tt (omega arith)
+round_takes next.SendFrame (act.LoseFrame place ∷ acts) before one = round_takes next.SendFrame acts tt (omega arith)
+round_takes next.SendFrame (act.LoseAck place ∷ acts) before one = round_takes next.SendFrame acts tt (omega arith)
+round_takes next.SendFrame (act.Close ∷ acts) before one = round_takes next.SendFrame acts tt (omega arith)
+round_takes next.RecvFrame (act.Offer ∷ acts) before one = round_takes next.RecvFrame acts tt (omega arith)
+round_takes next.RecvFrame (act.SendFrame ∷ acts) before one = round_takes next.RecvFrame acts tt (omega arith)
+round_takes next.RecvFrame (act.RecvFrame true ∷ acts) before one = round_takes next.RecvFrame acts tt (omega arith)
+round_takes next.RecvFrame (act.SendAck ∷ acts) before one = round_takes next.RecvFrame acts tt (omega arith)
+round_takes next.RecvFrame (act.RecvAck keep ∷ acts) before one = round_takes next.RecvFrame acts tt (omega arith)
+round_takes next.RecvFrame (act.LoseFrame place ∷ acts) before one = round_takes next.SendFrame acts tt (omega arith)
+round_takes next.RecvFrame (act.LoseAck place ∷ acts) before one = round_takes next.RecvFrame acts tt (omega arith)
+round_takes next.RecvFrame (act.Close ∷ acts) before one = round_takes next.RecvFrame acts tt (omega arith)
+round_takes next.SendAck (a ∷ acts) before one = absurd before
+round_takes next.RecvAck (a ∷ acts) before one = absurd before
+
+-- it is the first act, or among the others
+first_take : (a : LinkAct) (acts : List LinkAct) → Takes (a ∷ acts) → (a ≡ act.RecvFrame false) ⊎ Takes acts
+first_take (act.RecvFrame false) acts takes = inl refl
+first_take a acts takes = inr takes
+
+-- The node has all that it will ever have: it is a root, or its parent has, and all of that was acknowledged, and no frame is
+-- on its way.
+pub data Drained (t : WholeTree) (parents : List (Option ℕ)) : ℕ → Type 0 where
+  top : {w : ℕ} → parent_at parents w ≡ None → Drained t parents w
+  under : {w : ℕ} (u : ℕ) (p : Parameters) (s : LinkState) → parent_at parents w ≡ Some u → At t w p s
+      → s.acked ≡ length (received t u) → s.frames ≡ [] → Drained t parents u → Drained t parents w
+
+module _ (net : Network) (can_begin : All CanBegin net.links) where
+  abbrev parents : List (Option ℕ)
+  parents = net.tree.parents
+
+  -- where all that the parent has is acknowledged, no item waits
+  pub idle_at : (t : WholeTree) → IsRun net t → (w u : ℕ) (p : Parameters) (s : LinkState) → parent_at parents w ≡ Some u → At t w p s
+      → s.acked ≡ length (received t u) → length s.offered ≡ s.acked
+  idle_at t run w u p s is_child there all =
+      let few = offered_few net can_begin t run w u p s is_child there in
+      elim (known net can_begin t run w p s there).within.waits [
+        | inl idle ↦ idle
+        | inr holds ↦ absurd (omega arith)
+      ]
+
+  -- a step leaves such a link as quiet
+  abbrev pub quiet_now : Parameters → LinkState → LinkAct → LinkState
+  quiet_now p s a = after_event p s (event_of a None)
+
+  pub quiet_at : (t : WholeTree) (e : TreeEvent) → IsRun net t → (w u : ℕ) (p : Parameters) (s : LinkState) → parent_at parents w ≡ Some u → At t w p s
+      → s.acked ≡ length (received t u) → e.child ≡ w → At (tree_step t e) w p (quiet_now p s e.act)
+  quiet_at t e run w u p s is_child there all same =
+      let idle = idle_at t run w u p s is_child there all in
+      step_at t e w u p s (child_of net can_begin t run w u is_child) there same
+      ∙ ap (λ item. Some (link_at p (after_event p s (event_of e.act item)))) (offered_all (received t u) (length s.offered) (omega arith))
+
+  -- a node that has all keeps it, and receives nothing
+  abbrev Stays : WholeTree → WholeTree → ℕ → Type 0
+  Stays t after w = Drained after parents w × (received after w ≡ received t w)
+
+  pub drained_step : (t : WholeTree) (e : TreeEvent) → IsRun net t → (w : ℕ) → Drained t parents w → Stays t (tree_step t e) w
+  drained_step t e run w (top none) =
+      (top none, run_root net (tree_step t e) (keeps net can_begin t e run) w none ∙ sym (run_root net t run w none))
+  drained_step t e run w (under u p s is_child there all empty above) =
+      let (above_after, same_list) = drained_step t e run u above in
+      let same_all : length (received t u) ≡ length (received (tree_step t e) u) = ap length (sym same_list) in
+      elim (cases_eq e.child w) [
+        | inl same ↦
+            let now : LinkState = quiet_now p s e.act in
+            let found = quiet_at t e run w u p s is_child there all same in
+            let quiet = quiet_after p s e.act (idle_at t run w u p s is_child there all) in (
+              under u p now is_child found (quiet.acked ∙ all ∙ same_all)
+                  (nil_from_length now.frames (omega (arith, quiet.fewer, ap length empty))) above_after,
+              of_link (tree_step t e) w (link_at p now) found
+                  ∙ ap (λ xs. opening_at t.openings w ++ xs) (quiet.none empty) ∙ sym (of_link t w (link_at p s) there),
+            )
+        | inr other ↦
+            let found : At (tree_step t e) w p s = step_other t e w other ∙ there in (
+              under u p s is_child found (all ∙ same_all) empty above_after,
+              of_link (tree_step t e) w (link_at p s) found ∙ sym (of_link t w (link_at p s) there),
+            )
+      ]
+
+  pub drained_over : (es : List TreeEvent) (t : WholeTree) → IsRun net t → (w : ℕ) → Drained t parents w → Stays t (tree_replay t es) w
+  drained_over [] t run w drained = (drained, refl)
+  drained_over (e ∷ es) t run w drained =
+      let (now, same) = drained_step t e run w drained in
+      let (later, still_same) = drained_over es (tree_step t e) (keeps net can_begin t e run) w now in
+      (later, still_same ∙ same)
+
+  -- ---- frames go, where there is nothing left to offer
+
+  module _ (w u : ℕ) (p : Parameters) (is_child : parent_at parents w ≡ Some u) where
+    -- the count stays, and there are no more frames than this
+    pub record Flushed (t : WholeTree) (acked most : ℕ) : Type 0 where
+      pub state : LinkState
+      pub there : At t w p state
+      pub same_count : state.acked ≡ acked
+      pub few : length state.frames ≤ most
+
+    pub more_flushed : (t : WholeTree) (acked count few most : ℕ) → count ≡ acked → few ≤ most → Flushed t count few → Flushed t acked most
+    more_flushed t acked count few most same less flushed =
+        record { state = flushed.state; there = flushed.there; same_count = flushed.same_count ∙ same; few = omega (arith, flushed.few) }
+
+    pub quiet_over : (es : List TreeEvent) (t : WholeTree) (s : LinkState) → IsRun net t → At t w p s → Drained t parents u
+        → s.acked ≡ length (received t u) → Flushed (tree_replay t es) s.acked (length s.frames)
+    quiet_over [] t s run there above all = record { state = s; there = there; same_count = refl; few = omega arith }
+    quiet_over (e ∷ es) t s run there above all =
+        let (above_after, same_list) = drained_step t e run u above in
+        let same_all : length (received t u) ≡ length (received (tree_step t e) u) = ap length (sym same_list) in
+        elim (cases_eq e.child w) [
+          | inl same ↦
+              let now : LinkState = quiet_now p s e.act in
+              let quiet = quiet_after p s e.act (idle_at t run w u p s is_child there all) in
+              more_flushed (tree_replay (tree_step t e) es) s.acked now.acked (length now.frames) (length s.frames) quiet.acked quiet.fewer
+              (quiet_over es (tree_step t e) now (keeps net can_begin t e run) (quiet_at t e run w u p s is_child there all same) above_after
+              (quiet.acked ∙ all ∙ same_all))
+          | inr other ↦
+              quiet_over es (tree_step t e) s (keeps net can_begin t e run) (step_other t e w other ∙ there) above_after (all ∙ same_all)
+        ]
+
+    -- each round takes one
+    pub flush_over : (es : List TreeEvent) (t : WholeTree) (s : LinkState) → IsRun net t → IsOpen (tree_replay t es) → At t w p s → Drained t parents u
+        → s.acked ≡ length (received t u) → Takes (acts_on w es) → Flushed (tree_replay t es) s.acked (length s.frames - 1)
+    flush_over [] t s run is_open there above all takes = absurd takes
+    flush_over (e ∷ es) t s run is_open there above all takes =
+        let (above_after, same_list) = drained_step t e run u above in
+        let same_all : length (received t u) ≡ length (received (tree_step t e) u) = ap length (sym same_list) in
+        elim (cases_eq e.child w) [
+          | inl same ↦
+              let now : LinkState = quiet_now p s e.act in
+              let quiet = quiet_after p s e.act (idle_at t run w u p s is_child there all) in
+              let found = quiet_at t e run w u p s is_child there all same in
+              let opened : s.closed ≡ false = open_before net can_begin (e ∷ es) t is_open w (link_at p s) there in
+              elim (first_take e.act (acts_on w es) (subst Takes (acts_own w e es same) takes)) [
+                | inl now_taken ↦
+                    let taken : length now.frames ≤ length s.frames - 1 =
+                    subst (λ a. length (quiet_now p s a).frames ≤ length s.frames - 1) (sym now_taken) (fewer_taken p s opened) in
+                    more_flushed (tree_replay (tree_step t e) es) s.acked now.acked (length now.frames) (length s.frames - 1) quiet.acked taken
+                    (quiet_over es (tree_step t e) now (keeps net can_begin t e run) found above_after (quiet.acked ∙ all ∙ same_all))
+                | inr later ↦
+                    more_flushed (tree_replay (tree_step t e) es) s.acked now.acked (length now.frames - 1) (length s.frames - 1) quiet.acked
+                    (omega (arith, quiet.fewer))
+                    (flush_over es (tree_step t e) now (keeps net can_begin t e run) is_open found above_after (quiet.acked ∙ all ∙ same_all) later)
+              ]
+          | inr other ↦
+              flush_over es (tree_step t e) s (keeps net can_begin t e run) is_open (step_other t e w other ∙ there) above_after (all ∙ same_all)
+              (subst Takes (acts_other w e es other) takes)
+        ]

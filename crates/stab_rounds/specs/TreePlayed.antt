@@ -1,0 +1,28 @@
+-- A schedule that is made of rounds and nothing else: in each, every link has its own round, in file
+-- order.
+-- Source: this project's own.
+use Rattle.std.specs.Prelude.{ℕ, zero, suc, ◌+◌, List, [], ◌∷◌, ◌++◌, Option, Some, None, false}
+use Rattle.stab_core.specs.declared.act.LinkAct.{LinkAct}
+use Rattle.stab_core.specs.declared.act.LinkAct.TheVariants.{Offer, SendFrame, RecvFrame, SendAck, RecvAck}
+use Rattle.stab_treecore.specs.declared.event.TreeEvent.{TreeEvent}
+
+-- an act on the link into this node
+abbrev pub act_on : ℕ → LinkAct → TreeEvent
+act_on child a = record { child = child; act = a }
+
+-- a round of the link into this node, and then these events
+abbrev pub round_on : ℕ → List TreeEvent → List TreeEvent
+round_on child rest =
+    act_on child Offer ∷ act_on child SendFrame ∷ act_on child (RecvFrame false)
+    ∷ act_on child SendAck ∷ act_on child (RecvAck false) ∷ rest
+
+-- a round of each link into these nodes, the first of which has this number
+abbrev pub round_from : ℕ → List (Option ℕ) → List TreeEvent
+round_from node [] = []
+round_from node (None ∷ parents) = round_from (node + 1) parents
+round_from node (Some parent ∷ parents) = round_on node (round_from (node + 1) parents)
+
+-- so many rounds of all links
+abbrev pub play : List (Option ℕ) → ℕ → List TreeEvent
+play parents zero = []
+play parents (suc rounds) = round_from 0 parents ++ play parents rounds
