@@ -1,5 +1,5 @@
 -- A part is broken first, where the nodes before it obey, and the parts of its node that are looked at before it are whole.
-use Rattle.std.proofs.Common.{◌≡◌, ℕ, zero, suc, ◌<◌, ◌≤◌, ◌⊎◌, inl, inr, List, ◌++◌, length, Option, Some, None, IsSome, MatchOption, refl, sym, ◌∙◌, ap, subst, arith}
+use Rattle.std.proofs.Common.{◌≡◌, ℕ, zero, suc, ◌<◌, ◌≤◌, inl, inr, List, ◌++◌, Option, Some, None, IsSome, MatchOption, refl, sym, ◌∙◌, ap, subst, arith}
 use Rattle.std.proofs.lemmas.Bool.{cases_lt}
 use Rattle.std.proofs.lemmas.List.{append_cancel_left}
 use Rattle.std.proofs.lemmas.Option.{none-some, same_Some}
@@ -10,7 +10,7 @@ use Rattle.stab_treecore.specs.Network.{Network}
 use Rattle.stab_treecore.specs.NodeLaws.{capacity_into, garbage_into}
 use Rattle.stab_judge.specs.Judged.{LinkLawBelow}
 use Rattle.stab_judge.specs.JudgeInside.{AreWholeBefore}
-use Rattle.stab_judge.specs.Obeys.{HandsOn, IsBefore, IsBroken, IsFirst, IsFirstBroken, LinkObeys, NodeObeys, RootObeys, place_of, turn_of}
+use Rattle.stab_judge.specs.Obeys.{HandsOn, IsBroken, IsFirst, IsFirstBroken, LinkObeys, NodeObeys, RootObeys, place_of, turn_of}
 use Rattle.stab_judge.specs.Reports.{OnePerNode, ReportValue, acked_at, received_at}
 use Rattle.stab_judge.specs.declared.broken.Broken.{Broken}
 use Rattle.stab_judge.specs.declared.broken.Broken.TheVariants as broken

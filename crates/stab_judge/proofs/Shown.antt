@@ -1,7 +1,6 @@
 -- What a schedule leaves obeys: each link of it obeys the link law, the root has the published items, and no node has ended.
-use Rattle.std.proofs.Common.{◌≡◌, ℕ, ◌<◌, ◌⊎◌, inl, inr, List, [], ◌++◌, length, map, get_or, Option, Some, None, is_some, true, false, refl, sym, ◌∙◌, ap, subst, arith}
+use Rattle.std.proofs.Common.{◌≡◌, ℕ, ◌<◌, ◌⊎◌, inl, inr, List, [], ◌++◌, length, Option, Some, None, is_some, true, false, refl, sym, ◌∙◌, ap, subst, arith}
 use Rattle.std.specs.Option.{option_map_or}
-use Rattle.std.specs.List.{range_with_len}
 use Rattle.std.proofs.lemmas.Bool.{false≢true}
 use Rattle.std.proofs.lemmas.List.FromFn.{get_or-map-range_with_len, length-map-range_with_len}
 use Rattle.stab_core.specs.Link.{LinkValue}
@@ -19,7 +18,7 @@ use Rattle.stab_treecore.specs.declared.event.TreeEvent.{TreeEvent}
 use Rattle.stab_treecore.proofs.Linked.{same_kind}
 use Rattle.stab_treecore.proofs.Replayed.{IsRun, ReplaysObey, StepsReach, opening_is_run, replay_keeps, run_root}
 use Rattle.stab_judge.specs.Obeys.{HandsOn, LinkObeys, RootObeys}
-use Rattle.stab_judge.specs.Reports.{OnePerNode, ReportValue, acked_at, has_ended, received_at, report_of}
+use Rattle.stab_judge.specs.Reports.{OnePerNode, acked_at, has_ended, received_at, report_of}
 
 -- nothing, or something
 none_or_some : {A : Type 0} (o : Option A) → (o ≡ None) ⊎ ((x : A) × (o ≡ Some x))
