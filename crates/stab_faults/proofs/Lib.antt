@@ -1,0 +1,13 @@
+pub mod Obeying
+pub mod Grown
+pub mod Kept
+pub mod PathLaws
+pub mod NodesSince
+pub mod Contained
+pub mod Rest
+pub mod Struck
+pub mod States
+pub mod Schedules
+pub mod EdgesSince
+pub mod Promise
+pub mod Cut
