@@ -5,7 +5,7 @@ use crate::end_calls::{EndCall, OF_BOOK, ROWS, item_after, params, script_of, st
 use stab_core::{Event, Start, StartFault, push_link_text};
 use stab_frames::Params;
 use stab_lock::{LinkBook, LockLink};
-use stab_script::HalfScript;
+use stab_script::{HalfScript, Script};
 use std::alloc::{AllocError, Global};
 
 /// The calls that make a book, and an event of each kind.
@@ -103,7 +103,10 @@ impl Calls for Notes {
             }
             NoteCall::NewLock => {
                 let start = self.starts.pop().ok_or(AllocError)?;
-                push_new_lock(text, LockLink::new(alloc, params, start))
+                push_new_lock(
+                    text,
+                    LockLink::new(alloc, params, start, Script::none(alloc)),
+                )
             }
             NoteCall::Note(event) => {
                 let effect = self.book.note(*event)?;

@@ -118,11 +118,12 @@ fn make_locked<R: Print + Eprint + Wait + AllocGlobal>(
     print_book(rt, texts, &link.into_book())
 }
 
-/// The link behind a lock of a row that is made so often.
+/// The link behind a lock, with its script, of a row that is made so often.
 fn link_of(alloc: Global, times: u32) -> anyhow::Result<LockLink> {
     let params = params()?;
     let start = start_of(alloc, times)?;
-    Ok(LockLink::new(alloc, params, start)?)
+    let script = script_of(alloc, times)?;
+    Ok(LockLink::new(alloc, params, start, script)?)
 }
 
 /// Prints what a book holds.
@@ -140,7 +141,7 @@ fn make_split<R: Print + Eprint + Wait + AllocGlobal>(
     link: &LockLink,
     row: &Row<'_, EndCall>,
 ) -> anyhow::Result<()> {
-    let (send, recv) = link.split::<R>(script_of(rt.alloc(), row.0)?);
+    let (send, recv) = link.split::<R>();
     if is_any {
         let ends = (AnySend::Lock(send), AnyRecv::Lock(recv));
         make_on(rt, texts, Kind::Any, rt, ends, row)

@@ -1,2 +1,4 @@
+pub mod Acts
+pub mod Reached
 pub mod Rooms
 pub mod Starts

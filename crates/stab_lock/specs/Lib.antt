@@ -2,3 +2,4 @@ pub mod Book
 pub mod Calls
 pub mod Settling
 pub mod Ends
+pub mod Scripted

@@ -4,7 +4,8 @@
 //! replay of these. So whoever gets the lock knows the link law of the link, however many threads
 //! noted events before. What its two ends are is said by `stab_ends`, whose types can be named here
 //! as well. The layer above uses one fact: where [`LockLink::settle`] answers Ok, there is one event
-//! list whose replay from the link's start has exactly what both accounts say.
+//! list whose replay from the link's start has exactly what both accounts say, and which calls of
+//! the two ends noted under the acts of the link's script, in their order.
 #![tactic(auto)]
 
 mod book;
@@ -14,6 +15,7 @@ mod put;
 mod recv;
 mod send;
 mod settle;
+mod shared;
 
 pub use book::LinkBook;
 pub use link::LockLink;

@@ -3,7 +3,6 @@ ghost use Rattle.stab_lock.specs.Ends.{recv_end};
 ghost use Rattle.stab_ends.specs.Accounts.{ReceiverAccount, IsOpenFor, new_receiver, after_poll_frame};
 
 use crate::link::LockLink;
-use stab_acts::HalfScript;
 use stab_core::Effect;
 use stab_ends::{FrameSeen, RecvAccount, RecvSide};
 use std::alloc::AllocError;
@@ -11,11 +10,11 @@ use std::marker::PhantomData;
 use std::sync::Wait;
 
 /// The receiver's end of a locked link. Each call takes the lock once, and makes the book's call of
-/// its name. A refused call leaves the account and the acts of the end as they were.
+/// its name, under the next act of its half of the script. A refused call leaves the account as it
+/// was, and what is behind the lock.
 pub struct LockRecv<'a, R> {
     link: &'a LockLink,
     account: RecvAccount,
-    acts: HalfScript,
     runtime: PhantomData<R>,
 }
 
@@ -24,21 +23,19 @@ impl<'a, R> Drop for LockRecv<'a, R> {
         let LockRecv {
             link: _,
             account: _,
-            acts: _,
             runtime: _,
         } = self;
     }
 }
 
 impl<'a, R> LockRecv<'a, R> {
-    /// The end of this link that has made no call, with its half of the script.
-    pub(crate) fn new(link: &'a LockLink, acts: HalfScript) -> LockRecv<'a, R>
-        ensures { recv_end result ≡ record { account = new_receiver; acts = acts } }
+    /// The end of this link that has made no call.
+    pub(crate) fn new(link: &'a LockLink) -> LockRecv<'a, R>
+        ensures { recv_end result ≡ record { account = new_receiver } }
     {
         LockRecv {
             link,
             account: RecvAccount::new(link.alloc()),
-            acts,
             runtime: PhantomData,
         }
     }
@@ -67,7 +64,7 @@ impl<'a, R: Wait> RecvSide for LockRecv<'a, R> {
         ensures unchanged { OnErr result (recv_end self.new ≡ recv_end self.old) }
     {
         self.account.delivered.reserve(1)?;
-        let seen = self.link.book().lock(pass).poll_frame(&mut self.acts)?;
+        let seen = self.link.book().lock(pass).poll_frame()?;
         match seen {
             FrameSeen::Fresh(_) if self.account.closed => return Ok(FrameSeen::Closed),
             FrameSeen::Fresh(item) => self.account.delivered.push_reserved(item),
@@ -82,7 +79,7 @@ impl<'a, R: Wait> RecvSide for LockRecv<'a, R> {
 
         ensures unchanged { OnErr result (recv_end self.new ≡ recv_end self.old) }
     {
-        self.link.book().lock(pass).send_ack(&mut self.acts)
+        self.link.book().lock(pass).send_ack()
     }
 
     fn account(&self) -> &RecvAccount {
@@ -93,7 +90,6 @@ impl<'a, R: Wait> RecvSide for LockRecv<'a, R> {
         let LockRecv {
             link: _,
             account,
-            acts: _,
             runtime: _,
         } = self;
         account

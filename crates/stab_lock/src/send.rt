@@ -4,7 +4,6 @@ ghost use Rattle.stab_ends.specs.Accounts.{SenderAccount, MayOffer, Waits, new_s
 ghost use Rattle.stab_ends.specs.Accounts.{after_poll_ack, after_close};
 
 use crate::link::LockLink;
-use stab_acts::HalfScript;
 use stab_core::Effect;
 use stab_ends::{SendAccount, SendSide};
 use stab_frames::Item;
@@ -13,11 +12,11 @@ use std::marker::PhantomData;
 use std::sync::Wait;
 
 /// The sender's end of a locked link. Each call takes the lock once, and makes the book's call of
-/// its name. A refused call leaves the account and the acts of the end as they were.
+/// its name, under the next act of its half of the script. A refused call leaves the account as it
+/// was, and what is behind the lock.
 pub struct LockSend<'a, R> {
     link: &'a LockLink,
     account: SendAccount,
-    acts: HalfScript,
     runtime: PhantomData<R>,
 }
 
@@ -26,21 +25,19 @@ impl<'a, R> Drop for LockSend<'a, R> {
         let LockSend {
             link: _,
             account: _,
-            acts: _,
             runtime: _,
         } = self;
     }
 }
 
 impl<'a, R> LockSend<'a, R> {
-    /// The end of this link that has made no call, with its half of the script.
-    pub(crate) fn new(link: &'a LockLink, acts: HalfScript) -> LockSend<'a, R>
-        ensures { send_end result ≡ record { account = new_sender; acts = acts } }
+    /// The end of this link that has made no call.
+    pub(crate) fn new(link: &'a LockLink) -> LockSend<'a, R>
+        ensures { send_end result ≡ record { account = new_sender } }
     {
         LockSend {
             link,
             account: SendAccount::new(link.alloc()),
-            acts,
             runtime: PhantomData,
         }
     }
@@ -87,7 +84,7 @@ impl<'a, R: Wait> SendSide for LockSend<'a, R> {
 
         ensures unchanged { OnErr result (send_end self.new ≡ send_end self.old) }
     {
-        self.link.book().lock(pass).send(&mut self.acts)
+        self.link.book().lock(pass).send()
     }
 
     fn poll_ack(&mut self, pass: &R) -> Result<Effect, AllocError>
@@ -98,7 +95,7 @@ impl<'a, R: Wait> SendSide for LockSend<'a, R> {
 
         ensures unchanged { OnErr result (send_end self.new ≡ send_end self.old) }
     {
-        let effect = self.link.book().lock(pass).poll_ack(&mut self.acts)?;
+        let effect = self.link.book().lock(pass).poll_ack()?;
         if effect != Effect::Acked {
             return Ok(effect);
         }
@@ -128,7 +125,6 @@ impl<'a, R: Wait> SendSide for LockSend<'a, R> {
         let LockSend {
             link: _,
             account,
-            acts: _,
             runtime: _,
         } = self;
         account

@@ -1,15 +1,10 @@
-ghost use Rattle.std.specs.Prelude.{◌≡◌, List, OnOk, IfErr, MatchResult};
-ghost use Rattle.stab_core.specs.LinkLaw.{LinkLaw};
-ghost use Rattle.stab_core.specs.Replay.{initial, replay, start_items};
-ghost use Rattle.stab_core.specs.declared.event.Event.{Event};
+ghost use Rattle.std.specs.Prelude.{MatchResult};
 ghost use Rattle.stab_lock.specs.Book.{state_of};
 ghost use Rattle.stab_ends.specs.Agreement.{Agree};
-ghost use Rattle.stab_lock.specs.Settling.{FirstDiffer, DifferFromReplay};
+ghost use Rattle.stab_lock.specs.Settling.{FirstDiffer};
 
 use crate::book::LinkBook;
-use stab_core::Start;
 use stab_ends::{RecvAccount, SendAccount};
-use stab_frames::Params;
 use thiserror::Error;
 
 /// In what two accounts differ from the book of their link, in the order of the comparisons.
@@ -51,27 +46,5 @@ impl LinkBook {
             return Err(SettleFault::ClosedDiffer);
         }
         Ok(())
-    }
-
-    /// The same of the link with these parameters and this start. Where the book is another link's,
-    /// the answer is OfferedDiffer.
-    pub(crate) fn check_of(
-        &self,
-        params: Params,
-        start: &Start,
-        send: &SendAccount,
-        recv: &RecvAccount,
-    ) -> Result<(), SettleFault>
-        ensures replay { OnOk result ((events : List Event)
-            × Agree (replay params (initial start.now) events) send.now recv.now) }
-        ensures law { OnOk result (LinkLaw params.capacity (start_items start.now)
-            send.now.offered send.now.acked recv.now.delivered) }
-        ensures differ { IfErr result (DifferFromReplay params start.now send.now recv.now) }
-    {
-        if !self.is_of(params, start) {
-            return Err(SettleFault::OfferedDiffer);
-        }
-        let _law = self.link();
-        self.check(send, recv)
     }
 }

@@ -1,10 +1,11 @@
--- What the workers left and what settling showed, joined: each link of the report is explained, over two words by its own script.
+-- What the workers left and what settling showed, joined: each link of the report is explained, by its own script.
 use Rattle.std.proofs.Common.{◌≡◌, ℕ, zero, suc, List, [], ◌∷◌, length, map, Option, Some, None, refl, ap, sym, ◌∙◌, subst, arith, All}
 use Rattle.std.proofs.lemmas.Option.{none-some, same_Some}
 use mathlib.Core.List.{IsPrefix}
 use Rattle.stab_core.specs.LinkSetup.{CanBegin, LinkSetup}
 use Rattle.stab_ends.specs.Accounts.{SenderAccount, ReceiverAccount}
-use Rattle.stab_acts.specs.Scripts.{receiver_half, sender_half}
+use Rattle.stab_acts.specs.Scripts.{Acts, receiver_half, sender_half}
+use Rattle.std.specs.List.{AllZip}
 use Rattle.stab_job.specs.JobValues.{JobValue, network}
 use Rattle.stab_node.specs.declared.account.Ended.{Ended}
 use Rattle.stab_tree.specs.Links.{links_from, links_of}
@@ -15,10 +16,10 @@ use Rattle.stab_treecore.specs.Network.{Network}
 use Rattle.stab_node.proofs.ForCallers.{holds_by_child, length-by_child}
 use Rattle.stab_node.specs.ByNode.{entry_into, received_at}
 use Rattle.stab_word.specs.Interleaving.{AnInterleavingExplains}
-use Rattle.stab_run.specs.AnyLinks.{IsFollowed, IsOneOf, given_to, kind_of, received_by, sent_by}
-use Rattle.stab_run.specs.ByScript.{AreByScript}
-use Rattle.stab_run.specs.LinkKinds.{LinkKind, kind_for, two_words}
-use Rattle.stab_run.specs.LinkRuns.{AllOfEach, AreSettled, IsRun, IsSettled, acked_of}
+use Rattle.stab_run.specs.AnyLinks.{IsFollowed, IsOneOf, IsScriptOf, given_to, kind_of, received_by, sent_by}
+use Rattle.stab_run.specs.ByScript.{AreByLockedScript, AreByScript}
+use Rattle.stab_run.specs.LinkKinds.{LinkKind, behind_lock, kind_for, two_words}
+use Rattle.stab_run.specs.LinkRuns.{AllOfEach, AreSettled, IsRun, IsSettled, IsSettledByScript, acked_of}
 use Rattle.stab_run.specs.Reports.{OnePerNode, Reported}
 use Rattle.stab_run.specs.Runs.{AreExplained, HandsOn, RootHas}
 use Rattle.stab_run.specs.Scripted.{FollowPlans, IsLetThrough, LinkPlan, ScriptedRecvFinished, ScriptedSendFinished, ack_stores, frame_stores, plan}
@@ -26,7 +27,7 @@ use Rattle.stab_run.specs.declared.any_link.AnyLink.{AnyLink}
 use Rattle.stab_run.specs.declared.any_link.AnyLink.TheVariants.{Lock, Word}
 use Rattle.stab_run.specs.declared.links.Links.{Links}
 use Rattle.stab_run.proofs.OfKinds.{IsWord}
-use Rattle.stab_run.proofs.Paired.{entry_mapped, same_entry}
+use Rattle.stab_run.proofs.Paired.{entry_mapped, paired_entry, same_entry}
 use Rattle.stab_tree.proofs.ForCallers.{no_link_into}
 
 -- what holds of the link into a child and of its two finished ends
@@ -143,6 +144,13 @@ words_followed : (link : AnyLink) (send : ScriptedSendFinished) (recv : Scripted
 words_followed (Lock link) send recv is held = absurd (subst IsWord (sym is) tt)
 words_followed (Word link) send recv is held = held
 
+-- a lock is no two words, so its history is by the script that it was given
+locked_followed : (link : AnyLink) (script : Acts) (send : ScriptedSendFinished) (recv : ScriptedRecvFinished) → kind_of link ≡ behind_lock
+    → IsScriptOf script link → IsFollowed link send recv → IsSettledByScript (given_to link) script send.account recv.account
+locked_followed (Lock link) script send recv is has held =
+    subst (λ acts. IsSettledByScript link.given acts send.account recv.account) has held
+locked_followed (Word link) script send recv is has held = absurd (subst IsWord is tt)
+
 module _ (which : Links) (job : JobValue) (made : List AnyLink) (received : List (List ℕ)) (ended : List Ended) (sends : List ScriptedSendFinished)
     (recvs : List ScriptedRecvFinished) (kinds : List LinkKind)
     (run : IsRun (network job) received ended (map sent_by sends) (map received_by recvs))
@@ -178,6 +186,35 @@ module _ (which : Links) (job : JobValue) (made : List AnyLink) (received : List
         explained = subst (λ g. AnInterleavingExplains g at.send.steps at.send.account at.recv.steps at.recv.account) same_link kept.explained;
         frames = subst (λ (p : LinkPlan). IsLetThrough (sender_half p.script) p.turns (frame_stores at.send.steps)) send_plan kept.frames;
         acks = subst (λ (p : LinkPlan). IsLetThrough (receiver_half p.script) p.turns (ack_stores at.recv.steps)) recv_plan kept.acks;
+        offers = served.offered;
+        closed = served.closed;
+        delivers = run.delivered child (received_by at.recv) (entry_mapped received_by parents recvs child at.recv at.delivered);
+        counts = entry_mapped acked_of parents (map sent_by sends) child (sent_by at.send) sent;
+      }
+
+  -- so is each locked link
+  pub are_by_locked_script : AllZip IsScriptOf job.scripts made
+      → AreByLockedScript which job (report_of job.tree.parents received ended (map sent_by sends) kinds)
+  are_by_locked_script scripts child parent link script is_child leads its_script locked =
+      let parents = job.tree.parents in
+      let at = at_child IsFollowed 0 parents made sends recvs counted all child parent is_child in
+      let same_link : given_to at.link ≡ link =
+      same_Some (given_to at.link) link
+      (sym (entry_mapped given_to parents made child at.link at.leads) ∙ (ap (λ ls. entry_into parents ls child) given ∙ leads)) in
+      let its_kind : kind_of at.link ≡ kind_for which (given_to at.link).params =
+      holds_by_child (IsOneOf which) parents made child at.link one_of at.leads in
+      let has : IsScriptOf script at.link = paired_entry IsScriptOf parents job.scripts made child script at.link scripts its_script at.leads in
+      let kept : IsSettledByScript link script at.send.account at.recv.account =
+      subst (λ g. IsSettledByScript g script at.send.account at.recv.account) same_link
+      (locked_followed at.link script at.send at.recv (its_kind ∙ (ap (λ (l : LinkSetup). kind_for which l.params) same_link ∙ locked)) has at.holds) in
+      let sent : entry_into parents (map sent_by sends) child ≡ Some (sent_by at.send) = entry_mapped sent_by parents sends child at.send at.sent in
+      let served = run.served child parent (sent_by at.send) is_child sent in
+      record {
+        events = kept.events;
+        sender = at.send.account;
+        receiver = at.recv.account;
+        agree = kept.agree;
+        noted = kept.noted;
         offers = served.offered;
         closed = served.closed;
         delivers = run.delivered child (received_by at.recv) (entry_mapped received_by parents recvs child at.recv at.delivered);

@@ -79,6 +79,20 @@ same_entry f g parents xs ys node x y same at_x at_y =
     (sym (entry_mapped f parents xs node x at_x)
     ∙ (ap (λ zs. entry_into parents zs node) same ∙ entry_mapped g parents ys node y at_y))
 
+-- what holds of each entry and of the one beside it holds of the entries into a node
+pub paired_entry : {A B : Type 0} (R : A → B → Type 0) (parents : List (Option ℕ)) (xs : List A) (ys : List B) (node : ℕ) (x : A) (y : B) → AllZip R xs ys
+    → entry_into parents xs node ≡ Some x → entry_into parents ys node ≡ Some y → R x y
+paired_entry R [] xs ys node x y all at_x at_y = absurd (none-some x at_x)
+paired_entry R (None ∷ parents) xs ys zero x y all at_x at_y = absurd (none-some x at_x)
+paired_entry R (None ∷ parents) xs ys (suc node) x y all at_x at_y = paired_entry R parents xs ys node x y all at_x at_y
+paired_entry R (Some q ∷ parents) [] ys zero x y all at_x at_y = absurd (none-some x at_x)
+paired_entry R (Some q ∷ parents) [] [] (suc node) x y all at_x at_y = paired_entry R parents [] [] node x y tt at_x at_y
+paired_entry R (Some q ∷ parents) [] (z ∷ ys) (suc node) x y all at_x at_y = absurd all
+paired_entry R (Some q ∷ parents) (w ∷ xs) [] node x y all at_x at_y = absurd all
+paired_entry R (Some q ∷ parents) (w ∷ xs) (z ∷ ys) zero x y all at_x at_y =
+    subst (λ b. R x b) (same_Some z y at_y) (subst (λ a. R a z) (same_Some w x at_x) all.0)
+paired_entry R (Some q ∷ parents) (w ∷ xs) (z ∷ ys) (suc node) x y all at_x at_y = paired_entry R parents xs ys node x y all.1 at_x at_y
+
 -- what is read of the entry into a node is that of an entry
 pub entry_read : {A B : Type 0} (f : A → B) (parents : List (Option ℕ)) (xs : List A) (node : ℕ) (y : B) → entry_into parents (map f xs) node ≡ Some y
     → (x : A) × (entry_into parents xs node ≡ Some x) × (f x ≡ y)

@@ -5,7 +5,7 @@
 -- two words names its table. So where a finished end names a table, it is not the end of a link
 -- with a lock.
 -- Source: this project's own.
-use Rattle.std.specs.Prelude.{◌≡◌}
+use Rattle.std.specs.Prelude.{◌≡◌, []}
 use Rattle.stab_ends.specs.Accounts.{SenderAccount, ReceiverAccount}
 use Rattle.stab_acts.specs.Scripts.{ActsRemaining}
 use Rattle.stab_word.specs.Ends.{WordSendView, WordRecvView}
@@ -24,7 +24,8 @@ pub data AnyLinkId : Type 0 where
   locked : AnyLinkId
   of_words : LinkId → AnyLinkId
 
--- the sender's end: its link, its account, and the acts that remain
+-- the sender's end: its link, its account, and the acts that remain, of which an end of a locked
+-- link has none beside its lock
 pub record AnySendEnd : Type 0 where
   pub link : AnyLinkId
   pub account : SenderAccount
@@ -46,12 +47,14 @@ pub record AnyRecvFinished : Type 0 where
   pub account : ReceiverAccount
 
 abbrev pub any_send_end : {R : Type 0} → AnySend R → AnySendEnd
-any_send_end (send.Lock end) = record { link = locked; account = end.account; acts = end.acts }
+any_send_end (send.Lock end) =
+    record { link = locked; account = end.account; acts = record { outs = []; ins = [] } }
 any_send_end (send.Word end) =
     record { link = of_words end.link; account = end.sent; acts = end.acts }
 
 abbrev pub any_recv_end : {R : Type 0} → AnyRecv R → AnyRecvEnd
-any_recv_end (recv.Lock end) = record { link = locked; account = end.account; acts = end.acts }
+any_recv_end (recv.Lock end) =
+    record { link = locked; account = end.account; acts = record { outs = []; ins = [] } }
 any_recv_end (recv.Word end) =
     record { link = of_words end.link; account = end.received; acts = end.acts }
 

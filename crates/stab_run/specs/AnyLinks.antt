@@ -2,6 +2,7 @@
 -- names it, its kind, and which ends are its own.
 -- Source: this project's own.
 use Rattle.std.specs.Prelude.{◌≡◌, List, [], map}
+use Rattle.stab_acts.specs.Scripts.{Acts}
 use Rattle.stab_core.specs.LinkSetup.{LinkSetup}
 use Rattle.stab_ends.specs.Accounts.{SenderAccount, ReceiverAccount}
 use Rattle.stab_lock.specs.Settling.{DifferFromReplay}
@@ -10,6 +11,7 @@ use Rattle.stab_run.specs.AnyEnds.{AnyLinkId, locked, of_words}
 use Rattle.stab_run.specs.Scripted.{FollowPlans, ScriptedRecvEnd, ScriptedRecvFinished}
 use Rattle.stab_run.specs.Scripted.{ScriptedSendEnd, ScriptedSendFinished}
 use Rattle.stab_run.specs.LinkKinds.{IsLocked, LinkKind, behind_lock, kind_for, two_words}
+use Rattle.stab_run.specs.LinkRuns.{IsSettledByScript}
 use Rattle.stab_run.specs.declared.any_link.AnyLink.{AnyLink}
 use Rattle.stab_run.specs.declared.any_link.AnyLink.TheVariants.{Lock, Word}
 use Rattle.stab_run.specs.declared.any_link.AnyOpening.{AnyOpening}
@@ -20,7 +22,7 @@ use Rattle.stab_run.specs.declared.links.Links.{Links}
 
 -- its parameters and its start
 abbrev pub given_to : AnyLink → LinkSetup
-given_to (Lock link) = link
+given_to (Lock link) = link.given
 given_to (Word link) = link.given
 
 -- what names it
@@ -36,6 +38,11 @@ kind_of (Word link) = two_words
 -- it is of the kind that a run over these links has for its parameters
 abbrev pub IsOneOf : Links → AnyLink → Type 0
 IsOneOf links link = kind_of link ≡ kind_for links (given_to link).params
+
+-- a locked link has this script; a link of two words has none before it is split
+abbrev pub IsScriptOf : Acts → AnyLink → Type 0
+IsScriptOf script (Lock link) = link.script ≡ script
+IsScriptOf script (Word link) = Unit {0}
 
 -- this splits it
 abbrev pub IsOpenedBy : AnyLink → AnyOpening → Type 0
@@ -65,10 +72,11 @@ sent_by done = done.account
 abbrev pub received_by : ScriptedRecvFinished → ReceiverAccount
 received_by done = done.account
 
--- both finished ends of a link of two words followed what they have to follow; of a locked link
--- this says nothing
+-- the ends of a link followed what they have to follow: those of a link of two words their plan,
+-- those of a locked link its own script, by the history behind its lock
 abbrev pub IsFollowed : AnyLink → ScriptedSendFinished → ScriptedRecvFinished → Type 0
-IsFollowed (Lock link) send recv = Unit {0}
+IsFollowed (Lock link) send recv =
+    IsSettledByScript link.given link.script send.account recv.account
 IsFollowed (Word link) send recv = FollowPlans link.given send recv
 
 -- what is known where a link of this setup is called different in a run over these links: it has

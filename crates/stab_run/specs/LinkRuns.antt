@@ -1,11 +1,13 @@
 -- A run of workers over links: what the workers leave, and what settling the links shows.
 -- Source: this project's own.
 use Rattle.std.specs.Prelude.{◌≡◌, ◌<◌, ℕ, List, [], ◌∷◌, ◌++◌, length, Option, Some}
+use Rattle.stab_acts.specs.Scripts.{Acts}
 use Rattle.stab_core.specs.declared.event.Event.{Event}
 use Rattle.stab_core.specs.LinkSetup.{LinkSetup}
 use Rattle.stab_core.specs.Replay.{initial, replay}
 use Rattle.stab_ends.specs.Accounts.{SenderAccount, ReceiverAccount}
 use Rattle.stab_ends.specs.Agreement.{Agree}
+use Rattle.stab_lock.specs.Scripted.{IsNotedUnder}
 use Rattle.stab_lock.specs.declared.settle.SettleFault.{SettleFault}
 use Rattle.stab_node.specs.declared.account.Ended.{Ended}
 use Rattle.stab_node.specs.declared.account.Ended.TheVariants.{Upstream}
@@ -20,6 +22,14 @@ use Rattle.stab_node.specs.ByNode.{ended_at, entry_into, received_at}
 pub record IsSettled (link : LinkSetup) (send : SenderAccount) (recv : ReceiverAccount) : Type 0 where
   pub events : List Event
   pub agree : Agree (replay link.params (initial link.start) events) send recv
+
+-- one list of events explains the accounts of both ends of a locked link, and some calls of the ends
+-- noted it, each under the next act of its half of this script
+pub record IsSettledByScript (link : LinkSetup) (script : Acts) (send : SenderAccount)
+    (recv : ReceiverAccount) : Type 0 where
+  pub events : List Event
+  pub agree : Agree (replay link.params (initial link.start) events) send recv
+  pub noted : IsNotedUnder link.params link.start script events
 
 -- of each link, with its two finished ends, this holds: the three lists are in the same order
 abbrev pub AllOfEach : {L S R : Type 0} → (L → S → R → Type 0) → List L → List S → List R → Type 0

@@ -23,7 +23,7 @@ use Rattle.stab_treecore.specs.NodeLaws.{HalfTreeLawAtNodes, TreeLawAtNodes, hel
 use Rattle.stab_treecore.specs.NodeLaws.{most_missing, most_strays, path_garbage}
 use Rattle.stab_treecore.specs.TreeLaw.{CompleteLaw, TreeLaw}
 use Rattle.stab_node.specs.ByNode.{ended_at, entry_into, received_at}
-use Rattle.stab_run.specs.ByScript.{AreByScript}
+use Rattle.stab_run.specs.ByScript.{AreByLockedScript, AreByScript}
 use Rattle.stab_run.specs.LinkKinds.{HaveOnePlace, kind_for}
 use Rattle.stab_run.specs.Reports.{OnePerNode, Reported, acked_at}
 use Rattle.stab_run.specs.declared.links.Links.{Links}
@@ -77,8 +77,8 @@ TreeLawByDepth net received =
     (3 * depth_of net.tree.parents node) (path_garbage net node) net.published (received node)
 
 -- A report of a run of a job over these links. The root has the published items, some events
--- explain each link, which was of the kind that the run has for its parameters, and if it is two
--- words they keep to the script of the link; a node that ended with its upstream hands on what it
+-- explain each link, which was of the kind that the run has for its parameters, and they keep to
+-- the script of the link; a node that ended with its upstream hands on what it
 -- received; the half tree law, the tree law, the sharper one and, below such nodes, the complete
 -- law hold. The job is a network, so every link could begin.
 pub record IsReport (links : Links) (job : JobValue) (report : Reported) : Type 0 where
@@ -88,6 +88,7 @@ pub record IsReport (links : Links) (job : JobValue) (report : Reported) : Type 
   pub edges : AreExplained (network job) report
   pub kinds : report.kinds ≡ map (kind_for links) job.params
   pub scripts : AreByScript links job report
+  pub locked_scripts : AreByLockedScript links job report
   pub handed_on : HandsOn job.tree.parents report
   pub half_tree_law : HalfTreeLawAtNodes (network job) (received_at report.received)
   pub tree_law : TreeLawAtNodes (network job) (received_at report.received)

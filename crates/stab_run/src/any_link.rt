@@ -6,6 +6,7 @@ ghost use Rattle.stab_core.specs.LinkSetup.{setup};
 ghost use Rattle.stab_core.specs.Replay.{IsLawful};
 ghost use Rattle.stab_ends.specs.Accounts.{new_receiver, new_sender};
 ghost use Rattle.stab_run.specs.AnyLinks.{HasReceived, HasSent, IsFollowed, IsOneOf, IsOpenedBy};
+ghost use Rattle.stab_run.specs.AnyLinks.{IsScriptOf};
 ghost use Rattle.stab_run.specs.AnyLinks.{MayDiffer, Receives, Sends, given_to, kind_of};
 ghost use Rattle.stab_run.specs.LinkKinds.{HaveOnePlace, behind_lock, kind_for, two_words};
 ghost use Rattle.stab_run.specs.LinkRuns.{IsSettled};
@@ -66,16 +67,18 @@ fn is_of_words(links: Links, params: Params) -> bool
 }
 
 impl AnyLink {
-    /// A link at a lawful start, and what splits it.
+    /// A link at a lawful start, and what splits it. A link with a lock gets a copy of the script.
     pub(crate) fn make(
         alloc: Global,
         links: Links,
         params: Params,
         start: &Start,
+        script: &Script,
     ) -> Result<(AnyLink, AnyOpening), AllocError>
         requires one_place { HaveOnePlace links (params ∷ []) }
         requires lawful { IsLawful params start.now }
         ensures given { IfOk result (λ made. given_to made.0 ≡ setup params start.now) }
+        ensures script { IfOk result (λ made. IsScriptOf script.now made.0) }
         ensures opens { IfOk result (λ made. IsOpenedBy made.0 made.1) }
         ensures kind { IfOk result (λ made. kind_of made.0 ≡ kind_for links params) }
     {
@@ -85,15 +88,15 @@ impl AnyLink {
                 Err(_) => Err(AllocError),
             }
         } else {
-            match LockLink::new(alloc, params, start.copy(alloc)?) {
+            match LockLink::new(alloc, params, start.copy(alloc)?, script.copy(alloc)?) {
                 Ok(link) => Ok((AnyLink::Lock(link), AnyOpening::Lock)),
                 Err(_) => Err(AllocError),
             }
         }
     }
 
-    /// The two ends of the link, which have made no call, each with its half of a copy of the
-    /// script, for so many turns.
+    /// The two ends of the link, which have made no call, for so many turns. Those of a link of two
+    /// words have each its half of a copy of the script.
     pub(crate) fn split<'a, 's, R>(
         &'a self,
         alloc: Global,
@@ -109,17 +112,16 @@ impl AnyLink {
         ensures send_plan { IfOk result (λ ends. ends.0.link.plan ≡ plan turns script.now) }
         ensures recv_plan { IfOk result (λ ends. ends.1.link.plan ≡ plan turns script.now) }
     {
-        let acts = script.copy(alloc)?;
         match (self, opening) {
             (AnyLink::Lock(link), AnyOpening::Lock) => {
-                let (send, recv) = link.split(acts);
+                let (send, recv) = link.split();
                 Ok((
                     ScriptedSend::new(AnySend::Lock(send), Plan::new(script, turns)),
                     ScriptedRecv::new(AnyRecv::Lock(recv), Plan::new(script, turns)),
                 ))
             }
             (AnyLink::Word(link), AnyOpening::Word(opening)) => {
-                let (send, recv) = link.split(alloc, opening, acts)?;
+                let (send, recv) = link.split(alloc, opening, script.copy(alloc)?)?;
                 Ok((
                     ScriptedSend::new(AnySend::Word(send), Plan::new(script, turns)),
                     ScriptedRecv::new(AnyRecv::Word(recv), Plan::new(script, turns)),
@@ -130,7 +132,7 @@ impl AnyLink {
     }
 
     /// Settles a link with its two finished ends: one list of events explains both accounts, and
-    /// over two words the ends followed their script. Which links the run has is for contracts
+    /// the ends followed the script. Which links the run has is for contracts
     /// alone.
     pub(crate) fn settle(
         self,

@@ -5,7 +5,8 @@ ghost use Rattle.std.specs.List.{AllZip};
 ghost use Rattle.std.specs.Prelude.{◌≡◌, All, IfErr, IfOk, length, map};
 ghost use Rattle.stab_core.specs.LinkSetup.{CanBegin};
 ghost use Rattle.stab_job.specs.JobValues.{network};
-ghost use Rattle.stab_run.specs.AnyLinks.{HasReceived, HasSent, IsOneOf, given_to, kind_of};
+ghost use Rattle.stab_run.specs.AnyLinks.{HasReceived, HasSent, IsOneOf, IsScriptOf, given_to};
+ghost use Rattle.stab_run.specs.AnyLinks.{kind_of};
 ghost use Rattle.stab_run.specs.AnyLinks.{received_by, sent_by};
 ghost use Rattle.stab_run.specs.LinkKinds.{HaveOnePlace, kind_for};
 ghost use Rattle.stab_run.specs.LinkRuns.{IsRun};
@@ -49,7 +50,7 @@ pub(crate) fn run<R: Threads + Wait + Send + Sync, G: Gate + Sync>(
         (G.has_passed gate.now) (G.may_refuse gate.now) (G.is_done gate.now)) }
 {
     check_starts(job.params(), job.tree(), job.starts())?;
-    let (links, openings) = make_links(alloc, which, job.params(), job.starts())?;
+    let (links, openings) = make_links(alloc, which, job.params(), job.starts(), job.scripts())?;
     let gathered = run_links(rt, alloc, job, &links, openings, gate)?;
     let report = report_of(alloc, which, job, links, gathered)?;
     Ok(report)
@@ -65,6 +66,7 @@ fn report_of(
 ) -> Result<Report, RunFault>
     requires one_place { HaveOnePlace which job.now.params }
     requires given { map given_to links.items ≡ (network job.now).links }
+    requires scripts { AllZip IsScriptOf job.now.scripts links.items }
     requires lawful { All CanBegin (network job.now).links }
     requires one_of { All (IsOneOf which) links.items }
     requires kinds { map kind_of links.items ≡ map (kind_for which) job.now.params }

@@ -6,7 +6,7 @@ ghost use Rattle.stab_core.specs.Link.{IsReason};
 ghost use Rattle.stab_core.specs.LinkSetup.{CanBegin, setups};
 ghost use Rattle.stab_core.specs.Replay.{IsLawful};
 ghost use Rattle.stab_frames.specs.Parameters.{AreLawful};
-ghost use Rattle.stab_run.specs.AnyLinks.{IsOneOf, IsOpenedBy, given_to, kind_of};
+ghost use Rattle.stab_run.specs.AnyLinks.{IsOneOf, IsOpenedBy, IsScriptOf, given_to, kind_of};
 ghost use Rattle.stab_run.specs.LinkKinds.{HaveOnePlace, kind_for};
 ghost use Rattle.stab_run.specs.RunFaults.{IsStartReason};
 ghost use Rattle.stab_tree.specs.Links.{links_of};
@@ -14,6 +14,7 @@ ghost use Rattle.stab_tree.specs.Links.{links_of};
 use crate::any_link::{AnyLink, AnyOpening};
 use crate::links::Links;
 use crate::run_fault::RunFault;
+use stab_acts::Script;
 use stab_core::{Start, StartFault};
 use stab_frames::Params;
 use stab_tree::Tree;
@@ -55,18 +56,22 @@ pub(crate) fn check_starts(params: &[Params], tree: &Tree, starts: &[Start]) -> 
     Ok(())
 }
 
-/// Each link with its parameters at its start, and what splits it.
+/// Each link with its parameters at its start, those with a lock with their script, and what splits
+/// it.
 pub(crate) fn make_links(
     alloc: Global,
     which: Links,
     params: &[Params],
     starts: &[Start],
+    scripts: &[Script],
 ) -> Result<(Vec<AnyLink>, Vec<AnyOpening>), AllocError>
     requires one_place { HaveOnePlace which params.now }
     requires one_each { length params.now ≡ length starts.now }
+    requires one_script_each { length scripts.now ≡ length starts.now }
     requires can_begin { All CanBegin (setups params.now starts.now) }
     ensures links { IfOk result (λ made.
         map given_to made.0.items ≡ setups params.now starts.now) }
+    ensures scripts { IfOk result (λ made. AllZip IsScriptOf scripts.now made.0.items) }
     ensures one_link_each { IfOk result (λ made. length made.0.items ≡ length starts.now) }
     ensures one_of { IfOk result (λ made. All (IsOneOf which) made.0.items) }
     ensures kinds { IfOk result (λ made.
@@ -76,7 +81,13 @@ pub(crate) fn make_links(
     let mut links = Vec::with_capacity(alloc, starts.len())?;
     let mut openings = Vec::with_capacity(alloc, starts.len())?;
     'links: for place in 0..starts.len() {
-        let (link, opening) = AnyLink::make(alloc, which, params[place], &starts[place])?;
+        let (link, opening) = AnyLink::make(
+            alloc,
+            which,
+            params[place],
+            &starts[place],
+            &scripts[place],
+        )?;
         links.push_reserved(link);
         openings.push_reserved(opening);
     }

@@ -24,6 +24,8 @@ mod outcomes;
 #[cfg(test)]
 mod runs;
 #[cfg(test)]
+mod scripts;
+#[cfg(test)]
 mod stopped;
 #[cfg(test)]
 mod threads;

@@ -74,10 +74,10 @@ fn start_at_three(alloc: Global) -> Start {
     }
 }
 
-/// A locked link of capacity 1 with 4 labels at that start.
-fn link_at_three<R: Abort>(rt: &R, alloc: Global) -> LockLink {
+/// A locked link of capacity 1 with 4 labels at that start, with this script.
+fn link_at_three<R: Abort>(rt: &R, alloc: Global, script: Script) -> LockLink {
     let params = Params::new(1, 4).expect(rt, "parameters");
-    LockLink::new(alloc, params, start_at_three(alloc)).expect(rt, "a link")
+    LockLink::new(alloc, params, start_at_three(alloc), script).expect(rt, "a link")
 }
 
 /// The book of such a link.
@@ -143,20 +143,15 @@ fn assert_history<R: Abort>(rt: &R, book: &LinkBook, events: &[Event]) {
 }
 
 /// The accounts of both ends of a link after these calls.
-fn accounts<R: Wait + Abort>(
-    rt: &R,
-    link: &LockLink,
-    script: Script,
-    asks: &[Ask],
-) -> (SendAccount, RecvAccount) {
-    let (send, recv) = link.split::<R>(script);
+fn accounts<R: Wait + Abort>(rt: &R, link: &LockLink, asks: &[Ask]) -> (SendAccount, RecvAccount) {
+    let (send, recv) = link.split::<R>();
     ask_and_finish(rt, rt, send, recv, asks)
 }
 
 /// A locked link after these calls.
 fn link_after<R: Wait + Abort>(rt: &R, alloc: Global, script: Script, asks: &[Ask]) -> LockLink {
-    let link = link_at_three(rt, alloc);
-    accounts(rt, &link, script, asks);
+    let link = link_at_three(rt, alloc, script);
+    accounts(rt, &link, asks);
     link
 }
 
@@ -169,8 +164,8 @@ fn a_round_and_a_close_locked(rt: HostRuntime) {
 
 #[test]
 fn a_round_and_a_close_settled(rt: HostRuntime) {
-    let link = link_at_three(&rt, rt.alloc());
-    let (send, recv) = accounts(&rt, &link, Script::none(rt.alloc()), &ROUND_AND_CLOSE);
+    let link = link_at_three(&rt, rt.alloc(), Script::none(rt.alloc()));
+    let (send, recv) = accounts(&rt, &link, &ROUND_AND_CLOSE);
     let settled = link.settle(send, recv).expect(&rt, "accounts that agree");
     assert_settled(&rt, &settled, &[7], 1, &[7], true);
 }
@@ -352,15 +347,12 @@ fn assert_counted<R: Abort>(rt: &R, items: &[Item]) {
     }
 }
 
-/// The accounts of both ends of a link under a script of losses, after each has worked in a thread
-/// of its own.
+/// The accounts of both ends of a link, after each has worked in a thread of its own.
 fn both_ends<R: Threads + Wait + Abort + Send + Sync>(
     rt: &R,
-    alloc: Global,
     link: &LockLink,
 ) -> (SendAccount, RecvAccount) {
-    let script = Script::from_seed(alloc, 42, 54, 200, 300, 300).expect(rt, "a script");
-    let (send, recv) = link.split(script);
+    let (send, recv) = link.split();
     both(rt, rt, send, recv, ITEMS)
 }
 
@@ -368,8 +360,9 @@ fn both_ends<R: Threads + Wait + Abort + Send + Sync>(
 fn two_threads_settle(rt: HostRuntime) {
     let params = Params::new(1, 4).expect(&rt, "parameters");
     let start = Start::clean(rt.alloc());
-    let link = LockLink::new(rt.alloc(), params, start).expect(&rt, "a link");
-    let (sent, received) = both_ends(&rt, rt.alloc(), &link);
+    let script = Script::from_seed(rt.alloc(), 42, 54, 200, 300, 300).expect(&rt, "a script");
+    let link = LockLink::new(rt.alloc(), params, start, script).expect(&rt, "a link");
+    let (sent, received) = both_ends(&rt, &link);
     let settled = link
         .settle(sent, received)
         .expect(&rt, "accounts that agree");

@@ -291,8 +291,10 @@ fn recv_of_leaf<'a, R: Wait + Abort>(rt: &R, alloc: Global, recv: LockRecv<'a, R
 /// on one thread.
 fn work_in_turn<R: Wait + Abort>(rt: &R, alloc: Global) -> Settled {
     let params = Params::new(1, 4).expect(rt, "parameters");
-    let link = LockLink::new(alloc, params, Start::clean(alloc)).expect(rt, "a link");
-    let (send, recv) = link.split(Script::none(alloc));
+    let link = LockLink::new(alloc, params, Start::clean(alloc), Script::none(alloc)).expect(
+        rt, "a link",
+    );
+    let (send, recv) = link.split();
     let send = send_of_root(rt, alloc, send);
     let recv = recv_of_leaf(rt, alloc, recv);
     link.settle(send, recv).expect(rt, "both accounts")

@@ -416,7 +416,7 @@ fn run_pair<R: Threads + Wait + Send + Sync + Abort>(
 ) -> Result<Left, WorkersFault>
     requires { FitTree tree.now.parents openings.now }
 {
-    let (send, recv) = link.split::<R>(Script::none(alloc));
+    let (send, recv) = link.split::<R>();
     let sends = one(rt, alloc, send);
     let recvs = one(rt, alloc, recv);
     let links = tree.link_count() as usize;
@@ -434,7 +434,9 @@ fn left_by_a_pair<R: Threads + Wait + Send + Sync + Abort>(rt: &R, alloc: Global
     let tree = tree(rt, alloc, r#"[{"name":"r"},{"name":"a","parent":"r"}]"#);
     let openings = Openings::none(alloc, &tree).expect(rt, "memory");
     let params = Params::new(1, 4).expect(rt, "parameters");
-    let link = LockLink::new(alloc, params, Start::clean(alloc)).expect(rt, "a link");
+    let link = LockLink::new(alloc, params, Start::clean(alloc), Script::none(alloc)).expect(
+        rt, "a link",
+    );
     run_pair(rt, alloc, &tree, &openings, &link).expect(rt, "a run")
 }
 

@@ -23,8 +23,8 @@ static EITHER_KIND: [Ask; 11] = [
 /// The accounts of a locked link after that round, which its ends make as ends of either kind.
 fn settled_with_a_lock<R: Wait + Abort>(rt: &R, alloc: Global, start: Start) -> Settled {
     let params = Params::new(1, 4).expect(rt, "parameters");
-    let link = LockLink::new(alloc, params, start).expect(rt, "a link");
-    let (send, recv) = link.split::<R>(Script::none(alloc));
+    let link = LockLink::new(alloc, params, start, Script::none(alloc)).expect(rt, "a link");
+    let (send, recv) = link.split::<R>();
     let (send, recv) = (AnySend::Lock(send), AnyRecv::Lock(recv));
     let (sent, received) = ask_and_finish(rt, rt, send, recv, &EITHER_KIND);
     match (sent, received) {

@@ -8,13 +8,13 @@ use Rattle.stab_tree.specs.ByChild.{by_child}
 use Rattle.stab_treecore.specs.Network.{IsNetwork}
 use Rattle.stab_node.proofs.ForCallers.{at_error}
 use Rattle.stab_run.specs.AnyLinks.{given_to, kind_of, received_by, sent_by}
-use Rattle.stab_run.specs.ByScript.{AreByScript}
+use Rattle.stab_run.specs.ByScript.{AreByLockedScript, AreByScript}
 use Rattle.stab_run.specs.LinkRuns.{AreSettled, acked_of}
 use Rattle.stab_run.specs.RunFaults.{IsSettlingReason}
 use Rattle.stab_run.specs.Reports.{OnePerNode, Reported}
 use Rattle.stab_run.specs.Runs.{AreExplained, HandsOn, RootHas}
 use Rattle.stab_run.proofs.Begun.{as_many_links}
-use Rattle.stab_run.proofs.Explained.{one_per_node, root_has, are_explained, hands_on, are_by_script}
+use Rattle.stab_run.proofs.Explained.{one_per_node, root_has, are_explained, hands_on, are_by_script, are_by_locked_script}
 use Rattle.stab_run.proofs.run.report_of.Goals as goal
 
 pub settle_all-requires-clause-links : goal.settle_all-requires-clause-links
@@ -64,6 +64,10 @@ returns-clause-report c =
     subst (λ acked. AreByScript c.args.which job (report_with acked)) counted
     (are_by_script c.args.which job c.args.links.items ran.received.items ran.ended.items ran.sends.items ran.recvs.items kinds c.requires.run
     c.requires.given c.requires.one_of c.requires.send_plans c.requires.recv_plans made c.in_ok-acked.ensures.followed) in
+    let locked_scripts : AreByLockedScript c.args.which job report =
+    subst (λ acked. AreByLockedScript c.args.which job (report_with acked)) counted
+    (are_by_locked_script c.args.which job c.args.links.items ran.received.items ran.ended.items ran.sends.items ran.recvs.items kinds c.requires.run
+    c.requires.given c.requires.one_of c.requires.send_plans c.requires.recv_plans made c.in_ok-acked.ensures.followed c.requires.scripts) in
     record {
       one_place = c.requires.one_place;
       nodes =
@@ -73,6 +77,7 @@ returns-clause-report c =
       edges = edges;
       kinds = ap (λ links. map kind_of links.items) c.of.ensures ∙ c.requires.kinds;
       scripts = scripts;
+      locked_scripts = locked_scripts;
       handed_on = handed_on;
       half_tree_law =
           c.explained_reports_obey_the_tree_law.ensures.half_tree_law net report is_network.tree is_network.openings_fit root edges;

@@ -1,16 +1,20 @@
-use Rattle.std.proofs.Common.{◌<◌, ◌+◌, ◌∙◌, ap, refl, sym, length, map, take_all, arith}
+use Rattle.std.proofs.Common.{◌<◌, ◌+◌, ◌∙◌, ap, refl, sym, subst, length, map, take_all, arith}
+use Rattle.std.specs.List.{AllZip}
 use Rattle.std.proofs.lemmas.List.Elements.{All-push}
 use Rattle.stab_core.specs.LinkSetup.{LinkSetup, setup, setups}
 use Rattle.stab_core.proofs.Setups.{as_many_setups, can_begin_at, setup_at}
-use Rattle.stab_run.specs.AnyLinks.{IsOneOf, IsOpenedBy, given_to, kind_of}
+use Rattle.stab_run.specs.AnyLinks.{IsOneOf, IsOpenedBy, IsScriptOf, given_to, kind_of}
 use Rattle.stab_run.specs.LinkKinds.{kind_for}
 use Rattle.stab_run.proofs.Begun.{one_more_given}
 use Rattle.stab_run.proofs.OfKinds.{one_of_all}
-use Rattle.stab_run.proofs.Paired.{one_more_end, paired_push}
+use Rattle.stab_run.proofs.Paired.{one_more_end, one_more_paired, paired_push}
 use Rattle.stab_run.proofs.starts.make_links.Goals as goal
 
 pub bounds-params-place : goal.bounds-params-place
 bounds-params-place c = omega (arith, c.links-test.true, c.requires.one_each)
+
+pub bounds-scripts-place : goal.bounds-scripts-place
+bounds-scripts-place c = omega (arith, c.links-test.true, c.requires.one_script_each)
 
 pub make-requires-clause-one_place : goal.make-requires-clause-one_place
 make-requires-clause-one_place c =
@@ -46,6 +50,11 @@ links-preserved c =
           (setup_at params starts place c.index-params-place.result c.index-starts-place.result in_params in_starts c.index-params-place.is
           c.index-starts-place.is)
           c.in_ok-link.ensures.given c.links.invariant.given);
+      scripts =
+          rw c.push_reserved.ensures.items
+          (one_more_paired IsScriptOf c.args.scripts.now c.links.links.items place c.index-scripts-place.result c.in_ok-link.link
+          (omega (arith, in_starts, c.requires.one_script_each)) c.index-scripts-place.is c.links.invariant.scripts
+          c.in_ok-link.ensures.script);
       one_of =
           rw c.push_reserved.ensures.items
           (All-push (λ link. IsOneOf c.args.which link) c.links.links.items c.in_ok-link.link c.links.invariant.one_of
@@ -72,3 +81,9 @@ returns-clause-kinds c =
     let params = c.args.params.now in
     c.links.invariant.kinds
     ∙ ap (λ ps. map (kind_for c.args.which) ps) (take_all c.links.place params (omega (arith, c.links-test.false, c.requires.one_each)))
+
+pub returns-clause-scripts : goal.returns-clause-scripts
+returns-clause-scripts c =
+    let scripts = c.args.scripts.now in
+    subst (λ xs. AllZip IsScriptOf xs c.links.links.items)
+    (take_all c.links.place scripts (omega (arith, c.links-test.false, c.requires.one_script_each))) c.links.invariant.scripts

@@ -1,0 +1,89 @@
+-- What the lock of a link keeps is reached by calls, also after one more.
+use Rattle.std.proofs.Common.{◌≡◌, List, [], ◌∷◌, ◌++◌, Result, Ok, Err, OnErr, OnOk, IsErrAnd, IfErr, refl, ap, sym, ◌∙◌, subst}
+use Rattle.stab_frames.specs.Parameters.{Parameters}
+use Rattle.stab_core.specs.declared.start.Start.{Start}
+use Rattle.stab_acts.specs.Scripts.{Acts, ActsRemaining, receiver_half, sender_half}
+use Rattle.stab_lock.specs.Book.{Book, book_of}
+use Rattle.stab_lock.specs.Calls.{Call, offering, sending, polling_ack, closing, polling_frame, sending_ack}
+use Rattle.stab_lock.specs.Scripted.{IsNotedUnder, IsReached, Shared, after_call, after_calls, before_calls}
+
+-- a call after some calls
+one_more_call : (calls : List Call) (call : Call) (s : Shared)
+    → after_calls (calls ++ call ∷ []) s ≡ after_call call (after_calls calls s)
+unfolding after_calls
+one_more_call [] call s = refl
+one_more_call (first ∷ calls) call s = one_more_call calls call (after_call first s)
+
+-- what a call leaves belongs to the same link
+pub same_begin : (call : Call) (s : Shared)
+    → before_calls (after_call call s).book.params (after_call call s).book.start (after_call call s).script
+    ≡ before_calls s.book.params s.book.start s.script
+same_begin (offering item) s = refl
+same_begin sending s = refl
+same_begin polling_ack s = refl
+same_begin closing s = refl
+same_begin polling_frame s = refl
+same_begin sending_ack s = refl
+
+-- no call leads to what is there before any
+pub reached_at_first : (p : Parameters) (start : Start) (script : Acts) → IsReached (before_calls p start script)
+unfolding after_calls
+reached_at_first p start script = record { calls = []; reached = refl }
+
+-- one more call leads to what it leaves
+pub reached_after : (call : Call) (old new : Shared) → new ≡ after_call call old → IsReached old → IsReached new
+reached_after call old new is before =
+    subst IsReached (sym is)
+    (record {
+      calls = before.calls ++ call ∷ [];
+      reached =
+          ap (after_call call) before.reached
+          ∙ (sym (one_more_call before.calls call (before_calls old.book.params old.book.start old.script))
+          ∙ ap (after_calls (before.calls ++ call ∷ [])) (sym (same_begin call old)));
+    })
+
+-- so its history is by its script
+pub by_script : (s : Shared) → IsReached s → IsNotedUnder s.book.params s.book.start s.script s.book.history
+by_script s reached = record { calls = reached.calls; noted = ap (λ (x : Shared). x.book.history) reached.reached }
+
+-- a call that takes no act leads on, or changes nothing
+pub reached_by_book : {T E : Type 0} (r : Result T E) (call : Call) (s : Shared) (book after : Book) → after_call call s ≡ record s { book = after }
+    → OnOk r (book ≡ after) → OnErr r (book ≡ s.book) → IsReached s → IsReached (record s { book = book })
+reached_by_book (Ok x) call s book after is noted same before =
+    reached_after call s (record s { book = book }) (ap (λ b. record s { book = b }) noted ∙ sym is) before
+reached_by_book (Err e) call s book after is noted same before = subst (λ b. IsReached (record s { book = b })) (sym same) before
+
+-- so does a call of the sender's end, and one of the receiver's
+pub reached_by_sender : {T E : Type 0} (r : Result T E) (call : Call) (s : Shared) (book after : Book) (acts left : ActsRemaining)
+    → after_call call s ≡ record s { book = after; sender = left }
+    → OnOk r (book ≡ after) → OnOk r (acts ≡ left) → OnErr r (book ≡ s.book) → OnErr r (acts ≡ s.sender) → IsReached s
+    → IsReached (record s { book = book; sender = acts })
+reached_by_sender (Ok x) call s book after acts left is noted taken same untaken before =
+    reached_after call s (record s { book = book; sender = acts })
+    (ap (λ b. record s { book = b; sender = acts }) noted ∙ (ap (λ a. record s { book = after; sender = a }) taken ∙ sym is)) before
+reached_by_sender (Err e) call s book after acts left is noted taken same untaken before =
+    subst (λ b. IsReached (record s { book = b; sender = acts })) (sym same)
+    (subst (λ a. IsReached (record s { book = s.book; sender = a })) (sym untaken) before)
+
+pub reached_by_receiver : {T E : Type 0} (r : Result T E) (call : Call) (s : Shared) (book after : Book) (acts left : ActsRemaining)
+    → after_call call s ≡ record s { book = after; receiver = left }
+    → OnOk r (book ≡ after) → OnOk r (acts ≡ left) → OnErr r (book ≡ s.book) → OnErr r (acts ≡ s.receiver) → IsReached s
+    → IsReached (record s { book = book; receiver = acts })
+reached_by_receiver (Ok x) call s book after acts left is noted taken same untaken before =
+    reached_after call s (record s { book = book; receiver = acts })
+    (ap (λ b. record s { book = b; receiver = acts }) noted ∙ (ap (λ a. record s { book = after; receiver = a }) taken ∙ sym is)) before
+reached_by_receiver (Err e) call s book after acts left is noted taken same untaken before =
+    subst (λ b. IsReached (record s { book = b; receiver = acts })) (sym same)
+    (subst (λ a. IsReached (record s { book = s.book; receiver = a })) (sym untaken) before)
+
+-- what holds of an error holds of the answer that passes it on
+pub at_error : {T E : Type 0} (r : Result T E) (e : E) (Q : E → Type 0) → IsErrAnd r (λ x. x ≡ e) → Q e → IfErr r Q
+at_error (Ok x) e Q is holds = tt
+at_error (Err y) e Q is holds = subst Q (sym is) holds
+
+-- what is made of a book at its start and of both halves of its script is reached by no call
+pub reached_when_made : (p : Parameters) (start : Start) (given : Acts) (book : Book) (script : Acts) (sender receiver : ActsRemaining) → book ≡ book_of p start []
+    → script ≡ given → sender ≡ sender_half given → receiver ≡ receiver_half given
+    → IsReached (record { book = book; script = script; sender = sender; receiver = receiver })
+reached_when_made p start given book script sender receiver its_book its_script its_sender its_receiver =
+    rw (its_book, its_script, its_sender, its_receiver) (reached_at_first p start given)

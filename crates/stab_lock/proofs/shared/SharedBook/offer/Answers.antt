@@ -1,0 +1,11 @@
+use Rattle.std.proofs.Common.{refl}
+use Rattle.stab_lock.specs.Calls.{offering}
+use Rattle.stab_lock.proofs.Reached.{reached_by_book}
+use Rattle.stab_lock.proofs.shared.SharedBook.offer.Goals as goal
+
+-- the call leads on, or changes nothing
+pub invariant_of-self : goal.invariant_of-self
+invariant_of-self c =
+    reached_by_book c.offer.result (offering c.args.item)
+    (record { book = c.self.inside.book; script = c.self.inside.script; sender = c.self.inside.sender; receiver = c.self.inside.receiver })
+    c.offer.new.self _ refl c.offer.ensures.book c.offer.ensures.unchanged c.self.invariant

@@ -1,0 +1,200 @@
+//! What the lock of a link keeps, and the six calls of the ends on it.
+
+ghost use Rattle.std.specs.Prelude.{◌≡◌, List, IfErr, IfOk, IsTrue, OnErr, OnOk};
+ghost use Rattle.stab_acts.specs.Scripts.{Acts};
+ghost use Rattle.stab_core.specs.Link.{IsReason};
+ghost use Rattle.stab_core.specs.LinkLaw.{LinkLaw};
+ghost use Rattle.stab_core.specs.Replay.{IsLawful, initial, replay, start_items};
+ghost use Rattle.stab_core.specs.declared.event.Event.{Event};
+ghost use Rattle.stab_ends.specs.Agreement.{Agree};
+ghost use Rattle.stab_lock.specs.Calls.{offering, sending, polling_ack, closing, polling_frame};
+ghost use Rattle.stab_lock.specs.Calls.{sending_ack, answer_of, is_held, no_acts, seen_by};
+ghost use Rattle.stab_lock.specs.Scripted.{IsNotedUnder, IsReached, after_call, before_calls};
+ghost use Rattle.stab_lock.specs.Settling.{DifferFromReplay};
+
+use crate::book::LinkBook;
+use crate::settle::SettleFault;
+use stab_acts::{HalfScript, Script};
+use stab_core::{Effect, Start, StartFault};
+use stab_ends::{FrameSeen, RecvAccount, SendAccount};
+use stab_frames::{Item, Params};
+use std::alloc::{AllocError, Global};
+use std::marker::Model;
+
+/// A book with the script of its link, and both halves of it: each call takes the next act of its
+/// own half. Its type keeps that some calls noted the history, so the history is by the script.
+#[derive(Debug, Drop)]
+pub(crate) struct SharedBook {
+    book: LinkBook,
+    script: Script,
+    sender: HalfScript,
+    receiver: HalfScript,
+}
+
+impl Model for SharedBook {
+    ghost use Rattle.stab_lock.specs.Scripted.{Shared, IsReached};
+
+    ghost Value = { Shared };
+
+    ghost view = { λ b. record {
+      book = b.book;
+      script = b.script;
+      sender = b.sender;
+      receiver = b.receiver;
+    } };
+
+    ghost invariant = { λ b. IsReached (record {
+      book = b.book;
+      script = b.script;
+      sender = b.sender;
+      receiver = b.receiver;
+    }) };
+}
+
+impl SharedBook {
+    /// What the lock of a link keeps before any call. A start is refused as a link refuses it.
+    pub(crate) fn new(
+        alloc: Global,
+        params: Params,
+        start: Start,
+        script: &Script,
+    ) -> Result<SharedBook, StartFault>
+        ensures begins { IfOk result (λ shared. shared ≡ before_calls params start script.now) }
+        ensures lawful { IfOk result (λ shared. IsLawful params start) }
+        ensures refused { IfErr result (IsReason params start) }
+    {
+        let book = LinkBook::new(alloc, params, start)?;
+        let (sender, receiver) = script.copy(alloc)?.split();
+        let script = script.copy(alloc)?;
+        Ok(SharedBook {
+            book,
+            script,
+            sender,
+            receiver,
+        })
+    }
+
+    /// Offers an item to the sender.
+    pub(crate) fn offer(&mut self, item: Item) -> Result<bool, AllocError>
+        ensures noted { OnOk result (self.new ≡ after_call (offering item) self.old) }
+        ensures answer { IfOk result (λ taken.
+            taken ≡ is_held (answer_of (offering item) self.old.book no_acts)) }
+        ensures unchanged { OnErr result (self.new ≡ self.old) }
+    {
+        self.book.offer(item)
+    }
+
+    /// Sends the sender's frame once more.
+    pub(crate) fn send(&mut self) -> Result<Effect, AllocError>
+        ensures noted { OnOk result (self.new ≡ after_call sending self.old) }
+        ensures answer { IfOk result (λ effect.
+            effect ≡ answer_of sending self.old.book self.old.sender) }
+        ensures unchanged { OnErr result (self.new ≡ self.old) }
+    {
+        self.book.send(&mut self.sender)
+    }
+
+    /// Looks for an acknowledgement, and receives the front one.
+    pub(crate) fn poll_ack(&mut self) -> Result<Effect, AllocError>
+        ensures noted { OnOk result (self.new ≡ after_call polling_ack self.old) }
+        ensures answer { IfOk result (λ effect.
+            effect ≡ answer_of polling_ack self.old.book self.old.sender) }
+        ensures unchanged { OnErr result (self.new ≡ self.old) }
+    {
+        self.book.poll_ack(&mut self.sender)
+    }
+
+    /// Closes the link for good, where it is open.
+    pub(crate) fn close(&mut self) -> Result<Effect, AllocError>
+        ensures noted { OnOk result (self.new ≡ after_call closing self.old) }
+        ensures answer { IfOk result (λ effect. effect ≡ answer_of closing self.old.book no_acts) }
+        ensures unchanged { OnErr result (self.new ≡ self.old) }
+    {
+        self.book.close()
+    }
+
+    /// Looks for a frame, and receives the front one. A closed link shows its close.
+    pub(crate) fn poll_frame(&mut self) -> Result<FrameSeen, AllocError>
+        ensures noted { OnOk result (self.new ≡ after_call polling_frame self.old) }
+        ensures answer { IfOk result (λ seen.
+            seen ≡ seen_by (answer_of polling_frame self.old.book self.old.receiver)) }
+        ensures unchanged { OnErr result (self.new ≡ self.old) }
+    {
+        self.book.poll_frame(&mut self.receiver)
+    }
+
+    /// Sends the label that the receiver remembers.
+    pub(crate) fn send_ack(&mut self) -> Result<Effect, AllocError>
+        ensures noted { OnOk result (self.new ≡ after_call sending_ack self.old) }
+        ensures answer { IfOk result (λ effect.
+            effect ≡ answer_of sending_ack self.old.book self.old.receiver) }
+        ensures unchanged { OnErr result (self.new ≡ self.old) }
+    {
+        self.book.send_ack(&mut self.receiver)
+    }
+
+    /// The book, without its script.
+    pub(crate) fn into_book(self) -> LinkBook
+        ensures { result ≡ self.book }
+    {
+        let SharedBook { book, .. } = self;
+        book
+    }
+
+    /// What the link began from.
+    pub(crate) fn start(&self) -> &Start
+        ensures start { result.now ≡ self.now.book.start }
+    {
+        self.book.start()
+    }
+
+    /// Whether this is of a link with these parameters, this start and this script.
+    fn is_of(&self, params: Params, start: &Start, script: &Script) -> bool
+        ensures { IsTrue result → (self.now.book.params ≡ params)
+            × (self.now.book.start ≡ start.now) × (self.now.script ≡ script.now) }
+    {
+        self.book.is_of(params, start) && same_script(&self.script, script)
+    }
+
+    /// Whether two accounts agree with the book of a link with these parameters, this start and
+    /// this script, or the first thing in which they differ from it. Where the book is another
+    /// link's, the answer is OfferedDiffer.
+    #[tactic(auto, using(crate::proofs::Reached::by_script))]
+    pub(crate) fn check_of(
+        &self,
+        params: Params,
+        start: &Start,
+        script: &Script,
+        send: &SendAccount,
+        recv: &RecvAccount,
+    ) -> Result<(), SettleFault>
+        ensures replay { OnOk result ((events : List Event)
+            × Agree (replay params (initial start.now) events) send.now recv.now
+            × IsNotedUnder params start.now script.now events) }
+        ensures law { OnOk result (LinkLaw params.capacity (start_items start.now)
+            send.now.offered send.now.acked recv.now.delivered) }
+        ensures differ { IfErr result (DifferFromReplay params start.now send.now recv.now) }
+    {
+        if !self.is_of(params, start, script) {
+            return Err(SettleFault::OfferedDiffer);
+        }
+        let _law = self.book.link();
+        self.book.check(send, recv)
+    }
+}
+
+/// Whether two scripts have the same acts in each list.
+fn same_script(one: &Script, other: &Script) -> bool
+    ensures { IsTrue result → one.now ≡ other.now }
+{
+    if one.frames_out() != other.frames_out() {
+        return false;
+    }
+    if one.frames_in() != other.frames_in() {
+        return false;
+    }
+    if one.acks_out() != other.acks_out() {
+        return false;
+    }
+    one.acks_in() == other.acks_in()
+}
