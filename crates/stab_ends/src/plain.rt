@@ -47,6 +47,8 @@ impl SendSide for PlainSend {
 
     ghost sent = { λ end. end.account };
 
+    ghost may_refuse_offer = { λ link. ⊥ };
+
     ghost done_link = { λ done. tt };
 
     ghost done_sent = { λ done. done };

@@ -1,7 +1,7 @@
 //! What an end of a link promises, whatever runs the link: each call changes the end's account
 //! exactly as its answer says, and keeps which link the end belongs to.
 
-ghost use Rattle.std.specs.Prelude.{◌≡◌, true, IfOk};
+ghost use Rattle.std.specs.Prelude.{◌≡◌, true, false, IfOk};
 ghost use Rattle.stab_ends.specs.Accounts.{SenderAccount, ReceiverAccount, MayOffer, Waits, IsOpenFor};
 ghost use Rattle.stab_ends.specs.Accounts.{after_offer, after_poll_ack, after_close};
 ghost use Rattle.stab_ends.specs.Accounts.{after_poll_frame};
@@ -28,16 +28,22 @@ pub trait SendSide: Drop {
 
     ghost sent: { Self → SenderAccount };
 
+    // What is known where the end of a link does not take an item that its account allows; where
+    // that never happens, it says that it cannot be.
+    ghost may_refuse_offer: { Link → Type 0 };
+
     // The same of a finished end.
     ghost done_link: { Self.Done → Link };
 
     ghost done_sent: { Self.Done → SenderAccount };
 
     /// Offers an item: true where it is taken, which an end that is not idle, or is closed, never
-    /// does.
+    /// does. An end that may refuse no offer takes it everywhere else.
     fn offer(&mut self, pass: &Self::Pass, item: Item) -> Result<bool, AllocError>
         ensures account { sent self.new ≡ after_offer (sent self.old) item result }
         ensures taken { IfOk result (λ taken. taken ≡ true → MayOffer (sent self.old)) }
+        ensures not_taken { IfOk result (λ taken. taken ≡ false
+            → MayOffer (sent self.old) → may_refuse_offer (link self.old)) }
         ensures link { link self.new ≡ link self.old };
 
     /// Sends the current item once more, where there is one.

@@ -1,7 +1,7 @@
-ghost use Rattle.std.specs.Prelude.{◌≡◌, true, IfOk, OnErr};
+ghost use Rattle.std.specs.Prelude.{◌≡◌, ⊤, true, false, IfOk, OnErr};
 ghost use Rattle.stab_lock.specs.Ends.{send_end};
-ghost use Rattle.stab_ends.specs.Accounts.{SenderAccount, MayOffer, Waits, new_sender, after_offer};
-ghost use Rattle.stab_ends.specs.Accounts.{after_poll_ack, after_close};
+ghost use Rattle.stab_ends.specs.Accounts.{SenderAccount, MayOffer, Waits, new_sender};
+ghost use Rattle.stab_ends.specs.Accounts.{after_offer, after_poll_ack, after_close};
 
 use crate::link::LockLink;
 use stab_core::Effect;
@@ -54,6 +54,9 @@ impl<'a, R: Wait> SendSide for LockSend<'a, R> {
 
     ghost sent = { λ end. end.account };
 
+    // The link may be in another state than the account says, so nothing is known.
+    ghost may_refuse_offer = { λ link. ⊤ };
+
     ghost done_link = { λ done. tt };
 
     ghost done_sent = { λ done. done };
@@ -63,6 +66,8 @@ impl<'a, R: Wait> SendSide for LockSend<'a, R> {
             ≡ after_offer (send_end self.old).account item result }
         ensures taken { IfOk result (λ taken.
             taken ≡ true → MayOffer (send_end self.old).account) }
+        ensures not_taken { IfOk result (λ taken. taken ≡ false
+            → MayOffer (send_end self.old).account → ⊤) }
 
         ensures unchanged { OnErr result (send_end self.new ≡ send_end self.old) }
     {

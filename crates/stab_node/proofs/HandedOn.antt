@@ -122,3 +122,19 @@ module _ {A X Y : Type 0} (first : ℕ → List ℕ) (parents : List (Option ℕ
   length_ended =
       ap length ended_is
       ∙ (length-map accounts ended_of ∙ (sym (length-map accounts up_of) ∙ (sym (ap length recvs_are) ∙ length-by_child parents recvs)))
+
+-- what holds of each lower end of each node and of what the node received holds of the end of the link to each child
+pub offers_at : {A X Y : Type 0} (Q : List ℕ → Y → Type 0) (parents : List (Option ℕ)) (received_of : A → List ℕ) (up_of : A → Option X)
+    (downs_of : A → List Y) (ended_of : A → Ended) (accounts : List A) (received : List (List ℕ)) (sends : List Y)
+    → received ≡ map received_of accounts → by_parent parents sends ≡ map downs_of accounts
+    → AllZip (λ node a. All (λ d. Q (received_of a) d) (downs_of a)) (range_with_len 0 (length parents)) accounts
+    → ((child parent : ℕ) → parent_at parents child ≡ Some parent → parent < length parents)
+    → (child parent : ℕ) (done : Y) → parent_at parents child ≡ Some parent → entry_into parents sends child ≡ Some done
+    → Q (received_at received parent) done
+offers_at Q parents received_of up_of downs_of ended_of accounts received sends received_is sends_are all known child parent done is_child is =
+    holds_of_child (λ node d. Q (received_at received node) d) parents sends (map downs_of accounts) sends_are
+    (λ node within.
+    subst (λ xs. All (λ d. Q (get_or xs node []) d) (get_or (map downs_of accounts) node [])) (sym received_is)
+    (at_place (λ _ a. All (λ d. Q (received_of a) d) (downs_of a)) received_of up_of downs_of ended_of (λ k r u ds e. All (λ d. Q r d) ds) (λ node a holds. holds)
+    0 (length parents) accounts node node (omega arith) (λ past. All-nil _) all))
+    child parent done is_child (known child parent is_child) is

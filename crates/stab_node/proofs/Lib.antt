@@ -7,3 +7,4 @@ pub mod ForCallers
 pub mod Joined
 pub mod Worked
 pub mod HandedOn
+pub mod Offers

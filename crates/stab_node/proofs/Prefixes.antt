@@ -74,7 +74,7 @@ at_place P f (x ∷ xs) (suc place) d inside all =
     at_place P f xs place d (omega arith) (All-tail P (f x) (map f xs) all)
 
 -- a prefix as long as the whole list is the whole list
-whole_prefix : (offered received : List ℕ) → IsPrefix offered received
+pub whole_prefix : (offered received : List ℕ) → IsPrefix offered received
     → length offered ≡ length received → offered ≡ received
 whole_prefix [] [] prefix long = refl
 whole_prefix [] (x ∷ received) prefix long = search rules

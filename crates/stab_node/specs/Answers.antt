@@ -4,7 +4,8 @@ use Rattle.std.specs.Prelude.{◌≡◌, ℕ, List, Option, map, option_map}
 use Rattle.stab_ends.specs.Accounts.{SenderAccount, ReceiverAccount}
 use Rattle.stab_node.specs.declared.account.Ended.{Ended}
 use Rattle.stab_node.specs.Turns.{IsOver}
-use Rattle.stab_node.specs.Work.{AreNew, IsWork}
+use Rattle.stab_node.specs.Work.{AreNew, IsWork, OffersUnlessRefused}
+use Rattle.std.specs.List.{AllZip}
 
 -- the ends of a node: the account of each, and its link
 pub record NodeEnds (L M : Type 0) : Type 0 where
@@ -24,10 +25,12 @@ node_ends received link_above sent link_below up downs = record {
 }
 
 -- what a worker left that was not refused
-pub record HasWorked {L M : Type 0} (has_passed : ℕ → Type 0) (turns : ℕ) (first : List ℕ)
-    (before after : NodeEnds L M) (received : List ℕ) (ended : Ended) : Type 0 where
+pub record HasWorked {L M : Type 0} (has_passed : ℕ → Type 0) (may_refuse : M → Type 0) (turns : ℕ)
+    (first : List ℕ) (before after : NodeEnds L M) (received : List ℕ) (ended : Ended) : Type 0 where
   pub work : AreNew before.up before.downs
       → IsWork first received after.up after.downs ended
+  pub offers : AreNew before.up before.downs
+      → AllZip (OffersUnlessRefused may_refuse received) after.down_links after.downs
   pub up_link : after.up_link ≡ before.up_link
   pub down_links : after.down_links ≡ before.down_links
   pub over : IsOver has_passed turns ended

@@ -1,6 +1,6 @@
 -- What holds of a node while its worker makes turns, and before its lower ends are closed.
 -- Source: this project's own.
-use Rattle.std.specs.Prelude.{◌≡◌, ℕ, Bool, true, false, List, [], ◌∷◌, ◌++◌, length, All}
+use Rattle.std.specs.Prelude.{◌≡◌, ◌⊎◌, ℕ, ◌+◌, Bool, true, false, List, [], ◌∷◌, ◌++◌, length, All}
 use Rattle.std.specs.Prelude.{Option, IfSome}
 use Rattle.stab_ends.specs.Accounts.{SenderAccount, ReceiverAccount}
 use Rattle.stab_ends.specs.declared.seen.FrameSeen.{FrameSeen}
@@ -13,6 +13,11 @@ use mathlib.Core.List.{IsPrefix}
 -- what a lower end offered is a prefix of what the node received
 pub record OffersPrefix (received : List ℕ) (down : SenderAccount) : Type 0 where
   pub offered : IsPrefix down.offered received
+
+-- a lower end is open, and at most its last item is not acknowledged
+pub record IsInUse (down : SenderAccount) : Type 0 where
+  pub is_open : down.closed ≡ false
+  pub counts : (length down.offered ≡ down.acked) ⊎ (length down.offered ≡ down.acked + 1)
 
 -- an upstream that counts as ended is closed
 pub record EndedIsClosed (ended : Bool) (up : Option ReceiverAccount) : Type 0 where

@@ -6,7 +6,7 @@
 -- 7, 8 is not served: 7, 8 is no prefix of 7, 7, 8. Had the node begun with 50, 51, it would have
 -- received 50, 51, 7, 7, 8, and the lower end would have offered 50 first.
 -- Source: this project's profile.
-use Rattle.std.specs.Prelude.{◌≡◌, ℕ, true, List, ◌++◌, length, All, Option, Some, None, IfSome}
+use Rattle.std.specs.Prelude.{◌≡◌, ◌⊎◌, ℕ, ◌+◌, true, List, ◌++◌, length, All, Option, Some, None, IfSome}
 use Rattle.stab_ends.specs.Accounts.{SenderAccount, ReceiverAccount, new_sender, new_receiver}
 use Rattle.stab_node.specs.declared.account.Ended.{Ended}
 use Rattle.stab_node.specs.declared.account.Ended.TheVariants.{Upstream}
@@ -27,6 +27,15 @@ received_by (Some up) initial = initial ++ up.delivered
 pub record IsServed (received : List ℕ) (down : SenderAccount) : Type 0 where
   pub offered : IsPrefix down.offered received
   pub closed : down.closed ≡ true
+
+-- a lower end offered all that the node received, or the last item that it offered waits for its
+-- acknowledgement
+abbrev pub HasOffered : List ℕ → SenderAccount → Type 0
+HasOffered received down = (down.offered ≡ received) ⊎ (length down.offered ≡ down.acked + 1)
+
+-- the same but of an end that may refuse an offer, with what is known there
+abbrev pub OffersUnlessRefused : {L : Type 0} → (L → Type 0) → List ℕ → L → SenderAccount → Type 0
+OffersUnlessRefused may_refuse received link down = may_refuse link ⊎ HasOffered received down
 
 -- a lower end offered all that the node received, and all of it is acknowledged
 pub record HasAll (received : List ℕ) (down : SenderAccount) : Type 0 where

@@ -1,9 +1,12 @@
 //! A node's lower ends: what a turn does on each, and how they are closed and finished.
 
-ghost use Rattle.std.specs.Prelude.{◌≡◌, ◌≤◌, [], true, Some, IsTrue, IfSome, OnOk, All, map};
+ghost use Rattle.std.specs.Prelude.{◌≡◌, ◌⊎◌, ◌≤◌, ◌<◌, [], true, Some, IsTrue, IfNone, IfSome, OnOk};
+ghost use Rattle.std.specs.Prelude.{All, map};
 ghost use Rattle.std.specs.Prelude.{length};
 ghost use Rattle.std.specs.Prelude.{slice_get, vec_capacity};
-ghost use Rattle.stab_node.specs.UnderWay.{IsAllAcked, OffersPrefix, but_for_the_close};
+ghost use Rattle.stab_node.specs.UnderWay.{IsAllAcked, IsInUse, OffersPrefix};
+ghost use Rattle.stab_node.specs.UnderWay.{but_for_the_close};
+ghost use Rattle.stab_node.specs.Work.{OffersUnlessRefused};
 
 use stab_ends::{SendAccount, SendSide};
 use stab_frames::Item;
@@ -11,7 +14,7 @@ use std::alloc::AllocError;
 
 /// Looks for an acknowledgement, offers the next item where the end is idle and there is one, and
 /// sends.
-#[tactic(auto, using(crate::proofs::Prefixes::offers_no_more))]
+#[tactic(auto, using(crate::proofs::Prefixes::offers_no_more, crate::proofs::Offers::in_use_after_poll),)]
 pub(crate) fn serve_down<D: SendSide>(
     pass: &D::Pass,
     down: &mut D,
@@ -19,6 +22,11 @@ pub(crate) fn serve_down<D: SendSide>(
 ) -> Result<(), AllocError>
     ensures offered { OffersPrefix received.now (D.sent down.old)
         → OffersPrefix received.now (D.sent down.new) }
+    ensures in_use { IsInUse (D.sent down.old) → IsInUse (D.sent down.new) }
+    ensures all { OnOk result (IsInUse (D.sent down.old)
+        → OffersPrefix received.now (D.sent down.old)
+        → OffersUnlessRefused D.may_refuse_offer received.now (D.link down.new)
+        (D.sent down.new)) }
     ensures link { D.link down.new ≡ D.link down.old }
 {
     down.poll_ack(pass)?;
@@ -28,7 +36,7 @@ pub(crate) fn serve_down<D: SendSide>(
 }
 
 /// Offers the next item, where the end is idle and there is one.
-#[tactic(auto, using(crate::proofs::Prefixes::offers_more))]
+#[tactic(auto, using(crate::proofs::Prefixes::offers_more, crate::proofs::Offers::in_use_after_offer),)]
 fn offer_next<D: SendSide>(
     pass: &D::Pass,
     down: &mut D,
@@ -36,6 +44,11 @@ fn offer_next<D: SendSide>(
 ) -> Result<(), AllocError>
     ensures offered { OffersPrefix received.now (D.sent down.old)
         → OffersPrefix received.now (D.sent down.new) }
+    ensures in_use { IsInUse (D.sent down.old) → IsInUse (D.sent down.new) }
+    ensures all { OnOk result (IsInUse (D.sent down.old)
+        → OffersPrefix received.now (D.sent down.old)
+        → OffersUnlessRefused D.may_refuse_offer received.now (D.link down.old)
+        (D.sent down.new)) }
     ensures link { D.link down.new ≡ D.link down.old }
 {
     if let Some(item) = next_item(down.account(), received) {
@@ -47,8 +60,10 @@ fn offer_next<D: SendSide>(
 /// The item that an end offers next: where it is idle, the first of those received that it has not
 /// offered.
 fn next_item(account: &SendAccount, received: &[Item]) -> Option<Item>
-    ensures { IfSome result (λ item.
+    ensures next { IfSome result (λ item.
         slice_get received.now (length account.now.offered) ≡ Some item) }
+    ensures none { IfNone result ((length account.now.offered ≡ account.now.acked → ⊥)
+        ⊎ (length received.now ≤ length account.now.offered)) }
 {
     if account.is_idle() {
         received.get(account.offered.len()).copied()
@@ -65,6 +80,11 @@ pub(crate) fn serve_downs<D: SendSide>(
 ) -> Result<(), AllocError>
     ensures offered { All (OffersPrefix received.now) (map D.sent downs.old)
         → All (OffersPrefix received.now) (map D.sent downs.new) }
+    ensures in_use { All IsInUse (map D.sent downs.old) → All IsInUse (map D.sent downs.new) }
+    ensures all { OnOk result (All IsInUse (map D.sent downs.old)
+        → All (OffersPrefix received.now) (map D.sent downs.old)
+        → All (λ d. OffersUnlessRefused D.may_refuse_offer received.now (D.link d) (D.sent d))
+        downs.new) }
     ensures links { map D.link downs.new ≡ map D.link downs.old }
 {
     'each: for down in downs.iter_mut() {

@@ -3,7 +3,7 @@ ghost use Rattle.std.specs.Prelude.{◌≡◌, ◌≤◌, ◌<◌, ℕ, IfOk, If
 ghost use Rattle.stab_ends.specs.Accounts.{new_sender, new_receiver};
 ghost use Rattle.stab_node.specs.declared.fault.NodeFault.{NodeFault};
 ghost use Rattle.stab_node.specs.Turns.{IsOver, IsRefused};
-ghost use Rattle.stab_node.specs.Work.{IsWork};
+ghost use Rattle.stab_node.specs.Work.{IsWork, OffersUnlessRefused};
 ghost use Rattle.stab_tree.specs.Nodes.{root_of};
 ghost use Rattle.stab_tree.specs.ByChild.{by_child};
 ghost use Rattle.stab_tree.specs.NodeOpenings.{FitTree};
@@ -58,6 +58,10 @@ where
     ensures work { IfOk result (λ accounts. AllZip (λ node a. IsWork
         (initial_at (root_of tree.now.parents) published.now openings.now.lists node)
         a.received.items (option_map U.done_received a.up) (map D.done_sent a.downs.items) a.ended)
+        (range_with_len 0 (length tree.now.parents)) accounts.items) }
+    ensures offers { IfOk result (λ accounts. AllZip (λ node a.
+        All (λ done. OffersUnlessRefused D.may_refuse_offer a.received.items
+        (D.done_link done) (D.done_sent done)) a.downs.items)
         (range_with_len 0 (length tree.now.parents)) accounts.items) }
     ensures turns { IfOk result (λ accounts. (node : ℕ) → node < length tree.now.parents
         → IsOver (G.has_passed gate.now node) turns

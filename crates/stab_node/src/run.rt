@@ -3,7 +3,7 @@ ghost use Rattle.std.specs.Prelude.{length, map};
 ghost use Rattle.stab_ends.specs.Accounts.{new_sender, new_receiver};
 ghost use Rattle.stab_node.specs.declared.fault.NodeFault.{NodeFault};
 ghost use Rattle.stab_node.specs.Turns.{IsOver, IsRefused};
-ghost use Rattle.stab_node.specs.Work.{HasAll, IsServed};
+ghost use Rattle.stab_node.specs.Work.{HasAll, IsServed, OffersUnlessRefused};
 ghost use Rattle.stab_tree.specs.Links.{links_of};
 ghost use Rattle.stab_tree.specs.Nodes.{parent_at, root_of};
 ghost use Rattle.stab_tree.specs.NodeOpenings.{FitTree, opening_at};
@@ -73,6 +73,13 @@ where
         → parent_at tree.now.parents child ≡ Some parent
         → entry_into tree.now.parents g.sends.items child ≡ Some done
         → IsServed (received_at g.received.items parent) (D.done_sent done)) }
+    // It also offered all that the parent received, or the last item that it offered waits for its
+    // acknowledgement, unless it is an end that may refuse an offer.
+    ensures offers { IfOk result (λ g. (child parent : ℕ) (done : D.Done)
+        → parent_at tree.now.parents child ≡ Some parent
+        → entry_into tree.now.parents g.sends.items child ≡ Some done
+        → OffersUnlessRefused D.may_refuse_offer (received_at g.received.items parent)
+        (D.done_link done) (D.done_sent done)) }
     // Where a node ended as Upstream, the receiver's end of the link into it was shown the close,
     // and each link to its children offered all that it received and has all of it acknowledged.
     ensures upstream { IfOk result (λ g. (child : ℕ) (done : U.Done)

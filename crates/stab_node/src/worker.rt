@@ -1,8 +1,9 @@
-ghost use Rattle.std.specs.Prelude.{◌≡◌, ◌≤◌, ℕ, List, [], true, false, IfOk, IfErr, IfSome, All};
+ghost use Rattle.std.specs.List.{AllZip};
+ghost use Rattle.std.specs.Prelude.{◌≡◌, ◌≤◌, ℕ, List, [], true, false, IfOk, IfErr, OnOk, All};
 ghost use Rattle.std.specs.Prelude.{map};
 ghost use Rattle.std.specs.Prelude.{length, option_map, vec_capacity};
-ghost use Rattle.stab_node.specs.Work.{AreNew, IsWork};
-ghost use Rattle.stab_node.specs.UnderWay.{IsUnderWay, HasEnded, IsAllAcked};
+ghost use Rattle.stab_node.specs.Work.{AreNew, IsWork, OffersUnlessRefused};
+ghost use Rattle.stab_node.specs.UnderWay.{IsUnderWay, HasEnded, IsAllAcked, IsInUse};
 ghost use Rattle.stab_node.specs.Turns.{IsOver, IsRefused};
 
 use crate::account::{Ended, NodeAccount};
@@ -55,6 +56,11 @@ where
     ensures work { IfOk result (λ a. AreNew (option_map U.received up) (map D.sent downs.items)
         → IsWork initial.now a.received.items
         (option_map U.done_received a.up) (map D.done_sent a.downs.items) a.ended) }
+    // In every case each lower end offered all that the node received, or the last item that it
+    // offered waits for its acknowledgement, unless it is an end that may refuse an offer.
+    ensures offers { IfOk result (λ a. AreNew (option_map U.received up) (map D.sent downs.items)
+        → AllZip (OffersUnlessRefused D.may_refuse_offer a.received.items)
+        (map D.done_link a.downs.items) (map D.done_sent a.downs.items)) }
     // There is a finished upper end where one was given, of the same link, and the finished lower
     // ends are of the links of those that were given, in their order.
     ensures upper_link { IfOk result (λ a. option_map U.done_link a.up ≡ option_map U.link up) }
@@ -112,6 +118,10 @@ where
         AreNew (option_map U.received up.old) (map D.sent downs.old)
         → IsWork initial.now served.received.items
         (option_map U.received up.new) (map D.sent downs.new) served.ended) }
+    ensures offers { IfOk result (λ served.
+        AreNew (option_map U.received up.old) (map D.sent downs.old)
+        → All (λ d. OffersUnlessRefused D.may_refuse_offer served.received.items
+        (D.link d) (D.sent d)) downs.new) }
     ensures upper_link { option_map U.link up.new ≡ option_map U.link up.old }
     ensures lower_links { map D.link downs.new ≡ map D.link downs.old }
     ensures empty { IfOk result (λ served. served.room.items ≡ []) }
@@ -152,6 +162,12 @@ where
         → IfOk result (λ ended.
         HasEnded initial received.new.items (option_map U.received up.new)
         (map D.sent downs.new) ended) }
+    ensures offers { IfOk result (λ ended. (initial : List ℕ)
+        → IsUnderWay initial received.old.items false (option_map U.received up.old)
+        (map D.sent downs.old)
+        → All IsInUse (map D.sent downs.old)
+        → All (λ d. OffersUnlessRefused D.may_refuse_offer received.new.items
+        (D.link d) (D.sent d)) downs.new) }
     ensures upper_link { option_map U.link up.new ≡ option_map U.link up.old }
     ensures lower_links { map D.link downs.new ≡ map D.link downs.old }
     ensures turns { IfOk result (λ ended. IsOver (G.has_passed gate.now node) turns ended) }
@@ -186,6 +202,13 @@ where
         (map D.sent downs.old)
         → IsUnderWay initial received.new.items upstream_ended.new (option_map U.received up.new)
         (map D.sent downs.new) }
+    ensures in_use { All IsInUse (map D.sent downs.old) → All IsInUse (map D.sent downs.new) }
+    ensures offers { OnOk result ((initial : List ℕ)
+        → IsUnderWay initial received.old.items upstream_ended.old (option_map U.received up.old)
+        (map D.sent downs.old)
+        → All IsInUse (map D.sent downs.old)
+        → All (λ d. OffersUnlessRefused D.may_refuse_offer received.new.items
+        (D.link d) (D.sent d)) downs.new) }
     ensures handed_on { IfOk result (λ all. all ≡ true → (upstream_ended.new ≡ true)
         × All (IsAllAcked (length received.new.items)) (map D.sent downs.new)) }
     ensures upper_link { option_map U.link up.new ≡ option_map U.link up.old }

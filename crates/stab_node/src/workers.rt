@@ -47,7 +47,7 @@ impl<'e, U: RecvSide, D: SendSide, G: Gate> Promise<
     ghost use Rattle.stab_node.specs.Answers.{HasWorked, node_ends};
 
     ghost kept_by = { λ p r. MatchResult r
-        (λ a. HasWorked (G.has_passed p.gate.now p.ends.value.node) p.turns p.first.now
+        (λ a. HasWorked (G.has_passed p.gate.now p.ends.value.node) D.may_refuse_offer p.turns p.first.now
         (node_ends U.received U.link D.sent D.link p.ends.value.up p.ends.value.downs.items)
         (node_ends U.done_received U.done_link D.done_sent D.done_link a.up a.downs.items)
         a.received.items a.ended)
@@ -85,7 +85,7 @@ where
     requires kinds { IsSync R.row × IsSync P.row × IsSend U.row × IsSend D.row × IsSync G.row
         × IsSend U.Done.row × IsSend D.Done.row }
     ensures accounts { IfOk result (λ accounts. AllZip (λ s a.
-        HasWorked (G.has_passed gate.now s.node) turns
+        HasWorked (G.has_passed gate.now s.node) D.may_refuse_offer turns
         (initial_at root published.now openings.now.lists s.node)
         (node_ends U.received U.link D.sent D.link s.up s.downs.items)
         (node_ends U.done_received U.done_link D.done_sent D.done_link a.up a.downs.items)
@@ -116,7 +116,7 @@ where
             requires kinds { IsSync R.row × IsSync P.row × IsSend U.row × IsSend D.row
                 × IsSync G.row × IsSend U.Done.row × IsSend D.Done.row }
             ensures accounts { IfOk result (λ accounts. AllZip (λ s a.
-                HasWorked (G.has_passed gate.entry.now s.node) turns
+                HasWorked (G.has_passed gate.entry.now s.node) D.may_refuse_offer turns
                 (initial_at root published.entry.now openings.entry.now.lists s.node)
                 (node_ends U.received U.link D.sent D.link s.up s.downs.items)
                 (node_ends U.done_received U.done_link D.done_sent D.done_link
@@ -148,7 +148,7 @@ where
                 move || -> Answer<U, D>
                     requires turns { 1 ≤ turns }
                     ensures work { MatchResult result
-                        (λ a. HasWorked (G.has_passed gate.entry.now ends.node) turns
+                        (λ a. HasWorked (G.has_passed gate.entry.now ends.node) D.may_refuse_offer turns
                         first.entry.now
                         (node_ends U.received U.link D.sent D.link ends.up ends.downs.items)
                         (node_ends U.done_received U.done_link D.done_sent D.done_link

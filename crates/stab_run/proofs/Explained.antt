@@ -1,5 +1,5 @@
 -- What the workers left and what settling showed, joined: each link of the report is explained, by its own script.
-use Rattle.std.proofs.Common.{◌≡◌, ℕ, zero, suc, List, [], ◌∷◌, length, map, Option, Some, None, refl, ap, sym, ◌∙◌, subst, arith, All}
+use Rattle.std.proofs.Common.{◌≡◌, inl, inr, ℕ, zero, suc, List, [], ◌∷◌, length, map, Option, Some, None, refl, ap, sym, ◌∙◌, subst, arith, All}
 use Rattle.std.proofs.lemmas.Option.{none-some, same_Some}
 use mathlib.Core.List.{IsPrefix}
 use Rattle.stab_core.specs.LinkSetup.{CanBegin, LinkSetup}
@@ -16,8 +16,10 @@ use Rattle.stab_treecore.specs.Network.{Network}
 use Rattle.stab_node.proofs.ForCallers.{holds_by_child, length-by_child}
 use Rattle.stab_node.specs.ByNode.{entry_into, received_at}
 use Rattle.stab_word.specs.Interleaving.{AnInterleavingExplains}
-use Rattle.stab_run.specs.AnyLinks.{IsFollowed, IsOneOf, IsScriptOf, given_to, kind_of, received_by, sent_by}
-use Rattle.stab_run.specs.ByScript.{AreByLockedScript, AreByScript}
+use Rattle.stab_run.specs.AnyLinks.{HasSent, IsFollowed, IsOneOf, IsScriptOf, given_to, kind_of, name_of, received_by, sent_by}
+use Rattle.stab_node.specs.Work.{HasOffered, OffersUnlessRefused}
+use Rattle.stab_run.specs.AnyEnds.{MayRefuseOffer}
+use Rattle.stab_run.specs.ByScript.{AreByLockedScript, AreByScript, OffersAll}
 use Rattle.stab_run.specs.LinkKinds.{LinkKind, behind_lock, kind_for, two_words}
 use Rattle.stab_run.specs.LinkRuns.{AllOfEach, AreSettled, IsRun, IsSettled, IsSettledByScript, acked_of}
 use Rattle.stab_run.specs.Reports.{OnePerNode, Reported}
@@ -144,6 +146,13 @@ words_followed : (link : AnyLink) (send : ScriptedSendFinished) (recv : Scripted
 words_followed (Lock link) send recv is held = absurd (subst IsWord (sym is) tt)
 words_followed (Word link) send recv is held = held
 
+-- and no end of theirs refused an offer
+words_offered : (link : AnyLink) (received : List ℕ) (send : ScriptedSendFinished) → kind_of link ≡ two_words → HasSent link send
+    → OffersUnlessRefused MayRefuseOffer received send.link.id send.account → HasOffered received send.account
+words_offered (Lock link) received send is named offered = absurd (subst IsWord (sym is) tt)
+words_offered (Word link) received send is named (inl refuses) = absurd (subst MayRefuseOffer named refuses)
+words_offered (Word link) received send is named (inr offered) = offered
+
 -- a lock is no two words, so its history is by the script that it was given
 locked_followed : (link : AnyLink) (script : Acts) (send : ScriptedSendFinished) (recv : ScriptedRecvFinished) → kind_of link ≡ behind_lock
     → IsScriptOf script link → IsFollowed link send recv → IsSettledByScript (given_to link) script send.account recv.account
@@ -159,8 +168,9 @@ module _ (which : Links) (job : JobValue) (made : List AnyLink) (received : List
     (recv_plans : map (λ (done : ScriptedRecvFinished). done.link.plan) recvs ≡ map (plan job.turns) job.scripts)
     (counted : length made ≡ length (links_of job.tree.parents)) (all : AllOfEach IsFollowed made sends recvs) where
   -- each link of two words is by its own script
-  pub are_by_script : AreByScript which job (report_of job.tree.parents received ended (map sent_by sends) kinds)
-  are_by_script child parent link script is_child leads its_script two =
+  pub are_by_script : OffersAll job.tree.parents received sends → AllZip HasSent made sends
+      → AreByScript which job (report_of job.tree.parents received ended (map sent_by sends) kinds)
+  are_by_script offers names child parent link script is_child leads its_script two =
       let parents = job.tree.parents in
       let at = at_child IsFollowed 0 parents made sends recvs counted all child parent is_child in
       let same_link : given_to at.link ≡ link =
@@ -174,8 +184,9 @@ module _ (which : Links) (job : JobValue) (made : List AnyLink) (received : List
       at.delivered its_script in
       let its_kind : kind_of at.link ≡ kind_for which (given_to at.link).params =
       holds_by_child (IsOneOf which) parents made child at.link one_of at.leads in
-      let kept : FollowPlans (given_to at.link) at.send at.recv =
-      words_followed at.link at.send at.recv (its_kind ∙ (ap (λ (l : LinkSetup). kind_for which l.params) same_link ∙ two)) at.holds in
+      let is_two : kind_of at.link ≡ two_words = its_kind ∙ (ap (λ (l : LinkSetup). kind_for which l.params) same_link ∙ two) in
+      let kept : FollowPlans (given_to at.link) at.send at.recv = words_followed at.link at.send at.recv is_two at.holds in
+      let named : HasSent at.link at.send = paired_entry HasSent parents made sends child at.link at.send names at.leads at.sent in
       let sent : entry_into parents (map sent_by sends) child ≡ Some (sent_by at.send) = entry_mapped sent_by parents sends child at.send at.sent in
       let served = run.served child parent (sent_by at.send) is_child sent in
       record {
@@ -187,6 +198,8 @@ module _ (which : Links) (job : JobValue) (made : List AnyLink) (received : List
         frames = subst (λ (p : LinkPlan). IsLetThrough (sender_half p.script) p.turns (frame_stores at.send.steps)) send_plan kept.frames;
         acks = subst (λ (p : LinkPlan). IsLetThrough (receiver_half p.script) p.turns (ack_stores at.recv.steps)) recv_plan kept.acks;
         offers = served.offered;
+        offers_all =
+            words_offered at.link (received_at received parent) at.send is_two named (offers child parent at.send is_child at.sent);
         closed = served.closed;
         delivers = run.delivered child (received_by at.recv) (entry_mapped received_by parents recvs child at.recv at.delivered);
         counts = entry_mapped acked_of parents (map sent_by sends) child (sent_by at.send) sent;

@@ -24,6 +24,12 @@ pub data AnyLinkId : Type 0 where
   locked : AnyLinkId
   of_words : LinkId → AnyLinkId
 
+-- what is known where the sender's end of a link does not take an item that its account allows:
+-- that never happens over two words, and over a lock nothing is known
+abbrev pub MayRefuseOffer : AnyLinkId → Type 0
+MayRefuseOffer locked = Unit {0}
+MayRefuseOffer (of_words link) = ⊥
+
 -- the sender's end: its link, its account, and the acts that remain, of which an end of a locked
 -- link has none beside its lock
 pub record AnySendEnd : Type 0 where

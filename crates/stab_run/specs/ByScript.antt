@@ -4,7 +4,7 @@
 -- script: they store no frame, so a load shows none. Where the script drops the first frame alone,
 -- and the job has 2 turns, one frame is stored at most, so a received 7 at most.
 -- Source: this project's own.
-use Rattle.std.specs.Prelude.{◌≡◌, ℕ, true, List, ◌++◌, Some}
+use Rattle.std.specs.Prelude.{◌≡◌, ℕ, true, List, ◌++◌, Option, Some}
 use Rattle.stab_core.specs.declared.event.Event.{Event}
 use Rattle.stab_core.specs.LinkSetup.{LinkSetup}
 use Rattle.stab_core.specs.Replay.{initial, replay}
@@ -19,15 +19,19 @@ use Rattle.stab_word.specs.Interleaving.{AnInterleavingExplains}
 use Rattle.stab_word.specs.declared.view.SendStep.{SendStep}
 use Rattle.stab_word.specs.declared.view.RecvStep.{RecvStep}
 use Rattle.stab_node.specs.ByNode.{entry_into, received_at}
+use Rattle.stab_node.specs.Work.{HasOffered, OffersUnlessRefused}
+use Rattle.stab_run.specs.AnyEnds.{MayRefuseOffer}
 use Rattle.stab_run.specs.LinkKinds.{behind_lock, kind_for, two_words}
 use Rattle.stab_run.specs.Reports.{Reported, acked_at}
-use Rattle.stab_run.specs.Scripted.{IsLetThrough, ack_stores, frame_stores}
+use Rattle.stab_run.specs.Scripted.{IsLetThrough, ScriptedSendFinished, ack_stores}
+use Rattle.stab_run.specs.Scripted.{frame_stores}
 use Rattle.stab_run.specs.declared.links.Links.{Links}
 use mathlib.Core.List.{IsPrefix}
 
 -- Some steps of the two ends of the link into a child, interleaved, explain what the report says of
 -- it. Each end stored as often as the first acts of its half of this script let it, in their order,
--- and took no more acts than the job has turns.
+-- and took no more acts than the job has turns. The sender's end offered, in order, all that the
+-- parent received, or its last item waits for its acknowledgement.
 pub record IsByScript (job : JobValue) (r : Reported) (link : LinkSetup) (script : Acts)
     (child parent : ℕ) : Type 0 where
   pub sent : List SendStep
@@ -38,6 +42,7 @@ pub record IsByScript (job : JobValue) (r : Reported) (link : LinkSetup) (script
   pub frames : IsLetThrough (sender_half script) job.turns (frame_stores sent)
   pub acks : IsLetThrough (receiver_half script) job.turns (ack_stores received)
   pub offers : IsPrefix sender.offered (received_at r.received parent)
+  pub offers_all : HasOffered (received_at r.received parent) sender
   pub closed : sender.closed ≡ true
   pub delivers : received_at r.received child
       ≡ opening_at job.openings.lists child ++ receiver.delivered
@@ -77,3 +82,12 @@ AreByLockedScript links job r =
     → entry_into job.tree.parents job.scripts child ≡ Some script
     → kind_for links link.params ≡ behind_lock
     → IsByLockedScript job r link script child parent
+
+-- the sender's end of each link of two words offered all that the parent received, or its last item
+-- waits
+abbrev pub OffersAll : List (Option ℕ) → List (List ℕ) → List ScriptedSendFinished → Type 0
+OffersAll parents received sends =
+    (child parent : ℕ) (done : ScriptedSendFinished)
+    → parent_at parents child ≡ Some parent
+    → entry_into parents sends child ≡ Some done
+    → OffersUnlessRefused MayRefuseOffer (received_at received parent) done.link.id done.account

@@ -1,8 +1,8 @@
-ghost use Rattle.std.specs.Prelude.{◌≡◌, true, IfOk, OnErr};
+ghost use Rattle.std.specs.Prelude.{◌≡◌, true, false, IfOk, OnErr};
 ghost use Rattle.stab_ends.specs.Accounts.{MayOffer, Waits, after_offer, after_poll_ack};
 ghost use Rattle.stab_ends.specs.Accounts.{after_close};
-ghost use Rattle.stab_run.specs.AnyEnds.{AnyLinkId, OfWordSend, SameSendSteps, any_send_end};
-ghost use Rattle.stab_run.specs.AnyEnds.{any_send_finished};
+ghost use Rattle.stab_run.specs.AnyEnds.{AnyLinkId, MayRefuseOffer, OfWordSend, SameSendSteps};
+ghost use Rattle.stab_run.specs.AnyEnds.{any_send_end, any_send_finished};
 ghost use Rattle.stab_word.specs.Calls.{OfferCall, SendCall, PollAckCall, CloseCall};
 
 use stab_core::Effect;
@@ -54,6 +54,8 @@ impl<'a, R: Wait> SendSide for AnySend<'a, R> {
 
     ghost sent = { λ end. (any_send_end end).account };
 
+    ghost may_refuse_offer = { MayRefuseOffer };
+
     ghost done_link = { λ done. (any_send_finished done).link };
 
     ghost done_sent = { λ done. (any_send_finished done).account };
@@ -63,6 +65,9 @@ impl<'a, R: Wait> SendSide for AnySend<'a, R> {
             ≡ after_offer (any_send_end self.old).account item result }
         ensures taken { IfOk result (λ taken.
             taken ≡ true → MayOffer (any_send_end self.old).account) }
+        ensures not_taken { IfOk result (λ taken. taken ≡ false
+            → MayOffer (any_send_end self.old).account
+            → MayRefuseOffer (any_send_end self.old).link) }
         ensures link { (any_send_end self.new).link ≡ (any_send_end self.old).link }
 
         ensures unchanged { OnErr result (any_send_end self.new ≡ any_send_end self.old) }

@@ -1,15 +1,19 @@
 //! The two ends of each link of a run, and the workers that take them.
 
 ghost use Rattle.std.specs.List.{AllZip};
-ghost use Rattle.std.specs.Prelude.{◌≡◌, ◌∷◌, ◌<◌, All, IfErr, IfOk, length, map};
+ghost use Rattle.std.specs.Prelude.{◌≡◌, ◌∷◌, ◌<◌, ℕ, All, IfErr, IfOk, Some, length, map};
 ghost use Rattle.stab_job.specs.JobValues.{network};
 ghost use Rattle.stab_ends.specs.Accounts.{new_receiver, new_sender};
 ghost use Rattle.stab_run.specs.AnyLinks.{HasReceived, HasSent, IsOpenedBy, Receives, Sends};
 ghost use Rattle.stab_run.specs.AnyLinks.{received_by, sent_by};
+ghost use Rattle.stab_node.specs.ByNode.{entry_into, received_at};
+ghost use Rattle.stab_node.specs.Work.{OffersUnlessRefused};
+ghost use Rattle.stab_run.specs.ByScript.{OffersAll};
 ghost use Rattle.stab_run.specs.LinkRuns.{IsRun};
 ghost use Rattle.stab_run.specs.RunFaults.{HaveAsked, IsWorkersReason};
 ghost use Rattle.stab_run.specs.Scripted.{plan};
 ghost use Rattle.stab_tree.specs.Links.{links_of};
+ghost use Rattle.stab_tree.specs.Nodes.{parent_at};
 
 use crate::any_link::{AnyLink, AnyOpening};
 use crate::run_fault::RunFault;
@@ -82,6 +86,8 @@ pub(crate) fn run_links<'j, R: Threads + Wait + Send + Sync, G: Gate + Sync>(
     ensures run { IfOk result (λ g. IsRun (network job.now)
         g.received.items g.ended.items (map sent_by g.sends.items)
         (map received_by g.recvs.items)) }
+    ensures offers { IfOk result (λ g.
+        OffersAll job.now.tree.parents g.received.items g.sends.items) }
     ensures sends { IfOk result (λ g. AllZip HasSent links.now g.sends.items) }
     ensures recvs { IfOk result (λ g. AllZip HasReceived links.now g.recvs.items) }
     ensures send_plans { IfOk result (λ g. map (λ done. done.link.plan) g.sends.items
@@ -121,6 +127,11 @@ where
     ensures run { IfOk result (λ g. IsRun (network job.now)
         g.received.items g.ended.items (map D.done_sent g.sends.items)
         (map U.done_received g.recvs.items)) }
+    ensures offers { IfOk result (λ g. (child parent : ℕ) (done : D.Done)
+        → parent_at job.now.tree.parents child ≡ Some parent
+        → entry_into job.now.tree.parents g.sends.items child ≡ Some done
+        → OffersUnlessRefused D.may_refuse_offer (received_at g.received.items parent)
+        (D.done_link done) (D.done_sent done)) }
     ensures sender_links { IfOk result (λ g.
         map D.done_link g.sends.items ≡ map D.link sends.items) }
     ensures receiver_links { IfOk result (λ g.

@@ -8,6 +8,7 @@ ghost use Rattle.stab_job.specs.JobValues.{network};
 ghost use Rattle.stab_run.specs.AnyLinks.{HasReceived, HasSent, IsOneOf, IsScriptOf, given_to};
 ghost use Rattle.stab_run.specs.AnyLinks.{kind_of};
 ghost use Rattle.stab_run.specs.AnyLinks.{received_by, sent_by};
+ghost use Rattle.stab_run.specs.ByScript.{OffersAll};
 ghost use Rattle.stab_run.specs.LinkKinds.{HaveOnePlace, kind_for};
 ghost use Rattle.stab_run.specs.LinkRuns.{IsRun};
 ghost use Rattle.stab_run.specs.RunFaults.{HaveAsked, IsRunReason, IsSettlingReason};
@@ -73,6 +74,8 @@ fn report_of(
     requires run { IsRun (network job.now)
         gathered.received.items gathered.ended.items (map sent_by gathered.sends.items)
         (map received_by gathered.recvs.items) }
+    requires offers { OffersAll job.now.tree.parents
+        gathered.received.items gathered.sends.items }
     requires sends { AllZip HasSent links.items gathered.sends.items }
     requires recvs { AllZip HasReceived links.items gathered.recvs.items }
     requires send_plans { map (λ done. done.link.plan) gathered.sends.items

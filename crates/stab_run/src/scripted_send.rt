@@ -2,7 +2,7 @@
 
 ghost use Rattle.std.specs.Prelude.{◌≡◌};
 ghost use Rattle.stab_acts.specs.Scripts.{sender_half};
-ghost use Rattle.stab_run.specs.AnyEnds.{any_send_end, any_send_finished};
+ghost use Rattle.stab_run.specs.AnyEnds.{MayRefuseOffer, any_send_end, any_send_finished};
 ghost use Rattle.stab_run.specs.Scripted.{IsLetThrough, IsNewSend, ScriptedLink, frame_stores};
 ghost use Rattle.stab_run.specs.Scripted.{steps_sent};
 
@@ -117,6 +117,8 @@ impl<'a, 's, R: Wait> SendSide for ScriptedSend<'a, 's, R> {
     ghost link = { λ end. end.link };
 
     ghost sent = { λ end. end.account };
+
+    ghost may_refuse_offer = { λ link. MayRefuseOffer link.id };
 
     ghost done_link = { λ done. done.link };
 

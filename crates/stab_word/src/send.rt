@@ -1,6 +1,6 @@
-ghost use Rattle.std.specs.Prelude.{◌≡◌, ◌↔◌, true, [], IsTrue, IfOk};
-ghost use Rattle.stab_ends.specs.Accounts.{MayOffer, Waits, after_offer, after_poll_ack};
-ghost use Rattle.stab_ends.specs.Accounts.{after_close, new_sender};
+ghost use Rattle.std.specs.Prelude.{◌≡◌, ◌↔◌, true, false, [], IsTrue, IfOk};
+ghost use Rattle.stab_ends.specs.Accounts.{MayOffer, Waits, after_offer};
+ghost use Rattle.stab_ends.specs.Accounts.{after_close, after_poll_ack, new_sender};
 ghost use Rattle.stab_word.specs.Answers.{has_frame};
 ghost use Rattle.stab_word.specs.Calls.{OfferCall, SendCall, PollAckCall, CloseCall};
 ghost use Rattle.stab_word.specs.Ends.{sender_seat};
@@ -141,6 +141,8 @@ impl<'a> SendSide for WordSend<'a> {
 
     ghost sent = { λ end. end.sent };
 
+    ghost may_refuse_offer = { λ link. ⊥ };
+
     ghost done_link = { λ done. done.link };
 
     ghost done_sent = { λ done. done.sent };
@@ -150,6 +152,7 @@ impl<'a> SendSide for WordSend<'a> {
     fn offer(&mut self, _pass: &(), item: Item) -> Result<bool, AllocError>
         ensures account { self.new.sent ≡ after_offer self.old.sent item result }
         ensures taken { IfOk result (λ taken. taken ≡ true → MayOffer self.old.sent) }
+        ensures not_taken { IfOk result (λ taken. taken ≡ false → ¬ MayOffer self.old.sent) }
         ensures link { self.new.link ≡ self.old.link }
 
         ensures call { OfferCall item result self.old self.new }

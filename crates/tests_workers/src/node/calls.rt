@@ -195,6 +195,8 @@ impl<'a> SendSide for NotedSend<'a> {
 
     ghost sent = { λ noted. ⟦<PlainSend as SendSide>⟧.sent noted.end };
 
+    ghost may_refuse_offer = { λ link. ⊥ };
+
     ghost done_link = { λ done. tt };
 
     ghost done_sent = { λ done. ⟦<PlainSend as SendSide>⟧.done_sent done };

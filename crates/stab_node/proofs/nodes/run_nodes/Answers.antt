@@ -3,6 +3,8 @@ use Rattle.stab_node.specs.declared.account.Ended.TheVariants.{Turns}
 use Rattle.stab_node.specs.declared.fault.NodeFault.{NodeFault}
 use Rattle.stab_node.specs.declared.fault.NodeFault.TheVariants.{Gate}
 use Rattle.stab_node.specs.Turns.{IsOver, IsRefused}
+use Rattle.stab_node.specs.Work.{OffersUnlessRefused}
+use Rattle.stab_node.proofs.Offers.{all_of_beside}
 use Rattle.stab_node.proofs.Firsts.{all_known}
 use Rattle.stab_node.proofs.Worked.{at_error, at_numbers, each_done, first_of_numbers, new_at_workers, of_workers, read_alike, started_before, worked}
 use Rattle.stab_node.specs.declared.workers_fault.WorkersFault.TheVariants.{Node, Thread}
@@ -34,6 +36,15 @@ returns-clause-work g c =
     (of_workers _ _ _ _ _ c.in_ok-accounts.ensures.accounts c.from-workers.ensures.0 c.from.ensures.0)
     c.in_ok-workers.ensures.nodes
     (new_at_workers g.U.RecvSide.received g.D.SendSide.sent _ _ _ _ _ _ c.in_ok-workers.ensures.ups c.in_ok-workers.ensures.downs c.requires.new_receivers c.requires.new_senders))
+
+pub returns-clause-offers : goal.returns-clause-offers
+returns-clause-offers g c =
+    worked _ _ _ _ _ _ _
+    (λ s a kept new. all_of_beside (OffersUnlessRefused g.D.SendSide.may_refuse_offer a.received.items) g.D.SendSide.done_link g.D.SendSide.done_sent
+    a.downs.items (kept.0.offers new))
+    (of_workers _ _ _ _ _ c.in_ok-accounts.ensures.accounts c.from-workers.ensures.0 c.from.ensures.0)
+    c.in_ok-workers.ensures.nodes
+    (new_at_workers g.U.RecvSide.received g.D.SendSide.sent _ _ _ _ _ _ c.in_ok-workers.ensures.ups c.in_ok-workers.ensures.downs c.requires.new_receivers c.requires.new_senders)
 
 pub returns-clause-turns : goal.returns-clause-turns
 returns-clause-turns g c = λ node within.

@@ -1,10 +1,11 @@
 use Rattle.stab_scatter.proofs.ForCallers.{rows_can_be_gathered, rows_gathered_alike}
 use Rattle.stab_node.proofs.ForCallers.{column_can_be_gathered, column_gathered_alike}
-use Rattle.stab_node.proofs.HandedOn.{delivered_at, first_below, handed_on_at, length_ended, length_received, root_at, served_at, upstream_at}
+use Rattle.stab_node.proofs.HandedOn.{delivered_at, first_below, handed_on_at, length_ended, length_received, offers_at, root_at, served_at, upstream_at}
 use Rattle.std.proofs.Common.{◌++◌, ap, refl, ◌∙◌}
 use Rattle.stab_tree.specs.Nodes.{parent_at, root_of}
 use Rattle.stab_node.proofs.Firsts.{first_at_root}
 use Rattle.stab_node.specs.InitialItems.{initial_at}
+use Rattle.stab_node.specs.Work.{OffersUnlessRefused}
 use Rattle.stab_node.proofs.run.run_workers.Goals as goal
 
 -- the accounts have an upper end wherever one was scattered
@@ -65,4 +66,11 @@ pub returns-clause-handed_on : goal.returns-clause-handed_on
 returns-clause-handed_on g c =
     handed_on_at (initial_at (root_of c.args.tree.now.parents) c.args.published.now c.args.openings.now.lists) _ g.U.RecvSide.done_received g.D.SendSide.done_sent _ _ _ _ _ _ _ _ _
     c.in_ok-gathered.ensures.received c.in_ok-gathered.ensures.ended c.in_ok-gathered.ensures.recvs c.in_ok-gathered.ensures.sends c.in_ok-accounts.ensures.work
+    c.root-root.ensures.tree.known_parents
+
+pub returns-clause-offers : goal.returns-clause-offers
+returns-clause-offers g c =
+    offers_at (λ received done. OffersUnlessRefused g.D.SendSide.may_refuse_offer received (g.D.SendSide.done_link done) (g.D.SendSide.done_sent done))
+    c.args.tree.now.parents (λ a. a.received.items) (λ a. a.up) (λ a. a.downs.items) (λ a. a.ended) c.in_ok-accounts.accounts.items _ _
+    c.in_ok-gathered.ensures.received c.in_ok-gathered.ensures.sends c.in_ok-accounts.ensures.offers
     c.root-root.ensures.tree.known_parents

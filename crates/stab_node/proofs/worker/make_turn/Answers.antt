@@ -1,5 +1,6 @@
 use Rattle.std.proofs.Common.{All, map, option_map, subst}
-use Rattle.stab_node.specs.UnderWay.{OffersPrefix}
+use Rattle.stab_node.specs.Work.{OffersUnlessRefused}
+use Rattle.stab_node.specs.UnderWay.{IsInUse, OffersPrefix}
 use Rattle.stab_node.proofs.UnderWay.{lower_served}
 use Rattle.stab_node.proofs.worker.make_turn.Goals as goal
 
@@ -36,3 +37,19 @@ returns-else-upstream_ended-clause-under_way g c = λ initial way.
     → All (OffersPrefix r) (map g.D.SendSide.sent c.serve_downs.new.downs))
     c.deref.ensures.value c.serve_downs.ensures.offered)
     (c.serve_upstream.ensures.under_way initial (map g.D.SendSide.sent c.args.downs.now) way)
+
+pub returns-then-upstream_ended-clause-offers : goal.returns-then-upstream_ended-clause-offers
+returns-then-upstream_ended-clause-offers g c = λ initial way in_use.
+    let sent = g.D.SendSide.sent in
+    subst (λ r. All (OffersPrefix r) (map sent c.args.downs.now)
+    → All (λ d. OffersUnlessRefused g.D.SendSide.may_refuse_offer r (g.D.SendSide.link d) (sent d)) c.serve_downs.new.downs)
+    c.deref.ensures.value (c.in_ok-serve_downs.ensures.all in_use)
+    (c.serve_upstream.ensures.under_way initial (map sent c.args.downs.now) way).lower
+
+pub returns-else-upstream_ended-clause-offers : goal.returns-else-upstream_ended-clause-offers
+returns-else-upstream_ended-clause-offers g c = λ initial way in_use.
+    let sent = g.D.SendSide.sent in
+    subst (λ r. All (OffersPrefix r) (map sent c.args.downs.now)
+    → All (λ d. OffersUnlessRefused g.D.SendSide.may_refuse_offer r (g.D.SendSide.link d) (sent d)) c.serve_downs.new.downs)
+    c.deref.ensures.value (c.in_ok-serve_downs.ensures.all in_use)
+    (c.serve_upstream.ensures.under_way initial (map sent c.args.downs.now) way).lower

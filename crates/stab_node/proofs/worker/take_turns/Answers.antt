@@ -23,6 +23,7 @@ turns-preserved g c =
       λ turn above below.
           one_more (g.G.Gate.has_passed c.args.gate.now c.args.node) c.turns.turn before.3
           (c.pass.ensures.passed c.if-not-pass.false) turn above (omega (arith, below)),
+      λ in_use. c.make_turn.ensures.in_use (before.4 in_use),
     )
 
 pub returns-then-not-pass-clause-refused : goal.returns-then-not-pass-clause-refused
@@ -51,3 +52,11 @@ returns-else-branch-clause-under_way g c = λ initial begun.
     out_by_turns initial c.make_turn.new.received.items c.make_turn.new.upstream_ended
     (option_map g.U.RecvSide.received c.make_turn.new.up) (map g.D.SendSide.sent c.make_turn.new.downs)
     (c.make_turn.ensures.under_way initial (c.turns.invariant.0 initial begun))
+
+pub returns-then-branch-clause-offers : goal.returns-then-branch-clause-offers
+returns-then-branch-clause-offers g c = λ initial begun in_use.
+    c.in_ok-make_turn.ensures.offers initial (c.turns.invariant.0 initial begun) (c.turns.invariant.4 in_use)
+
+pub returns-else-branch-clause-offers : goal.returns-else-branch-clause-offers
+returns-else-branch-clause-offers g c = λ initial begun in_use.
+    c.in_ok-make_turn.ensures.offers initial (c.turns.invariant.0 initial begun) (c.turns.invariant.4 in_use)

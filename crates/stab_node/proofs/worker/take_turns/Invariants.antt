@@ -1,5 +1,5 @@
-use Rattle.std.proofs.Common.{◌≡◌, ℕ, List, false, map, option_map}
-use Rattle.stab_node.specs.UnderWay.{IsUnderWay}
+use Rattle.std.proofs.Common.{◌≡◌, ℕ, List, All, false, map, option_map}
+use Rattle.stab_node.specs.UnderWay.{IsInUse, IsUnderWay}
 use Rattle.stab_node.specs.Turns.{HavePassedBefore}
 use Rattle.stab_node.proofs.worker.take_turns.Given as goal
 
@@ -14,3 +14,4 @@ invariant-turns g l =
     × (option_map g.U.RecvSide.link l.up ≡ option_map g.U.RecvSide.link l.fn.up)
     × (map g.D.SendSide.link l.downs ≡ map g.D.SendSide.link l.fn.downs)
     × HavePassedBefore (g.G.Gate.has_passed l.gate l.node) l.turn
+    × (All IsInUse (map g.D.SendSide.sent l.fn.downs) → All IsInUse (map g.D.SendSide.sent l.downs))

@@ -1,5 +1,6 @@
 use Rattle.std.proofs.Common.{rules, ◌≡◌, ◌≤◌, length, vec_capacity, map, option_map, subst, sym, ap, ◌∙◌}
-use Rattle.stab_node.specs.Work.{AreNew, IsWork}
+use Rattle.stab_node.specs.Work.{AreNew, IsWork, OffersUnlessRefused}
+use Rattle.stab_node.proofs.Offers.{all_alike, all_beside}
 use Rattle.stab_node.proofs.Prefixes.{written_back}
 use Rattle.stab_node.proofs.worker.work.Goals as goal
 
@@ -41,3 +42,17 @@ returns-clause-lower_links g c =
 
 pub returns-clause-upper_link : goal.returns-clause-upper_link
 returns-clause-upper_link g c = c.finish_upper.ensures.link ∙ c.serve-served.ensures.upper_link
+
+pub returns-clause-offers : goal.returns-clause-offers
+returns-clause-offers g c = λ new.
+    let up = option_map g.U.RecvSide.received c.args.up in
+    let back =
+    written_back c.serve-served.new.downs c.args.downs.items c.args.downs.len
+    (search (rules, c.serve-served.auto.downs, c.deref_mut.ensures.len)) in
+    let Q = OffersUnlessRefused g.D.SendSide.may_refuse_offer c.in_ok-served.served.received.items in
+    all_beside Q g.D.SendSide.done_link g.D.SendSide.done_sent c.finish_all.result.items
+    (all_alike Q g.D.SendSide.link g.D.SendSide.sent
+    g.D.SendSide.done_link g.D.SendSide.done_sent c.serve-served.new.downs c.finish_all.result.items
+    (c.finish_all.ensures.links ∙ ap (map g.D.SendSide.link) back)
+    (c.finish_all.ensures.accounts ∙ ap (map g.D.SendSide.sent) back)
+    (c.in_ok-served.ensures.offers (subst (λ xs. AreNew up (map g.D.SendSide.sent xs)) (sym c.deref_mut.ensures.value) new)))

@@ -20,7 +20,7 @@ scope-returns g t c =
     let is_done = g.G.Gate.is_done gate in
     let turns = c.captures.turns in
     let worked : WorkerEnds _ _ → NodeAccount _ _ → Type 0 =
-    λ s a. HasWorked (has_passed s.node) turns
+    λ s a. HasWorked (has_passed s.node) g.D.SendSide.may_refuse_offer turns
     (initial_at c.captures.root c.captures.published.now c.captures.openings.now.lists s.node)
     (node_ends g.U.RecvSide.received g.U.RecvSide.link g.D.SendSide.sent g.D.SendSide.link s.up s.downs.items)
     (node_ends g.U.RecvSide.done_received g.U.RecvSide.done_link g.D.SendSide.done_sent g.D.SendSide.done_link a.up a.downs.items)

@@ -1,12 +1,12 @@
-use Rattle.std.proofs.Common.{rules, ◌≡◌, ◌++◌, length, map, ap, sym, ◌∙◌, subst}
+use Rattle.std.proofs.Common.{rules, ◌≡◌, ◌++◌, ℕ, Some, length, map, ap, sym, ◌∙◌, subst}
 use Rattle.std.proofs.lemmas.List.{length-map}
 use Rattle.stab_job.specs.JobValues.{network}
-use Rattle.stab_node.specs.Work.{HasAll, IsServed}
+use Rattle.stab_node.specs.Work.{HasAll, IsServed, OffersUnlessRefused}
 use Rattle.stab_tree.specs.Links.{links_of}
-use Rattle.stab_tree.specs.Nodes.{root_of}
+use Rattle.stab_tree.specs.Nodes.{parent_at, root_of}
 use Rattle.stab_tree.specs.NodeOpenings.{opening_at}
 use Rattle.stab_node.proofs.ForCallers.{at_error}
-use Rattle.stab_node.specs.ByNode.{received_at}
+use Rattle.stab_node.specs.ByNode.{entry_into, received_at}
 use Rattle.stab_run.specs.LinkRuns.{IsRun}
 use Rattle.stab_run.specs.RunFaults.{HaveAsked, IsWorkersReason}
 use Rattle.stab_run.proofs.Paired.{entry_read}
@@ -84,3 +84,12 @@ returns-in_err-gathered-clause-refused g c =
     (rw (← c.tree.ensures.tree) c.in_err-gathered.ensures.unstarted)
     (rw (← c.tree.ensures.tree, ← c.turns.ensures.turns) c.in_err-gathered.ensures.gave_up)
     (rw (← c.turns.ensures.turns) c.in_err-gathered.ensures.refused))
+
+pub returns-clause-offers : goal.returns-clause-offers
+returns-clause-offers g c =
+    let left = c.in_ok-gathered.gathered in
+    subst
+    (λ tree. (child parent : ℕ) (done : _) → parent_at tree.parents child ≡ Some parent
+    → entry_into tree.parents left.sends.items child ≡ Some done
+    → OffersUnlessRefused g.D.SendSide.may_refuse_offer (received_at left.received.items parent) (g.D.SendSide.done_link done) (g.D.SendSide.done_sent done))
+    c.tree.ensures.tree c.in_ok-gathered.ensures.offers

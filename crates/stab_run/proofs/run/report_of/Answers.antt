@@ -63,7 +63,7 @@ returns-clause-report c =
     let scripts : AreByScript c.args.which job report =
     subst (λ acked. AreByScript c.args.which job (report_with acked)) counted
     (are_by_script c.args.which job c.args.links.items ran.received.items ran.ended.items ran.sends.items ran.recvs.items kinds c.requires.run
-    c.requires.given c.requires.one_of c.requires.send_plans c.requires.recv_plans made c.in_ok-acked.ensures.followed) in
+    c.requires.given c.requires.one_of c.requires.send_plans c.requires.recv_plans made c.in_ok-acked.ensures.followed c.requires.offers c.requires.sends) in
     let locked_scripts : AreByLockedScript c.args.which job report =
     subst (λ acked. AreByLockedScript c.args.which job (report_with acked)) counted
     (are_by_locked_script c.args.which job c.args.links.items ran.received.items ran.ended.items ran.sends.items ran.recvs.items kinds c.requires.run
