@@ -25,13 +25,13 @@ build() {
         "$kit/lib/libc_nonshared.a" "$kit/lib/crtn.o" -o "$work/crate/out/planted" || exit 1
 }
 
-# Checks the program as stab, or as stab_checks, and says whether the check ends as it should: its
-# name, the number of the bug, which cases, the last line, and a text that is in what it writes.
+# Checks the program as stab, rignolda or stab_checks, and says whether the check ends as it should:
+# its name, the number of the bug, which cases, the last line, and a text that is in what it writes.
 holds() {
     local planted=$work/crate/out/planted
     build "$2"
-    "$top/tests/refused/check.py" --stab "$planted" --checks "$planted" --calls "$work/calls" \
-        --seconds 3 --only "$3" >"$work/out" 2>&1
+    "$top/tests/refused/check.py" --stab "$planted" --rignolda "$planted" --checks "$planted" \
+        --calls "$work/calls" --seconds 3 --only "$3" >"$work/out" 2>&1
     status=$?
     if [ "$(tail -n 1 "$work/out")" = "$4" ] && grep -qF -- "$5" "$work/out" &&
         [ "$status" -eq "$([[ $4 == [1-9]*' 0 failed' ]]; echo $?)" ]; then
@@ -46,9 +46,11 @@ holds() {
 
 root=runs/a_lone_root
 thread='run of a chain of 1'
+worst='rignolda worst --capacity=1'
 calls=stab_checks
 holds 'a right stab passes' 0 "$root" '2 passed, 0 failed' '4 of 4 refusals end it'
 holds 'so do its threads' 0 "$thread" '1 passed, 0 failed' 'each thread refused'
+holds 'a right rignolda passes' 0 "$worst" '2 passed, 0 failed' '3 of 3 refusals end it'
 holds 'a right stab_checks passes' 0 "$calls" '3 passed, 0 failed' '2 refusals'
 holds 'a text that is begun fails' 1 "$root" '0 passed, 2 failed' 'allocation 1: status 3'
 holds 'an abort fails' 2 "$root" '0 passed, 2 failed' 'allocation 1: status -6'
@@ -64,10 +66,11 @@ holds 'a call that is never refused fails' 11 "$calls" '2 passed, 1 failed' \
     'OTHER  stab_checks, List::new'
 holds 'a call that is not in the list fails' 12 "$calls" '1 passed, 2 failed' \
     'OTHER  stab_checks, refused once'
+holds 'another text of rignolda fails' 14 "$worst" '0 passed, 2 failed' 'error: out of memory'
 holds 'no such case fails' 0 'no such case' '0 passed, 0 failed' '0 runs'
 rm "$work/crate/out/planted"
 build() { :; }
-holds 'a program that was not built fails' 0 "$root" '0 passed, 2 failed' 'the program is not built'
+holds 'a program that was not built fails' 0 "$root" '0 passed, 3 failed' 'the program is not built'
 
 printf '%s passed, %s failed\n' "$passed" "$failed"
 [ "$failed" -eq 0 ]

@@ -11,7 +11,9 @@ It builds refuse.c, an object for LD_PRELOAD, by the kit's own clang, and runs u
       with every allocation from the Nth on: it must give the whole text with status 0, or the line
       `stab: out of memory` with status 3 and nothing else;
   (c) stab on runs, with the start of the Nth thread refused, and under limits of the system: it
-      must say in one line that a worker could not be started.
+      must say in one line that a worker could not be started;
+  (d) rignolda on some command lines, as stab in (b): what it does undisturbed, or the line
+      `rignolda: out of memory` with status 3 and nothing else.
 
 The programs are those that rt ci, or rt run, left in out/ of their crates. Nothing of the
 repository is touched. Each (program, job, way of refusing) is one case, and the last line is
@@ -69,6 +71,25 @@ JOBS = """
     runs/words_two_frames_for_one_place
     runs/mixed_two_frames_for_one_place
 """.split()
+
+NO_MEMORY = (3, b"", b"rignolda: out of memory\n")
+
+# Command lines of rignolda, with the status of each: each command with its answer and its faults,
+# and the texts of help, of the version and of mistakes.
+LINES = [
+    (2, ""), (0, "--version"), (0, "help draw"), (2, "draw --bad"), (2, "check - -"),
+    (0, "worst --capacity=1 --labels=4"), (2, "worst --capacity=0 --labels=4"),
+    (0, "random --nodes=3 --items=2 --schedule=5 --hold=1"), (2, "random --nodes=0"),
+    (0, "draw worst_start.json"), (0, "draw --svg worst_start.json"),
+    (0, "draw trees/an_offer_of_nothing.json"), (0, "draw --svg trees/an_offer_of_nothing.json"),
+    (0, "explain trees/every_member.json"), (1, "explain refused_trees/unknown_node.json"),
+    (0, "explain worst_start.json"), (1, "explain"),
+    (0, "bounds trees/every_member.json"), (1, "bounds worst_start.json"),
+    (0, "check worst_start.json worst_start.out"),
+    (1, "check worst_start.json links/two_clean_rounds.out"),
+    (0, "check trees/an_offer_of_nothing.json trees/an_offer_of_nothing.out"),
+    (1, "check trees/an_offer_of_nothing.json -"), (1, "check worst_start.json no_such_file"),
+]
 
 RUNS = [("run", ["run"]), ("run --words", ["run", "--words"]), ("run --mixed", ["run", "--mixed"])]
 
@@ -205,8 +226,8 @@ class Check:
             return True
         return False
 
-    def stab(self, name, command, input, is_right, refusals):
-        """Part (b): the text or a refusal, for each N, refused once or from there on."""
+    def each(self, name, command, input, is_right, refusals):
+        """Parts (b) and (d): the text or a refusal, for each N, refused once or from there on."""
         if self.only not in name:
             return
         if not self.undisturbed(name, command, input, is_right):
@@ -375,12 +396,12 @@ def check_stab(check, room, program, all_examples):
         is_right = lambda ended: ended.seen == right
         # (the C library allocates for a thread, so that refused memory may be a refused thread)
         refusals = [OUT_OF_MEMORY] + [NOT_STARTED] * ("run" in words)
-        check.stab(name, [program, *words], input, is_right, refusals)
+        check.each(name, [program, *words], input, is_right, refusals)
     for name, words in RUNS:
         job = chain(3, items=5, turns=50, words=words, held=2)
         input = room.write(f"{name} of a chain of 3", job)
         refusals = [OUT_OF_MEMORY, NOT_STARTED]
-        check.stab(f"{name} of a chain of 3", [program, *words], input, is_report_of(job), refusals)
+        check.each(f"{name} of a chain of 3", [program, *words], input, is_report_of(job), refusals)
     for nodes in 1, 3, 64:
         for name, words in RUNS:
             job = chain(nodes, items=5, turns=50, words=words)
@@ -403,15 +424,28 @@ def check_stab(check, room, program, all_examples):
                 f"{of} in {which}", command, input, is_report_of(job), what, limits, must_refuse)
 
 
-def built_stab():
+def check_rignolda(check, room, program):
+    """Part (d)."""
+    program = room.copy(program)
+    for status, line in LINES:
+        name, command = f"rignolda {line}".strip(), [program, *line.split()]
+        if check.only not in name:
+            continue
+        right = check.run(command).seen
+        is_right = lambda ended: ended.seen == right and ended.status == status
+        check.each(name, command, os.devnull, is_right, [NO_MEMORY])
+
+
+def built(crate):
     """The program that a release would have: rt ci makes it by Rattle's own compiler as well."""
-    built = f"{TOP}/crates/stab_cli/out/stab_cli"
-    return f"{built}.by-rattle" if os.path.isfile(f"{built}.by-rattle") else built
+    program = f"{TOP}/crates/{crate}/out/{crate}"
+    return f"{program}.by-rattle" if os.path.isfile(f"{program}.by-rattle") else program
 
 
 def main():
     parser = argparse.ArgumentParser(description="refuses memory and threads to the built programs")
-    parser.add_argument("--stab", default=built_stab())
+    parser.add_argument("--stab", default=built("stab_cli"))
+    parser.add_argument("--rignolda", default=built("rignolda"))
     parser.add_argument("--checks", default=f"{TOP}/crates/stab_checks/out/stab_checks")
     parser.add_argument("--lanes", type=int, default=4, help="how many programs run at a time")
     parser.add_argument("--all", action="store_true", help="every example, and not some of them")
@@ -427,6 +461,7 @@ def main():
             for program, part in (
                 (given.checks, lambda it: check.refused(it, given.calls)),
                 (given.stab, lambda it: check_stab(check, room, it, given.all)),
+                (given.rignolda, lambda it: check_rignolda(check, room, it)),
             ):
                 if os.path.isfile(program):
                     part(program)

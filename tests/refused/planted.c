@@ -2,7 +2,7 @@
  * A small program with a planted bug, for tests/check_refused.sh. It includes no header.
  *
  * As `stab` it prints the report of a lone root: BUG says what it does wrong where memory, or its
- * thread, is refused. As stab_checks with the word `calls`, it makes two calls, again where one is
+ * thread, is refused. With the word `worst` it is `rignolda`, and prints the same without a thread. As stab_checks with the word `calls`, it makes two calls, again where one is
  * refused. With BUG 0 it does all of it right.
  */
 
@@ -38,7 +38,11 @@ static int fail(const char *line) {
     return 3;
 }
 
+static int is_rignolda;
+
 static int no_memory(void) {
+    if (is_rignolda)
+        return fail(BUG == 14 ? "error: out of memory\n" : "rignolda: out of memory\n");
     if (BUG == 1)
         print("r depth 0 received 2 acked - ended upstream\n");
     if (BUG == 2)
@@ -86,7 +90,9 @@ static int stab(void) {
     second = realloc(first, 4096);
     if (!second)
         return no_memory();
-    if (pthread_create(&thread, 0, work, 0) != 0) {
+    if (is_rignolda)
+        ;
+    else if (pthread_create(&thread, 0, work, 0) != 0) {
         if (BUG == 8)
             pause();
         if (BUG != 9)
@@ -131,5 +137,6 @@ static int calls(void) {
 }
 
 int main(int count, char **words) {
+    is_rignolda = count > 1 && strstr(words[1], "worst");
     return count > 1 && strstr(words[1], "calls") ? calls() : stab();
 }

@@ -43,6 +43,12 @@ b depth 2 received 4 acked 6
 items: 98 14 15 16
 """
 
+# What is said of a text whose first line is another: that may be a text of the other kind of job.
+NO_LINK = "not a report: line 1 is not as the text of a link has it; the job is a link job: see \
+rignolda explain"
+NO_TREE = "not a report: line 1 is not as a report of this tree has it; the job is one of a tree: \
+see rignolda explain"
+
 # In all tables: a part of a text, what is there instead, the status, and what is said: a verdict,
 # which ends its line, or a fault.
 
@@ -152,7 +158,7 @@ frames: 99
 offered: 10 11 12 13
 delivered: 99 13
 """),
-    ("delivered", "given", 1, "not a report: line 1 is not as the text of a link has it"),
+    ("delivered", "given", 1, NO_LINK),
     ("acked: 3", "acked: 03", 1, "not a report: line 3 is not as the text of a link has it"),
     ("send label: 3", "send label: 65536", 1,
      "not a report: line 4 is not as the text of a link has it"),
@@ -258,7 +264,31 @@ def checked(name, job, report, status, said):
     return said_of(name, ["check", "job", "report"], {"job": job, "report": report}, status, said)
 
 
+# What is said of the bounds of a link job, and of a job that has neither shape.
+IS_LINK_JOB = "job: this is a link job; bounds are of a job of a tree; see rignolda explain"
+NO_TREE_JOB = "job: wrong shape for a job of a tree; see rignolda explain"
+NO_LINK_JOB = "job: wrong shape for a link job, since it has no member tree; see rignolda explain"
+
+# Jobs without the shape that the command wants.
+KINDS = [
+    ("bounds", LINK_JOB, IS_LINK_JOB),
+    ("bounds", replaced(LINK_JOB, '"labels":4', '"labels":3'), IS_LINK_JOB),
+    ("bounds", replaced(LINK_JOB, '"recv_frame"', '"jump"'), IS_LINK_JOB),
+    ("bounds", replaced(LINK_JOB, '"events"', '"event"'), NO_TREE_JOB),
+    ("bounds", replaced(JOB, '"tree"', '"tre"'), NO_TREE_JOB),
+    ("bounds", replaced(JOB, '"items"', '"item"'), NO_TREE_JOB),
+    ("bounds", "{}", NO_TREE_JOB),
+    ("draw", "{}", NO_LINK_JOB),
+    ("draw", replaced(JOB, '"tree"', '"tre"'), NO_LINK_JOB),
+    ("draw", replaced(JOB, '"items"', '"item"'), NO_TREE_JOB),
+    ("check", replaced(JOB, '"tree"', '"tre"'), NO_LINK_JOB),
+    ("check", replaced(JOB, '"items"', '"item"'), NO_TREE_JOB),
+]
+
 ROWS = [
+    checked("names the kind of a link job", LINK_JOB, REPORT, 1, NO_LINK),
+    checked("names the kind of a link job beside the text of a tree", LINK_JOB, TREE, 1, NO_LINK),
+    checked("names the kind of a job of a tree", JOB, LINK, 1, NO_TREE),
     Row("writes the bounds of each node", ["bounds", "job"], files={"job": JOB}, out=BOUNDS),
     Row("reads a job for its bounds", ["bounds"], JOB, out=BOUNDS),
     Row("reads a report", ["check", "job", "-"], REPORT, files={"job": JOB}, out="obeys\n"),
@@ -302,4 +332,10 @@ ROWS += [
     checked("reads a long text of a tree", LONG_JOB, LONG_REPORT.replace(" ended upstream", ""), 0,
             "obeys\n"),
     checked("reads a long text of a link", LONG_LINK_JOB, LONG_LINK, 0, "obeys\n"),
+]
+ROWS += [
+    said_of(f"{command} says which shape a job has to have: {job[:40]}, {place}",
+            [command, "job"] + ["report"] * (command == "check"), {"job": job, "report": REPORT}, 1,
+            said)
+    for place, (command, job, said) in enumerate(KINDS)
 ]

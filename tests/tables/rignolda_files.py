@@ -50,7 +50,8 @@ ROWS = [
         err="rignolda: report file: too long\n"),
     Row("standard input is as long as a report may be", ["check", "job", "-"],
         Repeated("", " ", MOST, ""), files=FILES, status=1,
-        err="rignolda: not a report: line 1 is not as the text of a link has it\n"),
+        err="rignolda: not a report: line 1 is not as the text of a link has it; the job is a link "
+            "job: see rignolda explain\n"),
 ]
 ROWS += [unread(line, file, f"file: {said}") for line in READERS for file, said in UNREAD]
 ROWS += [unread("check job FILE", file, f"report file: {said}") for file, said in UNREAD]

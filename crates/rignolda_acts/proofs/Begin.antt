@@ -1,8 +1,9 @@
 -- Why the links of a job cannot begin, and why a report is not read.
 use Rattle.std.proofs.Common.{ℕ, List, [], Option, Some, None, IfSome}
 use Rattle.rignolda_acts.specs.Checked.{IsUnchecked}
-use Rattle.rignolda_acts.specs.declared.fault.CheckFault.TheVariants.{Unloaded}
+use Rattle.rignolda_acts.specs.declared.fault.CheckFault.TheVariants.{Job, Unloaded}
 use Rattle.stab_task.specs.declared.fault.CliFault.{CliFault}
+use Rattle.stab_task.specs.declared.fault.CliFault.TheVariants.{Memory as no_memory}
 use Rattle.stab_frames.specs.Parameters.{Parameters}
 use Rattle.stab_core.specs.declared.start.Start.{Start}
 use Rattle.stab_treecore.specs.Network.{Network}
@@ -25,3 +26,8 @@ whatever_the_schedule params starts net events (Step Memory) why = absurd why.3
 pub whatever_is_read : (had : Option (List ℕ)) (fault : CliFault) → IfSome had (λ input. IsUnchecked input (Unloaded fault))
 whatever_is_read None fault = tt
 whatever_is_read (Some input) fault = tt
+
+-- nor is one for which memory is refused
+pub memory_is_refused : (had : Option (List ℕ)) → IfSome had (λ input. IsUnchecked input (Job no_memory))
+memory_is_refused None = tt
+memory_is_refused (Some input) = tt

@@ -5,7 +5,7 @@
 -- text, the answer names the node that has them. The bytes of the worst start of capacity 1, and its
 -- eight lines: the link obeys. With 98 in the place of its stray 99, the link law is broken.
 -- Source: this project's own.
-use Rattle.std.specs.Prelude.{◌≡◌, ◌↔◌, ℕ, Bool, List, None, IsTrue}
+use Rattle.std.specs.Prelude.{◌≡◌, ◌≢◌, ◌↔◌, ℕ, Bool, List, Option, None, IsTrue}
 use Rattle.stab_core.specs.LinkState.{LinkState}
 use Rattle.stab_core.specs.Texts.{link_text}
 use Rattle.stab_explain.specs.Kinds.{chosen}
@@ -18,7 +18,9 @@ use Rattle.stab_judge.specs.Reports.{OnePerNode, ReportValue}
 use Rattle.stab_reports.specs.Texts.{IsTextOf}
 use Rattle.stab_script.specs.declared.link_job.LinkJob.{LinkJob}
 use Rattle.stab_task.specs.Answers.{IsFault}
+use Rattle.stab_task.specs.Loading.{IsUnloaded}
 use Rattle.stab_task.specs.declared.fault.CliFault.{CliFault}
+use Rattle.stab_task.specs.declared.fault.CliFault.TheVariants.{Memory}
 use Rattle.stab_verdict.specs.LinkVerdicts.{ObeysLink, SaysLinkVerdict}
 use Rattle.stab_verdict.specs.Verdicts.{SaysVerdict}
 use Rattle.rignolda_acts.specs.Begun.{IsBegun, IsBegunLink}
@@ -66,6 +68,11 @@ IsCheckedAs kind.Job input text obeys answer = IsCheckedTree input text obeys an
 abbrev pub IsChecked : List ℕ → List ℕ → Bool → List ℕ → Type 0
 IsChecked input text obeys answer =
     IsCheckedAs (chosen None (value_of input)) input text obeys answer
+
+-- why a report that had these bytes, where its reader tells them, is not loaded: it is not refused
+-- memory, which is a fault of its own
+abbrev pub IsUnloadedReport : Option (List ℕ) → CliFault → Type 0
+IsUnloadedReport had fault = (fault ≢ Memory) × IsUnloaded had fault
 
 -- why there is no verdict on bytes of this kind: the job is refused, as `stab` does it, or the text
 -- is not loaded, or it is not read as that of a report of the job, or of a link

@@ -1,4 +1,4 @@
--- The status that the program ends with, by the fault of a check, and by that of a random job.
+-- The status that the program ends with, by the fault of a check, of bounds, and of a random job.
 -- Example: A report that cannot be read has status 1, as a job that cannot be read has, and memory
 -- that is refused has status 3 in both. Options by which no job is drawn are part of the command
 -- line, so they have status 2.
@@ -7,6 +7,8 @@ use Rattle.std.specs.Prelude.{ℕ}
 use Rattle.stab_random.specs.declared.checked.RandomFault.{RandomFault}
 use Rattle.stab_random.specs.declared.checked.RandomFault.TheVariants as random
 use Rattle.stab_task.specs.Statuses.{status_of}
+use Rattle.rignolda_acts.specs.declared.bounds.BoundsFault.{BoundsFault}
+use Rattle.rignolda_acts.specs.declared.bounds.BoundsFault.TheVariants as bounds
 use Rattle.rignolda_acts.specs.declared.fault.CheckFault.{CheckFault}
 use Rattle.rignolda_acts.specs.declared.fault.CheckFault.TheVariants.{Job, Unloaded, Line, LinkLine}
 use Rattle.rignolda_acts.specs.declared.random.RandomWriteFault.{RandomWriteFault}
@@ -19,6 +21,11 @@ check_status (Job fault) = status_of fault
 check_status (Unloaded fault) = status_of fault
 check_status (Line line) = 1
 check_status (LinkLine line) = 1
+
+-- the status that `stab` has for this fault, and 1 for a link job
+abbrev pub bounds_status : BoundsFault → ℕ
+bounds_status (bounds.Job fault) = status_of fault
+bounds_status bounds.LinkJob = 1
 
 -- 2 for options that are refused, and 3 for a drawn job that is none and for memory
 abbrev pub draw_status : RandomFault → ℕ

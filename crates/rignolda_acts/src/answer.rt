@@ -2,6 +2,7 @@ ghost use Rattle.std.specs.Prelude.{◌≡◌, ◌≢◌, ◌⊎◌, ℕ, List, 
 ghost use Rattle.std.specs.Prelude.{IfErr, IfOk, IfSome, OnOk};
 ghost use Rattle.std.specs.Io.KnownBytes.{Appends, Keeps};
 ghost use Rattle.rignolda_acts.specs.Explained.{IsReadIfClean};
+ghost use Rattle.stab_task.specs.Loading.{IsUnloaded};
 ghost use Rattle.stab_write.specs.WorstTexts.{IsWorstText};
 
 use stab_explain::{explain, explanation_text};
@@ -33,6 +34,10 @@ pub fn act_explain<R: Read, W: Write>(
 ) -> Result<bool, CliFault>
     ensures accepted { IfOk result (λ is_clean.
         IfSome (R.remaining reader.old) (IsReadIfClean is_clean)) }
+    // There is no other fault than that of loading the job, or of writing: refused memory is one of
+    // either.
+    ensures fault { IfErr result (λ fault.
+        (fault ≡ CliFault.Write) ⊎ IsUnloaded (R.remaining reader.old) fault) }
     ensures nothing { IfErr result (λ fault.
         fault ≢ CliFault.Write → Keeps (W.contents writer.old) (W.contents writer.new)) }
 {
@@ -45,7 +50,7 @@ pub fn act_explain<R: Read, W: Write>(
 fn explain_input<R: Read>(alloc: Global, reader: &mut R) -> Result<(String, bool), CliFault>
     ensures accepted { IfOk result (λ both.
         IfSome (R.remaining reader.old) (IsReadIfClean both.1)) }
-    ensures no_write { IfErr result (λ fault. fault ≢ CliFault.Write) }
+    ensures fault { IfErr result (IsUnloaded (R.remaining reader.old)) }
 {
     let bytes = load(alloc, reader)?;
     let explained = explain_bytes(alloc, &bytes)?;

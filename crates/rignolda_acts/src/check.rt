@@ -1,12 +1,12 @@
 //! The command `check`: whether a report, or the text of a link, obeys the laws of its job.
 
-ghost use Rattle.std.specs.Prelude.{◌≢◌, ℕ, List, string_bytes, IfErr, IfOk, IfSome};
+ghost use Rattle.std.specs.Prelude.{◌≡◌, ◌≢◌, ℕ, List, string_bytes, Err, IfErr, IfOk, IfSome};
 ghost use Rattle.std.specs.Io.KnownBytes.{Appends, Keeps};
 ghost use Rattle.rignolda_acts.specs.Begun.{IsBegun, IsBegunLink};
 ghost use Rattle.rignolda_acts.specs.Checked.{IsChecked, IsCheckedAs, IsCheckedLink};
 ghost use Rattle.rignolda_acts.specs.Checked.{IsCheckedTree, IsJudged, IsJudgedLink};
 ghost use Rattle.rignolda_acts.specs.Checked.{IsUnchecked, IsUncheckedAs, IsUncheckedLink};
-ghost use Rattle.rignolda_acts.specs.Checked.{IsUncheckedTree};
+ghost use Rattle.rignolda_acts.specs.Checked.{IsUncheckedTree, IsUnloadedReport};
 
 use crate::answer::write_text;
 use crate::draw::kind_of_bytes;
@@ -37,6 +37,8 @@ pub fn act_check<J: Read, R: Read, W: Write>(
         × Appends (W.contents writer.old) (W.contents writer.new) answer))) }
     ensures fault { IfErr result (λ fault. fault ≢ CheckFault.Job CliFault.Write
         → IfSome (J.remaining job.old) (λ input. IsUnchecked input fault)) }
+    ensures unloaded { (fault : CliFault) → result ≡ Err (CheckFault.Unloaded fault)
+        → IsUnloadedReport (R.remaining report.old) fault }
     ensures nothing { IfErr result (λ fault. fault ≢ CheckFault.Job CliFault.Write
         → Keeps (W.contents writer.old) (W.contents writer.new)) }
 {
@@ -46,7 +48,7 @@ pub fn act_check<J: Read, R: Read, W: Write>(
 }
 
 /// What is said of the report that the second reader gives, and whether it obeys.
-#[tactic(auto, using(crate::proofs::Begin::whatever_is_read))]
+#[tactic(auto, using(crate::proofs::Begin::whatever_is_read, crate::proofs::Begin::memory_is_refused))]
 fn check_input<J: Read, R: Read>(
     alloc: Global,
     job: &mut J,
@@ -57,11 +59,14 @@ fn check_input<J: Read, R: Read>(
         IsChecked input text said.1 (string_bytes said.0)))) }
     ensures fault { IfErr result (λ fault.
         IfSome (J.remaining job.old) (λ input. IsUnchecked input fault)) }
+    ensures unloaded { (fault : CliFault) → result ≡ Err (CheckFault.Unloaded fault)
+        → IsUnloadedReport (R.remaining report.old) fault }
     ensures no_write { IfErr result (λ fault. fault ≢ CheckFault.Job CliFault.Write) }
 {
     let input = load(alloc, job)?;
     let text = match load(alloc, report) {
         Ok(text) => text,
+        Err(CliFault::Memory) => return Err(CheckFault::Job(CliFault::Memory)),
         Err(fault) => return Err(CheckFault::Unloaded(fault)),
     };
     let said = check_bytes(alloc, &input, &text)?;
@@ -73,6 +78,7 @@ fn check_bytes(alloc: Global, bytes: &[u8], text: &[u8]) -> Result<(String, bool
     ensures checked { IfOk result (λ said.
         IsChecked bytes.now text.now said.1 (string_bytes said.0)) }
     ensures fault { IfErr result (IsUnchecked bytes.now) }
+    ensures loaded { (fault : CliFault) → result ≢ Err (CheckFault.Unloaded fault) }
     ensures no_write { IfErr result (λ fault. fault ≢ CheckFault.Job CliFault.Write) }
 {
     let kind = kind_of_bytes(alloc, bytes)?;
@@ -90,6 +96,7 @@ fn check_kind(
     ensures checked { IfOk result (λ said.
         IsCheckedAs kind bytes.now text.now said.1 (string_bytes said.0)) }
     ensures fault { IfErr result (IsUncheckedAs kind bytes.now) }
+    ensures loaded { (fault : CliFault) → result ≢ Err (CheckFault.Unloaded fault) }
     ensures no_write { IfErr result (λ fault. fault ≢ CheckFault.Job CliFault.Write) }
 {
     match kind {
@@ -103,6 +110,7 @@ fn check_link(alloc: Global, bytes: &[u8], text: &[u8]) -> Result<(String, bool)
     ensures checked { IfOk result (λ said.
         IsCheckedLink bytes.now text.now said.1 (string_bytes said.0)) }
     ensures fault { IfErr result (IsUncheckedLink bytes.now) }
+    ensures loaded { (fault : CliFault) → result ≢ Err (CheckFault.Unloaded fault) }
     ensures no_write { IfErr result (λ fault. fault ≢ CheckFault.Job CliFault.Write) }
 {
     let job = begun_link_job(alloc, bytes)?;
@@ -116,6 +124,7 @@ fn check_link_text(alloc: Global, job: &LinkJob, text: &[u8]) -> Result<(String,
         IsJudgedLink job.now text.now said.1 (string_bytes said.0)) }
     ensures fault { IfErr result (λ fault. (input : List ℕ) → IsBegunLink input job.now
         → IsUncheckedLink input fault) }
+    ensures loaded { (fault : CliFault) → result ≢ Err (CheckFault.Unloaded fault) }
     ensures no_write { IfErr result (λ fault. fault ≢ CheckFault.Job CliFault.Write) }
 {
     let report = match read_link_report(alloc, text) {
@@ -131,6 +140,7 @@ fn check_tree(alloc: Global, bytes: &[u8], text: &[u8]) -> Result<(String, bool)
     ensures checked { IfOk result (λ said.
         IsCheckedTree bytes.now text.now said.1 (string_bytes said.0)) }
     ensures fault { IfErr result (IsUncheckedTree bytes.now) }
+    ensures loaded { (fault : CliFault) → result ≢ Err (CheckFault.Unloaded fault) }
     ensures no_write { IfErr result (λ fault. fault ≢ CheckFault.Job CliFault.Write) }
 {
     let job = begun_job(alloc, bytes)?;
@@ -143,6 +153,7 @@ fn check_text(alloc: Global, job: &Job, text: &[u8]) -> Result<(String, bool), C
     ensures checked { IfOk result (λ said. IsJudged job.now text.now said.1 (string_bytes said.0)) }
     ensures fault { IfErr result (λ fault. (input : List ℕ) → IsBegun input job.now
         → IsUncheckedTree input fault) }
+    ensures loaded { (fault : CliFault) → result ≢ Err (CheckFault.Unloaded fault) }
     ensures no_write { IfErr result (λ fault. fault ≢ CheckFault.Job CliFault.Write) }
 {
     let report = match read_text(alloc, job.tree(), text) {

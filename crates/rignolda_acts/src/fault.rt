@@ -15,7 +15,7 @@ const NO_REPORT: u8 = 1;
 /// Why a report has no verdict. The program prints the prefix `rignolda: ` and then this text.
 #[derive(Clone, Copy, Debug, PartialEq, Eq, Error)]
 pub enum CheckFault {
-    /// The job is refused, or memory, or the output.
+    /// The job is refused, or the output, or memory wherever that was.
     #[error("{0}")]
     Job(CliFault),
     /// The file of the report cannot be opened or read, or is too long.
@@ -72,6 +72,7 @@ impl From<AllocError> for CheckFault {
 pub(crate) fn unread(fault: ReportFault) -> CheckFault
     ensures fault { (input : List ℕ) (its_job : JobValue) → IsBegun input its_job
         → IsUncheckedTree input result }
+    ensures loaded { (unloaded : CliFault) → result ≢ CheckFault.Unloaded unloaded }
     ensures no_write { result ≢ CheckFault.Job CliFault.Write }
 {
     match fault {
@@ -84,6 +85,7 @@ pub(crate) fn unread(fault: ReportFault) -> CheckFault
 pub(crate) fn unread_link(fault: ReportFault) -> CheckFault
     ensures fault { (input : List ℕ) (its_job : LinkJob) → IsBegunLink input its_job
         → IsUncheckedLink input result }
+    ensures loaded { (unloaded : CliFault) → result ≢ CheckFault.Unloaded unloaded }
     ensures no_write { result ≢ CheckFault.Job CliFault.Write }
 {
     match fault {

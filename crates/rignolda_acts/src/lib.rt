@@ -16,7 +16,7 @@ pub mod laws;
 mod random;
 
 pub use answer::{act_explain, act_worst};
-pub use bounds::act_bounds;
+pub use bounds::{BoundsFault, act_bounds};
 pub use check::act_check;
 pub use draw::act_draw;
 pub use fault::CheckFault;

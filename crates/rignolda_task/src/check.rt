@@ -1,10 +1,12 @@
 //! The command `check`: what its words ask for, and the files that it reads.
 
 use crate::command::{Request, mistake};
+use crate::hint::hint_of_check;
 use crate::program::{FOUND, say_that_it_reads, unopened};
 use clap::error::ErrorKind;
 use clap::{ArgMatches, Error};
 use rignolda_acts::{CheckFault, act_check};
+use stab_task::CliFault;
 use std::alloc::{AllocError, Global};
 use std::io::Read;
 use std::rt::Files;
@@ -49,7 +51,8 @@ pub(crate) fn check_of<R: Files + Input + Print + Eprint + AllocGlobal>(
         Ok(true) => 0,
         Ok(false) => FOUND,
         Err(fault) => {
-            let _ = eprintln!(rt; "rignolda: {fault}");
+            let hint = hint_of_check(fault);
+            let _ = eprintln!(rt; "rignolda: {fault}{hint}");
             fault.status()
         }
     }
@@ -81,6 +84,14 @@ fn checked_with<R: Files + Input + Print + AllocGlobal, J: Read>(
     };
     match fs::open(rt, path) {
         Ok(mut file) => act_check(rt.alloc(), job, &mut file, &mut io::writer(rt)),
-        Err(error) => Err(CheckFault::Unloaded(unopened(&error))),
+        Err(error) => Err(unopened_report(&error)),
+    }
+}
+
+/// The fault of a report that cannot be opened. Refused memory is reported as that alone.
+fn unopened_report(error: &io::Error) -> CheckFault {
+    match unopened(error) {
+        CliFault::Memory => CheckFault::Job(CliFault::Memory),
+        fault => CheckFault::Unloaded(fault),
     }
 }

@@ -8,6 +8,7 @@
 mod bounds;
 mod check;
 mod command;
+mod hint;
 mod line;
 mod program;
 mod random;

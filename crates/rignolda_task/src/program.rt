@@ -1,6 +1,7 @@
 use crate::bounds::bounds_of;
 use crate::check::check_of;
 use crate::command::{Request, parse};
+use crate::hint::hint_of;
 use clap::Error;
 use clap::error::ErrorKind;
 use rignolda_acts::{RandomWriteFault, act_draw, act_explain, act_random, act_worst};
@@ -13,9 +14,6 @@ pub(crate) const FOUND: u8 = 1;
 
 /// The status of a command line that is refused.
 const REFUSED: u8 = 2;
-
-/// The status where memory is refused.
-const NO_MEMORY: u8 = 3;
 
 /// Runs the program, prints what it answers, and gives the status to end with: 0, or 1 where a job
 /// or a file is refused, an explanation has a finding or a report does not obey, 2 where the
@@ -34,11 +32,13 @@ pub fn run<R: Env + Files + Input + Print + Eprint + AllocGlobal>(rt: &R, is_typ
     }
 }
 
-/// Prints help, the version or a mistake, and gives its status.
+/// Prints help, the version or a mistake, and gives its status. Refused memory, or a text that
+/// cannot be written, is a fault.
 fn told<R: Print + Eprint>(rt: &R, error: &Error) -> u8 {
-    let printed = error.print(rt);
-    if error.kind() == ErrorKind::OutOfMemory || printed.is_err() {
-        NO_MEMORY
+    if error.kind() == ErrorKind::OutOfMemory {
+        failed(rt, CliFault::Memory)
+    } else if error.print(rt).is_err() {
+        failed(rt, CliFault::Write)
     } else if error.use_stderr() {
         REFUSED
     } else {
@@ -48,7 +48,8 @@ fn told<R: Print + Eprint>(rt: &R, error: &Error) -> u8 {
 
 /// Prints a fault, and gives its status.
 fn failed<R: Eprint>(rt: &R, fault: CliFault) -> u8 {
-    let _ = eprintln!(rt; "rignolda: {fault}");
+    let hint = hint_of(fault);
+    let _ = eprintln!(rt; "rignolda: {fault}{hint}");
     fault.status()
 }
 
@@ -86,7 +87,7 @@ pub(crate) fn say_that_it_reads<R: Eprint>(rt: &R, is_typed: bool) {
 }
 
 /// The status of what was done; a fault is printed.
-pub(crate) fn status_of<R: Eprint>(rt: &R, acted: Result<(), CliFault>) -> u8 {
+fn status_of<R: Eprint>(rt: &R, acted: Result<(), CliFault>) -> u8 {
     match acted {
         Ok(()) => 0,
         Err(fault) => failed(rt, fault),
