@@ -17,4 +17,6 @@ mod link;
 #[cfg(test)]
 mod reports;
 #[cfg(test)]
+mod rounds;
+#[cfg(test)]
 mod treecore;
