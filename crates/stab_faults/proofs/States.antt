@@ -1,5 +1,5 @@
 -- Changes keep a whole tree a state, and its senders in their places; and so does a start.
-use Rattle.std.proofs.Common.{◌≡◌, ◌≢◌, ◌⊎◌, ◌==◌, ℕ, zero, suc, ◌+◌, ◌<◌, ◌≤◌, List, [], ◌∷◌, length, map, get_or, Option, Some, None, is_some, option_map, Bool, true, false, if◌then◌else◌, refl, ap, sym, ◌∙◌, subst, inl, inr, arith}
+use Rattle.std.proofs.Common.{◌≡◌, ◌≢◌, ◌⊎◌, ◌==◌, ℕ, zero, suc, ◌<◌, ◌≤◌, List, [], ◌∷◌, length, map, get_or, Option, Some, None, is_some, option_map, Bool, true, false, if◌then◌else◌, refl, ap, sym, ◌∙◌, subst, inl, inr, arith}
 use Rattle.std.specs.Option.{option_map_or}
 use Rattle.std.proofs.lemmas.Bool.{cond_both, eq-eqb, eqb-true}
 use Rattle.std.proofs.lemmas.List.{get_or-set_other}
@@ -24,7 +24,7 @@ use Rattle.stab_treecore.proofs.ForChanges.{came_of, differ, kind-set, same_kind
 use Rattle.stab_treecore.proofs.ForChanges.{IsRun, opening_is_run, IsOpenedAt}
 use Rattle.stab_core.specs.Since.{IsBounded}
 use Rattle.stab_faults.specs.Changes.{Change, Act, Publish, Strike, Restart, change_step, changes_replay, FitsTree, Fit}
-use Rattle.stab_treecore.specs.Faults.{each_link, struck_at, restarted_at, is_parent}
+use Rattle.stab_treecore.specs.Faults.{struck_at, restarted_at, is_parent}
 use Rattle.stab_core.specs.Faults.{struck}
 use Rattle.stab_faults.specs.Since.{IsFedAt, IsState}
 use Rattle.stab_core.proofs.Bounded.{replay_bounded}
