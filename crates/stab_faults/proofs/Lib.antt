@@ -11,3 +11,4 @@ pub mod Schedules
 pub mod EdgesSince
 pub mod Promise
 pub mod Cut
+pub mod Running

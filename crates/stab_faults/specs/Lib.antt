@@ -4,3 +4,4 @@ pub mod Moment
 pub mod Since
 pub mod EdgeSince
 pub mod Example
+pub mod Refusals
