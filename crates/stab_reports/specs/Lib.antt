@@ -1,3 +1,3 @@
 pub mod Lines
-pub mod LinesInside
 pub mod Texts
+pub mod LinesInside

@@ -4,7 +4,7 @@
 -- upstream: `a depth 1 received 2 acked 2 ended upstream`, a newline, `items: 7 8`, a newline.
 -- `stab tree` prints these lines without ` ended upstream`.
 -- Source: this project's profile; numbers are in plain decimal, as std prints them.
-use Rattle.std.specs.Prelude.{◌≡◌, ◌⊎◌, ℕ, Bool, false, List, [], ◌++◌, All, length, codes}
+use Rattle.std.specs.Prelude.{◌≡◌, ◌≢◌, ◌⊎◌, ℕ, Bool, false, List, [], ◌++◌, All, length, codes}
 use Rattle.std.specs.Prelude.{Option, slice_index_or}
 use Rattle.std.specs.Prelude.{if◌then◌else◌}
 use Rattle.std.specs.List.{flat_map, range_with_len}
@@ -12,7 +12,8 @@ use Rattle.stab_core.specs.Texts.{newline, numbers_line}
 use Rattle.stab_tree.specs.Nodes.{Nodes}
 use Rattle.stab_tree.specs.Steps.{depth_of}
 use Rattle.stab_treecore.specs.Texts.{node_counts, node_text}
-use Rattle.stab_judge.specs.Reports.{ReportValue, received_at, acked_at, has_ended}
+use Rattle.stab_judge.specs.Reports.{ReportValue, OnePerNode, received_at, acked_at, has_ended}
+use Rattle.stab_reports.specs.Lines.{AreItems, IsCount}
 
 -- the end of a node's first line
 unfoldable pub ended_entry : Bool → List ℕ
@@ -53,3 +54,21 @@ IsUnended r = All (λ ended. ended ≡ false) r.ended_upstream
 abbrev pub IsTextOf : Nodes → List ℕ → ReportValue → Type 0
 IsTextOf nodes text r =
     (text ≡ report_text nodes r) ⊎ ((text ≡ tree_text nodes r) × IsUnended r)
+
+-- the numbers of a report are such as a report has: items below 2 ^ 32, and counts below 2 ^ 64
+pub record IsPrintable (r : ReportValue) : Type 0 where
+  pub items : All AreItems r.received
+  pub counts : All IsCount r.acked
+
+-- no report with an entry for each node and with such numbers has this text: none of a run, none of
+-- a tree, and neither
+abbrev pub IsNoReport : Nodes → List ℕ → Type 0
+IsNoReport nodes text =
+    (r : ReportValue) → OnePerNode nodes.parents r → IsPrintable r → text ≢ report_text nodes r
+
+abbrev pub IsNoTree : Nodes → List ℕ → Type 0
+IsNoTree nodes text =
+    (r : ReportValue) → OnePerNode nodes.parents r → IsPrintable r → text ≢ tree_text nodes r
+
+abbrev pub IsNoText : Nodes → List ℕ → Type 0
+IsNoText nodes text = IsNoReport nodes text × IsNoTree nodes text

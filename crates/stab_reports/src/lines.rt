@@ -1,12 +1,12 @@
 //! What the lines of a text say. Nothing is checked here: what is read is printed again and
 //! compared.
 
-ghost use Rattle.std.specs.Prelude.{◌≡◌, ◌==◌, ⊤, ℕ, List, ◌++◌, Option, IfOk, OnOk};
+ghost use Rattle.std.specs.Prelude.{◌≡◌, ◌==◌, ℕ, Bool, List, ◌++◌, Option, IfOk, OnOk};
 ghost use Rattle.std.specs.List.{position};
 ghost use Rattle.stab_core.specs.Texts.{newline};
 ghost use Rattle.stab_treecore.specs.Texts.{acked_entry};
 ghost use Rattle.stab_reports.specs.Lines.{IsCount, IsOneLine, Shows};
-ghost use Rattle.stab_reports.specs.LinesInside.{ended_item, number_after};
+ghost use Rattle.stab_reports.specs.LinesInside.{end_entry, ended_item, number_after};
 
 use stab_frames::{Item, Sequence};
 use std::alloc::{AllocError, Global};
@@ -90,15 +90,18 @@ fn push_ended(
     Ok(())
 }
 
-/// A node's first line without its end, and whether the end says that it ended with its upstream.
-pub(crate) fn cut_ended(line: &[u8]) -> (&[u8], bool)
-    ensures { ⊤ }
+/// A node's first line without its end, and what the end says: whether the node ended with its
+/// upstream, and nothing where the line ends with a count, as in the text of a tree.
+pub(crate) fn cut_end(line: &[u8]) -> (&[u8], Option<bool>)
+    ensures { (front : List ℕ) (acked : Option ℕ) (end : Option Bool) → IsCount acked
+        → line.now ≡ front ++ acked_entry acked ++ end_entry end
+        → (result.0.now ≡ front ++ acked_entry acked) × (result.1 ≡ end) }
 {
-    match line.strip_suffix(b" ended upstream".as_slice()) {
-        Some(counts) => (counts, true),
-        None => match line.strip_suffix(b" ended turns".as_slice()) {
-            Some(counts) => (counts, false),
-            None => (line, false),
-        },
+    if let Some(counts) = line.strip_suffix(b" ended upstream".as_slice()) {
+        return (counts, Some(true));
+    }
+    match line.strip_suffix(b" ended turns".as_slice()) {
+        Some(counts) => (counts, Some(false)),
+        None => (line, None),
     }
 }
