@@ -231,13 +231,16 @@ fn is_after(rt: &(impl Abort + Alloc<A = Global>), row: &After) -> bool {
         row.rounds,
     )
     .expect(rt, "a state");
-    let acked = (
-        state.link(NodeId::new(1)).map_or(0, |link| link.acked()),
-        state.link(NodeId::new(2)).map_or(0, |link| link.acked()),
-    );
-    state.received(NodeId::new(1)) == row.a
-        && state.received(NodeId::new(2)) == row.b
-        && acked == (row.a_acked, row.b_acked)
+    has(state.link(NodeId::new(1)), row.a, row.a_acked)
+        && has(state.link(NodeId::new(2)), row.b, row.b_acked)
+}
+
+/// Whether a link has delivered this, and so many items on it are acknowledged.
+fn has(link: Option<&Link>, delivered: &[Item], acked: u64) -> bool {
+    match link {
+        Some(link) => link.delivered() == delivered && link.acked() == acked,
+        None => false,
+    }
 }
 
 #[test]
