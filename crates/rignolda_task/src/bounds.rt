@@ -1,6 +1,6 @@
 //! The command `bounds`: the file that it reads.
 
-use crate::hint::hint_of;
+use crate::hint::hint_of_bounds;
 use crate::program::{say_that_it_reads, unopened};
 use rignolda_acts::{BoundsFault, act_bounds};
 use std::rt::Files;
@@ -16,10 +16,7 @@ pub(crate) fn bounds_of<R: Files + Input + Print + Eprint + AllocGlobal>(
     match bounded(rt, file, is_typed) {
         Ok(()) => 0,
         Err(fault) => {
-            let hint = match fault {
-                BoundsFault::Job(refusal) => hint_of(refusal),
-                BoundsFault::LinkJob => "",
-            };
+            let hint = hint_of_bounds(fault);
             let _ = eprintln!(rt; "rignolda: {fault}{hint}");
             fault.status()
         }

@@ -1,6 +1,6 @@
 //! What is said after a fault of which the kind of the job may be the reason.
 
-use rignolda_acts::CheckFault;
+use rignolda_acts::{BoundsFault, CheckFault};
 use stab_job::JobFault;
 use stab_script::LinkJobFault;
 use stab_task::CliFault;
@@ -21,6 +21,14 @@ pub(crate) fn hint_of(fault: CliFault) -> &'static str {
         CliFault::LinkJob(LinkJobFault::Shape) => NO_LINK_JOB,
         CliFault::Job(JobFault::Shape) => NO_TREE_JOB,
         _ => "",
+    }
+}
+
+/// What is said after a fault of bounds.
+pub(crate) fn hint_of_bounds(fault: BoundsFault) -> &'static str {
+    match fault {
+        BoundsFault::Job(refusal) => hint_of(refusal),
+        BoundsFault::LinkJob => "",
     }
 }
 
