@@ -215,8 +215,7 @@ r: its items are not the published ones
 published: 7 8
 items of r: 7
 """),
-    ("r depth 0 received 3 acked -\nitems: 7 8\n", 1,
-     "not a report: line 1 is not as a report of this tree has it"),
+    ("r depth 0 received 3 acked -\nitems: 7 8\n", 1, NO_TREE),
 ]
 
 # Many items, as a job, an offer for each and lines have them; the texts have some 70,000 bytes.
