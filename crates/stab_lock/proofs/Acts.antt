@@ -2,9 +2,7 @@
 use Rattle.std.proofs.Common.{◌≡◌, true, List, ap, ◌∙◌, rules}
 use lib.Pointwise.{pointwise}
 use Rattle.stab_acts.specs.declared.act.OutAct.{OutAct}
-use Rattle.stab_acts.specs.declared.act.OutAct.TheVariants as out
 use Rattle.stab_acts.specs.declared.act.InAct.{InAct}
-use Rattle.stab_acts.specs.declared.act.InAct.TheVariants as in_act
 use Rattle.stab_acts.specs.contracts.act.OutActPartialEq.TheImpl as out_eq
 use Rattle.stab_acts.specs.contracts.act.InActPartialEq.TheImpl as in_eq
 use Rattle.stab_acts.specs.Scripts.{Acts}

@@ -1,5 +1,5 @@
 -- What the lock of a link keeps is reached by calls, also after one more.
-use Rattle.std.proofs.Common.{◌≡◌, List, [], ◌∷◌, ◌++◌, Result, Ok, Err, OnErr, OnOk, IsErrAnd, IfErr, refl, ap, sym, ◌∙◌, subst}
+use Rattle.std.proofs.Common.{◌≡◌, List, [], ◌∷◌, ◌++◌, Result, Ok, Err, OnErr, OnOk, refl, ap, sym, ◌∙◌, subst}
 use Rattle.stab_frames.specs.Parameters.{Parameters}
 use Rattle.stab_core.specs.declared.start.Start.{Start}
 use Rattle.stab_acts.specs.Scripts.{Acts, ActsRemaining, receiver_half, sender_half}
@@ -75,11 +75,6 @@ reached_by_receiver (Ok x) call s book after acts left is noted taken same untak
 reached_by_receiver (Err e) call s book after acts left is noted taken same untaken before =
     subst (λ b. IsReached (record s { book = b; receiver = acts })) (sym same)
     (subst (λ a. IsReached (record s { book = s.book; receiver = a })) (sym untaken) before)
-
--- what holds of an error holds of the answer that passes it on
-pub at_error : {T E : Type 0} (r : Result T E) (e : E) (Q : E → Type 0) → IsErrAnd r (λ x. x ≡ e) → Q e → IfErr r Q
-at_error (Ok x) e Q is holds = tt
-at_error (Err y) e Q is holds = subst Q (sym is) holds
 
 -- what is made of a book at its start and of both halves of its script is reached by no call
 pub reached_when_made : (p : Parameters) (start : Start) (given : Acts) (book : Book) (script : Acts) (sender receiver : ActsRemaining) → book ≡ book_of p start []

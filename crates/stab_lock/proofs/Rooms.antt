@@ -5,7 +5,7 @@ use Rattle.stab_frames.specs.Parameters.{Parameters, AreLawful}
 use Rattle.stab_frames.specs.Queue.{without}
 use Rattle.stab_core.specs.declared.event.Event.TheVariants.{SendFrame, SendAck, LoseFrame, LoseAck}
 use Rattle.stab_core.specs.declared.event.Effect.TheVariants.{Sent}
-use Rattle.stab_core.specs.LinkState.{LinkState, is_idle, is_holding, has_room}
+use Rattle.stab_core.specs.LinkState.{LinkState, is_idle, is_holding}
 use Rattle.stab_core.specs.Step.{step, effect}
 
 -- a queue that lost its front has room

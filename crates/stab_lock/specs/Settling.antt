@@ -2,7 +2,7 @@
 -- Example: A sender whose account is open and a link that is closed: the lists and the count are
 -- compared before, so `ClosedDiffer` is the difference only where those agree.
 -- Source: this project's profile.
-use Rattle.std.specs.Prelude.{◌≡◌, ◌≢◌, true, false, List}
+use Rattle.std.specs.Prelude.{◌≡◌, ◌≢◌, List}
 use Rattle.stab_frames.specs.Parameters.{Parameters}
 use Rattle.stab_core.specs.declared.event.Event.{Event}
 use Rattle.stab_core.specs.declared.start.Start.{Start}

@@ -1,4 +1,4 @@
-ghost use Rattle.std.specs.Prelude.{◌≡◌, List, IfOk, IfErr, OnOk};
+ghost use Rattle.std.specs.Prelude.{◌≡◌, List, [], IfOk, IfErr, OnOk};
 ghost use Rattle.stab_core.specs.Link.{IsReason};
 ghost use Rattle.stab_core.specs.LinkLaw.{LinkLaw};
 ghost use Rattle.stab_core.specs.LinkSetup.{setup};
@@ -7,6 +7,7 @@ ghost use Rattle.stab_core.specs.declared.event.Event.{Event};
 ghost use Rattle.stab_ends.specs.Accounts.{new_sender, new_receiver};
 ghost use Rattle.stab_lock.specs.Ends.{send_end, recv_end};
 ghost use Rattle.stab_ends.specs.Agreement.{Agree};
+ghost use Rattle.stab_lock.specs.Book.{book_of};
 ghost use Rattle.stab_lock.specs.Scripted.{IsNotedUnder};
 ghost use Rattle.stab_lock.specs.Settling.{DifferFromReplay};
 
@@ -62,8 +63,8 @@ impl LockLink {
         ensures lawful { IfOk result (λ link. IsLawful params start) }
         ensures refused { IfErr result (IsReason params start) }
     {
-        let book = SharedBook::new(alloc, params, start, &script)?;
-        let start = book.start().copy(alloc)?;
+        let (book, start) = begun(alloc, params, start)?;
+        let book = SharedBook::new(alloc, book, &script)?;
         Ok(LockLink {
             params,
             start,
@@ -114,6 +115,22 @@ impl LockLink {
         ensures differ { let link = self.given in
             IfErr result (DifferFromReplay link.params link.start send recv) }
     {
+        self.compare(&send, &recv)?;
+        Ok(Settled { send, recv })
+    }
+
+    /// Compares two accounts with the book that the lock kept.
+    fn compare(self, send: &SendAccount, recv: &RecvAccount) -> Result<(), SettleFault>
+        ensures replay { let link = self.given in
+            OnOk result ((events : List Event)
+            × Agree (replay link.params (initial link.start) events) send.now recv.now
+            × IsNotedUnder link.params link.start self.script events) }
+        ensures law { let link = self.given in
+            OnOk result (LinkLaw link.params.capacity (start_items link.start)
+            send.now.offered send.now.acked recv.now.delivered) }
+        ensures differ { let link = self.given in
+            IfErr result (DifferFromReplay link.params link.start send.now recv.now) }
+    {
         let LockLink {
             params,
             start,
@@ -121,8 +138,19 @@ impl LockLink {
             alloc: _,
             book,
         } = self;
-        let book = book.into_inner();
-        book.check_of(params, &start, &script, &send, &recv)?;
-        Ok(Settled { send, recv })
+        book.into_inner()
+            .settle(params, &start, &script, send, recv)
     }
+}
+
+/// The book of a link at its start, and a copy of the start.
+fn begun(alloc: Global, params: Params, start: Start) -> Result<(LinkBook, Start), StartFault>
+    ensures book { IfOk result (λ begun. begun.0 ≡ book_of params start []) }
+    ensures start { IfOk result (λ begun. begun.1 ≡ start) }
+    ensures lawful { IfOk result (λ begun. IsLawful params start) }
+    ensures refused { IfErr result (IsReason params start) }
+{
+    let book = LinkBook::new(alloc, params, start)?;
+    let start = book.start().copy(alloc)?;
+    Ok((book, start))
 }

@@ -1,10 +1,9 @@
 //! What the lock of a link keeps, and the six calls of the ends on it.
 
-ghost use Rattle.std.specs.Prelude.{◌≡◌, List, IfErr, IfOk, IsTrue, OnErr, OnOk};
-ghost use Rattle.stab_acts.specs.Scripts.{Acts};
-ghost use Rattle.stab_core.specs.Link.{IsReason};
+ghost use Rattle.std.specs.Prelude.{◌≡◌, List, [], IfErr, IfOk, IsTrue, OnErr, OnOk};
+ghost use Rattle.stab_acts.specs.Scripts.{Acts, receiver_half, sender_half};
 ghost use Rattle.stab_core.specs.LinkLaw.{LinkLaw};
-ghost use Rattle.stab_core.specs.Replay.{IsLawful, initial, replay, start_items};
+ghost use Rattle.stab_core.specs.Replay.{initial, replay, start_items};
 ghost use Rattle.stab_core.specs.declared.event.Event.{Event};
 ghost use Rattle.stab_ends.specs.Agreement.{Agree};
 ghost use Rattle.stab_lock.specs.Calls.{offering, sending, polling_ack, closing, polling_frame};
@@ -15,7 +14,7 @@ ghost use Rattle.stab_lock.specs.Settling.{DifferFromReplay};
 use crate::book::LinkBook;
 use crate::settle::SettleFault;
 use stab_acts::{HalfScript, Script};
-use stab_core::{Effect, Start, StartFault};
+use stab_core::{Effect, Start};
 use stab_ends::{FrameSeen, RecvAccount, SendAccount};
 use stab_frames::{Item, Params};
 use std::alloc::{AllocError, Global};
@@ -52,20 +51,17 @@ impl Model for SharedBook {
 }
 
 impl SharedBook {
-    /// What the lock of a link keeps before any call. A start is refused as a link refuses it.
+    /// What the lock of a link keeps before any call.
     pub(crate) fn new(
         alloc: Global,
-        params: Params,
-        start: Start,
+        book: LinkBook,
         script: &Script,
-    ) -> Result<SharedBook, StartFault>
-        ensures begins { IfOk result (λ shared. shared ≡ before_calls params start script.now) }
-        ensures lawful { IfOk result (λ shared. IsLawful params start) }
-        ensures refused { IfErr result (IsReason params start) }
+    ) -> Result<SharedBook, AllocError>
+        requires { book.history ≡ [] }
+        ensures { IfOk result (λ shared. shared
+            ≡ before_calls book.params book.start script.now) }
     {
-        let book = LinkBook::new(alloc, params, start)?;
-        let (sender, receiver) = script.copy(alloc)?.split();
-        let script = script.copy(alloc)?;
+        let (script, sender, receiver) = with_halves(alloc, script)?;
         Ok(SharedBook {
             book,
             script,
@@ -141,13 +137,6 @@ impl SharedBook {
         book
     }
 
-    /// What the link began from.
-    pub(crate) fn start(&self) -> &Start
-        ensures start { result.now ≡ self.now.book.start }
-    {
-        self.book.start()
-    }
-
     /// Whether this is of a link with these parameters, this start and this script.
     fn is_of(&self, params: Params, start: &Start, script: &Script) -> bool
         ensures { IsTrue result → (self.now.book.params ≡ params)
@@ -160,7 +149,7 @@ impl SharedBook {
     /// this script, or the first thing in which they differ from it. Where the book is another
     /// link's, the answer is OfferedDiffer.
     #[tactic(auto, using(crate::proofs::Reached::by_script))]
-    pub(crate) fn check_of(
+    fn check_of(
         &self,
         params: Params,
         start: &Start,
@@ -181,6 +170,39 @@ impl SharedBook {
         let _law = self.book.link();
         self.book.check(send, recv)
     }
+
+    /// The same, of a book that nobody needs afterwards.
+    pub(crate) fn settle(
+        self,
+        params: Params,
+        start: &Start,
+        script: &Script,
+        send: &SendAccount,
+        recv: &RecvAccount,
+    ) -> Result<(), SettleFault>
+        ensures replay { OnOk result ((events : List Event)
+            × Agree (replay params (initial start.now) events) send.now recv.now
+            × IsNotedUnder params start.now script.now events) }
+        ensures law { OnOk result (LinkLaw params.capacity (start_items start.now)
+            send.now.offered send.now.acked recv.now.delivered) }
+        ensures differ { IfErr result (DifferFromReplay params start.now send.now recv.now) }
+    {
+        self.check_of(params, start, script, send, recv)
+    }
+}
+
+/// A copy of a script, and both halves of another one.
+fn with_halves(
+    alloc: Global,
+    script: &Script,
+) -> Result<(Script, HalfScript, HalfScript), AllocError>
+    ensures script { IfOk result (λ made. made.0 ≡ script.now) }
+    ensures sender { IfOk result (λ made. made.1 ≡ sender_half script.now) }
+    ensures receiver { IfOk result (λ made. made.2 ≡ receiver_half script.now) }
+{
+    let own = script.copy(alloc)?;
+    let (sender, receiver) = script.copy(alloc)?.split();
+    Ok((own, sender, receiver))
 }
 
 /// Whether two scripts have the same acts in each list.

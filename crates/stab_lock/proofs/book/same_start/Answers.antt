@@ -1,4 +1,4 @@
-use Rattle.std.proofs.Common.{rules, ◌≡◌, IsTrue, true}
+use Rattle.std.proofs.Common.{rules}
 use Rattle.stab_lock.proofs.Starts.{same_parts, same_frames}
 use Rattle.stab_lock.proofs.book.same_start.Goals as goal
 

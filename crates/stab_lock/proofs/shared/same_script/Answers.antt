@@ -1,4 +1,4 @@
-use Rattle.std.proofs.Common.{rules, ◌≡◌, IsTrue, true}
+use Rattle.std.proofs.Common.{rules}
 use Rattle.stab_lock.proofs.Acts.{same_lists, same_ins, same_outs}
 use Rattle.stab_lock.proofs.shared.same_script.Goals as goal
 
