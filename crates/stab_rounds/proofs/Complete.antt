@@ -1,5 +1,5 @@
 -- The complete law at each node that has all that it will ever have, from the root down.
-use Rattle.std.proofs.Common.{◌≡◌, ℕ, suc, ◌+◌, ◌*◌, ◌<◌, List, [], ◌++◌, length, Option, Some, ap, sym, ◌∙◌, subst, arith, append_assoc}
+use Rattle.std.proofs.Common.{◌≡◌, ℕ, suc, ◌+◌, ◌*◌, ◌<◌, List, [], ◌∷◌, ◌++◌, length, Option, Some, ap, sym, ◌∙◌, subst, arith, append_assoc}
 use Rattle.std.proofs.lemmas.Option.{same_Some, none-some}
 use Rattle.std.specs.Option.{option_map_or}
 use mathlib.Core.List.{IsPrefix}
@@ -9,6 +9,7 @@ use Rattle.stab_core.specs.LinkLaw.{LinkLaw}
 use Rattle.stab_core.specs.LinkSetup.{CanBegin, LinkSetup}
 use Rattle.stab_core.specs.LinkState.{LinkState}
 use Rattle.stab_core.specs.Replay.{start_items}
+use Rattle.stab_core.proofs.Replays.{reach_more}
 use Rattle.stab_tree.specs.Nodes.{parent_at, root_of}
 use Rattle.stab_tree.specs.Steps.{depth_of}
 use Rattle.stab_tree.specs.NodeOpenings.{hold_at, opening_at}
@@ -19,10 +20,14 @@ use Rattle.stab_treecore.specs.Paths.{lists_above, sum_above}
 use Rattle.stab_treecore.specs.TreeLaw.{CompleteLaw}
 use Rattle.stab_treecore.specs.WholeTree.{WholeTree, received}
 use Rattle.stab_treecore.proofs.AtNodes.{sum_above-add}
-use Rattle.stab_treecore.proofs.Replayed.{IsRun, ReplaysObey, run_root}
+use Rattle.stab_treecore.proofs.Replayed.{IsRun, ReplaysObey, StepsReach, run_root}
 use Rattle.stab_treecore.proofs.Upwards.{complete_below, complete_past_opening, root_has_all, larger_complete}
-use Rattle.stab_rounds.proofs.TreeSteps.{At, of_link, child_of}
+use Rattle.stab_rounds.proofs.TreeSteps.{At, of_link}
 use Rattle.stab_rounds.proofs.Drains.{Drained, top, under}
+
+-- a step of a state that is reached is reached
+pub reach_step : StepsReach
+reach_step p start s e reached = reach_more p start s (e ∷ []) reached
 
 module _ (obey : ReplaysObey LinkLaw) (net : Network) (is : IsNetwork net) (t : WholeTree) (run : IsRun net t) where
   abbrev parents : List (Option ℕ)
@@ -59,7 +64,7 @@ module _ (obey : ReplaysObey LinkLaw) (net : Network) (is : IsNetwork net) (t : 
       let law : LinkLaw q.capacity (start_items start) s.offered s.acked s.delivered =
       subst (λ (x : LinkState). LinkLaw q.capacity (start_items start) x.offered x.acked x.delivered) (sym reached)
       (obey q start events begins.0 begins.1) in
-      let of_parent : IsPrefix s.offered (received t u) = run.prefixes w u (link_at p s) (child_of net is.can_begin t run w u is_child) there in
+      let of_parent : IsPrefix s.offered (received t u) = run.prefixes w u (link_at p s) (ap (λ ps. parent_at ps w) run.parents_stay ∙ is_child) there in
       let own_capacity : q.capacity ≡ capacity_into net w = ap (λ o. option_map_or (λ (l : LinkSetup). l.params.capacity) o 0) (sym was.leads) in
       let own_garbage : start_items start ≡ garbage_into net w = ap (λ o. option_map_or (λ (l : LinkSetup). start_items l.start) o []) (sym was.leads) in
       let first : List ℕ = opening_at net.openings.lists w in

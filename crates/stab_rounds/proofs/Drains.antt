@@ -1,5 +1,5 @@
 -- Where a node has all that it will ever have.
-use Rattle.std.proofs.Common.{◌≡◌, ◌⊎◌, inl, inr, ℕ, zero, suc, ◌-◌, ◌≤◌, true, false, List, [], ◌∷◌, ◌++◌, length, slice_get, Option, Some, None, All, refl, sym, ◌∙◌, ap, subst, arith}
+use Rattle.std.proofs.Common.{◌≡◌, ◌⊎◌, inl, inr, ℕ, zero, suc, ◌-◌, ◌≤◌, true, false, List, [], ◌∷◌, ◌++◌, length, slice_get, Option, Some, None, refl, sym, ◌∙◌, ap, subst, arith}
 use Rattle.std.proofs.lemmas.Bool.{cases_eq}
 use Rattle.std.proofs.lemmas.List.{nil_from_length}
 use Rattle.stab_frames.specs.Parameters.{Parameters}
@@ -7,22 +7,19 @@ use Rattle.stab_core.specs.declared.act.LinkAct.{LinkAct}
 use Rattle.stab_core.specs.declared.act.LinkAct.TheVariants as act
 use Rattle.stab_core.specs.Link.{link_at}
 use Rattle.stab_core.specs.LinkActs.{event_of}
-use Rattle.stab_core.specs.LinkSetup.{CanBegin}
 use Rattle.stab_core.specs.LinkState.{LinkState}
 use Rattle.stab_tree.specs.Nodes.{parent_at}
 use Rattle.stab_tree.specs.NodeOpenings.{opening_at}
 use Rattle.stab_treecore.specs.declared.event.TreeEvent.{TreeEvent}
-use Rattle.stab_treecore.specs.Network.{Network}
 use Rattle.stab_treecore.specs.TreeReplay.{tree_replay}
 use Rattle.stab_treecore.specs.TreeStep.{tree_step}
 use Rattle.stab_treecore.specs.WholeTree.{WholeTree, received}
-use Rattle.stab_treecore.proofs.Replayed.{IsRun, run_root}
 use Rattle.stab_rounds.specs.declared.round.Awaited.{Awaited}
 use Rattle.stab_rounds.specs.declared.round.Awaited.TheVariants as next
 use Rattle.stab_rounds.specs.Rounds.{rounds_from}
-use Rattle.stab_rounds.specs.TreeRounds.{acts_on, IsOpen}
+use Rattle.stab_rounds.specs.TreeRounds.{acts_on}
 use Rattle.stab_rounds.proofs.Links.{after_event, quiet_after, fewer_taken}
-use Rattle.stab_rounds.proofs.TreeSteps.{At, step_other, step_at, acts_own, acts_other, known, child_of, offered_few, keeps, open_before, of_link}
+use Rattle.stab_rounds.proofs.TreeSteps.{At, Fixed, IsSound, OpenAt, root_has, step_other, step_at, acts_own, acts_other, known, child_of, offered_few, keeps, open_before, of_link}
 
 -- the next item of a list that was offered is none
 offered_all : (xs : List ℕ) (i : ℕ) → length xs ≤ i → slice_get xs i ≡ None
@@ -84,16 +81,16 @@ pub data Drained (t : WholeTree) (parents : List (Option ℕ)) : ℕ → Type 0 
   under : {w : ℕ} (u : ℕ) (p : Parameters) (s : LinkState) → parent_at parents w ≡ Some u → At t w p s
       → s.acked ≡ length (received t u) → s.frames ≡ [] → Drained t parents u → Drained t parents w
 
-module _ (net : Network) (can_begin : All CanBegin net.links) where
+module _ (fixed : Fixed) where
   abbrev parents : List (Option ℕ)
-  parents = net.tree.parents
+  parents = fixed.parents
 
   -- where all that the parent has is acknowledged, no item waits
-  pub idle_at : (t : WholeTree) → IsRun net t → (w u : ℕ) (p : Parameters) (s : LinkState) → parent_at parents w ≡ Some u → At t w p s
+  pub idle_at : (t : WholeTree) → IsSound fixed t → (w u : ℕ) (p : Parameters) (s : LinkState) → parent_at parents w ≡ Some u → At t w p s
       → s.acked ≡ length (received t u) → length s.offered ≡ s.acked
   idle_at t run w u p s is_child there all =
-      let few = offered_few net can_begin t run w u p s is_child there in
-      elim (known net can_begin t run w p s there).within.waits [
+      let few = offered_few fixed t run w u p s is_child there in
+      elim (known fixed t run w p s there).within.waits [
         | inl idle ↦ idle
         | inr holds ↦ absurd (omega arith)
       ]
@@ -102,20 +99,20 @@ module _ (net : Network) (can_begin : All CanBegin net.links) where
   abbrev pub quiet_now : Parameters → LinkState → LinkAct → LinkState
   quiet_now p s a = after_event p s (event_of a None)
 
-  pub quiet_at : (t : WholeTree) (e : TreeEvent) → IsRun net t → (w u : ℕ) (p : Parameters) (s : LinkState) → parent_at parents w ≡ Some u → At t w p s
+  pub quiet_at : (t : WholeTree) (e : TreeEvent) → IsSound fixed t → (w u : ℕ) (p : Parameters) (s : LinkState) → parent_at parents w ≡ Some u → At t w p s
       → s.acked ≡ length (received t u) → e.child ≡ w → At (tree_step t e) w p (quiet_now p s e.act)
   quiet_at t e run w u p s is_child there all same =
       let idle = idle_at t run w u p s is_child there all in
-      step_at t e w u p s (child_of net can_begin t run w u is_child) there same
+      step_at t e w u p s (child_of fixed t run w u is_child) there same
       ∙ ap (λ item. Some (link_at p (after_event p s (event_of e.act item)))) (offered_all (received t u) (length s.offered) (omega arith))
 
   -- a node that has all keeps it, and receives nothing
   abbrev Stays : WholeTree → WholeTree → ℕ → Type 0
   Stays t after w = Drained after parents w × (received after w ≡ received t w)
 
-  pub drained_step : (t : WholeTree) (e : TreeEvent) → IsRun net t → (w : ℕ) → Drained t parents w → Stays t (tree_step t e) w
+  pub drained_step : (t : WholeTree) (e : TreeEvent) → IsSound fixed t → (w : ℕ) → Drained t parents w → Stays t (tree_step t e) w
   drained_step t e run w (top none) =
-      (top none, run_root net (tree_step t e) (keeps net can_begin t e run) w none ∙ sym (run_root net t run w none))
+      (top none, root_has fixed (tree_step t e) (keeps fixed t e run) w none ∙ sym (root_has fixed t run w none))
   drained_step t e run w (under u p s is_child there all empty above) =
       let (above_after, same_list) = drained_step t e run u above in
       let same_all : length (received t u) ≡ length (received (tree_step t e) u) = ap length (sym same_list) in
@@ -136,11 +133,11 @@ module _ (net : Network) (can_begin : All CanBegin net.links) where
             )
       ]
 
-  pub drained_over : (es : List TreeEvent) (t : WholeTree) → IsRun net t → (w : ℕ) → Drained t parents w → Stays t (tree_replay t es) w
+  pub drained_over : (es : List TreeEvent) (t : WholeTree) → IsSound fixed t → (w : ℕ) → Drained t parents w → Stays t (tree_replay t es) w
   drained_over [] t run w drained = (drained, refl)
   drained_over (e ∷ es) t run w drained =
       let (now, same) = drained_step t e run w drained in
-      let (later, still_same) = drained_over es (tree_step t e) (keeps net can_begin t e run) w now in
+      let (later, still_same) = drained_over es (tree_step t e) (keeps fixed t e run) w now in
       (later, still_same ∙ same)
 
   -- ---- frames go, where there is nothing left to offer
@@ -157,7 +154,7 @@ module _ (net : Network) (can_begin : All CanBegin net.links) where
     more_flushed t acked count few most same less flushed =
         record { state = flushed.state; there = flushed.there; same_count = flushed.same_count ∙ same; few = omega (arith, flushed.few) }
 
-    pub quiet_over : (es : List TreeEvent) (t : WholeTree) (s : LinkState) → IsRun net t → At t w p s → Drained t parents u
+    pub quiet_over : (es : List TreeEvent) (t : WholeTree) (s : LinkState) → IsSound fixed t → At t w p s → Drained t parents u
         → s.acked ≡ length (received t u) → Flushed (tree_replay t es) s.acked (length s.frames)
     quiet_over [] t s run there above all = record { state = s; there = there; same_count = refl; few = omega arith }
     quiet_over (e ∷ es) t s run there above all =
@@ -168,14 +165,14 @@ module _ (net : Network) (can_begin : All CanBegin net.links) where
               let now : LinkState = quiet_now p s e.act in
               let quiet = quiet_after p s e.act (idle_at t run w u p s is_child there all) in
               more_flushed (tree_replay (tree_step t e) es) s.acked now.acked (length now.frames) (length s.frames) quiet.acked quiet.fewer
-              (quiet_over es (tree_step t e) now (keeps net can_begin t e run) (quiet_at t e run w u p s is_child there all same) above_after
+              (quiet_over es (tree_step t e) now (keeps fixed t e run) (quiet_at t e run w u p s is_child there all same) above_after
               (quiet.acked ∙ all ∙ same_all))
           | inr other ↦
-              quiet_over es (tree_step t e) s (keeps net can_begin t e run) (step_other t e w other ∙ there) above_after (all ∙ same_all)
+              quiet_over es (tree_step t e) s (keeps fixed t e run) (step_other t e w other ∙ there) above_after (all ∙ same_all)
         ]
 
     -- each round takes one
-    pub flush_over : (es : List TreeEvent) (t : WholeTree) (s : LinkState) → IsRun net t → IsOpen (tree_replay t es) → At t w p s → Drained t parents u
+    pub flush_over : (es : List TreeEvent) (t : WholeTree) (s : LinkState) → IsSound fixed t → OpenAt (tree_replay t es) w → At t w p s → Drained t parents u
         → s.acked ≡ length (received t u) → Takes (acts_on w es) → Flushed (tree_replay t es) s.acked (length s.frames - 1)
     flush_over [] t s run is_open there above all takes = absurd takes
     flush_over (e ∷ es) t s run is_open there above all takes =
@@ -186,19 +183,19 @@ module _ (net : Network) (can_begin : All CanBegin net.links) where
               let now : LinkState = quiet_now p s e.act in
               let quiet = quiet_after p s e.act (idle_at t run w u p s is_child there all) in
               let found = quiet_at t e run w u p s is_child there all same in
-              let opened : s.closed ≡ false = open_before net can_begin (e ∷ es) t is_open w (link_at p s) there in
+              let opened : s.closed ≡ false = open_before fixed (e ∷ es) t w is_open (link_at p s) there in
               elim (first_take e.act (acts_on w es) (subst Takes (acts_own w e es same) takes)) [
                 | inl now_taken ↦
                     let taken : length now.frames ≤ length s.frames - 1 =
                     subst (λ a. length (quiet_now p s a).frames ≤ length s.frames - 1) (sym now_taken) (fewer_taken p s opened) in
                     more_flushed (tree_replay (tree_step t e) es) s.acked now.acked (length now.frames) (length s.frames - 1) quiet.acked taken
-                    (quiet_over es (tree_step t e) now (keeps net can_begin t e run) found above_after (quiet.acked ∙ all ∙ same_all))
+                    (quiet_over es (tree_step t e) now (keeps fixed t e run) found above_after (quiet.acked ∙ all ∙ same_all))
                 | inr later ↦
                     more_flushed (tree_replay (tree_step t e) es) s.acked now.acked (length now.frames - 1) (length s.frames - 1) quiet.acked
                     (omega (arith, quiet.fewer))
-                    (flush_over es (tree_step t e) now (keeps net can_begin t e run) is_open found above_after (quiet.acked ∙ all ∙ same_all) later)
+                    (flush_over es (tree_step t e) now (keeps fixed t e run) is_open found above_after (quiet.acked ∙ all ∙ same_all) later)
               ]
           | inr other ↦
-              flush_over es (tree_step t e) s (keeps net can_begin t e run) is_open (step_other t e w other ∙ there) above_after (all ∙ same_all)
+              flush_over es (tree_step t e) s (keeps fixed t e run) is_open (step_other t e w other ∙ there) above_after (all ∙ same_all)
               (subst Takes (acts_other w e es other) takes)
         ]

@@ -21,10 +21,10 @@ use Rattle.stab_treecore.specs.WholeTree.{WholeTree, received}
 use Rattle.stab_treecore.proofs.Replayed.{ReplaysObey, opening_is_run, replay_keeps}
 use Rattle.stab_rounds.specs.TreeRounds.{IsOpen, TreeRounds, rounds_below, IsHandedOn}
 use Rattle.stab_rounds.proofs.Levels.{level_positive}
-use Rattle.stab_rounds.proofs.TreeSteps.{known, offered_few, acked_few, reach_step, replay_append}
+use Rattle.stab_rounds.proofs.TreeSteps.{fixed_of, IsSound, keeps_all, run_is_sound, known, offered_few, acked_few, replay_append}
 use Rattle.stab_rounds.proofs.Drains.{Drained, top, under, drained_over}
 use Rattle.stab_rounds.proofs.Most.{Most, received_few, most_at_start}
-use Rattle.stab_rounds.proofs.Complete.{complete_at}
+use Rattle.stab_rounds.proofs.Complete.{complete_at, reach_step}
 use Rattle.stab_rounds.proofs.Arrives.{Stage, drained, flushing, running, stages_open, rounds_on, times, one_more}
 
 -- which its link shows
@@ -37,6 +37,9 @@ handed_on_by parents t w u is_child (under v p s is_parent there all empty above
 module _ (net : Network) (is : IsNetwork net) where
   abbrev parents : List (Option ℕ)
   parents = net.tree.parents
+
+  opened_sound : IsSound (fixed_of net) (initial_tree net)
+  opened_sound = run_is_sound net is.can_begin (initial_tree net) (opening_is_run net is.one_per_link)
 
   -- the most items that a node can have
   abbrev pub best : ℕ → ℕ
@@ -59,7 +62,7 @@ module _ (net : Network) (is : IsNetwork net) where
   pub deeper : (w u : ℕ) → parent_at parents w ≡ Some u → depth w ≡ depth u + 1
   deeper w u is_child = omega (arith, child_is_deeper net.tree is.tree w u is_child)
 
-  pub most_above : (w u : ℕ) → parent_at parents w ≡ Some u → Most net (initial_tree net) u (best u)
+  pub most_above : (w u : ℕ) → parent_at parents w ≡ Some u → Most (fixed_of net) (initial_tree net) u (best u)
   most_above w u is_child = most_at_start net is u (is.tree.known_parents w u is_child)
 
   module _ (capacity : ℕ) (small : All (λ link. link.params.capacity ≤ capacity) net.links) where
@@ -71,7 +74,7 @@ module _ (net : Network) (is : IsNetwork net) where
         omega arith
 
     abbrev StageAt : ℕ → WholeTree → ℕ → ℕ → Type 0
-    StageAt = Stage net is (2 * capacity + 1) best depth capacity_few best_below deeper
+    StageAt = Stage (fixed_of net) (2 * capacity + 1) best depth capacity_few best_below deeper
 
     -- the state after a part of the schedule in which there are so many rounds
     at_last : (part : List TreeEvent) (rounds w u : ℕ) → parent_at parents w ≡ Some u → rounds_below net capacity u ≤ rounds
@@ -82,17 +85,17 @@ module _ (net : Network) (is : IsNetwork net) where
           | inr none ↦ under u p s is_child there all (nil_from_length s.frames (omega arith)) above
           | inl some ↦
               let t = tree_replay (initial_tree net) part in
-              let run = replay_keeps reach_step net (initial_tree net) part (opening_is_run net is.one_per_link) in
-              let its = (known net is.can_begin t run w p s there).capacity in
+              let run = keeps_all (fixed_of net) (initial_tree net) part opened_sound in
+              let its = (known (fixed_of net) t run w p s there).capacity in
               let size = capacity_few w u is_child in
               absurd (omega (arith, one_more (2 * capacity + 1) (best u)))
         ]
     at_last part rounds w u is_child enough (running p s k m there level most few) =
         let t = tree_replay (initial_tree net) part in
-        let run = replay_keeps reach_step net (initial_tree net) part (opening_is_run net is.one_per_link) in
-        let received = received_few net is t u m run most in
-        let offered = offered_few net is.can_begin t run w u p s is_child there in
-        let acked = acked_few net is.can_begin p s (known net is.can_begin t run w p s there).within in
+        let run = keeps_all (fixed_of net) (initial_tree net) part opened_sound in
+        let received = received_few (fixed_of net) t u m run most in
+        let offered = offered_few (fixed_of net) t run w u p s is_child there in
+        let acked = acked_few (fixed_of net) p s (known (fixed_of net) t run w p s there).within in
         let r : ℕ = 2 * capacity + 1 in
         let grown = times r (s.acked + 1 + best u) (m + (best u + 1)) (omega arith) in
         absurd (omega (arith, level_positive p.capacity k level, grown, mul-add r m (best u + 1)))
@@ -103,13 +106,13 @@ module _ (net : Network) (is : IsNetwork net) where
         → Drained (tree_replay (initial_tree net) events) parents w
     has_all events rounds w u is_open is_rounds is_child enough =
         let t = initial_tree net in
-        let run = opening_is_run net is.one_per_link in
+        let run = opened_sound in
         let (part, rest, parts, stages) =
-        rounds_on net is (2 * capacity + 1) best depth capacity_few best_below deeper rounds 0 t events run is_open is_rounds
-        (stages_open net is (2 * capacity + 1) best depth capacity_few best_below deeper t run most_above) in
+        rounds_on (fixed_of net) (2 * capacity + 1) best depth capacity_few best_below deeper rounds 0 t events run is_open is_rounds
+        (stages_open (fixed_of net) (2 * capacity + 1) best depth capacity_few best_below deeper t run most_above) in
         let now = at_last part (0 + rounds) w u is_child (omega arith) (stages w u is_child) in
         subst (λ (x : WholeTree). Drained x parents w) (sym (ap (tree_replay t) parts ∙ replay_append t part rest))
-        (drained_over net is.can_begin rest (tree_replay t part) (replay_keeps reach_step net t part run) w now).0
+        (drained_over (fixed_of net) rest (tree_replay t part) (keeps_all (fixed_of net) t part run) w now).0
 
     pub arrives_handed_on : (events : List TreeEvent) (rounds w u : ℕ) → IsOpen (tree_replay (initial_tree net) events) → TreeRounds parents rounds events
         → parent_at parents w ≡ Some u → rounds_below net capacity u ≤ rounds → IsHandedOn (tree_replay (initial_tree net) events) w u
@@ -131,6 +134,6 @@ module _ (net : Network) (is : IsNetwork net) where
         IsHandedOn (tree_replay t more) w u × (received (tree_replay t more) w ≡ received t w)
     arrives_for_good events more rounds w u is_open is_rounds is_child enough =
         let t = tree_replay (initial_tree net) events in
-        let run = replay_keeps reach_step net (initial_tree net) events (opening_is_run net is.one_per_link) in
-        let (later, same) = drained_over net is.can_begin more t run w (has_all events rounds w u is_open is_rounds is_child enough) in
+        let run = keeps_all (fixed_of net) (initial_tree net) events opened_sound in
+        let (later, same) = drained_over (fixed_of net) more t run w (has_all events rounds w u is_open is_rounds is_child enough) in
         (handed_on_by parents (tree_replay t more) w u is_child later, same)

@@ -24,18 +24,17 @@ use Rattle.stab_treecore.specs.TreeReplay.{initial_tree, opened, tree_replay}
 use Rattle.stab_treecore.specs.TreeStep.{tree_step}
 use Rattle.stab_treecore.specs.WholeTree.{WholeTree, received}
 use Rattle.stab_treecore.proofs.AtNodes.{sum_above-add}
-use Rattle.stab_treecore.proofs.Replayed.{IsRun, run_root}
 use Rattle.stab_rounds.proofs.Coming.{to_come, step_more, same_more, NoMore, few_idle}
 use Rattle.stab_rounds.proofs.Links.{after_event}
 use Rattle.stab_rounds.proofs.Drains.{Drained, top as drained_top, under as drained_under, idle_at}
-use Rattle.stab_rounds.proofs.TreeSteps.{At, step_at, step_other, child_of, offered_few, keeps, of_link}
+use Rattle.stab_rounds.proofs.TreeSteps.{At, Fixed, fixed_of, IsSound, root_has, step_at, step_other, child_of, offered_few, keeps, of_link}
 
 -- a node can have this many items at most
-pub data Most (net : Network) (t : WholeTree) : ℕ → ℕ → Type 0 where
-  top : {u m : ℕ} → parent_at net.tree.parents u ≡ None → length net.published ≤ m → Most net t u m
-  under : {u m : ℕ} (g above : ℕ) (p : Parameters) (s : LinkState) → parent_at net.tree.parents u ≡ Some g → At t u p s
-      → Most net t g above
-      → length (opening_at t.openings u) + length s.delivered + to_come s + above ≤ m + length s.offered → Most net t u m
+pub data Most (fixed : Fixed) (t : WholeTree) : ℕ → ℕ → Type 0 where
+  top : {u m : ℕ} → parent_at fixed.parents u ≡ None → length fixed.published ≤ m → Most fixed t u m
+  under : {u m : ℕ} (g above : ℕ) (p : Parameters) (s : LinkState) → parent_at fixed.parents u ≡ Some g → At t u p s
+      → Most fixed t g above
+      → length (opening_at t.openings u) + length s.delivered + to_come s + above ≤ m + length s.offered → Most fixed t u m
 
 -- an event, where there is one
 after_more : (p : Parameters) (s : LinkState) (o : Option Event) → NoMore s (after_event p s o)
@@ -53,17 +52,17 @@ opened_by_child (Some q ∷ parents) [] (suc node) x is = opened_by_child parent
 opened_by_child (Some q ∷ parents) (y ∷ ys) zero x is = ap (λ z. Some (opened z)) (same_Some y x is)
 opened_by_child (Some q ∷ parents) (y ∷ ys) (suc node) x is = opened_by_child parents ys node x is
 
-module _ (net : Network) (is : IsNetwork net) where
+module _ (fixed : Fixed) where
   -- a node never has more
-  pub received_few : (t : WholeTree) (u m : ℕ) → IsRun net t → Most net t u m → length (received t u) ≤ m
-  received_few t u m run (top none few) = omega (arith, ap length (run_root net t run u none))
+  pub received_few : (t : WholeTree) (u m : ℕ) → IsSound fixed t → Most fixed t u m → length (received t u) ≤ m
+  received_few t u m run (top none few) = omega (arith, ap length (root_has fixed t run u none))
   received_few t u m run (under g above p s is_parent there most few) =
       let at_parent = received_few t g above run most in
-      let offered = offered_few net is.can_begin t run u g p s is_parent there in
+      let offered = offered_few fixed t run u g p s is_parent there in
       omega (arith, ap length (of_link t u (link_at p s) there), length-append (opening_at t.openings u) s.delivered)
 
   -- a step keeps it
-  most_step : (t : WholeTree) (e : TreeEvent) (u m : ℕ) → IsRun net t → Most net t u m → Most net (tree_step t e) u m
+  most_step : (t : WholeTree) (e : TreeEvent) (u m : ℕ) → IsSound fixed t → Most fixed t u m → Most fixed (tree_step t e) u m
   most_step t e u m run (top none few) = top none few
   most_step t e u m run (under g above p s is_parent there most few) =
       elim (cases_eq e.child u) [
@@ -71,30 +70,30 @@ module _ (net : Network) (is : IsNetwork net) where
             let o = event_of e.act (slice_get (received t g) (length s.offered)) in
             let more = after_more p s o in
             under g above p (after_event p s o) is_parent
-            (step_at t e u g p s (child_of net is.can_begin t run u g is_parent) there same) (most_step t e g above run most)
+            (step_at t e u g p s (child_of fixed t run u g is_parent) there same) (most_step t e g above run most)
             (omega arith)
         | inr other ↦
             under g above p s is_parent (step_other t e u other ∙ there) (most_step t e g above run most) few
       ]
 
-  pub most_over : (es : List TreeEvent) (t : WholeTree) (u m : ℕ) → IsRun net t → Most net t u m → Most net (tree_replay t es) u m
+  pub most_over : (es : List TreeEvent) (t : WholeTree) (u m : ℕ) → IsSound fixed t → Most fixed t u m → Most fixed (tree_replay t es) u m
   most_over [] t u m run most = most
-  most_over (e ∷ es) t u m run most = most_over es (tree_step t e) u m (keeps net is.can_begin t e run) (most_step t e u m run most)
+  most_over (e ∷ es) t u m run most = most_over es (tree_step t e) u m (keeps fixed t e run) (most_step t e u m run most)
 
   -- from the most at the parent to the most at the node
-  pub next_most : (t : WholeTree) (u g above rest : ℕ) (p : Parameters) (s : LinkState) → parent_at net.tree.parents u ≡ Some g → At t u p s
-      → Most net t g above → above ≡ length s.offered + rest → Most net t u (length (received t u) + to_come s + rest)
+  pub next_most : (t : WholeTree) (u g above rest : ℕ) (p : Parameters) (s : LinkState) → parent_at fixed.parents u ≡ Some g → At t u p s
+      → Most fixed t g above → above ≡ length s.offered + rest → Most fixed t u (length (received t u) + to_come s + rest)
   next_most t u g above rest p s is_parent there most split =
       under g above p s is_parent there most
       (omega (arith, ap length (of_link t u (link_at p s) there), length-append (opening_at t.openings u) s.delivered))
 
   -- a node that has all that it will ever have
-  pub drained_most : (t : WholeTree) (u : ℕ) → IsRun net t → Drained t net.tree.parents u → (m : ℕ) × Most net t u m × (m ≡ length (received t u))
+  pub drained_most : (t : WholeTree) (u : ℕ) → IsSound fixed t → Drained t fixed.parents u → (m : ℕ) × Most fixed t u m × (m ≡ length (received t u))
   drained_most t u run (drained_top none) =
-      (length net.published, top none (omega arith), ap length (sym (run_root net t run u none)))
+      (length fixed.published, top none (omega arith), ap length (sym (root_has fixed t run u none)))
   drained_most t u run (drained_under g p s is_parent there all empty above) =
       let (m, most, exact) = drained_most t g run above in
-      let none = idle_at net is.can_begin t run u g p s is_parent there all in
+      let none = idle_at fixed t run u g p s is_parent there all in
       let few = few_idle s none in
       let few_frames : length s.frames ≡ 0 = ap length empty in (
         length (received t u),
@@ -103,8 +102,9 @@ module _ (net : Network) (is : IsNetwork net) where
         refl,
       )
 
-  -- ---- at the start
+-- ---- at the start
 
+module _ (net : Network) (is : IsNetwork net) where
   abbrev parents : List (Option ℕ)
   parents = net.tree.parents
 
@@ -115,7 +115,7 @@ module _ (net : Network) (is : IsNetwork net) where
   strays child = capacity_into net child + hold child
 
   abbrev MostAt : ℕ → ℕ → Type 0
-  MostAt depth node = Most net (initial_tree net) node (length net.published + sum_above parents strays depth node)
+  MostAt depth node = Most (fixed_of net) (initial_tree net) node (length net.published + sum_above parents strays depth node)
 
   most_below : (depth w u : ℕ) → parent_at parents w ≡ Some u → MostAt depth u → MostAt (suc depth) w
   most_below depth w u is_child most =
@@ -126,13 +126,13 @@ module _ (net : Network) (is : IsNetwork net) where
       let frames = begins.1.frames in
       let capacity : capacity_into net w ≡ setup.params.capacity = ap (λ o. option_map_or (λ (l : LinkSetup). l.params.capacity) o 0) leads in
       let opening = (openings_fit parents net.openings is.openings_fit).short w in
-      subst (λ up. Most net (initial_tree net) w (length net.published + (strays w + option_map_or (sum_above parents strays depth) up 0)))
+      subst (λ up. Most (fixed_of net) (initial_tree net) w (length net.published + (strays w + option_map_or (sum_above parents strays depth) up 0)))
       (sym is_child)
       (under u (length net.published + sum_above parents strays depth u) setup.params s is_child there most
       (omega (arith, few_idle s refl)))
 
   -- a node can have what is published and the most strays
-  pub most_at_start : (node : ℕ) → node < length parents → Most net (initial_tree net) node (length net.published + most_strays net node)
+  pub most_at_start : (node : ℕ) → node < length parents → Most (fixed_of net) (initial_tree net) node (length net.published + most_strays net node)
   most_at_start node is_node =
       rw (← sum_above-add parents (capacity_into net) hold (depth_of parents node) node)
       (holds_at_every_depth net.tree is.tree MostAt (top is.tree.root_has_none (omega arith)) most_below node is_node)

@@ -1,5 +1,5 @@
 -- Reading rounds of a whole tree: each acknowledges an item on each link that has one, and takes all that was on its way.
-use Rattle.std.proofs.Common.{◌≡◌, ◌⊎◌, inl, inr, ℕ, zero, suc, ◌+◌, ◌-◌, ◌<◌, ◌≤◌, true, false, List, [], ◌∷◌, length, slice_get, Option, Some, None, All, refl, sym, ◌∙◌, ap, subst, arith}
+use Rattle.std.proofs.Common.{◌≡◌, ◌⊎◌, inl, inr, ℕ, zero, suc, ◌+◌, ◌-◌, ◌<◌, ◌≤◌, true, false, List, [], ◌∷◌, length, slice_get, Option, Some, None, refl, sym, ◌∙◌, ap, subst, arith}
 use Rattle.std.proofs.lemmas.Bool.{cond-false, cases_eq}
 use Rattle.stab_frames.specs.Parameters.{Parameters}
 use Rattle.stab_core.specs.declared.act.LinkAct.{LinkAct}
@@ -8,24 +8,21 @@ use Rattle.stab_core.specs.declared.event.Event.{Event}
 use Rattle.stab_core.specs.declared.event.Event.TheVariants as event
 use Rattle.stab_core.specs.Link.{link_at}
 use Rattle.stab_core.specs.LinkActs.{event_of}
-use Rattle.stab_core.specs.LinkSetup.{CanBegin}
 use Rattle.stab_core.specs.LinkState.{LinkState}
 use Rattle.stab_core.specs.Step.{open_step, step}
 use Rattle.stab_tree.specs.Nodes.{parent_at}
 use Rattle.stab_treecore.specs.declared.event.TreeEvent.{TreeEvent}
-use Rattle.stab_treecore.specs.Network.{Network}
 use Rattle.stab_treecore.specs.TreeReplay.{tree_replay}
 use Rattle.stab_treecore.specs.TreeStep.{tree_step}
 use Rattle.stab_treecore.specs.WholeTree.{WholeTree, received}
-use Rattle.stab_treecore.proofs.Replayed.{IsRun}
 use Rattle.stab_rounds.specs.Rounds.{IsWithin, act_of}
 use Rattle.stab_rounds.specs.ReadingRounds.{Reads, offer, frames, frame, acks, ack, reads_after, read_by, reading_from}
-use Rattle.stab_rounds.specs.TreeRounds.{acts_on, IsOpen}
+use Rattle.stab_rounds.specs.TreeRounds.{acts_on}
 use Rattle.stab_rounds.proofs.Levels.{Holding, any_level}
 use Rattle.stab_rounds.proofs.Steps.{Moves, accepts, stays}
 use Rattle.stab_rounds.proofs.Links.{after_event, quiet_after, fewer_taken}
 use Rattle.stab_rounds.proofs.ReadRounds.{Read, read_event, heard}
-use Rattle.stab_rounds.proofs.TreeSteps.{At, step_other, acts_own, acts_other, known, received_step, open_before, grows_over, waits_or_next, own_at, keeps}
+use Rattle.stab_rounds.proofs.TreeSteps.{At, Fixed, IsSound, OpenAt, step_other, acts_own, acts_other, known, received_step, open_before, grows_over, waits_or_next, own_at, keeps}
 use Rattle.stab_rounds.proofs.Drains.{Drained, idle_at, drained_step, Flushed, more_flushed, quiet_over, quiet_at, quiet_now}
 
 -- ---- one act
@@ -145,17 +142,17 @@ reading_takes c offer (act.Close ∷ acts) one = takes_more c act.Close acts (re
 
 -- ---- a part of a schedule
 
-module _ (net : Network) (can_begin : All CanBegin net.links) (w u : ℕ) (p : Parameters) (is_child : parent_at net.tree.parents w ≡ Some u)
+module _ (fixed : Fixed) (w u : ℕ) (p : Parameters) (is_child : parent_at fixed.parents w ≡ Some u)
     (some : 1 ≤ p.capacity) where
   abbrev Grown : WholeTree → ℕ → Type 0
   Grown t count = (s : LinkState) × At t w p s × (count + 1 ≤ s.acked)
 
-  grown_from : (es : List TreeEvent) (t : WholeTree) (s : LinkState) (count : ℕ) → IsRun net t → At t w p s → count + 1 ≤ s.acked → Grown (tree_replay t es) count
+  grown_from : (es : List TreeEvent) (t : WholeTree) (s : LinkState) (count : ℕ) → IsSound fixed t → At t w p s → count + 1 ≤ s.acked → Grown (tree_replay t es) count
   grown_from es t s count run there more =
-      let (after, found, later) = grows_over net can_begin w u p is_child es t s run there in (after, found, omega arith)
+      let (after, found, later) = grows_over fixed w u p is_child es t s run there in (after, found, omega arith)
 
   -- a reading round of the link acknowledges an item
-  pub read_progress : (es : List TreeEvent) (t : WholeTree) (v : Reads) (s : LinkState) → IsRun net t → IsOpen (tree_replay t es) → At t w p s
+  pub read_progress : (es : List TreeEvent) (t : WholeTree) (v : Reads) (s : LinkState) → IsSound fixed t → OpenAt (tree_replay t es) w → At t w p s
       → Read p some v s → s.acked < length (received t u) → 1 ≤ reading_from p.capacity v (acts_on w es) → Grown (tree_replay t es) s.acked
   read_progress [] t v s run is_open there read available one = absurd (omega arith)
   read_progress (e ∷ es) t v s run is_open there read available one =
@@ -163,62 +160,62 @@ module _ (net : Network) (can_begin : All CanBegin net.links) (w u : ℕ) (p : P
         | inl same ↦
             let item = slice_get (received t u) (length s.offered) in
             let now : LinkState = after_event p s (event_of e.act item) in
-            let found = own_at net can_begin w u p is_child t e s run there same in
-            let facts = known net can_begin t run w p s there in
-            let opened : s.closed ≡ false = open_before net can_begin (e ∷ es) t is_open w (link_at p s) there in
+            let found = own_at fixed w u p is_child t e s run there same in
+            let facts = known fixed t run w p s there in
+            let opened : s.closed ≡ false = open_before fixed (e ∷ es) t w is_open (link_at p s) there in
             let counted : 1 ≤ read_by v e.act + reading_from p.capacity (reads_after p.capacity v e.act) (acts_on w es) =
             subst (λ acts. 1 ≤ reading_from p.capacity v acts) (acts_own w e es same) one in
             let later = received_step t e u in
             elim (act_goes p some v e.act) [
               | round accepted ↦
                   let more = accepted s item opened read in
-                  grown_from es (tree_step t e) now s.acked (keeps net can_begin t e run) found (omega arith)
+                  grown_from es (tree_step t e) now s.acked (keeps fixed t e run) found (omega arith)
               | on none ↦
                   elim (act_read p some v s e.act item opened facts.within
-                  (waits_or_next net can_begin w u p is_child t s facts.within available) read) [
-                    | accepts acked ↦ grown_from es (tree_step t e) now s.acked (keeps net can_begin t e run) found (omega arith)
+                  (waits_or_next fixed w u p is_child t s facts.within available) read) [
+                    | accepts acked ↦ grown_from es (tree_step t e) now s.acked (keeps fixed t e run) found (omega arith)
                     | stays unchanged has ↦
                         subst (λ n. Grown (tree_replay (tree_step t e) es) n) unchanged
-                        (read_progress es (tree_step t e) (reads_after p.capacity v e.act) now (keeps net can_begin t e run) is_open found has
+                        (read_progress es (tree_step t e) (reads_after p.capacity v e.act) now (keeps fixed t e run) is_open found has
                         (omega arith) (omega arith))
                   ]
             ]
         | inr other ↦
             let later = received_step t e u in
-            read_progress es (tree_step t e) v s (keeps net can_begin t e run) is_open (step_other t e w other ∙ there) read (omega arith)
+            read_progress es (tree_step t e) v s (keeps fixed t e run) is_open (step_other t e w other ∙ there) read (omega arith)
             (subst (λ acts. 1 ≤ reading_from p.capacity v acts) (acts_other w e es other) one)
       ]
 
   -- and takes what was on its way, where there is nothing left to offer
-  pub flush_many : (es : List TreeEvent) (n : ℕ) (t : WholeTree) (s : LinkState) → IsRun net t → IsOpen (tree_replay t es) → At t w p s
-      → Drained t net.tree.parents u → s.acked ≡ length (received t u) → TakesMany n (acts_on w es)
-      → Flushed net can_begin w u p is_child (tree_replay t es) s.acked (length s.frames - n)
+  pub flush_many : (es : List TreeEvent) (n : ℕ) (t : WholeTree) (s : LinkState) → IsSound fixed t → OpenAt (tree_replay t es) w → At t w p s
+      → Drained t fixed.parents u → s.acked ≡ length (received t u) → TakesMany n (acts_on w es)
+      → Flushed fixed w u p is_child (tree_replay t es) s.acked (length s.frames - n)
   flush_many es zero t s run is_open there above all takes =
-      more_flushed net can_begin w u p is_child (tree_replay t es) s.acked s.acked (length s.frames) (length s.frames - 0) refl (omega arith)
-      (quiet_over net can_begin w u p is_child es t s run there above all)
+      more_flushed fixed w u p is_child (tree_replay t es) s.acked s.acked (length s.frames) (length s.frames - 0) refl (omega arith)
+      (quiet_over fixed w u p is_child es t s run there above all)
   flush_many [] (suc n) t s run is_open there above all takes = absurd takes
   flush_many (e ∷ es) (suc n) t s run is_open there above all takes =
-      let (above_after, same_list) = drained_step net can_begin t e run u above in
+      let (above_after, same_list) = drained_step fixed t e run u above in
       let same_all : length (received t u) ≡ length (received (tree_step t e) u) = ap length (sym same_list) in
       elim (cases_eq e.child w) [
         | inl same ↦
-            let now : LinkState = quiet_now net can_begin p s e.act in
-            let quiet = quiet_after p s e.act (idle_at net can_begin t run w u p s is_child there all) in
-            let found = quiet_at net can_begin t e run w u p s is_child there all same in
-            let opened : s.closed ≡ false = open_before net can_begin (e ∷ es) t is_open w (link_at p s) there in
+            let now : LinkState = quiet_now fixed p s e.act in
+            let quiet = quiet_after p s e.act (idle_at fixed t run w u p s is_child there all) in
+            let found = quiet_at fixed t e run w u p s is_child there all same in
+            let opened : s.closed ≡ false = open_before fixed (e ∷ es) t w is_open (link_at p s) there in
             elim (first_takes n e.act (acts_on w es) (subst (TakesMany (suc n)) (acts_own w e es same) takes)) [
               | inl now_taken ↦
                   let taken : length now.frames ≤ length s.frames - 1 =
-                  subst (λ a. length (quiet_now net can_begin p s a).frames ≤ length s.frames - 1) (sym now_taken.0) (fewer_taken p s opened) in
-                  more_flushed net can_begin w u p is_child (tree_replay (tree_step t e) es) s.acked now.acked (length now.frames - n) (length s.frames - suc n)
+                  subst (λ a. length (quiet_now fixed p s a).frames ≤ length s.frames - 1) (sym now_taken.0) (fewer_taken p s opened) in
+                  more_flushed fixed w u p is_child (tree_replay (tree_step t e) es) s.acked now.acked (length now.frames - n) (length s.frames - suc n)
                   quiet.acked (omega arith)
-                  (flush_many es n (tree_step t e) now (keeps net can_begin t e run) is_open found above_after (quiet.acked ∙ all ∙ same_all) now_taken.1)
+                  (flush_many es n (tree_step t e) now (keeps fixed t e run) is_open found above_after (quiet.acked ∙ all ∙ same_all) now_taken.1)
               | inr later ↦
-                  more_flushed net can_begin w u p is_child (tree_replay (tree_step t e) es) s.acked now.acked (length now.frames - suc n) (length s.frames - suc n)
+                  more_flushed fixed w u p is_child (tree_replay (tree_step t e) es) s.acked now.acked (length now.frames - suc n) (length s.frames - suc n)
                   quiet.acked (omega (arith, quiet.fewer))
-                  (flush_many es (suc n) (tree_step t e) now (keeps net can_begin t e run) is_open found above_after (quiet.acked ∙ all ∙ same_all) later)
+                  (flush_many es (suc n) (tree_step t e) now (keeps fixed t e run) is_open found above_after (quiet.acked ∙ all ∙ same_all) later)
             ]
         | inr other ↦
-            flush_many es (suc n) (tree_step t e) s (keeps net can_begin t e run) is_open (step_other t e w other ∙ there) above_after (all ∙ same_all)
+            flush_many es (suc n) (tree_step t e) s (keeps fixed t e run) is_open (step_other t e w other ∙ there) above_after (all ∙ same_all)
             (subst (TakesMany (suc n)) (acts_other w e es other) takes)
       ]
