@@ -2,6 +2,7 @@
 use Rattle.std.proofs.Common.{◌≡◌, inl, inr, ℕ, zero, suc, ◌+◌, ◌-◌, ◌≤◌, List, [], ◌++◌, length, Option, Some, refl, sym, ◌∙◌, ap, subst, arith, append_assoc}
 use Rattle.std.proofs.lemmas.Bool.{cases_lt}
 use Rattle.std.proofs.lemmas.List.{nil_from_length}
+use Rattle.std.specs.Option.{option_map_or}
 use Rattle.stab_frames.specs.Parameters.{Parameters}
 use Rattle.stab_core.specs.LinkLaw.{LinkLaw}
 use Rattle.stab_core.specs.LinkState.{LinkState}
@@ -31,9 +32,9 @@ RoundsOf IsRound zero events = Unit {0}
 RoundsOf IsRound (suc rounds) events =
     (part : List TreeEvent) × (rest : List TreeEvent) × (events ≡ part ++ rest) × IsRound part × RoundsOf IsRound rounds rest
 
--- Some of the nodes, with each the one above it; and how many rounds more the link into a child of a node needs than it still has to hand on.
+-- Some of the nodes, with each the one above it; and how many rounds the link into each of them needs at most.
 module _ (fixed : Fixed) (On : ℕ → Type 0) (up : (w u : ℕ) → On w → parent_at fixed.parents w ≡ Some u → On u) (lag : ℕ → ℕ)
-    (farther : (w u : ℕ) → On w → parent_at fixed.parents w ≡ Some u → lag u + fixed.capacity w + 1 ≤ lag w) where
+    (farther : (w u g : ℕ) → On w → parent_at fixed.parents w ≡ Some u → parent_at fixed.parents u ≡ Some g → lag u + fixed.capacity u + 1 ≤ lag w) where
   abbrev parents : List (Option ℕ)
   parents = fixed.parents
 
@@ -48,7 +49,7 @@ module _ (fixed : Fixed) (On : ℕ → Type 0) (up : (w u : ℕ) → On w → pa
   -- how far the link into a node has come after so many rounds
   pub data Stage (rounds : ℕ) (t : WholeTree) (w u : ℕ) : Type 0 where
     drained : Drained t parents w → Stage rounds t w u
-    running : (p : Parameters) (s : LinkState) (m : ℕ) → At t w p s → Most fixed t u m → rounds + m ≤ s.acked + lag u → Stage rounds t w u
+    running : (p : Parameters) (s : LinkState) (m : ℕ) → At t w p s → Most fixed t u m → rounds + m ≤ s.acked + lag w → Stage rounds t w u
 
   abbrev pub Stages : ℕ → WholeTree → Type 0
   Stages rounds t = (w u : ℕ) → On w → parent_at parents w ≡ Some u → Stage rounds t w u
@@ -79,15 +80,15 @@ module _ (fixed : Fixed) (On : ℕ → Type 0) (up : (w u : ℕ) → On w → pa
         (nil_from_length flushed.state.frames (omega arith)) above_after)
 
     -- the parent has not all yet, so it has as many items less to come as it has rounds left
-    behind : (w u g : ℕ) (p q : Parameters) (s above : LinkState) (m : ℕ) → On u → parent_at parents w ≡ Some u → parent_at parents u ≡ Some g
-        → At t w p s → At t u q above → length (received t u) ≤ s.acked → Most fixed t g m → rounds + m ≤ above.acked + lag g
+    behind : (w u g : ℕ) (p q : Parameters) (s above : LinkState) (m : ℕ) → On w → parent_at parents w ≡ Some u → parent_at parents u ≡ Some g
+        → At t w p s → At t u q above → length (received t u) ≤ s.acked → Most fixed t g m → rounds + m ≤ above.acked + lag u
         → Stage (suc rounds) after w u
     behind w u g p q s above m on is_child is_parent there above_there all most enough =
         let (later, found, more) = grows_over fixed w u p is_child part t s sound there in
         let facts = known fixed t sound u q above above_there in
         let frames = facts.within.frames in
         let capacity = facts.capacity in
-        let larger = farther u g on is_parent in
+        let larger = farther w u g on is_child is_parent in
         let offered = offered_few fixed t sound u g q above is_parent above_there in
         let few = received_few fixed t g m sound most in
         let rest : ℕ = m - length above.offered in
@@ -107,11 +108,10 @@ module _ (fixed : Fixed) (On : ℕ → Type 0) (up : (w u : ℕ) → On w → pa
         elim (none_or_some (parent_at parents u)) [
           | inl none ↦ to_drain w u p s on is_child there (top none) all
           | inr some ↦
-              let on_parent = up w u on is_child in
-              elim (stages u some.0 on_parent some.1) [
+              elim (stages u some.0 (up w u on is_child) some.1) [
                 | drained above ↦ to_drain w u p s on is_child there above all
                 | running q state m above_there most enough_above ↦
-                    behind w u some.0 p q s state m on_parent is_child some.1 there above_there (omega arith) most enough_above
+                    behind w u some.0 p q s state m on is_child some.1 there above_there (omega arith) most enough_above
               ]
         ]
 
@@ -152,7 +152,7 @@ module _ (fixed : Fixed) (On : ℕ → Type 0) (up : (w u : ℕ) → On w → pa
             (subst (Stages (suc rounds + count)) (sym (replay_append t part front)) reached),
       )
 
-  at_last : (t : WholeTree) (rounds w u : ℕ) → IsSound fixed t → parent_at parents w ≡ Some u → lag u + 1 ≤ rounds
+  at_last : (t : WholeTree) (rounds w u : ℕ) → IsSound fixed t → parent_at parents w ≡ Some u → lag w + 1 ≤ rounds
       → Stage rounds t w u → Drained t parents w
   at_last t rounds w u sound is_child enough (drained all) = all
   at_last t rounds w u sound is_child enough (running p s m there most few) =
@@ -163,7 +163,7 @@ module _ (fixed : Fixed) (On : ℕ → Type 0) (up : (w u : ℕ) → On w → pa
 
   -- from any state, after so many reading rounds a node has all that it will ever have
   pub reads_drain : (t : WholeTree) (events : List TreeEvent) (rounds w u : ℕ) → IsSound fixed t → Stages 0 t → AreOpen (tree_replay t events)
-      → RoundsOf IsRoundOf rounds events → On w → parent_at parents w ≡ Some u → lag u + 1 ≤ rounds → Drained (tree_replay t events) parents w
+      → RoundsOf IsRoundOf rounds events → On w → parent_at parents w ≡ Some u → lag w + 1 ≤ rounds → Drained (tree_replay t events) parents w
   reads_drain t events rounds w u sound begins is_open is_rounds on is_child enough =
       let (part, rest, parts, stages) = rounds_on rounds 0 t events sound is_open is_rounds begins in
       let later = keeps_all fixed t part sound in
@@ -181,11 +181,16 @@ module _ (net : Network) (is : IsNetwork net) where
   all_parents = net.tree.parents
 
   lag_of : ℕ → ℕ
-  lag_of node = best net is node + depth net is node
+  lag_of node = option_map_or (λ u. best net is u + depth net is u) (parent_at all_parents node) 0
 
-  lag_below : (w u : ℕ) → AnyNode w → parent_at all_parents w ≡ Some u → lag_of u + capacity_into net w + 1 ≤ lag_of w
+  lag_is : (w u : ℕ) → parent_at all_parents w ≡ Some u → lag_of w ≡ best net is u + depth net is u
   unfolding lag_of
-  lag_below w u on is_child = omega (arith, best_below net is w u is_child, deeper net is w u is_child)
+  lag_is w u is_child = ap (λ o. option_map_or (λ v. best net is v + depth net is v) o 0) is_child
+
+  lag_below : (w u g : ℕ) → AnyNode w → parent_at all_parents w ≡ Some u → parent_at all_parents u ≡ Some g
+      → lag_of u + capacity_into net u + 1 ≤ lag_of w
+  lag_below w u g on is_child is_parent =
+      omega (arith, lag_is w u is_child, lag_is u g is_parent, best_below net is u g is_parent, deeper net is u g is_parent)
 
   opened_sound : IsSound (fixed_of net) (initial_tree net)
   opened_sound = run_is_sound net is.can_begin (initial_tree net) (opening_is_run net is.one_per_link)
@@ -197,17 +202,15 @@ module _ (net : Network) (is : IsNetwork net) where
       (part, rest, parts, λ w u on is_child. is_round w u is_child, its_rounds count rest more)
 
   begins : Stages (fixed_of net) AnyNode (λ w u on is_child. tt) lag_of lag_below 0 (initial_tree net)
-  unfolding lag_of
   begins w u on is_child =
       let (p, s, there) = linked (fixed_of net) (initial_tree net) opened_sound w u is_child in
-      running p s (best net is u) there (most_above net is w u is_child) (omega arith)
+      running p s (best net is u) there (most_above net is w u is_child) (omega (arith, lag_is w u is_child))
 
   has_all : (events : List TreeEvent) (rounds w u : ℕ) → IsOpen (tree_replay (initial_tree net) events) → ReadingRounds net rounds events
       → parent_at all_parents w ≡ Some u → reading_rounds_below net u ≤ rounds → Drained (tree_replay (initial_tree net) events) all_parents w
-  unfolding lag_of
   has_all events rounds w u is_open is_rounds is_child enough =
       reads_drain (fixed_of net) AnyNode (λ w u on is_child. tt) lag_of lag_below (initial_tree net) events rounds w u opened_sound begins
-      (λ v on. is_open v) (its_rounds rounds events is_rounds) tt is_child (omega arith)
+      (λ v on. is_open v) (its_rounds rounds events is_rounds) tt is_child (omega (arith, lag_is w u is_child))
 
   pub reads_hand_on : (events : List TreeEvent) (rounds w u : ℕ) → IsOpen (tree_replay (initial_tree net) events) → ReadingRounds net rounds events
       → parent_at all_parents w ≡ Some u → reading_rounds_below net u ≤ rounds → IsHandedOn (tree_replay (initial_tree net) events) w u
