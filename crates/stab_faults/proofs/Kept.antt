@@ -334,7 +334,7 @@ module _ (s : WholeTree) (Linked Listed : ℕ → Type 0)
     (within : (w parent : ℕ) (link : LinkValue) → Linked w → parent_at s.parents w ≡ Some parent → link_into s w ≡ Some link
     → length link.state.offered ≤ length (received s parent)) where
   -- a strike elsewhere
-  strike_leaves : (t : WholeTree) (child : ℕ) (start : Start) → (Linked child → ⊥)
+  pub strike_leaves : (t : WholeTree) (child : ℕ) (start : Start) → (Linked child → ⊥)
       → Leaves s Linked Listed up within t (change_step t (Strike child start))
   strike_leaves t child start off = record {
     same_parents = refl;
@@ -349,7 +349,7 @@ module _ (s : WholeTree) (Linked Listed : ℕ → Type 0)
   }
 
   -- a restart elsewhere
-  restart_leaves : (t : WholeTree) (other : ℕ) (list : List ℕ) → Since s t Linked Listed → (Linked other → ⊥) → (Listed other → ⊥)
+  pub restart_leaves : (t : WholeTree) (other : ℕ) (list : List ℕ) → Since s t Linked Listed → (Linked other → ⊥) → (Listed other → ⊥)
       → Leaves s Linked Listed up within t (change_step t (Restart other list))
   restart_leaves t other list since off unlisted = record {
     same_parents = refl;

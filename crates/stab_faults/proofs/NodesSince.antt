@@ -1,6 +1,7 @@
 -- The tree law of a node, counted from any state, where no fault hits the node.
-use Rattle.std.proofs.Common.{◌≡◌, ℕ, ◌<◌, ◌≤◌, List, [], ◌++◌, length, drop, Some, None, is_some, true, false, refl, ap, sym, ◌∙◌, subst, inl, inr, append_assoc}
+use Rattle.std.proofs.Common.{◌≡◌, ℕ, ◌-◌, ◌<◌, ◌≤◌, List, [], ◌++◌, length, drop, Some, None, is_some, true, false, refl, ap, ap₂, sym, ◌∙◌, subst, inl, inr, append_assoc, arith}
 use Rattle.std.specs.Option.{option_map_or}
+use Rattle.std.proofs.lemmas.List.{length-append, length-drop}
 use Rattle.std.proofs.lemmas.Option.{same_Some}
 use mathlib.Core.List.{IsPrefix}
 use Rattle.stab_core.specs.Link.{LinkValue}
@@ -10,6 +11,7 @@ use Rattle.stab_tree.specs.Nodes.{Nodes, parent_at, root_of}
 use Rattle.stab_tree.specs.Steps.{Reaches, ancestor}
 use Rattle.stab_tree.proofs.Steps.{steps_once}
 use Rattle.stab_treecore.specs.NodeLaws.{LawBetween}
+use Rattle.stab_treecore.specs.TreeLaw.{CompleteLaw}
 use Rattle.stab_treecore.specs.WholeTree.{WholeTree, link_into, received, source}
 use Rattle.stab_treecore.proofs.ForChanges.{same_kind}
 use Rattle.stab_faults.proofs.Obeying.{ObeysSince}
@@ -17,9 +19,10 @@ use Rattle.stab_core.specs.Since.{start_at, offered_since, acked_since, delivere
 use Rattle.stab_faults.specs.Changes.{Change, changes_replay}
 use Rattle.stab_faults.specs.Hits.{Spare}
 use Rattle.stab_faults.specs.Moment.{LawSince, SharperLawSince}
-use Rattle.stab_faults.specs.Since.{IsState, backlog, gained, moment, capacity_at, queued_at}
-use Rattle.stab_faults.proofs.PathLaws.{law_of_path, sharper_law_of_path}
-use Rattle.stab_faults.proofs.Grown.{prefix_dropped, dropped_front, front_and_rest}
+use Rattle.stab_faults.specs.Moment.{strays_since, missing_since, garbage_since, published_since}
+use Rattle.stab_faults.specs.Since.{IsState, acked_at, backlog, gained, moment, capacity_at, queued_at}
+use Rattle.stab_faults.proofs.PathLaws.{complete_of_path, law_of_path, sharper_law_of_path}
+use Rattle.stab_faults.proofs.Grown.{prefix_dropped, prefix_no_longer, dropped_front, front_and_rest}
 use Rattle.stab_faults.proofs.Kept.{none_or_some, Since, gained_is, since_at_first, untouched_since, spared, OnPath, path_up}
 
 module _ (tree : Nodes) (s : WholeTree) (is : IsState tree s) where
@@ -61,10 +64,11 @@ module _ (tree : Nodes) (s : WholeTree) (is : IsState tree s) where
         ∙ ap (λ xs. xs ++ gained s t parent) (sym backlog_is))))
 
     -- between what a parent has for a child and what the child received since there is a link that obeys the law
-    pub link_since : (Law : ℕ → List ℕ → List ℕ → ℕ → List ℕ → Type 0) → ObeysSince Law → (w parent : ℕ) → OnPath w
+    pub link_went : (Law : ℕ → List ℕ → List ℕ → ℕ → List ℕ → Type 0) → ObeysSince Law → (w parent : ℕ) → OnPath w
         → parent_at s.parents w ≡ Some parent
-        → LawBetween Law (capacity_at s w) (queued_at s w) (backlog s w ++ gained s t parent) (gained s t w)
-    link_since Law obey w parent on child =
+        → (offered : List ℕ) × (acked : ℕ) × IsPrefix offered (backlog s w ++ gained s t parent)
+        × Law (capacity_at s w) (queued_at s w) offered acked (gained s t w) × (acked ≡ acked_at t w - acked_at s w)
+    link_went Law obey w parent on child =
         let (link, there) = has_link w parent child in
         let ran = since.links w link on there in
         let (lawful, bounded) = is.bounded w link there in
@@ -88,6 +92,34 @@ module _ (tree : Nodes) (s : WholeTree) (is : IsState tree s) where
               (sym capacity)
               (subst (λ items. Law p.capacity items (offered_since link.state end) (acked_since link.state end) (delivered_since link.state end))
               (sym queued) law)),
+          ap₂ (λ later earlier. later - earlier) (sym (ap (λ o. option_map_or (λ (l : LinkValue). l.state.acked) o 0) ran.now))
+              (sym (ap (λ o. option_map_or (λ (l : LinkValue). l.state.acked) o 0) there)),
+        )
+
+    pub link_since : (Law : ℕ → List ℕ → List ℕ → ℕ → List ℕ → Type 0) → ObeysSince Law → (w parent : ℕ) → OnPath w
+        → parent_at s.parents w ≡ Some parent
+        → LawBetween Law (capacity_at s w) (queued_at s w) (backlog s w ++ gained s t parent) (gained s t w)
+    link_since Law obey w parent on child =
+        let (offered, acked, begins, law, count) = link_went Law obey w parent on child in (offered, acked, begins, law)
+
+    -- all that the parent had for the child, or received since, is so much
+    pub feed_counts : (w parent : ℕ) → OnPath w → parent_at s.parents w ≡ Some parent
+        → length (backlog s w ++ gained s t parent) ≡ length (received t parent) - acked_at s w
+    feed_counts w parent on child =
+        let (link, there) = has_link w parent child in
+        let (lawful, bounded) = is.bounded w link there in
+        let offered = bounded.acked_were_offered in
+        let n : ℕ = length link.state.offered in
+        let acked : acked_at s w ≡ link.state.acked = ap (λ o. option_map_or (λ (l : LinkValue). l.state.acked) o 0) there in
+        let whole : List ℕ = link.state.offered ++ drop n (received t parent) in
+        let long = within w parent link child there in
+        let grown = prefix_no_longer (received s parent) (received t parent) (since.lists_grow parent (above w parent on child)) in
+        omega (
+          arith,
+          ap (λ xs. length xs) (feed_is w parent link on child there offered),
+          length-drop link.state.acked whole,
+          length-append link.state.offered (drop n (received t parent)),
+          length-drop n (received t parent),
         )
 
 -- a node of a path that has no link is the root
@@ -130,3 +162,17 @@ module _ (tree : Nodes) (s : WholeTree) (changes : List Change) (node : ℕ) (is
   sharper_law_since obey =
       sharper_law_of_path tree is.is_tree (moment s) is.parents (gained s end) (OnPath s node) (path_up s node)
       (link_since tree s is end (OnPath s node) (OnPath s node) (path_up s node) since_spared SharperLinkLaw obey) node is_node (0, refl)
+
+  -- and the complete law, where all that the nodes above it have is acknowledged
+  pub complete_since : ObeysSince LinkLaw
+      → ((w parent : ℕ) → OnPath s node w → parent_at s.parents w ≡ Some parent → acked_at end w ≡ length (received end parent))
+      → CompleteLaw (strays_since (moment s) node) (missing_since (moment s) node) (garbage_since (moment s) node)
+      (published_since (moment s) (gained s end) node) (gained s end node)
+  complete_since obey all =
+      complete_of_path tree is.is_tree (moment s) is.parents (gained s end) (OnPath s node) (path_up s node)
+      (λ w parent on child.
+      let (offered, acked, begins, law, count) = link_went tree s is end (OnPath s node) (OnPath s node) (path_up s node) since_spared LinkLaw obey w parent on child in
+      let fed = feed_counts tree s is end (OnPath s node) (OnPath s node) (path_up s node) since_spared w parent on child in
+      let same = all w parent on child in
+      (offered, acked, begins, law, omega (arith, count)))
+      node is_node (0, refl)

@@ -2,6 +2,7 @@
 use Rattle.std.proofs.Common.{◌≡◌, ℕ, zero, suc, ◌+◌, ◌*◌, ◌<◌, max, List, [], ◌++◌, length, option_and_then, Some, None, is_some, if◌then◌else◌, refl, ap, sym, ◌∙◌, subst, append_assoc, arith}
 use Rattle.std.specs.Option.{option_map_or}
 use Rattle.std.proofs.lemmas.List.{append-nil}
+use mathlib.Core.List.{IsPrefix}
 use Rattle.stab_core.specs.LinkLaw.{LinkLaw, SharperLinkLaw}
 use Rattle.stab_tree.specs.IsTree.{IsTree}
 use Rattle.stab_tree.specs.Nodes.{Nodes, parent_at, root_of}
@@ -10,9 +11,11 @@ use Rattle.stab_tree.proofs.ForCallers.{holds_at_every_depth}
 use Rattle.stab_treecore.specs.NodeLaws.{LawBetween}
 use Rattle.stab_treecore.specs.Paths.{sum_above, lists_above}
 use Rattle.stab_treecore.specs.SharperLaw.{SharperTreeLaw, peak_above}
-use Rattle.stab_treecore.specs.TreeLaw.{TreeLaw}
+use Rattle.stab_treecore.specs.TreeLaw.{CompleteLaw, TreeLaw}
 use Rattle.stab_treecore.proofs.ForChanges.{larger_bounds, law_below, law_past_opening, root_law, sharper_below, sharper_larger, sharper_past_opening, sharper_root}
+use Rattle.stab_treecore.proofs.Upwards.{complete_below, complete_past_opening, root_has_all, larger_complete}
 use Rattle.stab_faults.specs.Moment.{Moment, old_backlog, published_above, LawSince, SharperLawSince}
+use Rattle.stab_faults.specs.Moment.{strays_since, missing_since, garbage_since, published_since}
 
 module _ (tree : Nodes) (is_tree : IsTree tree) (m : Moment) (same : m.parents ≡ tree.parents) (gained : ℕ → List ℕ)
     (OnPath : ℕ → Type 0) (up : (w parent : ℕ) → OnPath w → parent_at m.parents w ≡ Some parent → OnPath parent) where
@@ -185,6 +188,55 @@ module _ (tree : Nodes) (is_tree : IsTree tree) (m : Moment) (same : m.parents �
       (sharper_below capacity (strays + length old) acked (m.queued child) (old ++ garbage) published (old ++ gained parent) offered (gained child)
       begins paid peak (sharper_past_opening strays paid peak old garbage published (gained parent) above) law))
 
+  -- ---- the complete law, where each link has all that its parent has acknowledged
+
+  -- such a link on the path, by what was offered to it since
+  abbrev pub LinksHandOn : Type 0
+  LinksHandOn =
+      (w parent : ℕ) → OnPath w → parent_at m.parents w ≡ Some parent
+      → (offered : List ℕ) × (acked : ℕ) × IsPrefix offered (m.backlog w ++ gained parent)
+      × LinkLaw (m.capacity w) (m.queued w) offered acked (gained w) × (acked ≡ length (m.backlog w ++ gained parent))
+
+  abbrev CompleteAt : ℕ → ℕ → Type 0
+  CompleteAt depth w =
+      CompleteLaw (sum_above m.parents strays_of depth w) (sum_above m.parents missing_of depth w) (lists_above m.parents garbage_of depth w)
+      (published_above m gained depth w) (gained w)
+
+  complete_below_root : LinksHandOn → (child : ℕ) → OnPath child → parent_at m.parents child ≡ Some (root_of m.parents) → CompleteAt 1 child
+  complete_below_root obey child on is_child =
+      let (offered, acked, begins, law, all) = obey child (root_of m.parents) on is_child in
+      let published : List ℕ = m.backlog child ++ gained (root_of m.parents) in
+      let capacity : ℕ = m.capacity child in
+      let strays = sum_is 0 child (root_of m.parents) is_child strays_of in
+      let missing = sum_is 0 child (root_of m.parents) is_child missing_of in
+      larger_complete (0 + capacity) (sum_above m.parents strays_of 1 child) (0 + (2 * capacity + 1)) (sum_above m.parents missing_of 1 child)
+      (lists_above m.parents garbage_of 1 child) published (gained child) (omega arith) (omega arith)
+      (subst (λ xs. CompleteLaw (0 + capacity) (0 + (2 * capacity + 1)) xs published (gained child)) (first_garbage child is_child)
+      (complete_below capacity 0 acked (m.queued child) [] published published offered (gained child) begins 0 all (root_has_all published) law))
+
+  complete_below_inner : LinksHandOn → (depth child parent grandparent : ℕ) → OnPath child → parent_at m.parents child ≡ Some parent
+      → parent_at m.parents parent ≡ Some grandparent → CompleteAt (suc depth) parent → CompleteAt (suc (suc depth)) child
+  complete_below_inner obey depth child parent grandparent on is_child has_parent above =
+      let (offered, acked, begins, law, all) = obey child parent on is_child in
+      let capacity : ℕ = m.capacity child in
+      let strays : ℕ = sum_above m.parents strays_of (suc depth) parent in
+      let missing : ℕ = sum_above m.parents missing_of (suc depth) parent in
+      let garbage : List ℕ = lists_above m.parents garbage_of (suc depth) parent in
+      let published : List ℕ = published_above m gained (suc depth) parent in
+      let old : List ℕ = m.backlog child in
+      let strays_are = sum_is (suc depth) child parent is_child strays_of in
+      let missing_are = sum_is (suc depth) child parent is_child missing_of in
+      let as_long = ap (λ xs. length xs) (old_is child parent grandparent is_child has_parent) in
+      larger_complete (strays + length old + capacity) (sum_above m.parents strays_of (suc (suc depth)) child) (missing + (2 * capacity + 1))
+      (sum_above m.parents missing_of (suc (suc depth)) child) (lists_above m.parents garbage_of (suc (suc depth)) child)
+      (published_above m gained (suc (suc depth)) child) (gained child) (omega arith) (omega arith)
+      (subst (λ xs. CompleteLaw (strays + length old + capacity) (missing + (2 * capacity + 1)) xs (published_above m gained (suc (suc depth)) child)
+      (gained child)) (more_garbage (suc depth) child parent grandparent is_child has_parent)
+      (subst (λ xs. CompleteLaw (strays + length old + capacity) (missing + (2 * capacity + 1)) (m.queued child ++ (old ++ garbage)) xs
+      (gained child)) (published_is depth child parent is_child)
+      (complete_below capacity (strays + length old) acked (m.queued child) (old ++ garbage) published (old ++ gained parent) offered (gained child)
+      begins missing all (complete_past_opening strays old garbage published (gained parent) missing above) law)))
+
   -- ---- down the path
 
   module _ (AtDepth : ℕ → ℕ → Type 0) (at_root : AtDepth 0 (root_of m.parents))
@@ -218,3 +270,8 @@ module _ (tree : Nodes) (is_tree : IsTree tree) (m : Moment) (same : m.parents �
   pub sharper_law_of_path : LinksObey SharperLinkLaw → (node : ℕ) → node < length m.parents → OnPath node → SharperLawSince m gained node
   sharper_law_of_path obey =
       down_the_path SharperAt (sharper_root (gained (root_of m.parents))) (sharper_below_root obey) (sharper_below_inner obey)
+
+  pub complete_of_path : LinksHandOn → (node : ℕ) → node < length m.parents → OnPath node
+      → CompleteLaw (strays_since m node) (missing_since m node) (garbage_since m node) (published_since m gained node) (gained node)
+  complete_of_path obey =
+      down_the_path CompleteAt (root_has_all (gained (root_of m.parents))) (complete_below_root obey) (complete_below_inner obey)
