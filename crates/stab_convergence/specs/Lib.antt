@@ -1,0 +1,2 @@
+pub mod PathRounds
+pub mod Converged

@@ -1,0 +1,29 @@
+//! Laws of convergence. Each is a function with an empty body; its contract is the law.
+
+ghost use Rattle.std.specs.Prelude.{◌≡◌, ℕ, ◌<◌, ◌≤◌, List, ◌++◌, length};
+ghost use Rattle.stab_convergence.specs.Converged.{HasConverged};
+ghost use Rattle.stab_convergence.specs.PathRounds.{IsPathOpen, PathRounds, PublishesNothing};
+ghost use Rattle.stab_convergence.specs.PathRounds.{rounds_since};
+ghost use Rattle.stab_faults.specs.declared.change.Change.{Change};
+ghost use Rattle.stab_faults.specs.Changes.{changes_replay};
+ghost use Rattle.stab_faults.specs.Hits.{Spare};
+ghost use Rattle.stab_faults.specs.Since.{IsState, moment};
+ghost use Rattle.stab_tree.specs.Nodes.{Nodes};
+ghost use Rattle.stab_treecore.specs.WholeTree.{WholeTree};
+
+/// Every node comes back. From any state of a tree, such as the one that the last fault on the
+/// node's path left, let anything happen that is no fault on the path; and let there then be
+/// `rounds_since` reading rounds of the path, in which nothing is published and no link of the path
+/// is closed. Then the node has converged, counted from the first state. Faults elsewhere may happen
+/// at any time.
+pub fn nodes_converge()
+    ensures { (tree : Nodes) (s : WholeTree) (before after : List Change) (rounds node : ℕ)
+        → IsState tree s → node < length s.parents → Spare s.parents node (before ++ after)
+        → let m = changes_replay s before in
+        let t = changes_replay m after in
+        IsState tree m → PublishesNothing after → IsPathOpen t node
+        → PathRounds m node rounds after → rounds_since (moment m) node ≤ rounds
+        → HasConverged s t node }
+{
+    stab_core::laws::link_law_from_any_state();
+}
