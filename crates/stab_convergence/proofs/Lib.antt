@@ -1,3 +1,5 @@
 pub mod Alike
 pub mod Lags
 pub mod Converges
+pub mod Ready
+pub mod Exactly

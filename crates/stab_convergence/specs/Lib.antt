@@ -1,2 +1,4 @@
 pub mod PathRounds
 pub mod Converged
+pub mod Arrival
+pub mod Exact

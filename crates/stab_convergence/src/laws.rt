@@ -1,7 +1,8 @@
 //! Laws of convergence. Each is a function with an empty body; its contract is the law.
 
 ghost use Rattle.std.specs.Prelude.{◌≡◌, ℕ, ◌<◌, ◌≤◌, List, ◌++◌, length};
-ghost use Rattle.stab_convergence.specs.Converged.{HasConverged};
+ghost use Rattle.stab_convergence.specs.Converged.{HasConverged, IsPathHandedOn};
+ghost use Rattle.stab_convergence.specs.Exact.{IsExact, IsPathClean};
 ghost use Rattle.stab_convergence.specs.PathRounds.{IsPathOpen, PathRounds, PublishesNothing};
 ghost use Rattle.stab_convergence.specs.PathRounds.{rounds_since};
 ghost use Rattle.stab_faults.specs.declared.change.Change.{Change};
@@ -27,3 +28,16 @@ pub fn nodes_converge()
 {
     stab_core::laws::link_law_from_any_state();
 }
+
+/// And from there on it receives exactly what is published. Once each link of a node's path has
+/// acknowledged `2c + 2` items since some state, and has handed on all that its sender's node has,
+/// whatever comes later without a fault on the path: the node receives what is published then, in
+/// order and each item once, with no stray and none missing; and all of it, once it is handed on.
+pub fn converged_nodes_stay_exact()
+    ensures { (tree : Nodes) (s : WholeTree) (changes later : List Change) (node : ℕ)
+        → IsState tree s → node < length s.parents → Spare s.parents node changes
+        → let t = changes_replay s changes in
+        IsState tree t → IsPathClean s t node → IsPathHandedOn t node
+        → Spare t.parents node later
+        → IsExact t (changes_replay t later) node }
+{}

@@ -5,4 +5,7 @@
 //! whatever the fault left in the links and lists: [`laws::nodes_converge`].
 #![tactic(auto)]
 
+mod arrival;
 pub mod laws;
+
+pub use arrival::{Arrival, arrival_at, largest_capacity};

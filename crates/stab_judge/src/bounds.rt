@@ -1,4 +1,4 @@
-ghost use Rattle.std.specs.Prelude.{◌≡◌, ◌<◌, length};
+ghost use Rattle.std.specs.Prelude.{◌≡◌, ◌<◌, ◌≤◌, ◌+◌, ◌*◌, length};
 ghost use Rattle.stab_tree.specs.NodeOpenings.{hold_at};
 ghost use Rattle.stab_judge.specs.NodeBounds.{AreBoundsAt};
 
@@ -35,7 +35,9 @@ impl<'a> Judge<'a> {
     /// The bounds of a node of the tree.
     pub fn bounds_at(&self, node: NodeId) -> Bounds
         requires { node < length self.now.tree.parents }
-        ensures { AreBoundsAt self.now node result }
+        ensures sums { AreBoundsAt self.now node result }
+        // Each link and each node on the path adds a `u16`.
+        ensures few { result.link_strays + result.opening_strays ≤ 131070 * result.depth }
     {
         let mut bounds = Bounds {
             depth: self.tree.depth(node),
