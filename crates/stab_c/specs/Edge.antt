@@ -8,8 +8,7 @@ use Rattle.stab_frames.specs.declared.frame.Frame.{Frame}
 use Rattle.stab_frames.specs.Parameters.{Parameters}
 use Rattle.stab_c.specs.Ends.{SenderEnd, ReceiverEnd, accepts}
 use Rattle.stab_c.specs.Line.{Line, LineAct, line_step, held, new_count}
-use Rattle.stab_c.specs.Line.{offer_item, frame_sent, frame_comes, ack_sent, ack_comes}
-use Rattle.stab_c.specs.Line.{frame_lost, ack_lost, sender_closes, receiver_closes}
+use Rattle.stab_c.specs.Line.{offer_item}
 
 pub record Edge : Type 0 where
   pub list : List ℕ

@@ -5,3 +5,11 @@ pub mod Line
 pub mod Edge
 pub mod NodeTree
 pub mod Acts
+pub mod Session
+pub mod SessionLink
+pub mod SessionTree
+pub mod MakerBegins
+pub mod SessionMeaning
+pub mod SessionActs
+pub mod SessionNumbers
+pub mod SessionNames

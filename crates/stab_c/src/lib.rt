@@ -12,6 +12,9 @@ mod line;
 mod node;
 mod receiver;
 mod sender;
+mod session;
+pub mod session_laws;
+mod session_node;
 
 pub use child::{Child, rignolda_child_init, rignolda_child_on_ack, rignolda_node_poll};
 pub use line::{LineFrame, LinkParams, rignolda_params_check};
@@ -25,4 +28,12 @@ pub use receiver::{
 pub use sender::{
     SenderHalf, rignolda_sender_close, rignolda_sender_frame, rignolda_sender_init,
     rignolda_sender_offer, rignolda_sender_on_ack,
+};
+pub use session::{
+    Session, rignolda_session_accepted, rignolda_session_ack, rignolda_session_ended,
+    rignolda_session_has, rignolda_session_init, rignolda_session_made, rignolda_session_on_ack,
+    rignolda_session_on_frame, rignolda_session_send,
+};
+pub use session_node::{
+    rignolda_session_child_on_ack, rignolda_session_node_on_frame, rignolda_session_poll,
 };
