@@ -19,7 +19,7 @@
  *
  * What a struct means:
  *   - a label may be any uint16_t, as after a restart with whatever lay in memory;
- *   - holding and closed are true at any value but 0;
+ *   - holding, closed, there and turn are true at any value but 0;
  *   - the item of a sender counts only while it is holding;
  *   - a length past the end of the buffer is read as the buffer's. Where a child's count of offered
  *     items is past the end of the list, it is offered nothing until the list is longer than that.
@@ -54,6 +54,8 @@
  *   - calls_of_nodes_are_acts_of_the_tree: what the calls do makes up what these laws are about.
  *     Each call that steps an end, or says what to send, has a clause `act`, which says what step
  *     of the laws' own definitions it is.
+ * Links over connections that are made again, such as TCP, have laws of their own: see the last
+ * part, on sessions.
  */
 #ifndef RIGNOLDA_H
 #define RIGNOLDA_H
@@ -255,6 +257,104 @@ bool rignolda_child_on_ack(rignolda_child *child, const rignolda_params *params,
  * It is what the `h` of a restart has to bound. Nothing changes.
  */
 uint64_t rignolda_node_backlog(const rignolda_node *node, const rignolda_child *child, size_t size);
+
+/* ---- Sessions: a link over connections that are made again, such as TCP ---- */
+
+/*
+ * What one end of a link remembers of its connections; each end of each link has one.
+ *
+ * Either end may make connections, and both may. An end has one at a time, the newest that it made
+ * or accepted: when it makes or accepts the next one, it leaves the one before for ever. On a
+ * connection the two ends take turns, one message each, and the end that accepted it begins. So at
+ * most one message is under way on a connection, none on one that was not accepted yet, and
+ * capacity is 1. Nothing of this is on the wire, and no rule of time matters to the bounds.
+ *
+ * The laws (functions of the module session_laws of stab_c), where an end handles and sends only
+ * what these calls say, and accepts only what the link's own other end made:
+ *   - connections_are_a_line: such a link is a line of capacity 1, whatever the network does to the
+ *     connections: it may break them, bring them late, in another order or never, and lose what is
+ *     under way on them. So the laws above are about it.
+ *   - connections_obey_the_link_law, a_tree_over_connections_obeys_the_tree_law: those laws, of
+ *     connections that are in turn when the count begins.
+ *   - restarts_leave_connections_in_turn: they are in turn where both ends never had a connection,
+ *     and stay so at each restart of either end, which begins a new count. At most one frame and
+ *     one acknowledgement are under way then, and none to an end that restarted.
+ *   - numbers_tell_the_newest_connection, numbers_may_mean_any_connections: each end numbers its
+ *     connections by itself.
+ *   - calls_of_sessions_are_acts_of_the_tree: what the calls of a node do makes up these steps.
+ */
+typedef struct rignolda_session {
+    uint64_t number; /* of the newest connection of this end; the first has 1 */
+    uint32_t there;  /* not 0: the end has that connection */
+    uint32_t turn;   /* not 0: the end may send there */
+} rignolda_session;
+RIGNOLDA_SIZE_IS(rignolda_session, 16);
+
+/* Makes a session that never had a connection. Close first what an end before it had open. */
+void rignolda_session_init(rignolda_session *session);
+
+/*
+ * Call it where you begin to make a connection (connect), and close the one that the end had. It
+ * returns the number of the new one: keep it beside the descriptor. 0: no number is left, and the
+ * end has no connection; make none.
+ */
+uint64_t rignolda_session_made(rignolda_session *session);
+
+/* The same where you accepted one that the link's other end made. The end has the first turn. */
+uint64_t rignolda_session_accepted(rignolda_session *session);
+
+/* Whether this is the connection that the end has. Nothing changes. */
+bool rignolda_session_has(const rignolda_session *session, uint64_t number);
+
+/*
+ * Call it where a connection ended or you end it: it broke, nothing came in time, or you like.
+ * True: the end had it, and now has none. False: the session stays as it was.
+ */
+bool rignolda_session_ended(rignolda_session *session, uint64_t number);
+
+/*
+ * Asks for the frame to write now on the connection that the end has. True: write *frame there,
+ * whole and once; the turn is given away. False: there is no connection, the turn is not the end's,
+ * or the sender has nothing to send; all stays as it was.
+ */
+bool rignolda_session_send(const rignolda_sender *sender, rignolda_session *session,
+                           rignolda_frame *frame);
+
+/*
+ * Gives the sender an acknowledgement that came whole by the connection of this number. A
+ * connection that the end has left changes nothing. By the one that it has, the turn is the end's
+ * now. True: the sender waits for it, as rignolda_sender_on_ack says. False: the sender stays as it
+ * was.
+ */
+bool rignolda_session_on_ack(rignolda_sender *sender, rignolda_session *session,
+                             const rignolda_params *params, uint64_t number, uint16_t label);
+
+/* The same for a receiver and a frame; true as rignolda_receiver_on_frame says. */
+bool rignolda_session_on_frame(rignolda_receiver *receiver, rignolda_session *session,
+                               uint64_t number, const rignolda_frame *frame, uint32_t *item);
+
+/* Asks for the label to write now on the connection that the end has, as rignolda_session_send. */
+bool rignolda_session_ack(const rignolda_receiver *receiver, rignolda_session *session,
+                          uint16_t *label);
+
+/*
+ * The same for a node, where the other calls on a child and a frame are rignolda_node_poll,
+ * rignolda_child_on_ack and rignolda_node_on_frame. Ask for the label to acknowledge by
+ * rignolda_session_ack(&node.above, ..). Where the end may not send, a poll offers nothing.
+ */
+bool rignolda_session_poll(const rignolda_node *node, rignolda_child *child,
+                           rignolda_session *session, const uint32_t *list, size_t size,
+                           rignolda_frame *frame);
+bool rignolda_session_child_on_ack(rignolda_child *child, rignolda_session *session,
+                                   const rignolda_params *params, uint64_t number, uint16_t label);
+
+/*
+ * A fresh frame that finds the list full is lost, and the turn with it: nothing more is sent on this
+ * connection, until an end leaves it. So while the list is full, better read nothing.
+ */
+bool rignolda_session_node_on_frame(rignolda_node *node, rignolda_session *session,
+                                    uint64_t number, uint32_t *list, size_t size,
+                                    const rignolda_frame *frame);
 
 #ifdef __cplusplus
 }

@@ -39,7 +39,7 @@ holds() {
 in_c() {
     local name=$1 rounds=$2 jobs=$3 test
     shift 3
-    for test in link fuzz; do
+    for test in link fuzz sessions; do
         # (the source before the archive, which a linker reads in this order)
         holds "$name: $test builds" "$1" "tests/library/$test.c" "${@:2}" -o "$work/$test"
     done
@@ -47,6 +47,17 @@ in_c() {
     holds "$name: $jobs drawn links" tests/library/compare.py drawn "$work/link" "$jobs"
     # shellcheck disable=SC2086
     holds "$name: structs with drawn bits" "$work/fuzz" $rounds
+    holds "$name: a million steps over connections" "$work/sessions" 1000000 1
+    holds "$name: ends that do what they may not" break_a_bound "$work/sessions"
+}
+
+# Whether the program over connections finds a bound broken with each of its two words.
+break_a_bound() {
+    local word said
+    for word in maker-begins handles-left; do
+        said=$("$1" 1000000 1 "$word")
+        [ "$?" -eq 1 ] && [[ $said == 'broken: '* ]] || return
+    done
 }
 
 # The words for a compiler of the system: its name, and more words.
@@ -112,6 +123,7 @@ gate() {
         "$library")
     in_c 'the kit' '20000 1' 300 "${words[@]}"
     holds 'the checker of reports' tests/library/try_check_report.py
+    holds 'every order of acts over connections' tests/library/sessions.py 4 2
     agents_refuse
     holds 'all of the archive needs nothing else' "$kit/bin/clang" -nostdlib -static \
         -fuse-ld=lld -Wl,--whole-archive "$library" -Wl,-e,rignolda_params_check -o "$work/alone"
@@ -144,6 +156,7 @@ whole() {
             "$work/cargo/release/examples/link" 10000
     fi
     holds 'the checker of reports' tests/library/try_check_report.py
+    holds 'every order of acts over connections' tests/library/sessions.py
     agents_refuse
     holds 'agents: what make can do' helps
     holds 'agents: a tree' make -s -C agents INCLUDE="$include" LIBRARY="$library" run

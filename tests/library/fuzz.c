@@ -57,6 +57,7 @@ static rignolda_sender *sender;
 static rignolda_receiver *receiver;
 static rignolda_node *node;
 static rignolda_child *child;
+static rignolda_session *session;
 static uint32_t *item, *list_end;
 static uint16_t *label;
 
@@ -88,6 +89,8 @@ static void draw_all(void) {
     *node = (rignolda_node){*receiver, (uint32_t)number(), (uint32_t)number()};
     *child = (rignolda_child){*sender, (uint32_t)number(), (uint32_t)number(),
                               (uint32_t)number()};
+    *session = (rignolda_session){number(), (uint32_t)(draw() >> 62 ? number() : 0),
+                                  (uint32_t)(draw() >> 62 ? number() : 0)};
     *item = (uint32_t)number();
     *label = labels[draw() >> 62];
 }
@@ -272,6 +275,142 @@ static void try_child(void) {
          node->old_frames == 0, "its opening");
 }
 
+/* Compares the session with one that is wanted: the turn counts only while it has a connection. */
+static int as_wanted_there(rignolda_session found, rignolda_session wanted) {
+    return found.number == wanted.number && !found.there == !wanted.there &&
+           (!found.there || !found.turn == !wanted.turn);
+}
+
+static int same_session(rignolda_session one, rignolda_session other) {
+    return !memcmp(&one, &other, sizeof one);
+}
+
+static void try_session(void) {
+    rignolda_session before = *session, wanted;
+    uint64_t its = draw() >> 62 ? before.number : number();
+    int has = before.there && its == before.number;
+    part = "session_has";
+    must(rignolda_session_has(session, its) == has, "its newest, while it is there");
+    must(same_session(*session, before), "it changes nothing");
+    part = "session_ended";
+    must(rignolda_session_ended(session, its) == has, "where it had this one");
+    wanted = before, wanted.there = has ? 0 : before.there;
+    must(has ? as_wanted_there(*session, wanted) && !session->turn
+             : same_session(*session, before), "it has none then");
+    for (int accepts = 0; accepts < 2; accepts++) {
+        part = accepts ? "session_accepted" : "session_made";
+        *session = before;
+        uint64_t given = accepts ? rignolda_session_accepted(session)
+                                 : rignolda_session_made(session);
+        must(given == before.number + 1, "the next number, or 0 after the highest");
+        if (given)
+            wanted = (rignolda_session){given, 1, (uint32_t)accepts};
+        else
+            wanted = (rignolda_session){before.number, 0, 0};
+        must(as_wanted_there(*session, wanted), "the end that accepted has the turn");
+    }
+    part = "session_init";
+    rignolda_session_init(session);
+    wanted = (rignolda_session){0, 0, 0};
+    must(as_wanted_there(*session, wanted), "no connection");
+}
+
+/* A call that sends: the session after it gave the turn away, or stayed. */
+static void must_give_turn(rignolda_session before, bool done) {
+    rignolda_session wanted = before;
+    wanted.turn = 0;
+    must(done ? as_wanted_there(*session, wanted) : same_session(*session, before),
+         "the turn is given away");
+}
+
+/* A call that is given a message: the session after it was handled, or not. */
+static void must_take_turn(rignolda_session before, int handled) {
+    rignolda_session wanted = before;
+    wanted.turn = 1;
+    must(handled ? as_wanted_there(*session, wanted) : same_session(*session, before),
+         "the turn is the end's own");
+}
+
+static void try_session_ends(void) {
+    rignolda_session before = *session;
+    int may = before.there && before.turn;
+    uint64_t its = draw() >> 62 ? before.number : number();
+    int has = before.there && its == before.number;
+    rignolda_sender sender_before = *sender, sender_wanted = sender_before;
+    rignolda_frame frame_before = *frame;
+    part = "session_send";
+    bool done = rignolda_session_send(sender, session, frame);
+    must(done == (may && sender->holding && !sender->closed), "in turn, where it has a frame");
+    must(done ? frame->item == sender->item && frame->label == sender->label && !frame->unused
+              : !memcmp(frame, &frame_before, sizeof *frame), "its frame");
+    must(same_sender(*sender, sender_before), "the sender stays");
+    must_give_turn(before, done);
+    part = "session_on_ack";
+    *session = before;
+    int takes = has && acked(&sender_wanted);
+    must(rignolda_session_on_ack(sender, session, params, its, *label) == takes,
+         "by the connection that it has");
+    must(takes ? as_wanted(*sender, sender_wanted) : same_sender(*sender, sender_before),
+         "as of a sender");
+    must_take_turn(before, has);
+    part = "session_ack";
+    *session = before;
+    rignolda_receiver receiver_before = *receiver;
+    uint16_t label_before = *label;
+    done = rignolda_session_ack(receiver, session, label);
+    must(done == (may && !receiver->closed), "in turn, where it is open");
+    must(*label == (done ? receiver->label : label_before), "the remembered label");
+    must_give_turn(before, done);
+    part = "session_on_frame";
+    *session = before;
+    *frame = frame_before;
+    uint32_t item_before = *item;
+    int fresh = has && !receiver->closed && frame->label != receiver->label;
+    must(rignolda_session_on_frame(receiver, session, its, frame, item) == fresh,
+         "by the connection that it has");
+    must(*item == (fresh ? frame->item : item_before), "its item");
+    must(fresh ? receiver->label == frame->label && !receiver->closed
+               : !memcmp(receiver, &receiver_before, sizeof receiver_before), "its label");
+    must_take_turn(before, has);
+}
+
+/* The calls on a node: beside those without a session, on the same bits. */
+static void try_session_node(void) {
+    uint32_t size = (uint32_t)(draw() >> 32) % (MOST_ITEMS + 1);
+    uint32_t *list = list_end - size, list_wanted[MOST_ITEMS];
+    for (uint32_t i = 0; i < size; i++)
+        list_wanted[i] = list[i] = (uint32_t)number();
+    rignolda_session before = *session;
+    int may = before.there && before.turn;
+    uint64_t its = draw() >> 62 ? before.number : number();
+    int has = before.there && its == before.number;
+    rignolda_node node_wanted = *node;
+    rignolda_child child_before = *child, child_wanted = *child;
+    rignolda_frame frame_before = *frame, frame_wanted = *frame;
+    part = "session_poll";
+    bool done = rignolda_session_poll(node, child, session, list, size, frame);
+    bool wanted = may && rignolda_node_poll(node, &child_wanted, list, size, &frame_wanted);
+    must(done == wanted && !memcmp(child, &child_wanted, sizeof *child) &&
+         !memcmp(frame, &frame_wanted, sizeof *frame), "as node_poll, in turn");
+    must_give_turn(before, done);
+    part = "session_child_on_ack";
+    *session = before;
+    *child = child_wanted = child_before;
+    done = rignolda_session_child_on_ack(child, session, params, its, *label);
+    wanted = has && rignolda_child_on_ack(&child_wanted, params, *label);
+    must(done == wanted && !memcmp(child, &child_wanted, sizeof *child), "as child_on_ack");
+    must_take_turn(before, has);
+    part = "session_node_on_frame";
+    *session = before;
+    *frame = frame_before;
+    int fresh = !node->above.closed && frame->label != node->above.label;
+    done = rignolda_session_node_on_frame(node, session, its, list, size, frame);
+    wanted = has && rignolda_node_on_frame(&node_wanted, list_wanted, size, frame);
+    must(done == wanted && !memcmp(node, &node_wanted, sizeof *node) &&
+         !memcmp(list, list_wanted, 4 * size), "as node_on_frame");
+    must_take_turn(before, has && (done || !fresh));
+}
+
 /* Every label, and every value of the two flags, at the receiver's and the sender's calls. */
 static void try_all_flags(void) {
     *params = (rignolda_params){64, 1000};
@@ -294,6 +433,7 @@ int main(int argc, char **argv) {
     params = place(sizeof *params), frame = place(sizeof *frame);
     sender = place(sizeof *sender), receiver = place(sizeof *receiver);
     node = place(sizeof *node), child = place(sizeof *child);
+    session = place(sizeof *session);
     item = place(sizeof *item), label = place(sizeof *label);
     list_end = (uint32_t *)place(0);
     for (round_number = 1; round_number <= rounds; round_number++) {
@@ -306,6 +446,12 @@ int main(int argc, char **argv) {
         try_node();
         draw_all();
         try_child();
+        draw_all();
+        try_session();
+        draw_all();
+        try_session_ends();
+        draw_all();
+        try_session_node();
     }
     try_all_params();
     if (argc > 3)

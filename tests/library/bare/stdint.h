@@ -3,6 +3,7 @@ typedef __UINT8_TYPE__ uint8_t;
 typedef __UINT16_TYPE__ uint16_t;
 typedef __UINT32_TYPE__ uint32_t;
 typedef __UINT64_TYPE__ uint64_t;
+typedef __INT64_TYPE__ int64_t;
 #define UINT16_MAX 0xffff
 #define UINT32_MAX 0xffffffffu
 #define UINT64_MAX 0xffffffffffffffffu
