@@ -279,6 +279,9 @@ uint64_t rignolda_node_backlog(const rignolda_node *node, const rignolda_child *
  *   - restarts_leave_connections_in_turn: they are in turn where both ends never had a connection,
  *     and stay so at each restart of either end, which begins a new count. At most one frame and
  *     one acknowledgement are under way then, and none to an end that restarted.
+ *   - few_are_missing_after_a_restart: so after a restart of one end only some among the first 2
+ *     acknowledged items can be missing, and of both ends only the first one; at most one stray is
+ *     delivered, and none if the receiver's end restarted.
  *   - numbers_tell_the_newest_connection, numbers_may_mean_any_connections: each end numbers its
  *     connections by itself.
  *   - calls_of_sessions_are_acts_of_the_tree: what the calls of a node do makes up these steps.

@@ -10,3 +10,4 @@ pub mod MakerBegins
 pub mod SessionNumbers
 pub mod SessionNames
 pub mod SessionCalls
+pub mod StartLaws

@@ -13,3 +13,4 @@ pub mod SessionMeaning
 pub mod SessionActs
 pub mod SessionNumbers
 pub mod SessionNames
+pub mod StartLaw

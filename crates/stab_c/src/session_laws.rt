@@ -20,7 +20,11 @@ ghost use Rattle.stab_c.specs.SessionNames.{IsAckHandledAs, IsFrameHandledAs, Te
 ghost use Rattle.stab_c.specs.SessionNumbers.{Call, IsNewest, call_run, never_connected};
 ghost use Rattle.stab_c.specs.SessionTree.{AllInTurn, SessionTree, TreeAct, at_link, nodes_of};
 ghost use Rattle.stab_c.specs.SessionTree.{polls, tree_run, tree_step};
-ghost use Rattle.stab_core.specs.LinkLaw.{HalfLaw, LinkLaw};
+ghost use Rattle.stab_c.specs.StartLaw.{LinkLawOfStart};
+ghost use Rattle.stab_core.specs.LinkLaw.{HalfLaw, LinkLaw, LinkLawWithin};
+ghost use Rattle.stab_core.specs.Replay.{IsLawful, initial, replay};
+ghost use Rattle.stab_core.specs.declared.event.Event.{Event};
+ghost use Rattle.stab_core.specs.declared.start.Start.{Start};
 ghost use Rattle.stab_frames.specs.Parameters.{AreLawful, Parameters};
 ghost use Rattle.stab_frames.specs.declared.frame.Frame.{Frame};
 ghost use Rattle.stab_tree.specs.Nodes.{parent_at};
@@ -157,4 +161,33 @@ pub fn calls_of_sessions_are_acts_of_the_tree()
 pub fn a_maker_that_begins_breaks_the_half_law()
     ensures { let s = fold maker_step clean_link late_acts in
         ¬ HalfLaw 1 [] s.offered s.acked s.delivered }
+{}
+
+/// Every replay obeys the link law of its start: whoever begins with less under way has fewer
+/// strays, and misses less.
+pub fn every_replay_obeys_the_law_of_its_start()
+    ensures { (p : Parameters) (start : Start) (events : List Event)
+        → AreLawful p → IsLawful p start → let s = replay p (initial start) events in
+        LinkLawOfStart start s.offered s.acked s.delivered }
+{}
+
+/// So after a restart of one end over connections at most 2 items can be missing, the first ones,
+/// and after a restart of both only the first one; and there is no stray unless the sender's end
+/// alone restarted, and then at most one.
+pub fn few_are_missing_after_a_restart()
+    ensures of_the_sender { (p : Parameters) (t : SessionLink) (sender : SenderEnd)
+        (acts : List LinkAct) → AreLawful p → InTurn t
+        → let before = sender_restarted t sender in
+        let after = link_run p (counted_anew before) acts in
+        LinkLawWithin 1 2 (map (λ f. f.item) (line_of before).frames) after.offered after.acked
+        after.delivered }
+    ensures of_the_receiver { (p : Parameters) (t : SessionLink) (receiver : ReceiverEnd)
+        (acts : List LinkAct) → AreLawful p → InTurn t
+        → let after = link_run p (counted_anew (receiver_restarted t receiver)) acts in
+        LinkLawWithin 0 2 [] after.offered after.acked after.delivered }
+    ensures of_both { (p : Parameters) (t : SessionLink) (sender : SenderEnd)
+        (receiver : ReceiverEnd) (acts : List LinkAct) → AreLawful p → InTurn t
+        → let before = receiver_restarted (sender_restarted t sender) receiver in
+        let after = link_run p (counted_anew before) acts in
+        LinkLawWithin 0 1 [] after.offered after.acked after.delivered }
 {}
