@@ -24,7 +24,8 @@
  * The file NAME.log has a line for each thing that somebody may want to know:
  *
  *     count LABEL          a new count begins: the receiver's label, or - at the root
- *     child NAME LABEL     the label of the sender for a child
+ *     child NAME LABEL N   the label of the sender for a child, and how many items it has
+ *                          acknowledged in this life
  *     hand ITEM            an item that is not yet handed on
  *     item ITEM            an item was received, or at the root published
  *     acked NAME N         how many items this child has acknowledged in the count that ends
@@ -252,7 +253,8 @@ static void stop(void) {
     for (unsigned i = 0; i < count_of_children; i++) {
         struct child *child = &children[i];
         child->acked_before = child->link.acknowledged;
-        fprintf(log_file, "child %s %u\n", child->name, child->link.sender.label);
+        fprintf(log_file, "child %s %u %u\n", child->name, child->link.sender.label,
+                child->link.acknowledged);
     }
     for (uint64_t i = node.length - backlog(); i < node.length; i++)
         fprintf(log_file, "hand %u\n", list[i]);

@@ -103,6 +103,44 @@ def fault(job, report):
     return None
 
 
+def obeys_tree_law(strays, missing, published, received):
+    """Whether the tree law allows a node this list: at most so many strays, and then published
+    items, of which none is missing before the last but for some of so many at the front."""
+    first, rest = published[:missing], published[missing:]
+    ends = [count for count in range(min(len(rest), len(received)) + 1)
+            if received[len(received) - count:] == rest[:count]]
+    for count in range(min(strays, len(received)) + 1):
+        early = longest_prefix_within(received[count:], first)
+        left = len(received) - count
+        if any(end <= left <= end + early for end in ends):
+            return True
+    return False
+
+
+def tree_fault(job, report):
+    """Which node does not obey the tree law, or nothing. Every opening counts with its own length.
+    The report has a form that `fault` accepts."""
+    parents = {node["name"]: node.get("parent") for node in job["tree"]}
+    links = [name for name in parents if parents[name] is not None]
+    own = dict(zip(links, job.get("links", [None] * len(links))))
+    openings = [[] for _ in parents]
+    if job.get("version", 1) == 2:
+        openings = job.get("openings", openings)
+    openings = dict(zip(parents, openings))
+    for name, line in zip(parents, report.split("\n")[1::2]):
+        strays = missing = 0
+        above = name
+        while parents[above] is not None:
+            capacity = (own[above] or job)["capacity"]
+            strays, missing = strays + capacity + len(openings[above]), missing + 2 * capacity + 1
+            above = parents[above]
+        received = [int(word) for word in line.split()[1:]]
+        if not obeys_tree_law(strays, missing, job["items"], received):
+            return (f"{name}: the tree law is broken, with at most {strays} strays, and none "
+                    f"missing but among the first {missing}")
+    return None
+
+
 def main():
     with open(sys.argv[1], encoding="utf-8") as job, \
             open(sys.argv[2], encoding="utf-8", newline="") as report:
