@@ -1,5 +1,6 @@
 /* Spoils the library for an agent, by the linker's --wrap: run_tree has to see that the bounds are
- * broken. One of these is defined: TWO_LABELS, STEPS_ON_ANY_ACK, DELIVERS_EVERY_FRAME. */
+ * broken. One of these is defined: TWO_LABELS, STEPS_ON_ANY_ACK, DELIVERS_EVERY_FRAME,
+ * ACKNOWLEDGES_WHAT_IT_DROPS, HANDS_ON_TWICE. */
 #include "rignolda.h"
 
 bool __real_rignolda_child_on_ack(rignolda_child *, const rignolda_params *, uint16_t);
@@ -16,6 +17,12 @@ bool __wrap_rignolda_child_on_ack(rignolda_child *child, const rignolda_params *
 #ifdef TWO_LABELS
     child->sender.label %= 2;
 #endif
+#ifdef HANDS_ON_TWICE
+    /* the first item of its list, as after a restart: so perhaps a stray */
+    static rignolda_child *before;
+    if (acked && child != before && child->acknowledged == 1)
+        child->offered = child->acknowledged = 0, before = child;
+#endif
     return acked;
 }
 
@@ -24,5 +31,11 @@ bool __wrap_rignolda_node_on_frame(rignolda_node *node, uint32_t *list, size_t s
 #ifdef DELIVERS_EVERY_FRAME
     node->above.label = (uint16_t)(frame->label + 1);
 #endif
-    return __real_rignolda_node_on_frame(node, list, size, frame);
+    bool fresh = __real_rignolda_node_on_frame(node, list, size, frame);
+#ifdef ACKNOWLEDGES_WHAT_IT_DROPS
+    static unsigned count;
+    if (fresh && ++count % 4 == 0)
+        return node->length--, false;
+#endif
+    return fresh;
 }

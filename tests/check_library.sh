@@ -103,8 +103,8 @@ are_caught() {
     make -s -C agents INCLUDE="$include" LIBRARY="$library" spoiled >"$work/spoiled" 2>&1
     local status=$?
     cat -- "$work/spoiled"
-    [ "$status" -eq 0 ] && [ "$(grep -c ': caught, as it has to be' "$work/spoiled")" -eq 3 ] &&
-        [ "$(wc -l <"$work/spoiled")" -eq 4 ]
+    [ "$status" -eq 0 ] && [ "$(grep -c ': caught, as it has to be' "$work/spoiled")" -eq 9 ] &&
+        [ "$(wc -l <"$work/spoiled")" -eq 10 ]
 }
 
 # Whether make says what it can make.
@@ -161,6 +161,7 @@ whole() {
     holds 'agents: what make can do' helps
     holds 'agents: a tree' make -s -C agents INCLUDE="$include" LIBRARY="$library" run
     holds 'agents: 20 drawn trees' agents/trials runs 20
+    holds 'agents: 20 drawn trees, in which one is killed alone' agents/trials restarts 20
     holds 'agents: spoiled ones are caught' are_caught
 }
 
