@@ -161,25 +161,29 @@ pack_pages() {
     local part
     cp -- "$top/README.md" "$top/CHANGELOG.md" "$1/" && mkdir -p -- "$1/examples" &&
         cp -RL -- "$top/examples/." "$1/examples/" || return
-    for part in LICENSE docs man completions include agents rust/rignolda page/index.html; do
+    for part in LICENSE Makefile docs man completions include agents rust/rignolda \
+        page/index.html; do
         [ ! -e "$top/$part" ] || (cd -- "$top" && cp -RL --parents -- "$part" "$1/") || return
     done
     # (what was built there by hand)
     rm -rf -- "$1/agents/out" "$1/rust/rignolda/target" "$1"/agents/__pycache__
 }
 
-# Packs the release. Its version is the date at the top of CHANGELOG.md, with the time of the day
-# that stands there.
+# Packs the release. Its version is at the top of CHANGELOG.md, with the day, and that of the crate
+# for Rust is the same.
 archive() {
-    local version day folder to
+    local version day crate folder to
     make_room
     read_manifest || fail "$why: run ./release.sh first"
-    version=$(sed -nE '/^## /{s/^## ([0-9]{4}(-[0-9]{2}){2})(, ([a-z]+))?(:.*)?$/\1 \4/p;q}' \
+    read -r version day < <(sed -nE \
+        '/^## /{s/^## ([0-9]+(\.[0-9]+){2}), ([0-9]{4}(-[0-9]{2}){2})(:.*)?$/\1 \3/p;q}' \
         "$top/CHANGELOG.md")
-    [ -n "$version" ] || fail "the first heading of CHANGELOG.md has no date"
-    day=${version% *}
-    version=${version% }
-    version=${version/ /-}
+    [ -n "$day" ] || fail "the first heading of CHANGELOG.md has no version and date"
+    if [ -e "$top/rust/rignolda/Cargo.toml" ]; then
+        crate=$(sed -n 's/^version = "\(.*\)"$/\1/p;/^$/q' "$top/rust/rignolda/Cargo.toml")
+        [ "$crate" = "$version" ] ||
+            fail "CHANGELOG.md has the version $version, and the crate for Rust $crate"
+    fi
     folder=rignolda-$version-x86_64-linux
     to=$kept/$folder.tar.xz
     make_kept

@@ -112,6 +112,22 @@ helps() {
     make -s -C agents LIBRARY= help | grep -qE '^ +make spoiled +the same agents'
 }
 
+# Installs the library as `make install` does, and builds and runs a program in C++ by what
+# pkg-config says of it, over the shared library and over the archive.
+is_installed() {
+    local to=$work/installed flags
+    make -s PREFIX="$to" LIBRARY="$library" install || return
+    local -x PKG_CONFIG_PATH=$to/lib/pkgconfig LD_LIBRARY_PATH=$to/lib
+    read -ra flags < <(pkg-config --cflags --libs rignolda) || return
+    "$1" -std=c++11 -Wall -Wextra -Werror tests/library/tree.cc "${flags[@]}" -o "$work/shared" &&
+        "$1" -std=c++11 tests/library/tree.cc -static "${flags[@]}" -o "$work/static" || return
+    nm -u -- "$work/shared" | grep -q ' rignolda_' || return
+    ! nm -u -- "$work/static" | grep -q ' rignolda_' || return
+    [ "$("$work/shared")" = $'7\n8\n9' ] && [ "$("$work/static")" = $'7\n8\n9' ] || return
+    make -s PREFIX="$to" LIBRARY="$library" uninstall
+    [ -z "$(find "$to" ! -type d)" ]
+}
+
 gate() {
     local kit words
     kit=$(dirname -- "$(readlink -f -- "$(type -P rt)")")/../toolchain
@@ -131,6 +147,7 @@ gate() {
 
 whole() {
     local compiler words
+    local -A plus=([gcc]=g++ [clang]=clang++)
     for compiler in gcc clang; do
         type -P "$compiler" >/dev/null || continue
         mapfile -t words < <(system "$compiler")
@@ -140,6 +157,8 @@ whole() {
         in_c "$compiler, sanitizers" '200000 2 all' 2000 "${words[@]}" "$library"
         holds "$compiler: the header in C++" "$compiler" -x c++ -std=c++11 -Wall -Wextra -Werror \
             -fsyntax-only "$include/rignolda.h"
+        ! type -P pkg-config >/dev/null ||
+            holds "$compiler: installed, and found by pkg-config" is_installed "${plus[$compiler]}"
         holds "$compiler: the header in C of 2011" "$compiler" -x c -std=c11 -pedantic -Wall \
             -Wextra -Werror -fsyntax-only "$include/rignolda.h"
     done
@@ -150,6 +169,8 @@ whole() {
             --manifest-path rust/rignolda/Cargo.toml
         holds 'cargo: the link builds' cargo build --offline --quiet --release --example link \
             --manifest-path rust/rignolda/Cargo.toml
+        holds 'cargo: the package builds by itself' env -u RIGNOLDA_LIBRARY cargo package \
+            --offline --quiet --allow-dirty --manifest-path rust/rignolda/Cargo.toml
         holds 'cargo: the drawn runs' tests/library/compare.py runs \
             "$work/cargo/release/examples/link"
         holds 'cargo: 10000 drawn links' tests/library/compare.py drawn \

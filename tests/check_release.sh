@@ -82,7 +82,7 @@ for file in README.md docs/A.md docs/B.md crates/low/data/job.json crates/low/da
     echo "$file" >"$house/$file"
 done
 ln -s crates/low/data "$house/examples"
-printf '# Changelog\n\nText.\n\n## 2026-11-23, evening: a release\n\n## 2026-11-22: before\n' \
+printf '# Changelog\n\nText.\n\n## 0.10.2, 2026-11-23: a release\n\n## 2026-11-22: before\n' \
     >"$house/CHANGELOG.md"
 cp -- "$top/release.sh" "$house/"
 mkdir "$house/tools"
@@ -228,22 +228,22 @@ holds 'what is not proved is not released' refused 'the program was not built'
 holds 'and the release stays' diff -r "$work/release" "$house/release"
 echo 'proved 1' >"$house/crates/stab_cli/src/main.rt"
 run --archive
-archive=$house/out/rignolda-2026-11-23-evening-x86_64-linux.tar.xz
+archive=$house/out/rignolda-0.10.2-x86_64-linux.tar.xz
 holds 'an archive is packed' well 0
 cp "$archive" "$work/first.tar.xz"
 holds 'with the program, the pages, the examples and their digests' \
-    [ "$(tar -tf "$work/first.tar.xz")" = 'rignolda-2026-11-23-evening-x86_64-linux/
-rignolda-2026-11-23-evening-x86_64-linux/CHANGELOG.md
-rignolda-2026-11-23-evening-x86_64-linux/README.md
-rignolda-2026-11-23-evening-x86_64-linux/SHA256SUMS
-rignolda-2026-11-23-evening-x86_64-linux/docs/
-rignolda-2026-11-23-evening-x86_64-linux/docs/A.md
-rignolda-2026-11-23-evening-x86_64-linux/docs/B.md
-rignolda-2026-11-23-evening-x86_64-linux/examples/
-rignolda-2026-11-23-evening-x86_64-linux/examples/job.json
-rignolda-2026-11-23-evening-x86_64-linux/examples/runs/
-rignolda-2026-11-23-evening-x86_64-linux/examples/runs/a.json
-rignolda-2026-11-23-evening-x86_64-linux/stab' ]
+    [ "$(tar -tf "$work/first.tar.xz")" = 'rignolda-0.10.2-x86_64-linux/
+rignolda-0.10.2-x86_64-linux/CHANGELOG.md
+rignolda-0.10.2-x86_64-linux/README.md
+rignolda-0.10.2-x86_64-linux/SHA256SUMS
+rignolda-0.10.2-x86_64-linux/docs/
+rignolda-0.10.2-x86_64-linux/docs/A.md
+rignolda-0.10.2-x86_64-linux/docs/B.md
+rignolda-0.10.2-x86_64-linux/examples/
+rignolda-0.10.2-x86_64-linux/examples/job.json
+rignolda-0.10.2-x86_64-linux/examples/runs/
+rignolda-0.10.2-x86_64-linux/examples/runs/a.json
+rignolda-0.10.2-x86_64-linux/stab' ]
 tar -C "$work" -xf "$work/first.tar.xz"
 holds 'its digests are right' \
     bash -c 'cd "$0"/rignolda-* && sha256sum -c --quiet SHA256SUMS' "$work"
@@ -257,9 +257,10 @@ holds 'packed elsewhere, with other times and rights, it is the same' \
 echo licence >"$house/LICENSE"
 run --archive
 holds 'a licence is packed, if there is one' grep -q '/LICENSE$' <(tar -tf "$archive")
-sed -i 's/^## .*/## No date/' "$house/CHANGELOG.md"
+sed -i 's/^## .*/## 2026-11-23: no version/' "$house/CHANGELOG.md"
 run --archive
-holds 'without a date there is no version' refused 'the first heading of CHANGELOG.md has no date'
+holds 'a date alone is no version' refused \
+    'the first heading of CHANGELOG.md has no version and date'
 run --other
 holds 'another word is refused' [ "$status" -eq 2 ]
 
@@ -287,7 +288,8 @@ chmod +x "$house/page/build.sh"
 touch "$house"/{include/rignolda.h,man/stab.1,docs/schema/job.json} \
     "$house"/{agents/{agent.c,out/agent},rust/rignolda/{src/lib.rs,target/built}}
 echo 'a module' >"$house/page/index.html"
-printf '## 2026-11-24: of three\n' >"$house/CHANGELOG.md"
+printf '## 1.2.0, 2026-11-24: of three\n' >"$house/CHANGELOG.md"
+printf '[package]\nname = "it"\nversion = "1.2.0"\n\n' >"$house/rust/rignolda/Cargo.toml"
 run --check
 holds 'a release that lacks what crates.txt lists fails' checked '4 passed, 9 failed' "$whole
 $manifest
@@ -375,9 +377,14 @@ holds 'over what checks have kept, what has changed is built alone' \
     all well 1 and [ "$(cat "$work/calls")" = lib ]
 run --check
 holds 'and released' checked '13 passed, 0 failed' ''
+sed -i 's/1.2.0/1.1.9/' "$house/rust/rignolda/Cargo.toml"
+run --archive
+holds 'a crate for Rust of another version is not packed' refused \
+    'CHANGELOG.md has the version 1.2.0, and the crate for Rust 1.1.9'
+sed -i 's/1.1.9/1.2.0/' "$house/rust/rignolda/Cargo.toml"
 run --archive
 holds 'the archive has all of it' [ "$(tar -tf \
-    "$house/out/rignolda-2026-11-24-x86_64-linux.tar.xz" | sed 's,^[^/]*/,,' |
+    "$house/out/rignolda-1.2.0-x86_64-linux.tar.xz" | sed 's,^[^/]*/,,' |
     grep -vE '/$|^$|^examples|^[A-Z]|\.md$')" = 'agents/agent.c
 docs/schema/job.json
 include/rignolda.h
@@ -385,6 +392,7 @@ lib/librignolda.a
 man/stab.1
 page/index.html
 page/rignolda.wasm
+rust/rignolda/Cargo.toml
 rust/rignolda/src/lib.rs
 stab' ]
 

@@ -1,0 +1,48 @@
+// A root, an inner node and a leaf over lines that deliver each message at once, in C++: what is
+// published arrives in order, each item once, though each frame is delivered twice.
+#include <rignolda.h>
+
+#include <cstdio>
+#include <vector>
+
+namespace {
+
+struct Node {
+    rignolda_node it;
+    rignolda_child child;
+    std::vector<uint32_t> list = std::vector<uint32_t>(8);
+
+    Node(uint16_t label, uint16_t child_label) {
+        rignolda_node_init(&it, label, 0);
+        rignolda_child_init(&child, child_label);
+    }
+};
+
+const rignolda_params params = {1, 4};
+
+// Hands all that one node has to the one beneath it.
+void hand_on(Node &from, Node &to) {
+    rignolda_frame frame;
+    uint16_t label;
+    while (rignolda_node_poll(&from.it, &from.child, from.list.data(), from.list.size(), &frame)) {
+        rignolda_node_on_frame(&to.it, to.list.data(), to.list.size(), &frame);
+        rignolda_node_on_frame(&to.it, to.list.data(), to.list.size(), &frame);
+        if (!rignolda_receiver_ack(&to.it.above, &label)) return;
+        rignolda_child_on_ack(&from.child, &params, label);
+    }
+}
+
+}  // namespace
+
+int main() {
+    Node root(0, 0), inner(65535, 2), leaf(65535, 0);
+    if (rignolda_params_check(&params) != 0) return 1;
+    for (uint32_t item = 7; item < 10; item++) {
+        if (!rignolda_node_publish(&root.it, root.list.data(), root.list.size(), item)) return 1;
+        hand_on(root, inner);
+        hand_on(inner, leaf);
+    }
+    for (uint32_t place = 0; place < leaf.it.length; place++) {
+        std::printf("%u\n", static_cast<unsigned>(leaf.list[place]));
+    }
+}
