@@ -56,12 +56,22 @@ pub(crate) struct Child {
     pub(crate) ignored: u32,
 }
 
+/// `rignolda_session`.
+#[repr(C)]
+#[derive(Debug, Default)]
+pub(crate) struct Session {
+    pub(crate) number: u64,
+    pub(crate) there: u32,
+    pub(crate) turn: u32,
+}
+
 const _: () = assert!(core::mem::size_of::<Params>() == 4);
 const _: () = assert!(core::mem::size_of::<Frame>() == 8);
 const _: () = assert!(core::mem::size_of::<Sender>() == 8);
 const _: () = assert!(core::mem::size_of::<Receiver>() == 4);
 const _: () = assert!(core::mem::size_of::<Node>() == 12);
 const _: () = assert!(core::mem::size_of::<Child>() == 20);
+const _: () = assert!(core::mem::size_of::<Session>() == 16);
 
 extern "C" {
     pub(crate) fn rignolda_params_check(params: &Params) -> u8;
@@ -105,4 +115,57 @@ extern "C" {
     ) -> bool;
     pub(crate) fn rignolda_child_on_ack(child: &mut Child, params: &Params, label: u16) -> bool;
     pub(crate) fn rignolda_node_backlog(node: &Node, child: &Child, size: usize) -> u64;
+
+    pub(crate) fn rignolda_session_init(session: &mut Session);
+    pub(crate) fn rignolda_session_made(session: &mut Session) -> u64;
+    pub(crate) fn rignolda_session_accepted(session: &mut Session) -> u64;
+    pub(crate) fn rignolda_session_has(session: &Session, number: u64) -> bool;
+    pub(crate) fn rignolda_session_ended(session: &mut Session, number: u64) -> bool;
+    pub(crate) fn rignolda_session_send(
+        sender: &Sender,
+        session: &mut Session,
+        frame: &mut Frame,
+    ) -> bool;
+    pub(crate) fn rignolda_session_on_ack(
+        sender: &mut Sender,
+        session: &mut Session,
+        params: &Params,
+        number: u64,
+        label: u16,
+    ) -> bool;
+    pub(crate) fn rignolda_session_on_frame(
+        receiver: &mut Receiver,
+        session: &mut Session,
+        number: u64,
+        frame: &Frame,
+        item: &mut u32,
+    ) -> bool;
+    pub(crate) fn rignolda_session_ack(
+        receiver: &Receiver,
+        session: &mut Session,
+        label: &mut u16,
+    ) -> bool;
+    pub(crate) fn rignolda_session_poll(
+        node: &Node,
+        child: &mut Child,
+        session: &mut Session,
+        list: *const u32,
+        size: usize,
+        frame: &mut Frame,
+    ) -> bool;
+    pub(crate) fn rignolda_session_child_on_ack(
+        child: &mut Child,
+        session: &mut Session,
+        params: &Params,
+        number: u64,
+        label: u16,
+    ) -> bool;
+    pub(crate) fn rignolda_session_node_on_frame(
+        node: &mut Node,
+        session: &mut Session,
+        number: u64,
+        list: *mut u32,
+        size: usize,
+        frame: &Frame,
+    ) -> bool;
 }

@@ -46,13 +46,31 @@
 //! receiver that took items 7 and 8 takes 7 once more from a sender of before. So no end can be
 //! cloned. Where the children of a node begin at different items, the law of the tree holds of each
 //! path by itself.
+//!
+//! # What is proved
+//!
+//! The header `include/rignolda.h` says what each law asks for; the laws are functions of the crate
+//! `stab_c`, which no program calls, and each of its calls has clauses of its own.
+//!
+//! | Law | What it is about here |
+//! |---|---|
+//! | `two_ends_on_a_line_are_a_link`, `two_ends_on_a_line_obey_the_link_law` | [`Sender`] and [`Receiver`] |
+//! | `a_tree_of_nodes_obeys_the_tree_law`, `calls_of_nodes_are_acts_of_the_tree` | [`Node`] and [`Child`] |
+//! | `connections_are_a_line`, `connections_obey_the_link_law`, `restarts_leave_connections_in_turn` | [`Session`] of a [`Sender`] and of a [`Receiver`] |
+//! | `a_tree_over_connections_obeys_the_tree_law`, `calls_of_sessions_are_acts_of_the_tree` | [`Session`] of a [`Child`] and of a [`Node`] |
+//! | `numbers_tell_the_newest_connection`, `numbers_may_mean_any_connections` | [`Connection`] |
+//!
+//! Not proved: this crate itself, which hands each call to the C library's. All its types are
+//! [`Send`] and [`Sync`]: what a call may change it has for itself, and it keeps nothing elsewhere.
 #![no_std]
 #![warn(missing_docs)]
 
 mod calls;
 mod node;
+mod session;
 
 pub use node::{Child, Node};
+pub use session::{Connection, Session};
 
 use core::fmt;
 

@@ -28,8 +28,8 @@ use crate::{calls, Frame, Params};
 /// ```
 #[derive(Debug)]
 pub struct Node<'a> {
-    raw: calls::Node,
-    list: &'a mut [u32],
+    pub(crate) raw: calls::Node,
+    pub(crate) list: &'a mut [u32],
 }
 
 impl<'a> Node<'a> {
@@ -106,8 +106,8 @@ impl<'a> Node<'a> {
 /// cannot be cloned, [since a link has one](crate#a-count).
 #[derive(Debug)]
 pub struct Child {
-    raw: calls::Child,
-    params: Params,
+    pub(crate) raw: calls::Child,
+    pub(crate) params: Params,
 }
 
 impl Child {

@@ -1,0 +1,229 @@
+//! Ends of links over connections that are made again.
+use crate::{calls, Child, Frame, Node, Receiver, Sender};
+use core::num::NonZeroU64;
+
+/// The number of a connection in one [`Session`], to be kept beside its socket.
+///
+/// Each session numbers its own connections, and gives no number twice. Nothing of it is on the
+/// wire.
+#[derive(Clone, Copy, Debug, PartialEq, Eq, Hash, PartialOrd, Ord)]
+pub struct Connection(NonZeroU64);
+
+/// An end of a link, and what it remembers of its connections: a [`Sender`], a [`Receiver`], a
+/// [`Child`] or a [`Node`] with its link above.
+///
+/// Either end of a link may make connections, over TCP or anything like it, and both may. An end
+/// has one at a time, the newest that it made or accepted; when it makes or accepts the next one, it
+/// leaves the one before for ever. On a connection the two ends take turns, one message each, and
+/// the end that accepted it begins. So capacity is 1, whatever the network does: it may break
+/// connections, bring them late, in another order or never, and lose what is under way. No rule of
+/// time matters to the bounds; when an end leaves a connection on which nothing comes is the
+/// caller's choice.
+///
+/// The end is inside, so that nothing is sent or handled out of turn. That an end accepts only what
+/// the link's own other end made, that each message is written whole and once, and that the
+/// connection which an end leaves is closed, is the caller's to see to.
+///
+/// ```
+/// use rignolda::{Params, Receiver, Sender, Session};
+///
+/// let mut above = Session::new(Sender::new(Params::new(1, 4)?, 2));
+/// let mut below = Session::new(Receiver::new(65535));
+/// // (the receiver's end connects, and the sender's end accepts: it has the first turn)
+/// let made = below.made().expect("a number is left");
+/// let accepted = above.accepted().expect("a number is left");
+///
+/// assert!(above.offer(7));
+/// let frame = above.send().expect("it has the turn, and an item");
+/// assert_eq!(above.send(), None, "the turn is away");
+/// assert_eq!(below.on_frame(made, frame), Some(7));
+/// let label = below.ack().expect("it has the turn");
+/// assert!(above.on_ack(accepted, label));
+///
+/// // (what comes by a connection that an end has left changes nothing)
+/// assert!(below.ended(made));
+/// assert_eq!(below.on_frame(made, frame), None);
+/// # Ok::<(), rignolda::ParamsError>(())
+/// ```
+#[derive(Debug)]
+pub struct Session<End> {
+    end: End,
+    raw: calls::Session,
+}
+
+impl<End> Session<End> {
+    /// A session of an end that never had a connection.
+    pub fn new(end: End) -> Session<End> {
+        let mut raw = calls::Session::default();
+        // SAFETY: the call writes this session alone.
+        unsafe { calls::rignolda_session_init(&mut raw) };
+        Session { end, raw }
+    }
+
+    /// Begins a connection that this end is about to make: its number, unless none is left. The one
+    /// that the end had is left, and is to be closed.
+    pub fn made(&mut self) -> Option<Connection> {
+        // SAFETY: the call has this session for itself.
+        NonZeroU64::new(unsafe { calls::rignolda_session_made(&mut self.raw) }).map(Connection)
+    }
+
+    /// The same for a connection that this end has accepted. It has the first turn.
+    pub fn accepted(&mut self) -> Option<Connection> {
+        // SAFETY: the call has this session for itself.
+        NonZeroU64::new(unsafe { calls::rignolda_session_accepted(&mut self.raw) }).map(Connection)
+    }
+
+    /// Whether this is the connection that the end has.
+    pub fn has(&self, connection: Connection) -> bool {
+        // SAFETY: the call only reads.
+        unsafe { calls::rignolda_session_has(&self.raw, connection.0.get()) }
+    }
+
+    /// Leaves a connection that ended, or that this end gives up: whether the end had it.
+    pub fn ended(&mut self, connection: Connection) -> bool {
+        // SAFETY: the call has this session for itself.
+        unsafe { calls::rignolda_session_ended(&mut self.raw, connection.0.get()) }
+    }
+
+    /// The end, to be read. What is to be sent comes from this session alone.
+    pub fn end(&self) -> &End {
+        &self.end
+    }
+}
+
+impl Session<Sender> {
+    /// Offers an item, as [`Sender::offer`].
+    pub fn offer(&mut self, item: u32) -> bool {
+        self.end.offer(item)
+    }
+
+    /// The frame to write now on the connection that the end has, if it has one, its turn and an
+    /// item. It is to be written whole and once; the turn is given away.
+    pub fn send(&mut self) -> Option<Frame> {
+        let mut frame = calls::Frame::default();
+        // SAFETY: the call has the session and the frame for itself, and only reads the sender.
+        unsafe { calls::rignolda_session_send(&self.end.raw, &mut self.raw, &mut frame) }
+            .then_some(Frame::of(frame))
+    }
+
+    /// Handles an acknowledgement that came by this connection, as [`Sender::on_ack`]. By one that
+    /// the end has left, nothing changes; else the turn is the end's own.
+    pub fn on_ack(&mut self, connection: Connection, label: u16) -> bool {
+        let (sender, params) = (&mut self.end.raw, &self.end.params.0);
+        let number = connection.0.get();
+        // SAFETY: the call has the sender and the session for itself, and reads the parameters.
+        unsafe { calls::rignolda_session_on_ack(sender, &mut self.raw, params, number, label) }
+    }
+
+    /// Closes this end for good.
+    pub fn close(&mut self) {
+        self.end.close();
+    }
+}
+
+impl Session<Receiver> {
+    /// Handles a frame that came by this connection, as [`Receiver::on_frame`]. By one that the end
+    /// has left, nothing changes; else the turn is the end's own.
+    pub fn on_frame(&mut self, connection: Connection, frame: Frame) -> Option<u32> {
+        let mut item = 0;
+        let number = connection.0.get();
+        // SAFETY: the call has the receiver, the session and the item for itself, and reads the
+        // frame.
+        unsafe {
+            calls::rignolda_session_on_frame(
+                &mut self.end.raw,
+                &mut self.raw,
+                number,
+                &frame.raw(),
+                &mut item,
+            )
+        }
+        .then_some(item)
+    }
+
+    /// The label to write now on the connection that the end has, if it has one and its turn, and
+    /// is open. It is to be written whole and once; the turn is given away.
+    pub fn ack(&mut self) -> Option<u16> {
+        ack(&self.end.raw, &mut self.raw)
+    }
+
+    /// Closes this end for good.
+    pub fn close(&mut self) {
+        self.end.close();
+    }
+}
+
+impl Session<Child> {
+    /// Offers the child the node's next item, if its sender has none, and gives the frame to write
+    /// now, as [`Session::send`]. Where the end may not send, nothing is offered.
+    pub fn poll(&mut self, node: &Node<'_>) -> Option<Frame> {
+        let mut frame = calls::Frame::default();
+        let (list, size) = (node.list.as_ptr(), node.list.len());
+        // SAFETY: the call has the child, the session and the frame for itself, and only reads the
+        // node and its list, which has `size` items.
+        unsafe {
+            calls::rignolda_session_poll(
+                &node.raw,
+                &mut self.end.raw,
+                &mut self.raw,
+                list,
+                size,
+                &mut frame,
+            )
+        }
+        .then_some(Frame::of(frame))
+    }
+
+    /// Handles an acknowledgement that came by this connection, as [`Child::on_ack`]. By one that
+    /// the end has left, nothing changes; else the turn is the end's own.
+    pub fn on_ack(&mut self, connection: Connection, label: u16) -> bool {
+        let (child, params) = (&mut self.end.raw, &self.end.params.0);
+        let number = connection.0.get();
+        // SAFETY: the call has the child and the session for itself, and reads the parameters.
+        unsafe { calls::rignolda_session_child_on_ack(child, &mut self.raw, params, number, label) }
+    }
+
+    /// Closes this link for good.
+    pub fn close(&mut self) {
+        self.end.close();
+    }
+}
+
+impl Session<Node<'_>> {
+    /// Handles a frame that came by this connection, as [`Node::on_frame`]. By one that the end has
+    /// left, nothing changes. A fresh frame that finds the list full is lost, and the turn with it,
+    /// until an end leaves this connection: so while the list is full, better read nothing.
+    pub fn on_frame(&mut self, connection: Connection, frame: Frame) -> bool {
+        let (list, size) = (self.end.list.as_mut_ptr(), self.end.list.len());
+        let number = connection.0.get();
+        // SAFETY: the call has the node, its list, which has `size` items, and the session for
+        // itself, and reads the frame.
+        unsafe {
+            calls::rignolda_session_node_on_frame(
+                &mut self.end.raw,
+                &mut self.raw,
+                number,
+                list,
+                size,
+                &frame.raw(),
+            )
+        }
+    }
+
+    /// The label to write now to the parent, as [`Session::ack`].
+    pub fn ack(&mut self) -> Option<u16> {
+        ack(&self.end.raw.above, &mut self.raw)
+    }
+
+    /// Closes the link from above for good.
+    pub fn close(&mut self) {
+        self.end.close();
+    }
+}
+
+/// The label to write now, if the end may send.
+fn ack(receiver: &calls::Receiver, session: &mut calls::Session) -> Option<u16> {
+    let mut label = 0;
+    // SAFETY: the call has the session and the label for itself, and only reads the receiver.
+    unsafe { calls::rignolda_session_ack(receiver, session, &mut label) }.then_some(label)
+}

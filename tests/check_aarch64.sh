@@ -1,0 +1,73 @@
+#!/usr/bin/env bash
+# Builds the library for C for aarch64, and tests it under an emulator: by hand, half a minute.
+#
+#   tests/check_aarch64.sh
+#
+# The archive is left as out/librignolda-aarch64.a; RIGNOLDA_LIBRARY and LIBRARY can name it. The
+# crate stab_c is proved first, over what earlier checks have kept. Needed are the kit, and of
+# Debian's packages gcc-aarch64-linux-gnu, libc6-dev-arm64-cross and qemu-user. The last line is
+# 'N passed, M failed'.
+set -u
+unset CDPATH
+cd -- "$(dirname -- "$(dirname -- "$(readlink -f -- "${BASH_SOURCE[0]}")")")" || exit 1
+top=$PWD
+compiler=aarch64-linux-gnu-gcc
+emulator=qemu-aarch64
+target=aarch64-unknown-linux-gnu
+archive=$top/out/librignolda-aarch64.a
+work=$(mktemp -d) || exit 1
+trap 'rm -rf -- "$work"' EXIT
+passed=0
+failed=0
+
+# Says whether a case holds: its name, and a command, whose words are shown if it fails.
+holds() {
+    local name=$1
+    shift
+    if "$@" >"$work/said" 2>&1; then
+        passed=$((passed + 1))
+        printf 'same   %s\n' "$name"
+    else
+        failed=$((failed + 1))
+        printf 'OTHER  %s\n' "$name"
+        tail -n 20 -- "$work/said" | sed 's/^/       /'
+    fi
+}
+
+# Has the compiler of the kit make the archive over the libraries that the check has left.
+builds() (
+    local kit library folder words
+    kit=$(dirname -- "$(rt doc)")
+    (cd crates/stab_c && rt check) || return
+    words=(--crate-name stab_c src/lib.rt --crate-type staticlib --target "$target" --links stab_c=)
+    words+=(--extern "std=$kit/rlibs/std.rlib" -L "dependency=$kit/rlibs")
+    for library in $(sed -n 's/^stab_c staticlib: *//p' crates.txt); do
+        words+=(--extern "$library=$top/crates/$library/out/rlib/$library.rlib")
+    done
+    for folder in "$top"/crates/*/out/rlib; do
+        words+=(-L "dependency=$folder")
+    done
+    words+=(--antt-project "$kit/rattle/logic/antt-project.json" --logic-built "$kit/logic_built")
+    mkdir -p -- "${archive%/*}" && cd crates/stab_c &&
+        "$kit/bin/rattle" build "${words[@]}" --toolchain "$kit/toolchain" \
+            --incremental out/incremental -o "$archive"
+)
+
+for program in rt "$compiler" "$emulator"; do
+    if ! type -P "$program" >/dev/null; then
+        printf 'check_aarch64.sh: there is no %s: see the first lines of this script\n' "$program"
+        exit 2
+    fi
+done
+holds 'the archive is built' builds
+for test in link fuzz; do
+    holds "$test builds" "$compiler" -std=gnu11 -O2 -Wall -Wextra -Werror -Iinclude -static \
+        "tests/library/$test.c" "$archive" -o "$work/$test.aarch64"
+    printf '#!/bin/sh\nexec %s %s "$@"\n' "$emulator" "$work/$test.aarch64" >"$work/$test"
+    chmod +x -- "$work/$test"
+done
+holds 'the drawn runs' tests/library/compare.py runs "$work/link"
+holds '1000 drawn links' tests/library/compare.py drawn "$work/link" 1000
+holds 'structs with drawn bits' "$work/fuzz" 100000 1
+printf '%s passed, %s failed\n' "$passed" "$failed"
+[ "$failed" -eq 0 ]
