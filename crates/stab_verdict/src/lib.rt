@@ -5,8 +5,8 @@
 //! [`verdict`] answers true exactly where the report obeys the laws of the job's network, and its
 //! text names the first part that is broken where it does not. [`link_verdict`] answers true
 //! exactly where the offered items of a link are picked from those of its job and the link law
-//! holds, and its text names the first of both that is broken; [`read_link_report`] reads only what
-//! has exactly the text of a link that `stab link` prints.
+//! holds, and its text names the first of both that is broken; [`read_link_report`] reads exactly
+//! the texts of links, as `stab link` prints them.
 #![tactic(auto)]
 
 mod bounds;
