@@ -66,7 +66,7 @@ module _ (net : Network) (is : IsNetwork net) where
   most_above w u is_child = most_at_start net is u (is.tree.known_parents w u is_child)
 
   module _ (capacity : ℕ) (small : All (λ link. link.params.capacity ≤ capacity) net.links) where
-    capacity_few : (w u : ℕ) → parent_at parents w ≡ Some u → 2 * capacity_into net w + 1 ≤ 2 * capacity + 1
+    pub capacity_few : (w u : ℕ) → parent_at parents w ≡ Some u → 2 * capacity_into net w + 1 ≤ 2 * capacity + 1
     capacity_few w u is_child =
         let (link, there) = one_by_child parents net.links 0 w u is.one_per_link is_child in
         let its = ap (λ o. option_map_or (λ (l : LinkSetup). l.params.capacity) o 0) there in

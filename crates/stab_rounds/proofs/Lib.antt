@@ -19,3 +19,4 @@ pub mod Final
 pub mod Plays
 pub mod ReadTrees
 pub mod ReadArrives
+pub mod PlaysReads

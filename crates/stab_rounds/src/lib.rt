@@ -9,8 +9,10 @@ pub mod examples;
 pub mod laws;
 mod link;
 mod play;
+mod reads;
 mod round;
 
 pub use link::{apply_reading_round, apply_round, pass_on};
 pub use play::{round_of_all, run_rounds};
+pub use reads::{apply_reading_rounds, reading_round_of_all};
 pub use round::{Awaited, count_rounds};

@@ -57,7 +57,7 @@ pub fn round_of_all(alloc: Global, tree: &Tree) -> Result<Vec<TreeEvent>, AllocE
 }
 
 /// All these events, one after the other.
-fn apply_all(state: &mut TreeState, events: &[TreeEvent]) -> Result<(), TreeStepFault>
+pub(crate) fn apply_all(state: &mut TreeState, events: &[TreeEvent]) -> Result<(), TreeStepFault>
     ensures { IfOk result (λ _. state.new ≡ tree_replay state.old events.now) }
 {
     for event in events {
