@@ -13,7 +13,7 @@ ghost use Rattle.stab_rounds.specs.ReadingRounds.{reading_rounds};
 ghost use Rattle.stab_rounds.specs.Receipts.{acks_received, frames_received};
 ghost use Rattle.stab_rounds.specs.Rounds.{rounds_of, IsWithin};
 ghost use Rattle.stab_rounds.specs.Slowest.{slow_rounds, slow_start};
-ghost use Rattle.stab_rounds.specs.TreePlayed.{play};
+ghost use Rattle.stab_rounds.specs.TreePlayed.{play, play_reads};
 ghost use Rattle.stab_rounds.specs.TreeReadingRounds.{ReadingRounds, reading_rounds_below};
 ghost use Rattle.stab_rounds.specs.TreeRounds.{IsHandedOn, IsOpen, TreeRounds, rounds_below};
 ghost use Rattle.stab_tree.specs.Nodes.{parent_at};
@@ -164,6 +164,26 @@ pub fn rounds_bring_everything()
         → CompleteLaw (most_strays net child) (most_missing net child) (path_garbage net child)
         net.published
         (received (tree_replay (initial_tree net) (play net.tree.parents rounds)) child) }
+{
+    stab_core::laws::every_replay_obeys_the_link_law();
+}
+
+/// The same of a schedule that is made of so many reading rounds and nothing else.
+pub fn reading_rounds_bring_everything()
+    ensures handed_on { (net : Network) (capacity rounds child parent : ℕ)
+        → IsNetwork net → All (λ link. link.params.capacity ≤ capacity) net.links
+        → parent_at net.tree.parents child ≡ Some parent
+        → reading_rounds_below net parent ≤ rounds
+        → IsHandedOn (tree_replay (initial_tree net) (play_reads capacity net.tree.parents rounds))
+        child parent }
+    ensures complete { (net : Network) (capacity rounds child parent : ℕ)
+        → IsNetwork net → All (λ link. link.params.capacity ≤ capacity) net.links
+        → parent_at net.tree.parents child ≡ Some parent
+        → reading_rounds_below net parent ≤ rounds
+        → CompleteLaw (most_strays net child) (most_missing net child) (path_garbage net child)
+        net.published
+        (received (tree_replay (initial_tree net) (play_reads capacity net.tree.parents rounds))
+        child) }
 {
     stab_core::laws::every_replay_obeys_the_link_law();
 }

@@ -102,3 +102,49 @@ pub fn apply_reading_rounds(
     }
     Ok(())
 }
+
+/// The whole tree after so many reading rounds of every link, from the starts of its links; each
+/// takes so many messages before it sends. Where the rounds are enough, and no link has a larger
+/// capacity, every node has all that its parent has, and misses nothing but among the first items.
+pub fn run_reading_rounds(
+    alloc: Global,
+    params: &[Params],
+    tree: &Tree,
+    published: &[Item],
+    starts: &[Start],
+    openings: &Openings,
+    capacity: u16,
+    rounds: u32,
+) -> Result<TreeState, TreeStartFault>
+    requires fit { FitTree tree.now.parents openings.now }
+    ensures replay { IfOk result (λ state.
+        state ≡ tree_replay (initial_tree
+        (network_of params.now tree.now published.now starts.now openings.now))
+        (play_reads capacity tree.now.parents rounds)) }
+    ensures handed_on { IfOk result (λ state. (child parent : ℕ)
+        → let net = network_of params.now tree.now published.now starts.now openings.now in
+        All (λ link. link.params.capacity ≤ capacity) net.links
+        → parent_at tree.now.parents child ≡ Some parent
+        → reading_rounds_below net parent ≤ rounds
+        → IsHandedOn state child parent) }
+    ensures complete { IfOk result (λ state. (child parent : ℕ)
+        → let net = network_of params.now tree.now published.now starts.now openings.now in
+        All (λ link. link.params.capacity ≤ capacity) net.links
+        → parent_at tree.now.parents child ≡ Some parent
+        → reading_rounds_below net parent ≤ rounds
+        → CompleteLaw (most_strays net child) (most_missing net child) (path_garbage net child)
+        net.published (received state child)) }
+{
+    let mut state = stab_treecore::run_schedule(
+        alloc,
+        params,
+        tree,
+        published,
+        starts,
+        openings,
+        &[],
+    )?;
+    apply_reading_rounds(alloc, tree, &mut state, capacity, rounds)?;
+    laws::reading_rounds_bring_everything();
+    Ok(state)
+}
