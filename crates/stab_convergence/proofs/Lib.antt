@@ -3,3 +3,4 @@ pub mod Lags
 pub mod Converges
 pub mod Ready
 pub mod Exactly
+pub mod Played

@@ -6,10 +6,14 @@ ghost use Rattle.stab_convergence.specs.Exact.{IsExact, IsPathClean};
 ghost use Rattle.stab_convergence.specs.PathRounds.{IsPathOpen, PathRounds, PublishesNothing};
 ghost use Rattle.stab_convergence.specs.PathRounds.{rounds_since};
 ghost use Rattle.stab_faults.specs.declared.change.Change.{Change};
-ghost use Rattle.stab_faults.specs.Changes.{changes_replay};
+ghost use Rattle.stab_faults.specs.Changes.{Fit, changes_replay};
 ghost use Rattle.stab_faults.specs.Hits.{Spare};
-ghost use Rattle.stab_faults.specs.Since.{IsState, moment};
+ghost use Rattle.stab_faults.specs.Since.{IsState, capacity_at, moment};
+ghost use Rattle.stab_rounds.specs.TreePlayed.{play_reads};
+ghost use Rattle.stab_rounds.specs.TreeRounds.{IsOpen};
 ghost use Rattle.stab_tree.specs.Nodes.{Nodes};
+ghost use Rattle.stab_treecore.specs.Network.{IsNetwork, Network};
+ghost use Rattle.stab_treecore.specs.TreeReplay.{initial_tree, tree_replay};
 ghost use Rattle.stab_treecore.specs.WholeTree.{WholeTree};
 
 /// Every node comes back. From any state of a tree, such as the one that the last fault on the
@@ -41,3 +45,19 @@ pub fn converged_nodes_stay_exact()
         → Spare t.parents node later
         → IsExact t (changes_replay t later) node }
 {}
+
+/// Of whole schedules: whatever changes a network goes through, once so many reading rounds of all
+/// its links are made, each node has converged, counted from any moment after which no fault hits
+/// it, such as the last fault on its path. Nothing is asked of the rounds but their number.
+pub fn every_schedule_converges()
+    ensures { (net : Network) (before after : List Change) (capacity rounds node : ℕ)
+        → IsNetwork net → Fit (initial_tree net) (before ++ after)
+        → let s = changes_replay (initial_tree net) before in
+        let m = changes_replay s after in
+        node < length s.parents → Spare s.parents node after
+        → IsOpen m → ((w : ℕ) → capacity_at m w ≤ capacity)
+        → rounds_since (moment m) node ≤ rounds
+        → HasConverged s (tree_replay m (play_reads capacity m.parents rounds)) node }
+{
+    stab_core::laws::link_law_from_any_state();
+}

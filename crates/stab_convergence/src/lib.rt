@@ -7,5 +7,7 @@
 
 mod arrival;
 pub mod laws;
+mod settle;
 
 pub use arrival::{Arrival, arrival_at, largest_capacity};
+pub use settle::run_and_settle;

@@ -1,0 +1,89 @@
+-- Reading rounds that are made after changes of a network: they are such rounds of every path, so every node comes back.
+use Rattle.std.proofs.Common.{◌≡◌, ℕ, zero, suc, ◌<◌, ◌≤◌, List, [], ◌∷◌, ◌++◌, length, map, Some, Option, refl, ap, sym, ◌∙◌, subst}
+use Rattle.std.proofs.lemmas.List.{map-append}
+use Rattle.stab_core.specs.Link.{LinkValue}
+use Rattle.stab_core.specs.LinkLaw.{LinkLaw}
+use Rattle.stab_tree.specs.Nodes.{parent_at}
+use Rattle.stab_treecore.specs.declared.event.TreeEvent.{TreeEvent}
+use Rattle.stab_treecore.specs.Network.{IsNetwork, Network}
+use Rattle.stab_treecore.specs.TreeReplay.{initial_tree, tree_replay}
+use Rattle.stab_treecore.specs.TreeStep.{tree_step}
+use Rattle.stab_treecore.specs.WholeTree.{WholeTree}
+use Rattle.stab_faults.specs.declared.change.Change.{Change}
+use Rattle.stab_faults.specs.declared.change.Change.TheVariants.{Act}
+use Rattle.stab_faults.specs.Changes.{Fit, changes_replay}
+use Rattle.stab_faults.specs.Hits.{Spare}
+use Rattle.stab_faults.specs.Since.{IsState, capacity_at, moment}
+use Rattle.stab_faults.proofs.Contained.{changes-append}
+use Rattle.stab_faults.proofs.NodesSince.{since_spared}
+use Rattle.stab_faults.proofs.Obeying.{ObeysSince}
+use Rattle.stab_faults.proofs.Running.{fit_front}
+use Rattle.stab_faults.proofs.Schedules.{schedule_state}
+use Rattle.stab_rounds.specs.ReadingRounds.{offer, reading_from}
+use Rattle.stab_rounds.specs.TreeRounds.{acts_on, IsOpen}
+use Rattle.stab_rounds.specs.TreePlayed.{play_reads, reading_round_from}
+use Rattle.stab_rounds.proofs.Plays.{no_close_keeps}
+use Rattle.stab_rounds.proofs.PlaysReads.{reads_close_nothing, reads_of_each}
+use Rattle.stab_convergence.specs.PathRounds.{acts_among, IsPathRound, PathRounds, PublishesNothing, rounds_since}
+use Rattle.stab_convergence.specs.Converged.{HasConverged}
+use Rattle.stab_convergence.proofs.Converges.{converges}
+
+-- acts alone, as changes
+abbrev as_changes : List TreeEvent → List Change
+as_changes es = map Act es
+
+acts_again : (es : List TreeEvent) → acts_among (as_changes es) ≡ es
+acts_again [] = refl
+acts_again (e ∷ es) = ap (λ more. e ∷ more) (acts_again es)
+
+acts_publish_nothing : (es : List TreeEvent) → PublishesNothing (as_changes es)
+acts_publish_nothing [] = tt
+acts_publish_nothing (e ∷ es) = acts_publish_nothing es
+
+acts_spare : (parents : List (Option ℕ)) (node : ℕ) (es : List TreeEvent) → Spare parents node (as_changes es)
+acts_spare parents node [] = tt
+acts_spare parents node (e ∷ es) = ((λ hit. hit), acts_spare parents node es)
+
+acts_replayed : (t : WholeTree) (es : List TreeEvent) → changes_replay t (as_changes es) ≡ tree_replay t es
+acts_replayed t [] = refl
+acts_replayed t (e ∷ es) = acts_replayed (tree_step t e) es
+
+spare_both : (parents : List (Option ℕ)) (node : ℕ) (before after : List Change) → Spare parents node before → Spare parents node after
+    → Spare parents node (before ++ after)
+spare_both parents node [] after first second = second
+spare_both parents node (change ∷ changes) after first second = (first.0, spare_both parents node changes after first.1 second)
+
+-- the rounds that are made are rounds of the path
+made_rounds : (m : WholeTree) (node c : ℕ) (rounds : ℕ) → ((w : ℕ) → capacity_at m w ≤ c)
+    → PathRounds m node rounds (as_changes (play_reads c m.parents rounds))
+made_rounds m node c zero small = tt
+made_rounds m node c (suc rounds) small = (
+  as_changes (reading_round_from c 0 m.parents),
+  as_changes (play_reads c m.parents rounds),
+  map-append Act (reading_round_from c 0 m.parents) (play_reads c m.parents rounds),
+  λ w parent on is_child.
+      subst (λ es. 1 ≤ reading_from (capacity_at m w) offer (acts_on w es)) (sym (acts_again (reading_round_from c 0 m.parents)))
+      (reads_of_each c (capacity_at m w) m.parents w parent is_child (small w)),
+  made_rounds m node c rounds small,
+)
+
+pub rounds_converge : ObeysSince LinkLaw → (net : Network) (before after : List Change) (capacity rounds node : ℕ) → IsNetwork net
+    → Fit (initial_tree net) (before ++ after)
+    → let s = changes_replay (initial_tree net) before in
+    let m = changes_replay s after in
+    node < length s.parents → Spare s.parents node after → IsOpen m → ((w : ℕ) → capacity_at m w ≤ capacity)
+    → rounds_since (moment m) node ≤ rounds → HasConverged s (tree_replay m (play_reads capacity m.parents rounds)) node
+rounds_converge obey net before after capacity rounds node is fit is_node spare is_open small enough =
+    let t = initial_tree net in
+    let s = changes_replay t before in
+    let m = changes_replay s after in
+    let es = play_reads capacity m.parents rounds in
+    let first : IsState net.tree s = (schedule_state net before is (fit_front t before after fit)).is_state in
+    let later : IsState net.tree m =
+    subst (λ u. IsState net.tree u) (changes-append t before after) (schedule_state net (before ++ after) is fit).is_state in
+    let done : changes_replay m (as_changes es) ≡ tree_replay m es = acts_replayed m es in
+    let opened : IsOpen (tree_replay m es) = no_close_keeps m es (reads_close_nothing capacity m.parents rounds) is_open in
+    subst (λ u. HasConverged s u node) done
+    (converges obey net.tree s after (as_changes es) rounds node first is_node
+    (spare_both s.parents node after (as_changes es) spare (acts_spare s.parents node es)) later (acts_publish_nothing es)
+    (λ w link on there. subst (λ u. IsOpen u) (sym done) opened w link there) (made_rounds m node capacity rounds small) enough)
