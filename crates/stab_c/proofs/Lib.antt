@@ -1,13 +1,1 @@
 pub mod Lists
-pub mod Lines
-pub mod Edges
-pub mod NodeTrees
-pub mod Calls
-pub mod Turns
-pub mod SessionLines
-pub mod SessionTrees
-pub mod MakerBegins
-pub mod SessionNumbers
-pub mod SessionNames
-pub mod SessionCalls
-pub mod StartLaws

@@ -1,16 +1,3 @@
-pub mod Ends
 pub mod Meaning
 pub mod NodeList
-pub mod Line
-pub mod Edge
-pub mod NodeTree
-pub mod Acts
-pub mod Session
-pub mod SessionLink
-pub mod SessionTree
-pub mod MakerBegins
 pub mod SessionMeaning
-pub mod SessionActs
-pub mod SessionNumbers
-pub mod SessionNames
-pub mod StartLaw

@@ -11,7 +11,7 @@ use Rattle.stab_c.specs.declared.line.LineFrame.{LineFrame}
 use Rattle.stab_c.specs.declared.line.LinkParams.{LinkParams}
 use Rattle.stab_c.specs.declared.sender.SenderHalf.{SenderHalf}
 use Rattle.stab_c.specs.declared.receiver.ReceiverHalf.{ReceiverHalf}
-use Rattle.stab_c.specs.Ends.{SenderEnd, ReceiverEnd}
+use Rattle.stab_line.specs.Ends.{SenderEnd, ReceiverEnd}
 
 -- a flag is true at any value but 0
 abbrev pub is_set : ℕ → Bool

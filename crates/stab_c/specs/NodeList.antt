@@ -6,7 +6,7 @@ use Rattle.std.specs.Prelude.{List, length, take, slice_get, Option, Some, None,
 use Rattle.stab_frames.specs.declared.frame.Frame.{Frame}
 use Rattle.stab_c.specs.declared.child.Child.{Child}
 use Rattle.stab_c.specs.declared.node.Node.{Node}
-use Rattle.stab_c.specs.Ends.{ReceiverEnd, SenderEnd, accepts, delivers, offered_to}
+use Rattle.stab_line.specs.Ends.{ReceiverEnd, SenderEnd, accepts, delivers, offered_to}
 use Rattle.stab_c.specs.Meaning.{is_set, receiver_end}
 
 -- the most items of a list, and the highest count

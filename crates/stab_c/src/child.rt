@@ -1,8 +1,8 @@
 ghost use Rattle.std.specs.Prelude.{◌≡◌, ◌&&◌, not, true, false, is_none, is_some, slice_get};
 ghost use Rattle.std.specs.Prelude.{◌+◌, ◌<◌, IfSome, if◌then◌else◌};
 ghost use Rattle.stab_frames.specs.Parameters.{fault_of};
-ghost use Rattle.stab_c.specs.Acts.{IsAckReceived, IsPolled, answered};
-ghost use Rattle.stab_c.specs.Ends.{acknowledges, after_ack, frame_to_send, new_sender};
+ghost use Rattle.stab_line.specs.Acts.{IsAckReceived, IsPolled, answered};
+ghost use Rattle.stab_line.specs.Ends.{acknowledges, after_ack, frame_to_send, new_sender};
 ghost use Rattle.stab_c.specs.Meaning.{frame_of, parameters_of, sender_end, written_frame};
 ghost use Rattle.stab_c.specs.NodeList.{counted, list_in, most_items, offered_next, takes_next};
 

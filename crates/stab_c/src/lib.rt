@@ -2,18 +2,16 @@
 //! structs, for C and whatever calls C. `include/rignolda.h` declares what is exported here.
 //!
 //! No call reads, writes, waits, takes memory or looks at a clock, and none has a `requires`: every
-//! bit pattern of a struct means a state, and each call is the step of the definitions in `specs/`
-//! from there. What a call refuses it leaves as it was, and it then returns 0.
+//! bit pattern of a struct means a state, and each call is the step of the definitions of
+//! `stab_line` from there. What a call refuses it leaves as it was, and it then returns 0.
 #![tactic(auto)]
 
 mod child;
-pub mod laws;
 mod line;
 mod node;
 mod receiver;
 mod sender;
 mod session;
-pub mod session_laws;
 mod session_node;
 
 pub use child::{Child, rignolda_child_init, rignolda_child_on_ack, rignolda_node_poll};

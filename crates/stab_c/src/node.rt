@@ -1,7 +1,7 @@
 ghost use Rattle.std.specs.Prelude.{◌≡◌, ◌&&◌, true, false, drop, length, if◌then◌else◌};
-ghost use Rattle.stab_c.specs.Acts.{IsFrameReceived};
-ghost use Rattle.stab_c.specs.Ends.{after_frame, delivers, new_receiver};
-ghost use Rattle.stab_c.specs.Line.{with_taken};
+ghost use Rattle.stab_line.specs.Acts.{IsFrameReceived};
+ghost use Rattle.stab_line.specs.Ends.{after_frame, delivers, new_receiver};
+ghost use Rattle.stab_line.specs.Line.{with_taken};
 ghost use Rattle.stab_c.specs.Meaning.{frame_of, receiver_end};
 ghost use Rattle.stab_c.specs.NodeList.{backlog, counted, has_place, is_old, list_in};
 ghost use Rattle.stab_c.specs.NodeList.{loses_frame, takes_frame};

@@ -1,7 +1,7 @@
 ghost use Rattle.std.specs.Prelude.{◌≡◌, is_some, false, if◌then◌else◌};
-ghost use Rattle.stab_c.specs.Acts.{IsAckSent, IsFrameReceived, IsReceiverClosed, answered};
-ghost use Rattle.stab_c.specs.Ends.{ack_to_send, after_frame, closed_receiver, delivers};
-ghost use Rattle.stab_c.specs.Ends.{new_receiver};
+ghost use Rattle.stab_line.specs.Acts.{IsAckSent, IsFrameReceived, IsReceiverClosed, answered};
+ghost use Rattle.stab_line.specs.Ends.{ack_to_send, after_frame, closed_receiver, delivers};
+ghost use Rattle.stab_line.specs.Ends.{new_receiver};
 ghost use Rattle.stab_c.specs.Meaning.{frame_of, receiver_end, written};
 
 use crate::line::LineFrame;

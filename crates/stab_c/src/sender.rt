@@ -1,8 +1,9 @@
 ghost use Rattle.std.specs.Prelude.{◌≡◌, ◌&&◌, is_none, is_some, true, false};
 ghost use Rattle.stab_frames.specs.Parameters.{fault_of};
-ghost use Rattle.stab_c.specs.Acts.{IsAckReceived, IsFrameSent, IsOffer, IsSenderClosed, answered};
-ghost use Rattle.stab_c.specs.Ends.{accepts, acknowledges, after_ack, closed_sender};
-ghost use Rattle.stab_c.specs.Ends.{frame_to_send, new_sender, offered_to};
+ghost use Rattle.stab_line.specs.Acts.{IsAckReceived, IsFrameSent, IsOffer, IsSenderClosed};
+ghost use Rattle.stab_line.specs.Acts.{answered};
+ghost use Rattle.stab_line.specs.Ends.{accepts, acknowledges, after_ack, closed_sender};
+ghost use Rattle.stab_line.specs.Ends.{frame_to_send, new_sender, offered_to};
 ghost use Rattle.stab_c.specs.Meaning.{frame_of, parameters_of, sender_end, written_frame};
 
 use crate::line::{LineFrame, LinkParams};

@@ -1,15 +1,15 @@
 ghost use Rattle.std.specs.Prelude.{◌≡◌, ◌≢◌, ◌&&◌, true, false, is_none, is_some, if◌then◌else◌};
 ghost use Rattle.stab_frames.specs.Parameters.{fault_of};
-ghost use Rattle.stab_c.specs.Acts.{answered};
-ghost use Rattle.stab_c.specs.Ends.{ack_to_send, acknowledges, after_ack, after_frame, delivers};
-ghost use Rattle.stab_c.specs.Ends.{frame_to_send};
+ghost use Rattle.stab_line.specs.Acts.{answered};
+ghost use Rattle.stab_line.specs.Ends.{ack_to_send, acknowledges, after_ack, after_frame, delivers};
+ghost use Rattle.stab_line.specs.Ends.{frame_to_send};
 ghost use Rattle.stab_c.specs.Meaning.{frame_of, is_set, parameters_of, receiver_end, sender_end};
 ghost use Rattle.stab_c.specs.Meaning.{written, written_frame};
-ghost use Rattle.stab_c.specs.Session.{after_end, after_message, has, may_send, no_session};
-ghost use Rattle.stab_c.specs.Session.{sent_now, turn_after};
-ghost use Rattle.stab_c.specs.SessionActs.{IsAccepted, IsAckHandled, IsAckSentInTurn};
-ghost use Rattle.stab_c.specs.SessionActs.{IsFrameHandled, IsFrameSentInTurn, IsLeft, IsMade};
-ghost use Rattle.stab_c.specs.SessionMeaning.{next_number, session_next, session_of};
+ghost use Rattle.stab_line.specs.Session.{after_end, after_message, has, may_send, next_number};
+ghost use Rattle.stab_line.specs.Session.{no_session, sent_now, session_next, turn_after};
+ghost use Rattle.stab_line.specs.SessionActs.{IsAccepted, IsAckHandled, IsAckSentInTurn};
+ghost use Rattle.stab_line.specs.SessionActs.{IsFrameHandled, IsFrameSentInTurn, IsLeft, IsMade};
+ghost use Rattle.stab_c.specs.SessionMeaning.{session_of};
 
 use crate::line::{LineFrame, LinkParams};
 use crate::receiver::{ReceiverHalf, rignolda_receiver_ack, rignolda_receiver_on_frame};

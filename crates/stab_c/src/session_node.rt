@@ -1,15 +1,15 @@
 ghost use Rattle.std.specs.Prelude.{◌≡◌, ◌&&◌, not, true, false, if◌then◌else◌, is_none, is_some};
 ghost use Rattle.std.specs.Prelude.{drop, length, slice_get};
 ghost use Rattle.stab_frames.specs.Parameters.{fault_of};
-ghost use Rattle.stab_c.specs.Acts.{IsPolled, answered};
-ghost use Rattle.stab_c.specs.Ends.{acknowledges, after_frame, frame_to_send};
-ghost use Rattle.stab_c.specs.Line.{with_taken};
+ghost use Rattle.stab_line.specs.Acts.{IsPolled, answered};
+ghost use Rattle.stab_line.specs.Ends.{acknowledges, after_frame, frame_to_send};
+ghost use Rattle.stab_line.specs.Line.{with_taken};
 ghost use Rattle.stab_c.specs.Meaning.{frame_of, parameters_of, receiver_end, sender_end};
 ghost use Rattle.stab_c.specs.Meaning.{written_frame};
 ghost use Rattle.stab_c.specs.NodeList.{counted, is_old, list_in, loses_frame, offered_next};
 ghost use Rattle.stab_c.specs.NodeList.{takes_frame};
-ghost use Rattle.stab_c.specs.Session.{after_message, has, may_send, sent_now, turn_after};
-ghost use Rattle.stab_c.specs.SessionActs.{IsAckHandled, IsFrameHandled};
+ghost use Rattle.stab_line.specs.Session.{after_message, has, may_send, sent_now, turn_after};
+ghost use Rattle.stab_line.specs.SessionActs.{IsAckHandled, IsFrameHandled};
 ghost use Rattle.stab_c.specs.SessionMeaning.{session_of};
 
 use crate::child::{Child, rignolda_child_on_ack, rignolda_node_poll};

@@ -1,5 +1,0 @@
-use Rattle.stab_c.proofs.Edges.{child_obeys_law}
-use Rattle.stab_c.proofs.laws.a_child_obeys_the_tree_law.Goals as goal
-
-pub returns : goal.returns
-returns c = child_obeys_law

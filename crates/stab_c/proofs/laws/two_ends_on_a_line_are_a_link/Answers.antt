@@ -1,5 +1,0 @@
-use Rattle.stab_c.proofs.Lines.{line_is_replay}
-use Rattle.stab_c.proofs.laws.two_ends_on_a_line_are_a_link.Goals as goal
-
-pub returns : goal.returns
-returns c = line_is_replay

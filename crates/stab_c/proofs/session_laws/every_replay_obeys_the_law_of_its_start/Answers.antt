@@ -1,5 +1,0 @@
-use Rattle.stab_c.proofs.StartLaws.{replay_obeys_start}
-use Rattle.stab_c.proofs.session_laws.every_replay_obeys_the_law_of_its_start.Goals as goal
-
-pub returns : goal.returns
-returns c = replay_obeys_start

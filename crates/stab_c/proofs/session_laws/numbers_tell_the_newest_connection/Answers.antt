@@ -1,5 +1,0 @@
-use Rattle.stab_c.proofs.SessionNumbers.{newest_is_known}
-use Rattle.stab_c.proofs.session_laws.numbers_tell_the_newest_connection.Goals as goal
-
-pub returns : goal.returns
-returns c = newest_is_known
