@@ -32,7 +32,7 @@
  * for its backlog (rignolda_node_backlog) for its child on a path: that is the node's opening, with
  * which its list begins.
  *
- * The laws (functions of the module laws of stab_c):
+ * The laws (functions of the module laws of the crate stab_line):
  *   - two_ends_on_a_line_are_a_link: two ends on a line that is first in first out, holds at most
  *     capacity messages each way, may lose any message and may repeat the front one, are a replay
  *     of the link, whatever the two structs and the line held when the count began.
@@ -54,8 +54,8 @@
  *   - calls_of_nodes_are_acts_of_the_tree: what the calls do makes up what these laws are about.
  *     Each call that steps an end, or says what to send, has a clause `act`, which says what step
  *     of the laws' own definitions it is.
- * Links over connections that are made again, such as TCP, have laws of their own: see the last
- * part, on sessions.
+ * Links over connections that are made again, such as TCP, and links in two places of a store have
+ * laws of their own: see the last two parts, on sessions and on words.
  */
 #ifndef RIGNOLDA_H
 #define RIGNOLDA_H
@@ -269,7 +269,7 @@ uint64_t rignolda_node_backlog(const rignolda_node *node, const rignolda_child *
  * most one message is under way on a connection, none on one that was not accepted yet, and
  * capacity is 1. Nothing of this is on the wire, and no rule of time matters to the bounds.
  *
- * The laws (functions of the module session_laws of stab_c), where an end handles and sends only
+ * The laws (functions of the module session_laws of stab_line), where an end handles and sends only
  * what these calls say, and accepts only what the link's own other end made:
  *   - connections_are_a_line: such a link is a line of capacity 1, whatever the network does to the
  *     connections: it may break them, bring them late, in another order or never, and lose what is
@@ -352,12 +352,41 @@ bool rignolda_session_child_on_ack(rignolda_child *child, rignolda_session *sess
                                    const rignolda_params *params, uint64_t number, uint16_t label);
 
 /*
- * A fresh frame that finds the list full is lost, and the turn with it: nothing more is sent on this
- * connection, until an end leaves it. So while the list is full, better read nothing.
+ * A fresh frame that finds the list full is lost, and the turn with it: nothing more is sent on
+ * this connection, until an end leaves it. So while the list is full, better read nothing.
  */
 bool rignolda_session_node_on_frame(rignolda_node *node, rignolda_session *session,
                                     uint64_t number, uint32_t *list, size_t size,
                                     const rignolda_frame *frame);
+
+/* ---- Words: a link in two places of a store ---- */
+
+/*
+ * A link can lie in two places (registers) of a store that hold a number each, such as two keys of
+ * a database: the sender's end sets the one and gets the other, and the receiver's end the other
+ * way round. What an end has got it gives to its half before it does anything else, and it waits
+ * until a set is done before it gets or sets again.
+ * Laws (functions of the module register_laws of stab_line): registers_are_a_line: where each get
+ * and each set takes effect at one moment (the store is linearizable), such a link is a line of
+ * capacity 1, whatever the two places held when the count began. So the laws above are about it.
+ * registers_obey_the_law_of_their_start: where both were empty, no stray is delivered, and of the
+ * acknowledged items only the first one can be missing.
+ *
+ * The word of a frame is 2^48 + label * 2^32 + item, and of an acknowledgement 2^16 + label. Any
+ * other number shows nothing, such as 0, which an empty place can hold.
+ */
+
+/* The word to set for a frame. */
+uint64_t rignolda_word_of_frame(const rignolda_frame *frame);
+
+/* True: the word shows a frame, *frame. False: it shows none, and *frame stays as it was. */
+bool rignolda_word_frame(uint64_t word, rignolda_frame *frame);
+
+/* The word to set for the acknowledgement of a label. */
+uint64_t rignolda_word_of_label(uint16_t label);
+
+/* True: the word shows the acknowledgement of *label. False: of none; *label stays as it was. */
+bool rignolda_word_label(uint64_t word, uint16_t *label);
 
 #ifdef __cplusplus
 }

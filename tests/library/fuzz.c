@@ -411,6 +411,33 @@ static void try_session_node(void) {
     must_take_turn(before, has && (done || !fresh));
 }
 
+static void try_words(void) {
+    uint64_t word = draw() >> (draw() >> 58);
+    rignolda_frame before = *frame, other = {0, 0, 0};
+    uint16_t label_before = *label, other_label = 0;
+    part = "word_frame";
+    bool is_frame = word >> 48 == 1;
+    must(rignolda_word_frame(word, frame) == is_frame, "of a frame, from 2^48 to 2^49 - 1");
+    if (is_frame)
+        must(frame->item == (uint32_t)word && frame->label == (uint16_t)(word >> 32) &&
+             !frame->unused, "its label above its item");
+    else
+        must(!memcmp(frame, &before, sizeof before), "the frame stays");
+    part = "word_label";
+    bool is_label = word >> 16 == 1;
+    must(rignolda_word_label(word, label) == is_label, "of a label, from 2^16 to 2^17 - 1");
+    must(*label == (is_label ? (uint16_t)word : label_before), "its label");
+    part = "word_of_frame";
+    word = rignolda_word_of_frame(&before);
+    must(word == (1ull << 48 | (uint64_t)before.label << 32 | before.item), "its number");
+    must(rignolda_word_frame(word, &other) && other.label == before.label &&
+         other.item == before.item, "and back");
+    part = "word_of_label";
+    word = rignolda_word_of_label(label_before);
+    must(word == (1ull << 16 | label_before), "its number");
+    must(rignolda_word_label(word, &other_label) && other_label == label_before, "and back");
+}
+
 /* Every label, and every value of the two flags, at the receiver's and the sender's calls. */
 static void try_all_flags(void) {
     *params = (rignolda_params){64, 1000};
@@ -452,6 +479,8 @@ int main(int argc, char **argv) {
         try_session_ends();
         draw_all();
         try_session_node();
+        draw_all();
+        try_words();
     }
     try_all_params();
     if (argc > 3)

@@ -1,3 +1,4 @@
 pub mod Meaning
 pub mod NodeList
 pub mod SessionMeaning
+pub mod Word

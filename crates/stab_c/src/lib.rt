@@ -13,6 +13,7 @@ mod receiver;
 mod sender;
 mod session;
 mod session_node;
+mod word;
 
 pub use child::{Child, rignolda_child_init, rignolda_child_on_ack, rignolda_node_poll};
 pub use line::{LineFrame, LinkParams, rignolda_params_check};
@@ -34,4 +35,7 @@ pub use session::{
 };
 pub use session_node::{
     rignolda_session_child_on_ack, rignolda_session_node_on_frame, rignolda_session_poll,
+};
+pub use word::{
+    rignolda_word_frame, rignolda_word_label, rignolda_word_of_frame, rignolda_word_of_label,
 };

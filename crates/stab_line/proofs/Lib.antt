@@ -10,3 +10,4 @@ pub mod SessionNumbers
 pub mod SessionNames
 pub mod SessionCalls
 pub mod StartLaws
+pub mod RegisterLines

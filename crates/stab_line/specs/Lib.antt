@@ -11,3 +11,4 @@ pub mod SessionActs
 pub mod SessionNumbers
 pub mod SessionNames
 pub mod StartLaw
+pub mod Registers
