@@ -2,7 +2,7 @@
 use Rattle.std.proofs.Common.{◌≡◌, ℕ, ◌<◌, ◌++◌, List, length, sym, subst}
 use Rattle.stab_core.specs.LinkLaw.{LinkLaw, SharperLinkLaw}
 use Rattle.stab_core.specs.Replay.{replay, start_items}
-use Rattle.stab_tree.specs.IsTree.{IsTree}
+use Rattle.stab_tree.specs.IsTree.{IsRooted}
 use Rattle.stab_tree.specs.Nodes.{Nodes}
 use Rattle.stab_treecore.specs.NodeLaws.{LawBetween}
 use Rattle.stab_faults.proofs.Obeying.{ObeysSince}
@@ -28,13 +28,13 @@ edge_obeys Law obey m gained child parent into =
           (obey p s edge.events edge.lawful edge.bounded))),
     )
 
-pub law_of_edges_since : ObeysSince LinkLaw → (tree : Nodes) (m : Moment) (gained : ℕ → List ℕ) → IsTree tree → m.parents ≡ tree.parents
+pub law_of_edges_since : ObeysSince LinkLaw → (tree : Nodes) (m : Moment) (gained : ℕ → List ℕ) → IsRooted tree.parents → m.parents ≡ tree.parents
     → EdgesSince m gained → (node : ℕ) → node < length m.parents → LawSince m gained node
 law_of_edges_since obey tree m gained is_tree same edges node is_node =
     law_of_path tree is_tree m same gained (λ _. Unit {0}) (λ w parent on child. tt)
     (λ w parent on child. edge_obeys LinkLaw obey m gained w parent (edges w parent child)) node is_node tt
 
-pub sharper_law_of_edges_since : ObeysSince SharperLinkLaw → (tree : Nodes) (m : Moment) (gained : ℕ → List ℕ) → IsTree tree
+pub sharper_law_of_edges_since : ObeysSince SharperLinkLaw → (tree : Nodes) (m : Moment) (gained : ℕ → List ℕ) → IsRooted tree.parents
     → m.parents ≡ tree.parents → EdgesSince m gained → (node : ℕ) → node < length m.parents → SharperLawSince m gained node
 sharper_law_of_edges_since obey tree m gained is_tree same edges node is_node =
     sharper_law_of_path tree is_tree m same gained (λ _. Unit {0}) (λ w parent on child. tt)

@@ -4,7 +4,7 @@ use Rattle.std.specs.Option.{option_map_or}
 use Rattle.std.proofs.lemmas.List.{append-nil}
 use mathlib.Core.List.{IsPrefix}
 use Rattle.stab_core.specs.LinkLaw.{LinkLaw, SharperLinkLaw}
-use Rattle.stab_tree.specs.IsTree.{IsTree}
+use Rattle.stab_tree.specs.IsTree.{IsRooted}
 use Rattle.stab_tree.specs.Nodes.{Nodes, parent_at, root_of}
 use Rattle.stab_tree.specs.Steps.{depth_of}
 use Rattle.stab_tree.proofs.ForCallers.{holds_at_every_depth}
@@ -17,7 +17,7 @@ use Rattle.stab_treecore.proofs.Upwards.{complete_below, complete_past_opening, 
 use Rattle.stab_faults.specs.Moment.{Moment, old_backlog, published_above, LawSince, SharperLawSince}
 use Rattle.stab_faults.specs.Moment.{strays_since, missing_since, garbage_since, published_since}
 
-module _ (tree : Nodes) (is_tree : IsTree tree) (m : Moment) (same : m.parents ≡ tree.parents) (gained : ℕ → List ℕ)
+module _ (tree : Nodes) (is_tree : IsRooted tree.parents) (m : Moment) (same : m.parents ≡ tree.parents) (gained : ℕ → List ℕ)
     (OnPath : ℕ → Type 0) (up : (w parent : ℕ) → OnPath w → parent_at m.parents w ≡ Some parent → OnPath parent) where
   abbrev strays_of : ℕ → ℕ
   strays_of w = m.capacity w + length (old_backlog m w)
@@ -258,7 +258,7 @@ module _ (tree : Nodes) (is_tree : IsTree tree) (m : Moment) (same : m.parents �
     down_the_path node is_node on =
         let counted : Counted (depth_of m.parents node) node =
         subst (λ ps. (v : ℕ) → v < length ps → Counted (depth_of ps v) v) (sym same)
-        (holds_at_every_depth tree is_tree Counted
+        (holds_at_every_depth tree.parents is_tree Counted
         (ap (λ ps. root_of ps) (sym same), λ _. subst (λ ps. AtDepth 0 (root_of ps)) same at_root)
         (λ depth child parent is_child. counted_below depth child parent (ap (λ ps. parent_at ps child) same ∙ is_child)))
         node is_node in

@@ -198,5 +198,5 @@ module _ (obey : ObeysSince LinkLaw) (net : Network) (changes : List Change) (no
   pub keeps_its_promise : TreeLaw (most_strays net node) (most_missing net node) (path_garbage net node) end.published (received end node)
   keeps_its_promise =
       rw (← sum_above-add net.tree.parents (capacity_into net) hold_of (depth_of net.tree.parents node) node)
-      (holds_at_every_depth net.tree is.tree KeepsAt
+      (holds_at_every_depth net.tree.parents is.tree KeepsAt
       (λ _. subst (λ xs. TreeLaw 0 0 [] end.published xs) (sym at_root) (root_law end.published)) below node is_node (0, refl))

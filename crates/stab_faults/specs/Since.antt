@@ -9,7 +9,7 @@ use mathlib.Core.List.{IsPrefix}
 use Rattle.stab_frames.specs.Parameters.{AreLawful}
 use Rattle.stab_core.specs.Link.{LinkValue}
 use Rattle.stab_core.specs.Replay.{start_items}
-use Rattle.stab_tree.specs.IsTree.{IsTree}
+use Rattle.stab_tree.specs.IsTree.{IsRooted}
 use Rattle.stab_tree.specs.Nodes.{Nodes, parent_at}
 use Rattle.stab_treecore.specs.WholeTree.{WholeTree, link_into, received, source}
 use Rattle.stab_core.specs.Since.{IsBounded, start_at}
@@ -19,7 +19,7 @@ use Rattle.stab_faults.specs.Moment.{Moment}
 -- contain and whatever the labels are; a sender may hold an item; and no sender is past the end of
 -- its node's list.
 pub record IsState (tree : Nodes) (t : WholeTree) : Type 0 where
-  pub is_tree : IsTree tree
+  pub is_tree : IsRooted tree.parents
   pub parents : t.parents ≡ tree.parents
   pub linked : map is_some t.links ≡ map is_some t.parents
   pub bounded : (w : ℕ) (link : LinkValue) → link_into t w ≡ Some link

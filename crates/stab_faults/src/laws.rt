@@ -11,7 +11,7 @@ ghost use Rattle.stab_faults.specs.Moment.{strays_since, missing_since, garbage_
 ghost use Rattle.stab_faults.specs.Moment.{published_since};
 ghost use Rattle.stab_faults.specs.Since.{IsFedAt, IsState, PassesList, backlog, gained, moment};
 ghost use Rattle.stab_faults.specs.Since.{acked_at, capacity_at, queued_at};
-ghost use Rattle.stab_tree.specs.IsTree.{IsTree};
+ghost use Rattle.stab_tree.specs.IsTree.{IsRooted};
 ghost use Rattle.stab_tree.specs.Nodes.{Nodes, parent_at};
 ghost use Rattle.stab_tree.specs.Steps.{ancestor};
 ghost use Rattle.stab_treecore.specs.Network.{IsNetwork, Network};
@@ -109,10 +109,10 @@ pub fn law_of_short_backlogs()
 /// schedule but tells of each link the edge law since.
 pub fn tree_law_of_edges_since()
     ensures tree_law { (tree : Nodes) (m : Moment) (gain : ℕ → List ℕ)
-        → IsTree tree → m.parents ≡ tree.parents → EdgesSince m gain
+        → IsRooted tree.parents → m.parents ≡ tree.parents → EdgesSince m gain
         → (node : ℕ) → node < length m.parents → LawSince m gain node }
     ensures sharper { (tree : Nodes) (m : Moment) (gain : ℕ → List ℕ)
-        → IsTree tree → m.parents ≡ tree.parents → EdgesSince m gain
+        → IsRooted tree.parents → m.parents ≡ tree.parents → EdgesSince m gain
         → (node : ℕ) → node < length m.parents → SharperLawSince m gain node }
 {
     stab_core::laws::link_law_from_any_state();

@@ -1,6 +1,6 @@
 -- Numbers of entries.
 -- As many scripts as entries are made, and right numbers of entries make a job.
-use Rattle.std.proofs.Common.{nat_lt, ◌≡◌, ℕ, suc, false, List, [], ◌∷◌, length, replicate, All, Option, Some, None, Result, Ok, Err, refl, sym, ap, ◌∙◌}
+use Rattle.std.proofs.Common.{nat_lt, ◌≡◌, ◌≤◌, ℕ, suc, false, List, [], ◌∷◌, length, replicate, All, Option, Some, None, Result, Ok, Err, refl, sym, ap, ◌∙◌}
 use Rattle.std.proofs.lemmas.Bool.{eqb-true, ltb-false, or_parts}
 use Rattle.std.proofs.lemmas.List.{length-replicate}
 use Rattle.stab_json.specs.Checks.{◌>>=◌}
@@ -13,7 +13,7 @@ use Rattle.stab_core.specs.declared.start.Start.{Start}
 use Rattle.stab_core.specs.Replay.{clean_start}
 use Rattle.stab_tree.specs.Nodes.{Nodes}
 use Rattle.stab_treecore.specs.declared.event.TreeEvent.{TreeEvent}
-use Rattle.stab_tree.specs.NodeOpenings.{FitTree, OpeningsValue}
+use Rattle.stab_tree.specs.NodeOpenings.{FitTree, OpeningsValue, most_hold}
 use Rattle.stab_job.specs.JobLinks.{are_miscounted, all_made, starts_of, scripts_of}
 use Rattle.stab_job.specs.JobMembers.{Members}
 use Rattle.stab_job.specs.JobValues.{IsJob, links, most_items, most_turns}
@@ -54,14 +54,15 @@ script_each m t n scripts counted each made = length_scripts n m.scripts scripts
 
 -- members whose numbers of entries and turns are right are those of a job
 pub parts_of_job : (m : Members) (t : Nodes) (params : List Parameters) (n : ℕ) (starts : List Start) (scripts : List Acts) (events : List TreeEvent) (openings : OpeningsValue)
-    → length params ≡ links t → All AreLawful params → AreCounted (links t) m → length scripts ≡ links t → n ≡ links t → starts ≡ starts_of n m.starts → are_out_of_range m.turns ≡ false → FitTree t.parents openings
+    → length params ≡ links t → All AreLawful params → AreCounted (links t) m → length scripts ≡ links t → n ≡ links t → starts ≡ starts_of n m.starts → are_out_of_range m.turns ≡ false → FitTree t.parents openings → openings.hold ≤ most_hold
     → IsJob (record { params = params; tree = t; items = m.items; starts = starts; scripts = scripts; turns = m.turns; schedule = events; openings = openings })
-parts_of_job m t params n starts scripts events openings params_each lawful counted script_each each are_starts in_range fit = record {
+parts_of_job m t params n starts scripts events openings params_each lawful counted script_each each are_starts in_range fit few_held = record {
   one_params_each = params_each;
   lawful_params = lawful;
   one_start_each = ap length are_starts ∙ length_starts n m.starts (rw each counted.one_start_each) ∙ each;
   one_script_each = script_each;
   openings_fit = fit;
+  few_held = few_held;
   few_items = ltb-false most_items (length m.items) counted.few_items;
   some_turns = ltb-false m.turns 1 (or_parts (nat_lt m.turns 1) (nat_lt most_turns m.turns) in_range).0;
   few_turns = ltb-false most_turns m.turns (or_parts (nat_lt m.turns 1) (nat_lt most_turns m.turns) in_range).1;

@@ -9,7 +9,7 @@ use Rattle.stab_tree.specs.Links.{links_of}
 use Rattle.stab_tree.specs.Nodes.{Nodes}
 use Rattle.stab_treecore.specs.declared.event.TreeEvent.{TreeEvent}
 use Rattle.stab_treecore.specs.Network.{Network, network_of}
-use Rattle.stab_tree.specs.NodeOpenings.{FitTree, OpeningsValue}
+use Rattle.stab_tree.specs.NodeOpenings.{FitTree, OpeningsValue, most_hold}
 
 pub record JobValue : Type 0 where
   pub params : List Parameters
@@ -38,13 +38,14 @@ abbrev pub network : JobValue → Network
 network j = network_of j.params j.tree j.items j.starts j.openings
 
 -- each link has lawful parameters, a start and a script, the openings are those of the tree, and
--- the items and turns are within their limits
+-- the items of an opening, the published items and the turns are within their limits
 pub record IsJob (j : JobValue) : Type 0 where
   pub one_params_each : length j.params ≡ links j.tree
   pub lawful_params : All AreLawful j.params
   pub one_start_each : length j.starts ≡ links j.tree
   pub one_script_each : length j.scripts ≡ links j.tree
   pub openings_fit : FitTree j.tree.parents j.openings
+  pub few_held : j.openings.hold ≤ most_hold
   pub few_items : length j.items ≤ most_items
   pub some_turns : 1 ≤ j.turns
   pub few_turns : j.turns ≤ most_turns

@@ -1,13 +1,13 @@
 //! What a job says of the openings of its nodes.
 
-ghost use Rattle.std.specs.Prelude.{◌≡◌, ◌≢◌, [], codes, length, replicate, IfErr, IfOk, MatchResult};
-ghost use Rattle.std.specs.Prelude.{Err, Ok, true};
+ghost use Rattle.std.specs.Prelude.{◌≡◌, ◌≢◌, ◌≤◌, [], codes, length, replicate, IfErr, IfOk};
+ghost use Rattle.std.specs.Prelude.{Err, MatchResult, Ok, true};
 ghost use Rattle.serde_json.specs.Find.{get};
 ghost use Rattle.serde_json.specs.View.{view};
 ghost use Rattle.stab_json.specs.Values.{item_number, list_of};
 ghost use Rattle.stab_job.specs.JobOpenings.{hold_of, lists_given, lists_of, openings_of};
 ghost use Rattle.stab_job.specs.Refusals.{is_of_value};
-ghost use Rattle.stab_tree.specs.NodeOpenings.{FitTree};
+ghost use Rattle.stab_tree.specs.NodeOpenings.{FitTree, most_hold};
 
 use crate::fault::JobFault;
 use crate::members::list_member;
@@ -96,6 +96,7 @@ pub(crate) fn openings_of(
         (λ openings. openings_of tree.now hold given ≡ Ok openings)
         (λ fault. fault ≢ JobFault.Memory → openings_of tree.now hold given ≡ Err fault) }
     ensures fit { IfOk result (FitTree tree.now.parents) }
+    ensures few_held { IfOk result (λ openings. openings.hold ≤ most_hold) }
     ensures reported { IfErr result (λ fault. is_of_value fault ≡ true) }
 {
     let lists = lists_of(alloc, tree.len(), given)?;

@@ -6,7 +6,7 @@ use Rattle.std.specs.Option.{option_map_or}
 use mathlib.Core.List.{IsPrefix}
 use Rattle.std.specs.Prelude.{option_and_then}
 use Rattle.stab_core.specs.LinkLaw.{LinkLaw}
-use Rattle.stab_tree.specs.IsTree.{IsTree}
+use Rattle.stab_tree.specs.IsTree.{IsRooted}
 use Rattle.stab_tree.specs.Nodes.{parent_at, root_of}
 use Rattle.stab_tree.specs.Steps.{ancestor, depth_of}
 use Rattle.stab_tree.proofs.ForCallers.{child_is_node, holds_at_every_depth}
@@ -23,7 +23,7 @@ use Rattle.stab_judge.specs.Reports.{ReportValue, received_at}
 -- the laws of the layers below that this needs
 abbrev pub LinksMakeTheTreeLaw : Type 0
 LinksMakeTheTreeLaw =
-    (net : Network) (received : ℕ → List ℕ) → IsTree net.tree → FitTree net.tree.parents net.openings
+    (net : Network) (received : ℕ → List ℕ) → IsRooted net.tree.parents → FitTree net.tree.parents net.openings
     → received (root_of net.tree.parents) ≡ net.published
     → ((child parent : ℕ) → parent_at net.tree.parents child ≡ Some parent → LinkLawInto net child (received parent) (received child))
     → TreeLawAtNodes net received
@@ -48,7 +48,7 @@ LargerBoundsHold =
     (few most_strays first most_missing : ℕ) (garbage published received : List ℕ) → few ≤ most_strays → first ≤ most_missing
     → CompleteLaw few first garbage published received → CompleteLaw most_strays most_missing garbage published received
 
-module _ (net : Network) (r : ReportValue) (tree : IsTree net.tree)
+module _ (net : Network) (r : ReportValue) (tree : IsRooted net.tree.parents)
     (nodes : (node : ℕ) → node < length net.tree.parents → NodeObeys net r node) where
   -- the root obeys
   pub root_obeys : RootObeys net r (root_of net.tree.parents)
@@ -63,7 +63,7 @@ module _ (net : Network) (r : ReportValue) (tree : IsTree net.tree)
       subst (λ up. MatchOption up (RootObeys net r child) (λ p. LinkObeys net r child p × HandsOn r child p)) is_child
       (nodes child (child_is_node net.tree.parents child parent is_child))
 
-module _ (net : Network) (r : ReportValue) (tree : IsTree net.tree) (fit : FitTree net.tree.parents net.openings)
+module _ (net : Network) (r : ReportValue) (tree : IsRooted net.tree.parents) (fit : FitTree net.tree.parents net.openings)
     (root : RootObeys net r (root_of net.tree.parents))
     (links : (child parent : ℕ) → parent_at net.tree.parents child ≡ Some parent → LinkObeys net r child parent)
     (handed : (child parent : ℕ) → parent_at net.tree.parents child ≡ Some parent → HandsOn r child parent) where
@@ -147,4 +147,4 @@ module _ (net : Network) (r : ReportValue) (tree : IsTree net.tree) (fit : FitTr
     pub complete : CompleteBelowEnded net r
     complete node is_node above_ended =
         rw (← sum_above-add parents (capacity_into net) hold (depth_of parents node) node)
-        (holds_at_every_depth net.tree tree CompleteAt root_complete child_complete node is_node above_ended)
+        (holds_at_every_depth net.tree.parents tree CompleteAt root_complete child_complete node is_node above_ended)

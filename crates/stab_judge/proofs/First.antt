@@ -3,7 +3,7 @@ use Rattle.std.proofs.Common.{◌≡◌, ℕ, zero, suc, ◌<◌, ◌≤◌, inl
 use Rattle.std.proofs.lemmas.Bool.{cases_lt}
 use Rattle.std.proofs.lemmas.List.{append_cancel_left}
 use Rattle.std.proofs.lemmas.Option.{none-some, same_Some}
-use Rattle.stab_tree.specs.IsTree.{IsTree}
+use Rattle.stab_tree.specs.IsTree.{IsRooted}
 use Rattle.stab_tree.specs.Nodes.{parent_at, root_of}
 use Rattle.stab_tree.specs.NodeOpenings.{opening_at}
 use Rattle.stab_treecore.specs.Network.{Network}
@@ -50,7 +50,7 @@ pub opened_there : (net : Network) (r : ReportValue) (child : ℕ) (delivered : 
     → received_at r child ≡ opening_at net.openings.lists child ++ delivered → ¬ IsBroken net r (broken.Opening child)
 opened_there net r child delivered has = λ wrong. wrong.1 delivered has
 
-module _ (net : Network) (r : ReportValue) (tree : IsTree net.tree) (entries : OnePerNode net.tree.parents r) where
+module _ (net : Network) (r : ReportValue) (tree : IsRooted net.tree.parents) (entries : OnePerNode net.tree.parents r) where
   abbrev parents : List (Option ℕ)
   parents = net.tree.parents
 

@@ -7,7 +7,7 @@ ghost use Rattle.stab_judge.specs.Obeys.{Obeys, RootObeys};
 ghost use Rattle.stab_judge.specs.Reports.{OnePerNode, ReportValue, acked_at, received_at};
 ghost use Rattle.stab_judge.specs.Reports.{report_of};
 ghost use Rattle.stab_judge.specs.declared.broken.Broken.{Broken};
-ghost use Rattle.stab_tree.specs.IsTree.{IsTree};
+ghost use Rattle.stab_tree.specs.IsTree.{IsRooted};
 ghost use Rattle.stab_tree.specs.Nodes.{parent_at, root_of};
 ghost use Rattle.stab_treecore.specs.EdgeLaw.{EdgeInto};
 ghost use Rattle.stab_treecore.specs.Network.{IsNetwork, Network};
@@ -19,7 +19,7 @@ ghost use Rattle.stab_tree.specs.NodeOpenings.{FitTree};
 /// all ended with their upstream: nothing else is asked of a report.
 pub fn nodes_that_obey_are_enough()
     ensures { (net : Network) (report : ReportValue)
-        → IsTree net.tree → FitTree net.tree.parents net.openings
+        → IsRooted net.tree.parents → FitTree net.tree.parents net.openings
         → OnePerNode net.tree.parents report
         → ((node : ℕ) → node < length net.tree.parents → NodeObeys net report node)
         → Obeys net report }
@@ -40,7 +40,7 @@ pub fn explained_reports_obey()
         → acked_at report child ≡ Some edge.acked
         → LinkObeys net report child parent }
     ensures report { (net : Network) (report : ReportValue)
-        → IsTree net.tree → FitTree net.tree.parents net.openings
+        → IsRooted net.tree.parents → FitTree net.tree.parents net.openings
         → OnePerNode net.tree.parents report
         → RootObeys net report (root_of net.tree.parents)
         → ((child parent : ℕ) → parent_at net.tree.parents child ≡ Some parent

@@ -108,11 +108,11 @@ first_told : (nodes : Nodes) (text : List ℕ) (r : ReportValue) (end : ℕ → 
     → IsPrint nodes text r end → Tells text told → told ≡ end 0
 first_told nodes text r end told tree print tells =
     let n = length nodes.parents in
-    let some : 0 < length r.acked = omega (arith, tree.some_node, print.entries.acked) in
+    let some : 0 < length r.acked = omega (arith, tree.rooted.some_node, print.entries.acked) in
     tells (get_or nodes.names 0 []) (depth_of nodes.parents 0) (received_at r 0) (acked_at r 0) (end 0)
     (flat_map (lines_at nodes r end) (range_with_len 1 (n - 1))) (one_line_at nodes.names 0 tree.lawful_names)
     (print.printable.counts 0 None some)
-    (print.the_text ∙ next_lines (lines_at nodes r end) 0 n (n - 1) (omega (arith, tree.some_node)))
+    (print.the_text ∙ next_lines (lines_at nodes r end) 0 n (n - 1) (omega (arith, tree.rooted.some_node)))
 
 -- a text whose first line says why a node ended is of no tree, and another one of no report
 pub ended_is_no_tree : (nodes : Nodes) (text : List ℕ) (told : Option Bool) → IsTree nodes → Tells text told → is_some told ≡ true

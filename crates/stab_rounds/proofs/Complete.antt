@@ -105,4 +105,4 @@ module _ (obey : ReplaysObey LinkLaw) (net : Network) (is : IsNetwork net) (t : 
       → CompleteLaw (most_strays net node) (most_missing net node) (path_garbage net node) net.published (received t node)
   complete_at node is_node drained =
       rw (← sum_above-add parents (capacity_into net) hold (depth_of parents node) node)
-      (holds_at_every_depth net.tree is.tree CompleteAt root_complete child_complete node is_node drained)
+      (holds_at_every_depth net.tree.parents is.tree CompleteAt root_complete child_complete node is_node drained)

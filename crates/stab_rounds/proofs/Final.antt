@@ -52,7 +52,7 @@ module _ (net : Network) (is : IsNetwork net) where
   path_below : (number : ℕ → ℕ) (w u : ℕ) → parent_at parents w ≡ Some u
       → sum_above parents number (depth_of parents w) w ≡ number w + sum_above parents number (depth_of parents u) u
   path_below number w u is_child =
-      ap (λ d. sum_above parents number d w) (child_is_deeper net.tree is.tree w u is_child)
+      ap (λ d. sum_above parents number d w) (child_is_deeper net.tree.parents is.tree w u is_child)
       ∙ ap (λ o. number w + option_map_or (sum_above parents number (depth_of parents u)) o 0) is_child
 
   pub best_below : (w u : ℕ) → parent_at parents w ≡ Some u → best u + capacity_into net w ≤ best w
@@ -60,7 +60,7 @@ module _ (net : Network) (is : IsNetwork net) where
       omega (arith, path_below (capacity_into net) w u is_child, path_below (hold_at parents net.openings.hold) w u is_child)
 
   pub deeper : (w u : ℕ) → parent_at parents w ≡ Some u → depth w ≡ depth u + 1
-  deeper w u is_child = omega (arith, child_is_deeper net.tree is.tree w u is_child)
+  deeper w u is_child = omega (arith, child_is_deeper net.tree.parents is.tree w u is_child)
 
   pub most_above : (w u : ℕ) → parent_at parents w ≡ Some u → Most (fixed_of net) (initial_tree net) u (best u)
   most_above w u is_child = most_at_start net is u (is.tree.known_parents w u is_child)

@@ -135,4 +135,4 @@ module _ (net : Network) (is : IsNetwork net) where
   pub most_at_start : (node : ℕ) → node < length parents → Most (fixed_of net) (initial_tree net) node (length net.published + most_strays net node)
   most_at_start node is_node =
       rw (← sum_above-add parents (capacity_into net) hold (depth_of parents node) node)
-      (holds_at_every_depth net.tree is.tree MostAt (top is.tree.root_has_none (omega arith)) most_below node is_node)
+      (holds_at_every_depth net.tree.parents is.tree MostAt (top is.tree.root_has_none (omega arith)) most_below node is_node)

@@ -10,7 +10,7 @@ use Rattle.stab_core.specs.LinkLaw.{LinkLaw}
 use Rattle.stab_core.specs.LinkSetup.{LinkSetup}
 use Rattle.stab_core.specs.Replay.{IsLawful, initial, replay, start_items}
 use Rattle.stab_frames.specs.Parameters.{AreLawful, Parameters}
-use Rattle.stab_tree.specs.IsTree.{IsTree}
+use Rattle.stab_tree.specs.IsTree.{IsRooted}
 use Rattle.stab_tree.specs.Nodes.{parent_at, root_of}
 use Rattle.stab_tree.specs.Steps.{ancestor, depth_of}
 use Rattle.stab_tree.proofs.ForCallers.{holds_at_every_depth}
@@ -53,7 +53,7 @@ LargerBoundsHold =
     → CompleteLaw few first garbage published received → CompleteLaw most_strays most_missing garbage published received
 
 module _ (obey : ReplaysObey) (at_root : RootIsComplete) (at_child : ChildIsComplete) (past_opening : OpeningsAddStrays) (larger : LargerBoundsHold)
-    (net : Network) (report : Reported) (tree : IsTree net.tree) (fit : FitTree net.tree.parents net.openings) (root : RootHas net report)
+    (net : Network) (report : Reported) (tree : IsRooted net.tree.parents) (fit : FitTree net.tree.parents net.openings) (root : RootHas net report)
     (explained : AreExplained net report) (handed : HandsOn net.tree.parents report) where
   abbrev parents : List (Option ℕ)
   parents = net.tree.parents
@@ -138,4 +138,4 @@ module _ (obey : ReplaysObey) (at_root : RootIsComplete) (at_child : ChildIsComp
   pub complete_below_ended : CompleteBelowEnded net report
   complete_below_ended node is_node above_ended =
       rw (← sum_above-add parents (capacity_into net) hold (depth_of parents node) node)
-      (holds_at_every_depth net.tree tree CompleteAt root_complete child_complete node is_node above_ended)
+      (holds_at_every_depth net.tree.parents tree CompleteAt root_complete child_complete node is_node above_ended)

@@ -5,7 +5,7 @@ ghost use Rattle.std.specs.Prelude.{◌≡◌, ℕ, All, List, Some};
 ghost use Rattle.stab_run.specs.Reports.{Reported};
 ghost use Rattle.stab_run.specs.Runs.{AreExplained, CompleteBelowEnded, HandsOn, RootHas};
 ghost use Rattle.stab_run.specs.Runs.{TreeLawByDepth};
-ghost use Rattle.stab_tree.specs.IsTree.{IsTree};
+ghost use Rattle.stab_tree.specs.IsTree.{IsRooted};
 ghost use Rattle.stab_tree.specs.Nodes.{parent_at};
 ghost use Rattle.stab_treecore.specs.Network.{Network};
 ghost use Rattle.stab_treecore.specs.NodeLaws.{HalfTreeLawAtNodes, LinkLawInto, TreeLawAtNodes};
@@ -18,15 +18,15 @@ ghost use Rattle.stab_node.specs.ByNode.{received_at};
 /// law; and the sharper law, which counts the strays that a node received.
 pub fn explained_reports_obey_the_tree_law()
     ensures tree_law { (net : Network) (report : Reported)
-        → IsTree net.tree → FitTree net.tree.parents net.openings
+        → IsRooted net.tree.parents → FitTree net.tree.parents net.openings
         → RootHas net report → AreExplained net report
         → TreeLawAtNodes net (received_at report.received) }
     ensures half_tree_law { (net : Network) (report : Reported)
-        → IsTree net.tree → FitTree net.tree.parents net.openings
+        → IsRooted net.tree.parents → FitTree net.tree.parents net.openings
         → RootHas net report → AreExplained net report
         → HalfTreeLawAtNodes net (received_at report.received) }
     ensures sharper_tree_law { (net : Network) (report : Reported)
-        → IsTree net.tree → FitTree net.tree.parents net.openings
+        → IsRooted net.tree.parents → FitTree net.tree.parents net.openings
         → RootHas net report → AreExplained net report
         → SharperTreeLawAtNodes net (received_at report.received) }
 {
@@ -52,7 +52,7 @@ pub fn explained_links_obey_the_link_law()
 /// first M, where M is the sum of 2c + 1 over the links on a node's path to the root.
 pub fn nothing_is_missing_below_ended_nodes()
     ensures { (net : Network) (report : Reported)
-        → IsTree net.tree → FitTree net.tree.parents net.openings
+        → IsRooted net.tree.parents → FitTree net.tree.parents net.openings
         → RootHas net report → AreExplained net report → HandsOn net.tree.parents report
         → CompleteBelowEnded net report }
 {
@@ -67,7 +67,7 @@ pub fn nothing_is_missing_below_ended_nodes()
 /// of openings, and no item is missing before its last one except among the first 3d.
 pub fn tree_law_of_one_place()
     ensures { (net : Network) (received : ℕ → List ℕ)
-        → IsTree net.tree → OnePerLink net.tree.parents net.links
+        → IsRooted net.tree.parents → OnePerLink net.tree.parents net.links
         → All (λ link. link.params.capacity ≡ 1) net.links
         → TreeLawAtNodes net received
         → TreeLawByDepth net received }

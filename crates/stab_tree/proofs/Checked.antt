@@ -120,14 +120,17 @@ IsTree-from_checks es ps passed deep =
     let inside = root_inside ps passed.one in
     let known = known_parents passed in
     record {
+      rooted =
+          record {
+            some_node = omega arith;
+            known_parents = known;
+            root_is_node = inside;
+            root_has_none = root-none ps inside;
+            one_root = λ w within none. root-alone ps w passed.one within none;
+            reaches_root = λ w within. let h = have_depths-at ps deep w within in (h.0, reaches_root ps known passed.one w h.0 within h.1);
+          };
       named = length-map es (λ (e : Entry). e.name) ∙ sym same_length;
       lawful_names = passed.lawful;
       own_names = own_names (names_of es) passed.own;
-      some_node = omega arith;
       few_nodes = few_parents passed;
-      known_parents = known;
-      root_is_node = inside;
-      root_has_none = root-none ps inside;
-      one_root = λ w within none. root-alone ps w passed.one within none;
-      reaches_root = λ w within. let h = have_depths-at ps deep w within in (h.0, reaches_root ps known passed.one w h.0 within h.1);
     }

@@ -14,7 +14,7 @@ use Rattle.stab_tree.specs.declared.fault.TreeFault.TheVariants.{Shape, TooManyN
 use Rattle.stab_json.specs.Checks.{◌>>◌, ◌when◌}
 use Rattle.stab_tree.specs.Describes.{IsParent, Describes, HasCycle}
 use Rattle.stab_tree.specs.Entry.{Entry, entries_of, names_of}
-use Rattle.stab_tree.specs.IsTree.{IsTree}
+use Rattle.stab_tree.specs.IsTree.{IsRooted, IsTree}
 use Rattle.stab_tree.specs.Name.{is_name, has_same_name}
 use Rattle.stab_tree.specs.Nodes.{Nodes, most_nodes, parent_at, place_of}
 use Rattle.stab_tree.specs.Steps.{depth_at}
@@ -143,8 +143,8 @@ parents_are names (e ∷ es) (p ∷ ps) apart same each =
     rw (parent_is names e p apart (each 0 e refl), parents_are names es ps apart (omega arith) (λ w x at. each (suc w) x at)) refl
 
 -- each node of a tree has a depth, so the last check passes
-depths_pass : (t : Nodes) → IsTree t → have_depths t.parents ≡ true
-depths_pass t tree = have_depths-all t.parents (λ w within. let walk = tree.reaches_root w within in rw (depth_found t tree w walk.0 within walk.1).0 refl)
+depths_pass : (ps : List (Option ℕ)) → IsRooted ps → have_depths ps ≡ true
+depths_pass ps rooted = have_depths-all ps (λ w within. let walk = rooted.reaches_root w within in rw (depth_found ps rooted w walk.0 within walk.1).0 refl)
 
 -- a tree that is described is read
 tree_read : (d : Data) (t : Nodes) → Describes d t → IsTree t → tree_of d ≡ Ok t
@@ -163,10 +163,10 @@ tree_read d t described tree =
         lawful = lawful;
         own = no_same_name (names_of es) apart;
         found = parents_are (names_of es) es t.parents apart described.number each;
-        one = one_root t tree;
+        one = one_root t.parents tree.rooted;
       };
     } in
-    tree_of-listed d listed true (depths_pass t tree) ∙ rw (← described.names) refl
+    tree_of-listed d listed true (depths_pass t.parents tree.rooted) ∙ rw (← described.names) refl
 
 -- a tree that is read is described
 tree_described : (d : Data) (t : Nodes) → tree_of d ≡ Ok t → Describes d t × IsTree t

@@ -8,7 +8,7 @@ use Rattle.std.specs.List.{list_any}
 use Rattle.stab_tree.specs.Nodes.{parent_at}
 use Rattle.stab_tree.specs.declared.opening_fault.OpeningFault.{OpeningFault}
 use Rattle.stab_tree.specs.declared.opening_fault.OpeningFault.TheVariants as fault
-use Rattle.stab_tree.specs.NodeOpenings.{OpeningsValue, FitTree, has_child, hold_at, is_inner, is_misplaced, most_hold, opening_at, openings_fault}
+use Rattle.stab_tree.specs.NodeOpenings.{OpeningsValue, FitTree, has_child, hold_at, is_inner, is_misplaced, lists_fault, opening_at}
 
 -- what is not false
 not_false : (b : Bool) → not b ≡ false → b ≡ true
@@ -46,9 +46,8 @@ each_opening parents hold node (suc place) (list ∷ lists) placed short =
     let few = neither (nat_lt hold (length list)) (list_any (λ l. nat_lt hold (length l)) lists) short in
     subst (λ w. length (get_or lists place []) ≤ hold_at parents hold w) here (each_opening parents hold (node + 1) place lists first.1 few.1)
 
--- the openings of a tree are few enough, and there is one for each node
+-- there is an opening for each node of a tree, and each is short enough
 pub record AreOpenings (parents : List (Option ℕ)) (openings : OpeningsValue) : Type 0 where
-  pub few_held : openings.hold ≤ most_hold
   pub one_per_node : length openings.lists ≡ length parents
   pub short : (node : ℕ) → length (opening_at openings.lists node) ≤ hold_at parents openings.hold node
 
@@ -66,13 +65,10 @@ openings_fit parents openings fit =
     let too_long = list_any (λ list. nat_lt hold (length list)) lists in
     let after_place : Option OpeningFault = if too_long then Some fault.OpeningTooLong else None in
     let after_count : Option OpeningFault = if is_misplaced parents 0 lists then Some fault.OpeningPlace else after_place in
-    let after_held : Option OpeningFault = if not (length lists == length parents) then Some fault.OpeningCount else after_count in
-    let (held, passed_held) = passed (nat_lt most_hold hold) fault.HoldOutOfRange after_held fit in
-    let (counted, passed_count) = passed (not (length lists == length parents)) fault.OpeningCount after_count passed_held in
+    let (counted, passed_count) = passed (not (length lists == length parents)) fault.OpeningCount after_count fit in
     let (placed, passed_place) = passed (is_misplaced parents 0 lists) fault.OpeningPlace after_place passed_count in
     let (short, no_more) = passed too_long fault.OpeningTooLong None passed_place in
     record {
-      few_held = ltb-false most_hold hold held;
       one_per_node = same_from_test (length lists) (length parents) counted;
       short =
           λ node.
@@ -100,7 +96,7 @@ none_too_long : (count : ℕ) → list_any (λ (list : List ℕ). nat_lt 0 (leng
 none_too_long zero = refl
 none_too_long (suc count) = none_too_long count
 
-pub empty_lists_fit : (parents : List (Option ℕ)) (count : ℕ) → count ≡ length parents → openings_fault parents 0 (replicate count []) ≡ None
+pub empty_lists_fit : (parents : List (Option ℕ)) (count : ℕ) → count ≡ length parents → lists_fault parents 0 (replicate count []) ≡ None
 empty_lists_fit parents count same =
     let counted : not (length (replicate {A = List ℕ} count []) == length parents) ≡ false =
     test_of_same (length (replicate {A = List ℕ} count [])) (length parents) (length-replicate {A = List ℕ} count [] ∙ same) in

@@ -9,8 +9,8 @@ use Rattle.std.proofs.Common.{◌≡◌, ℕ, zero, suc, ◌<◌, List, [], ◌�
 use Rattle.std.proofs.lemmas.List.Elements.{All-head, All-tail}
 use Rattle.std.proofs.lemmas.Option.{none-some, same_Some}
 use Rattle.stab_tree.specs.ByChild.{by_child}
-use Rattle.stab_tree.specs.IsTree.{IsTree}
-use Rattle.stab_tree.specs.Nodes.{Nodes, parent_at, root_of}
+use Rattle.stab_tree.specs.IsTree.{IsRooted}
+use Rattle.stab_tree.specs.Nodes.{parent_at, root_of}
 use Rattle.stab_tree.specs.Steps.{ancestor, depth_of}
 use Rattle.stab_tree.specs.Links.{links_from}
 use Rattle.stab_tree.proofs.Links.{length-links_from}
@@ -25,6 +25,20 @@ links_counted_anywhere parents v w = omega (arith, length-links_from v parents, 
 
 -- ---- induction from the root
 
+-- where so many parent steps lead to a child, one more leads to its parent
+pub one_step_further : (parents : List (Option ℕ)) (steps node child parent : ℕ) → ancestor parents steps node ≡ Some child
+    → parent_at parents child ≡ Some parent → ancestor parents (suc steps) node ≡ Some parent
+one_step_further parents zero node child parent leads is_child =
+    let same : node ≡ child = cc in
+    ancestor-suc parents 0 node parent (ap (parent_at parents) same ∙ is_child)
+one_step_further parents (suc steps) node child parent leads is_child =
+    elim (option_cases (parent_at parents node)) [
+      | inl none ↦ (let no_step = ancestor-none parents steps node none in cc)
+      | inr (above, has) ↦
+          ancestor-suc parents (suc steps) node above has
+          ∙ one_step_further parents steps above child parent (sym (ancestor-suc parents steps node above has) ∙ leads) is_child
+    ]
+
 -- what passes from each parent to its child passes down a path
 passes_down : (parents : List (Option ℕ)) (P : ℕ → Type 0)
     → ((child parent : ℕ) → parent_at parents child ≡ Some parent → P parent → P child)
@@ -38,29 +52,29 @@ passes_down parents P passes (suc steps) node above leads holds =
           (passes_down parents P passes steps parent above (sym (ancestor-suc parents steps node parent is_child) ∙ leads) holds)
     ]
 
-module _ (t : Nodes) (tree : IsTree t) where
+module _ (parents : List (Option ℕ)) (rooted : IsRooted parents) where
   -- what holds of the root, and passes from each parent to its child, holds of every node
-  pub holds_of_every_node : (P : ℕ → Type 0) → P (root_of t.parents)
-      → ((child parent : ℕ) → parent_at t.parents child ≡ Some parent → P parent → P child)
-      → (node : ℕ) → node < length t.parents → P node
+  pub holds_of_every_node : (P : ℕ → Type 0) → P (root_of parents)
+      → ((child parent : ℕ) → parent_at parents child ≡ Some parent → P parent → P child)
+      → (node : ℕ) → node < length parents → P node
   holds_of_every_node P at_root passes node within =
-      let path = tree.reaches_root node within in
-      passes_down t.parents P passes path.0 node (root_of t.parents) path.1 at_root
+      let path = rooted.reaches_root node within in
+      passes_down parents P passes path.0 node (root_of parents) path.1 at_root
 
   -- a child is one step deeper than its parent
-  pub child_is_deeper : (child parent : ℕ) → parent_at t.parents child ≡ Some parent → depth_of t.parents child ≡ suc (depth_of t.parents parent)
+  pub child_is_deeper : (child parent : ℕ) → parent_at parents child ≡ Some parent → depth_of parents child ≡ suc (depth_of parents parent)
   child_is_deeper child parent is_child =
-      (tree_depths t tree).child_depth child parent (child_is_node t.parents child parent is_child) is_child ∙ add-one (depth_of t.parents parent)
+      (tree_depths parents rooted).child_depth child parent (child_is_node parents child parent is_child) is_child ∙ add-one (depth_of parents parent)
 
   -- what holds of the root at depth 0, and passes from each parent to its child one step deeper, holds of every node at its depth
-  pub holds_at_every_depth : (P : ℕ → ℕ → Type 0) → P 0 (root_of t.parents)
-      → ((depth child parent : ℕ) → parent_at t.parents child ≡ Some parent → P depth parent → P (suc depth) child)
-      → (node : ℕ) → node < length t.parents → P (depth_of t.parents node) node
+  pub holds_at_every_depth : (P : ℕ → ℕ → Type 0) → P 0 (root_of parents)
+      → ((depth child parent : ℕ) → parent_at parents child ≡ Some parent → P depth parent → P (suc depth) child)
+      → (node : ℕ) → node < length parents → P (depth_of parents node) node
   holds_at_every_depth P at_root passes =
-      holds_of_every_node (λ node. P (depth_of t.parents node) node)
-      (subst (λ depth. P depth (root_of t.parents)) (sym (tree_depths t tree).root_depth) at_root)
+      holds_of_every_node (λ node. P (depth_of parents node) node)
+      (subst (λ depth. P depth (root_of parents)) (sym (tree_depths parents rooted).root_depth) at_root)
       (λ child parent is_child above.
-      subst (λ depth. P depth child) (sym (child_is_deeper child parent is_child)) (passes (depth_of t.parents parent) child parent is_child above))
+      subst (λ depth. P depth child) (sym (child_is_deeper child parent is_child)) (passes (depth_of parents parent) child parent is_child above))
 
 -- ---- what belongs to the link into each node
 

@@ -15,7 +15,7 @@ use Rattle.stab_tree.specs.Nodes.{parent_at}
 use Rattle.stab_tree.specs.declared.opening_fault.OpeningFault.{OpeningFault}
 use Rattle.stab_tree.specs.declared.opening_fault.OpeningFault.TheVariants as fault
 
--- the most items that any opening may have
+-- the most items that any opening that is read may have
 abbrev pub most_hold : ℕ
 most_hold = 64
 
@@ -48,15 +48,21 @@ is_misplaced parents node (list ∷ lists) =
     (nat_lt 0 (length list) && not (is_inner parents node))
     || is_misplaced parents (node + 1) lists
 
--- why these lists are no openings of a tree: the first check that fails
-abbrev pub openings_fault : List (Option ℕ) → ℕ → List (List ℕ) → Option OpeningFault
-openings_fault parents hold lists =
-    if nat_lt most_hold hold then Some fault.HoldOutOfRange
-    else if not (length lists == length parents) then Some fault.OpeningCount
+-- why these lists do not fit a tree with these parents, however many items one of them may have:
+-- the first check that fails
+abbrev pub lists_fault : List (Option ℕ) → ℕ → List (List ℕ) → Option OpeningFault
+lists_fault parents hold lists =
+    if not (length lists == length parents) then Some fault.OpeningCount
     else if is_misplaced parents 0 lists then Some fault.OpeningPlace
     else if list_any (λ list. nat_lt hold (length list)) lists then Some fault.OpeningTooLong
     else None
 
--- these are openings of a tree with these parents
+-- why these lists are not read as the openings of a tree: the first check that fails
+abbrev pub openings_fault : List (Option ℕ) → ℕ → List (List ℕ) → Option OpeningFault
+openings_fault parents hold lists =
+    if nat_lt most_hold hold then Some fault.HoldOutOfRange else lists_fault parents hold lists
+
+-- these are openings of a tree with these parents; laws ask no more, and readers also refuse a hold
+-- of more than 64
 abbrev pub FitTree : List (Option ℕ) → OpeningsValue → Type 0
-FitTree parents openings = openings_fault parents openings.hold openings.lists ≡ None
+FitTree parents openings = lists_fault parents openings.hold openings.lists ≡ None

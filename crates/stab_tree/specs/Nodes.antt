@@ -4,7 +4,7 @@ use Rattle.std.specs.Prelude.{ℕ, List, Option, None, is_none, slice_index_or}
 use Rattle.std.specs.List.{position, position_or_len}
 use Rattle.std.specs.Str.{bytes_eq}
 
--- the most nodes that a tree has
+-- the most nodes that a tree has which is read
 abbrev pub most_nodes : ℕ
 most_nodes = 64
 

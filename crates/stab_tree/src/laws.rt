@@ -2,7 +2,7 @@
 ghost use Rattle.std.specs.Prelude.{◌≡◌, ℕ, ◌<◌, ◌↔◌, List, length, Option, Some, Ok, Err};
 ghost use Rattle.stab_tree.specs.Depth.{EndsAfter, HasDepths};
 ghost use Rattle.stab_tree.specs.Describes.{Describes, HasCycle};
-ghost use Rattle.stab_tree.specs.IsTree.{IsTree};
+ghost use Rattle.stab_tree.specs.IsTree.{IsRooted, IsTree};
 ghost use Rattle.stab_tree.specs.Links.{HasLinks};
 ghost use Rattle.stab_tree.specs.Nodes.{Nodes, parent_at};
 ghost use Rattle.stab_tree.specs.Read.{tree_of};
@@ -20,14 +20,14 @@ pub fn depth_is_steps()
         → (depth_at parents w ≡ Some k) ↔ (EndsAfter parents w k) }
 {}
 
-/// In a tree the root has depth 0, and each other node one more than its parent.
+/// In a tree of any size the root has depth 0, and each other node one more than its parent.
 pub fn trees_have_depths()
-    ensures { (t : Nodes) → IsTree t → HasDepths t.parents }
+    ensures { (parents : List (Option ℕ)) → IsRooted parents → HasDepths parents }
 {}
 
-/// In a tree each node but the root has one link, in file order.
+/// In a tree of any size each node but the root has one link, in file order.
 pub fn trees_have_links()
-    ensures { (t : Nodes) → IsTree t → HasLinks t.parents }
+    ensures { (parents : List (Option ℕ)) → IsRooted parents → HasLinks parents }
 {}
 
 /// A value is read to a tree exactly if it describes that tree.

@@ -1,7 +1,8 @@
 ghost use Rattle.std.specs.List.{list_any};
-ghost use Rattle.std.specs.Prelude.{◌≡◌, ◌<◌, ◌&&◌, [], IfErr, IfOk, Some, length, nat_lt, not, replicate};
+ghost use Rattle.std.specs.Prelude.{◌≡◌, ◌<◌, ◌≤◌, ◌&&◌, [], IfErr, IfOk, Some, length, nat_lt};
+ghost use Rattle.std.specs.Prelude.{not, replicate};
 ghost use Rattle.stab_tree.specs.NodeOpenings.{FitTree, has_child, is_inner, is_misplaced};
-ghost use Rattle.stab_tree.specs.NodeOpenings.{opening_at, openings_fault};
+ghost use Rattle.stab_tree.specs.NodeOpenings.{most_hold, opening_at, openings_fault};
 
 use crate::node::NodeId;
 use crate::opening_fault::OpeningFault;
@@ -38,6 +39,7 @@ impl Openings {
         ensures openings { IfOk result (λ openings.
             openings ≡ record { hold = hold; lists = lists.items }) }
         ensures fit { IfOk result (FitTree tree.now.parents) }
+        ensures few_held { IfOk result (λ openings. openings.hold ≤ most_hold) }
         ensures one_per_node { IfOk result (λ openings.
             length openings.lists ≡ length tree.now.parents) }
         ensures refused { IfErr result (λ fault.

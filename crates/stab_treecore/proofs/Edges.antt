@@ -6,7 +6,7 @@ use Rattle.stab_core.specs.declared.start.Start.{Start}
 use Rattle.stab_core.specs.LinkLaw.{LinkLaw, SharperLinkLaw}
 use Rattle.stab_core.specs.LinkSetup.{LinkSetup}
 use Rattle.stab_core.specs.Replay.{IsLawful, initial, replay, start_items}
-use Rattle.stab_tree.specs.IsTree.{IsTree}
+use Rattle.stab_tree.specs.IsTree.{IsRooted}
 use Rattle.stab_tree.specs.Nodes.{parent_at, root_of}
 use Rattle.stab_treecore.specs.EdgeLaw.{EdgeLaw, EdgeInto}
 use Rattle.stab_treecore.specs.Network.{Network}
@@ -43,7 +43,7 @@ module _ (Law : ℕ → List ℕ → List ℕ → ℕ → List ℕ → Type 0) (
       )
 
 -- the tree law at each node
-pub edges_obey : ReplaysObey LinkLaw → (net : Network) (received : ℕ → List ℕ) → IsTree net.tree → FitTree net.tree.parents net.openings
+pub edges_obey : ReplaysObey LinkLaw → (net : Network) (received : ℕ → List ℕ) → IsRooted net.tree.parents → FitTree net.tree.parents net.openings
     → received (root_of net.tree.parents) ≡ net.published
     → ((child parent : ℕ) → parent_at net.tree.parents child ≡ Some parent → EdgeInto net child (received parent) (received child))
     → TreeLawAtNodes net received
@@ -52,7 +52,7 @@ edges_obey obey net received tree fit at_root edges =
     (λ child parent is_child. edge_into_obeys LinkLaw obey net child (received parent) (received child) (edges child parent is_child))
 
 -- and the sharper one
-pub edges_obey_sharper : ReplaysObey SharperLinkLaw → (net : Network) (received : ℕ → List ℕ) → IsTree net.tree
+pub edges_obey_sharper : ReplaysObey SharperLinkLaw → (net : Network) (received : ℕ → List ℕ) → IsRooted net.tree.parents
     → FitTree net.tree.parents net.openings → received (root_of net.tree.parents) ≡ net.published
     → ((child parent : ℕ) → parent_at net.tree.parents child ≡ Some parent → EdgeInto net child (received parent) (received child))
     → SharperTreeLawAtNodes net received

@@ -1,6 +1,6 @@
 -- The links of a whole tree after something happened to each of them.
 use Rattle.std.proofs.Common.{◌≡◌, ◌≢◌, ◌==◌, ℕ, zero, suc, ◌+◌, ◌<◌, ◌≤◌, List, [], ◌∷◌, ◌++◌, length, map, get_or, set, Option, Some, None, is_some, option_map, Bool, true, false, if◌then◌else◌, refl, ap, sym, ◌∙◌, inl, inr, arith, eq-eqb, eqb-true}
-use Rattle.std.proofs.lemmas.Bool.{cases_eq, cases_lt}
+use Rattle.std.proofs.lemmas.Bool.{cases_eq}
 use Rattle.std.proofs.lemmas.List.{append-nil, get_or-set_other, get_or-set_same, length-set, get_or_default, same_lists}
 use Rattle.std.proofs.lemmas.Option.{none-some, same_Some}
 use Rattle.stab_core.specs.declared.start.Start.{Start}

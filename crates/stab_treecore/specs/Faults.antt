@@ -6,7 +6,7 @@
 -- Example: In the chain r, a, b the restart of a with the list 50 leaves r its list and its offers,
 -- leaves b its list, and makes a's list 50: b is offered 50 next (`examples.worked_out`).
 -- Source: this project's own.
-use Rattle.std.specs.Prelude.{ℕ, ◌+◌, ◌==◌, Bool, false, List, [], ◌∷◌, ◌++◌, slice_set, Option, Some}
+use Rattle.std.specs.Prelude.{ℕ, ◌+◌, ◌==◌, Bool, false, List, [], ◌∷◌, ◌++◌, slice_set, Option}
 use Rattle.std.specs.Prelude.{option_map, if◌then◌else◌}
 use Rattle.std.specs.Option.{option_map_or}
 use Rattle.stab_core.specs.declared.start.Start.{Start}

@@ -7,7 +7,7 @@ use Rattle.std.specs.Prelude.{◌≡◌, ℕ, List, length, All, Option, None, s
 use Rattle.stab_frames.specs.Parameters.{Parameters}
 use Rattle.stab_core.specs.declared.start.Start.{Start}
 use Rattle.stab_core.specs.LinkSetup.{CanBegin, LinkSetup, setups}
-use Rattle.stab_tree.specs.IsTree.{IsTree}
+use Rattle.stab_tree.specs.IsTree.{IsRooted}
 use Rattle.stab_tree.specs.Links.{links_of}
 use Rattle.stab_tree.specs.Nodes.{Nodes}
 use Rattle.stab_tree.specs.ByChild.{by_child}
@@ -39,7 +39,7 @@ setup_into net node = slice_index_or (by_child net.tree.parents net.links) node 
 -- its nodes are a tree, its openings fit it, and into each node but the root there is one link,
 -- which can begin
 pub record IsNetwork (net : Network) : Type 0 where
-  pub tree : IsTree net.tree
+  pub tree : IsRooted net.tree.parents
   pub openings_fit : FitTree net.tree.parents net.openings
   pub one_per_link : length net.links ≡ length (links_of net.tree.parents)
   pub can_begin : All CanBegin net.links

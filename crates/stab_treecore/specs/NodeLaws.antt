@@ -76,9 +76,12 @@ HalfTreeLawAtNodes net received =
     (node : ℕ) → node < length net.tree.parents
     → HalfTreeLaw (most_strays net node) (path_garbage net node) net.published (received node)
 
--- the tree law at each node
+-- the tree law at one node, and at each node
+abbrev pub TreeLawAtNode : Network → (ℕ → List ℕ) → ℕ → Type 0
+TreeLawAtNode net received node =
+    TreeLaw (most_strays net node) (most_missing net node) (path_garbage net node)
+    net.published (received node)
+
 abbrev pub TreeLawAtNodes : Network → (ℕ → List ℕ) → Type 0
 TreeLawAtNodes net received =
-    (node : ℕ) → node < length net.tree.parents
-    → TreeLaw (most_strays net node) (most_missing net node) (path_garbage net node)
-    net.published (received node)
+    (node : ℕ) → node < length net.tree.parents → TreeLawAtNode net received node

@@ -46,9 +46,12 @@ abbrev pub fewest_missing : Network → ℕ → ℕ
 fewest_missing net node =
     peak_above net.tree.parents (capacity_into net) (depth_of net.tree.parents node) node
 
--- the sharper tree law at each node
+-- the sharper tree law at one node, and at each node
+abbrev pub SharperTreeLawAtNode : Network → (ℕ → List ℕ) → ℕ → Type 0
+SharperTreeLawAtNode net received node =
+    SharperTreeLaw (most_strays net node) (missing_without_strays net node)
+    (fewest_missing net node) (path_garbage net node) net.published (received node)
+
 abbrev pub SharperTreeLawAtNodes : Network → (ℕ → List ℕ) → Type 0
 SharperTreeLawAtNodes net received =
-    (node : ℕ) → node < length net.tree.parents
-    → SharperTreeLaw (most_strays net node) (missing_without_strays net node)
-    (fewest_missing net node) (path_garbage net node) net.published (received node)
+    (node : ℕ) → node < length net.tree.parents → SharperTreeLawAtNode net received node

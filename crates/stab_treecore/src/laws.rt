@@ -8,20 +8,22 @@ ghost use Rattle.stab_core.specs.declared.start.Start.{Start};
 ghost use Rattle.stab_core.specs.LinkLaw.{HalfLaw, LinkLaw, SharperLinkLaw};
 ghost use Rattle.stab_core.specs.Replay.{IsLawful, start_items};
 ghost use Rattle.stab_frames.specs.Parameters.{AreLawful, Parameters};
-ghost use Rattle.stab_tree.specs.IsTree.{IsTree};
+ghost use Rattle.stab_tree.specs.IsTree.{IsRooted};
 ghost use Rattle.stab_tree.specs.Nodes.{parent_at, root_of};
-ghost use Rattle.stab_tree.specs.Steps.{depth_of};
+ghost use Rattle.stab_tree.specs.Steps.{ancestor, depth_of};
 ghost use Rattle.stab_treecore.specs.declared.event.TreeEvent.{TreeEvent};
 ghost use Rattle.stab_treecore.specs.EdgeLaw.{EdgeLaw, EdgeInto};
 ghost use Rattle.stab_treecore.specs.Network.{IsNetwork, Network};
 ghost use Rattle.stab_treecore.specs.NodeLaws.{garbage_into, path_garbage, strays_bound};
 ghost use Rattle.stab_treecore.specs.NodeLaws.{most_strays, most_missing};
-ghost use Rattle.stab_treecore.specs.NodeLaws.{LinkLawBetween, LinkLawInto};
-ghost use Rattle.stab_treecore.specs.NodeLaws.{HalfTreeLawAtNodes, TreeLawAtNodes};
+ghost use Rattle.stab_treecore.specs.NodeLaws.{LawInto, LinkLawBetween, LinkLawInto};
+ghost use Rattle.stab_treecore.specs.NodeLaws.{HalfTreeLawAtNodes, TreeLawAtNode};
+ghost use Rattle.stab_treecore.specs.NodeLaws.{TreeLawAtNodes};
 ghost use Rattle.stab_tree.specs.NodeOpenings.{FitTree};
 ghost use Rattle.stab_treecore.specs.Paths.{path_lists};
-ghost use Rattle.stab_treecore.specs.SharperLaw.{SharperTreeLaw, SharperTreeLawAtNodes};
-ghost use Rattle.stab_treecore.specs.SharperLaw.{fewest_missing, missing_without_strays};
+ghost use Rattle.stab_treecore.specs.SharperLaw.{SharperTreeLaw, SharperTreeLawAtNode};
+ghost use Rattle.stab_treecore.specs.SharperLaw.{SharperTreeLawAtNodes, fewest_missing};
+ghost use Rattle.stab_treecore.specs.SharperLaw.{missing_without_strays};
 ghost use Rattle.stab_treecore.specs.Refusals.{OnePerLink};
 ghost use Rattle.stab_treecore.specs.TreeLaw.{HalfTreeLaw, TreeLaw, CompleteLaw};
 ghost use Rattle.stab_treecore.specs.TreeReplay.{initial_tree, tree_replay};
@@ -108,11 +110,32 @@ pub fn tree_law_past_an_opening()
 /// along its path.
 pub fn tree_law_at_every_node()
     ensures { (net : Network) (received : ℕ → List ℕ)
-        → IsTree net.tree → FitTree net.tree.parents net.openings
+        → IsRooted net.tree.parents → FitTree net.tree.parents net.openings
         → received (root_of net.tree.parents) ≡ net.published
         → ((child parent : ℕ) → parent_at net.tree.parents child ≡ Some parent
         → LinkLawInto net child (received parent) (received child))
         → TreeLawAtNodes net received }
+{}
+
+/// The tree law at one node, and the sharper one, where the links on its path alone are known to
+/// obey the link law.
+pub fn tree_law_along_a_path()
+    ensures tree_law { (net : Network) (received : ℕ → List ℕ) (node : ℕ)
+        → IsRooted net.tree.parents → FitTree net.tree.parents net.openings
+        → received (root_of net.tree.parents) ≡ net.published
+        → node < length net.tree.parents
+        → ((steps child parent : ℕ) → ancestor net.tree.parents steps node ≡ Some child
+        → parent_at net.tree.parents child ≡ Some parent
+        → LinkLawInto net child (received parent) (received child))
+        → TreeLawAtNode net received node }
+    ensures sharper { (net : Network) (received : ℕ → List ℕ) (node : ℕ)
+        → IsRooted net.tree.parents → FitTree net.tree.parents net.openings
+        → received (root_of net.tree.parents) ≡ net.published
+        → node < length net.tree.parents
+        → ((steps child parent : ℕ) → ancestor net.tree.parents steps node ≡ Some child
+        → parent_at net.tree.parents child ≡ Some parent
+        → LawInto SharperLinkLaw net child (received parent) (received child))
+        → SharperTreeLawAtNode net received node }
 {}
 
 /// From the edge law that a run tells of a link to the link law: between the parent's list and what
@@ -134,7 +157,7 @@ pub fn link_law_of_an_edge()
 /// The tree law at every node, where a run keeps no schedule but tells the edge law of each link.
 pub fn tree_law_of_edges()
     ensures { (net : Network) (received : ℕ → List ℕ)
-        → IsTree net.tree → FitTree net.tree.parents net.openings
+        → IsRooted net.tree.parents → FitTree net.tree.parents net.openings
         → received (root_of net.tree.parents) ≡ net.published
         → ((child parent : ℕ) → parent_at net.tree.parents child ≡ Some parent
         → EdgeInto net child (received parent) (received child))
@@ -161,7 +184,7 @@ pub fn sharper_tree_law_of_the_child()
 /// link.
 pub fn sharper_tree_law_of_edges()
     ensures { (net : Network) (received : ℕ → List ℕ)
-        → IsTree net.tree → FitTree net.tree.parents net.openings
+        → IsRooted net.tree.parents → FitTree net.tree.parents net.openings
         → received (root_of net.tree.parents) ≡ net.published
         → ((child parent : ℕ) → parent_at net.tree.parents child ≡ Some parent
         → EdgeInto net child (received parent) (received child))
@@ -188,7 +211,7 @@ pub fn sharper_bounds_are_smaller()
     ensures at_any_rate { (net : Network) (node : ℕ)
         → fewest_missing net node ≤ most_missing net node }
     ensures of_one_capacity { (net : Network) (capacity node : ℕ)
-        → IsTree net.tree → OnePerLink net.tree.parents net.links
+        → IsRooted net.tree.parents → OnePerLink net.tree.parents net.links
         → All (λ link. link.params.capacity ≡ capacity) net.links
         → node < length net.tree.parents → 1 ≤ depth_of net.tree.parents node
         → fewest_missing net node ≡ depth_of net.tree.parents node * (capacity + 1) + capacity }
@@ -198,12 +221,12 @@ pub fn sharper_bounds_are_smaller()
 /// link.
 pub fn bounds_of_one_capacity()
     ensures strays { (net : Network) (capacity node : ℕ)
-        → IsTree net.tree → OnePerLink net.tree.parents net.links
+        → IsRooted net.tree.parents → OnePerLink net.tree.parents net.links
         → All (λ link. link.params.capacity ≡ capacity) net.links
         → node < length net.tree.parents
         → strays_bound net node ≡ depth_of net.tree.parents node * capacity }
     ensures missing { (net : Network) (capacity node : ℕ)
-        → IsTree net.tree → OnePerLink net.tree.parents net.links
+        → IsRooted net.tree.parents → OnePerLink net.tree.parents net.links
         → All (λ link. link.params.capacity ≡ capacity) net.links
         → node < length net.tree.parents
         → most_missing net node ≡ depth_of net.tree.parents node * (2 * capacity + 1) }

@@ -11,4 +11,5 @@ returns-clause-lawful c =
     let each = one_params_each t c.args.params m.links c.in_ok-params.params c.capacity-lawful.ensures.lawful c.in_ok-params.ensures.params in
     rw c.in_ok-turns.ensures.0 (parts_of_job (borrowed_members m) t c.in_ok-params.params c.link_count.result c.in_ok-starts.starts c.args.scripts
     c.in_ok-schedule.schedule c.in_ok-openings.openings each.number each.lawful c.requires.counted c.requires.one_script_each c.link_count.ensures.value
-    (rw c.take-2.ensures.value at c.in_ok-starts.ensures) c.in_ok-turns.ensures.1 c.in_ok-openings.ensures.fit)
+    (rw c.take-2.ensures.value at c.in_ok-starts.ensures) c.in_ok-turns.ensures.1 c.in_ok-openings.ensures.fit
+    c.in_ok-openings.ensures.few_held)

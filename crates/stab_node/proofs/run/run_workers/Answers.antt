@@ -29,7 +29,7 @@ returns-clause-ended g c =
 -- what is gathered belongs, link by link, to the links that were scattered
 pub returns-clause-sender_links : goal.returns-clause-sender_links
 returns-clause-sender_links g c =
-    rows_gathered_alike _ _ _ _ c.requires.senders c.root-root.ensures.tree.known_parents _ _ c.in_ok-accounts.ensures.down_links c.in_ok-gathered.ensures.senders c.in_ok-gathered.ensures.sends
+    rows_gathered_alike _ _ _ _ c.requires.senders c.root-root.ensures.tree.rooted.known_parents _ _ c.in_ok-accounts.ensures.down_links c.in_ok-gathered.ensures.senders c.in_ok-gathered.ensures.sends
 
 pub returns-clause-receiver_links : goal.returns-clause-receiver_links
 returns-clause-receiver_links g c =
@@ -39,7 +39,7 @@ pub returns-clause-root : goal.returns-clause-root
 returns-clause-root g c =
     root_at (initial_at (root_of c.args.tree.now.parents) c.args.published.now c.args.openings.now.lists) _ g.U.RecvSide.done_received g.D.SendSide.done_sent _ _ _ _ _ _ _ _ _
     c.in_ok-gathered.ensures.received c.in_ok-gathered.ensures.ended c.in_ok-gathered.ensures.recvs c.in_ok-gathered.ensures.sends c.in_ok-accounts.ensures.work
-    c.root-root.ensures.tree.root_has_none c.root-root.ensures.tree.root_is_node
+    c.root-root.ensures.tree.rooted.root_has_none c.root-root.ensures.tree.rooted.root_is_node
     ∙ first_at_root (root_of c.args.tree.now.parents) c.args.published.now c.args.openings.now.lists
 
 pub returns-clause-delivered : goal.returns-clause-delivered
@@ -49,13 +49,13 @@ returns-clause-delivered g c = λ child done is.
     child done is
     ∙ ap (λ first. first ++ (g.U.RecvSide.done_received done).delivered)
     (first_below (root_of c.args.tree.now.parents) c.args.published.now c.args.openings.now.lists c.args.tree.now.parents c.in_ok-gathered.gathered.recvs.items
-    child done (parent_at c.args.tree.now.parents child) c.root-root.ensures.tree.root_has_none refl is)
+    child done (parent_at c.args.tree.now.parents child) c.root-root.ensures.tree.rooted.root_has_none refl is)
 
 pub returns-clause-served : goal.returns-clause-served
 returns-clause-served g c =
     served_at (initial_at (root_of c.args.tree.now.parents) c.args.published.now c.args.openings.now.lists) _ g.U.RecvSide.done_received g.D.SendSide.done_sent _ _ _ _ _ _ _ _ _
     c.in_ok-gathered.ensures.received c.in_ok-gathered.ensures.ended c.in_ok-gathered.ensures.recvs c.in_ok-gathered.ensures.sends c.in_ok-accounts.ensures.work
-    c.root-root.ensures.tree.known_parents
+    c.root-root.ensures.tree.rooted.known_parents
 
 pub returns-clause-upstream : goal.returns-clause-upstream
 returns-clause-upstream g c =
@@ -66,11 +66,11 @@ pub returns-clause-handed_on : goal.returns-clause-handed_on
 returns-clause-handed_on g c =
     handed_on_at (initial_at (root_of c.args.tree.now.parents) c.args.published.now c.args.openings.now.lists) _ g.U.RecvSide.done_received g.D.SendSide.done_sent _ _ _ _ _ _ _ _ _
     c.in_ok-gathered.ensures.received c.in_ok-gathered.ensures.ended c.in_ok-gathered.ensures.recvs c.in_ok-gathered.ensures.sends c.in_ok-accounts.ensures.work
-    c.root-root.ensures.tree.known_parents
+    c.root-root.ensures.tree.rooted.known_parents
 
 pub returns-clause-offers : goal.returns-clause-offers
 returns-clause-offers g c =
     offers_at (λ received done. OffersUnlessRefused g.D.SendSide.may_refuse_offer received (g.D.SendSide.done_link done) (g.D.SendSide.done_sent done))
     c.args.tree.now.parents (λ a. a.received.items) (λ a. a.up) (λ a. a.downs.items) (λ a. a.ended) c.in_ok-accounts.accounts.items _ _
     c.in_ok-gathered.ensures.received c.in_ok-gathered.ensures.sends c.in_ok-accounts.ensures.offers
-    c.root-root.ensures.tree.known_parents
+    c.root-root.ensures.tree.rooted.known_parents

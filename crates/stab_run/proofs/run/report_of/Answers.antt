@@ -1,9 +1,9 @@
 use Rattle.std.proofs.Common.{◌≡◌, List, Option, ℕ, None, ap, length, map, sym, ◌∙◌, subst}
 use Rattle.stab_core.proofs.Setups.{as_many_setups}
 use Rattle.stab_job.specs.JobValues.{network}
-use Rattle.stab_tree.specs.IsTree.{IsTree}
+use Rattle.stab_tree.specs.IsTree.{IsRooted}
 use Rattle.stab_tree.specs.Links.{links_of}
-use Rattle.stab_tree.specs.Nodes.{parent_at, root_of}
+use Rattle.stab_tree.specs.Nodes.{Nodes, parent_at, root_of}
 use Rattle.stab_tree.specs.ByChild.{by_child}
 use Rattle.stab_treecore.specs.Network.{IsNetwork}
 use Rattle.stab_node.proofs.ForCallers.{at_error}
@@ -42,10 +42,10 @@ returns-clause-report c =
     let one_each : length net.links ≡ length (links_of net.tree.parents) =
     as_many_setups job.params job.starts (its_job.one_params_each ∙ sym its_job.one_start_each) ∙ its_job.one_start_each in
     let none : parent_at net.tree.parents (root_of net.tree.parents) ≡ None =
-    rw c.tree-tree.ensures.tree at c.root-root.ensures.tree.root_has_none in
+    rw c.tree-tree.ensures.tree at c.root-root.ensures.tree.rooted.root_has_none in
     let is_network : IsNetwork net =
     record {
-      tree = subst IsTree c.tree-tree.ensures.tree c.root-root.ensures.tree;
+      tree = subst (λ (t : Nodes). IsRooted t.parents) c.tree-tree.ensures.tree c.root-root.ensures.tree.rooted;
       openings_fit = its_job.openings_fit;
       one_per_link = one_each;
       can_begin = c.requires.lawful;

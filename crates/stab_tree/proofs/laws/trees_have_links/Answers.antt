@@ -3,4 +3,4 @@ use Rattle.stab_tree.proofs.Trees.{one_root}
 use Rattle.stab_tree.proofs.laws.trees_have_links.Goals as goal
 
 pub returns : goal.returns
-returns c = λ t tree. tree_links t.parents (one_root t tree)
+returns c = λ parents rooted. tree_links parents (one_root parents rooted)

@@ -9,7 +9,7 @@ pub returns-clause-network : goal.returns-clause-network
 returns-clause-network c =
     let begun = c.in_ok-state.ensures in
     record {
-      tree = c.root-tree.ensures.tree;
+      tree = c.root-tree.ensures.tree.rooted;
       openings_fit = c.requires.fit;
       one_per_link = as_many_setups c.args.params.now c.args.starts.now (begun.params_per_link ∙ sym begun.one_per_link) ∙ begun.one_per_link;
       can_begin = begun.lawful;

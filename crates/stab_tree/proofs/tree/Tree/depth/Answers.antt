@@ -9,7 +9,7 @@ depth_is : (c : After-index-2) → DepthIs c.args.self.now.parents c.args.node c
 depth_is c =
     let read : c.index-2.result.now ≡ slice_index c.self.inside.depths.items c.args.node = grind (arith, common_steps) in
     let within = rw (← c.self.view_is) at c.requires in
-    rw (← c.self.view_is) (stored_depth _ c.self.invariant.tree c.args.node c.index-2.result.now within (c.self.invariant.depths_are.depth_is c.args.node within ∙ ap Some (sym read)))
+    rw (← c.self.view_is) (stored_depth _ c.self.invariant.tree.rooted c.args.node c.index-2.result.now within (c.self.invariant.depths_are.depth_is c.args.node within ∙ ap Some (sym read)))
 
 pub returns-clause-steps : goal.returns-clause-steps
 returns-clause-steps c = (depth_is (goal.at.returns-clause-steps c).After-index-2).steps

@@ -8,7 +8,7 @@ use Rattle.stab_tree.proofs.tree.Tree.link_child.Goals.{Else-place}
 after_root : (c : Else-place) → LinkInto c.args.self.now.parents c.args.place (c.args.place + 1)
 after_root c =
     let within = rw (← c.self.view_is) at c.requires in
-    let one = one_root _ c.self.invariant.tree in
+    let one = one_root _ c.self.invariant.tree.rooted in
     let number = length-links_from 0 c.self.inside.parents.items in
     let root = c.self.invariant.root_is in
     rw (← c.self.view_is) (link_after_root _ one c.args.place (omega arith) (omega arith))
@@ -21,7 +21,7 @@ overflow_add-place c =
 
 pub returns-then-place-clause-value : goal.returns-then-place-clause-value
 returns-then-place-clause-value c =
-    let one = one_root _ c.self.invariant.tree in
+    let one = one_root _ c.self.invariant.tree.rooted in
     let root = c.self.invariant.root_is in
     rw (← c.self.view_is, c.new.ensures) (link_before_root c.self.inside.parents.items one c.args.place (omega arith)).at
 

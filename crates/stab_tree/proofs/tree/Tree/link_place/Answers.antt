@@ -8,14 +8,14 @@ use Rattle.stab_tree.proofs.tree.Tree.link_place.Goals.{Then-place, Else-place}
 -- before the root the link is at the place of its child
 before_root : (c : Then-place) → LinkInto c.args.self.now.parents c.args.node c.args.node
 before_root c =
-    let one = one_root _ c.self.invariant.tree in
+    let one = one_root _ c.self.invariant.tree.rooted in
     let root = c.self.invariant.root_is in
     rw (← c.self.view_is) (link_before_root c.self.inside.parents.items one c.args.node (omega arith))
 
 -- after the root it is one place earlier
 after_root : (c : Else-place) → LinkInto c.args.self.now.parents (c.args.node - 1) c.args.node
 after_root c =
-    let one = one_root _ c.self.invariant.tree in
+    let one = one_root _ c.self.invariant.tree.rooted in
     let root = c.self.invariant.root_is in
     let apart = eqb-false _ _ (sym c.eq.ensures ∙ c.if-eq.false) in
     let next : c.args.node - 1 + 1 ≡ c.args.node = omega (arith, apart) in
@@ -24,12 +24,12 @@ after_root c =
 
 pub returns-then-index-len-clause-value : goal.returns-then-index-len-clause-value
 returns-then-index-len-clause-value c =
-    let one = one_root _ c.self.invariant.tree in
+    let one = one_root _ c.self.invariant.tree.rooted in
     rw (← c.self.view_is) (sym (link_none c.self.inside.parents.items one c.args.node (inr (omega (arith, c.self.inside.parents.ok.0)))))
 
 pub returns-then-eq-clause-value : goal.returns-then-eq-clause-value
 returns-then-eq-clause-value c =
-    let one = one_root _ c.self.invariant.tree in
+    let one = one_root _ c.self.invariant.tree.rooted in
     let root = c.self.invariant.root_is in
     rw (← c.self.view_is) (sym (link_none c.self.inside.parents.items one c.args.node (inl (eqb-true _ _ (sym c.eq.ensures ∙ c.if-eq.true) ∙ root))))
 

@@ -19,9 +19,9 @@ invariant_of-result c =
       linked =
           linked_nodes parents (map opened net.links) 0
           (length-map net.links opened ∙ as_many_setups c.args.params.now c.args.starts.now (omega arith) ∙ omega arith);
-      known_parents = c.root-root.ensures.tree.known_parents;
-      root_has_none = c.root-root.ensures.tree.root_has_none;
-      one_root = c.root-root.ensures.tree.one_root;
+      known_parents = c.root-root.ensures.tree.rooted.known_parents;
+      root_has_none = c.root-root.ensures.tree.rooted.root_has_none;
+      one_root = c.root-root.ensures.tree.rooted.one_root;
       one_opening_each =
           (openings_fit parents c.args.openings.now c.requires.fit).one_per_node ∙ sym (length-by_child parents (map opened net.links));
       one_list_each =

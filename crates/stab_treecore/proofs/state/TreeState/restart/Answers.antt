@@ -1,9 +1,7 @@
-use Rattle.std.proofs.Common.{◌≡◌, ◌<◌, ◌++◌, ℕ, List, Option, Bool, [], is_some, get_or, length, map, set, if◌then◌else◌, None, ap, subst, sym, ◌∙◌, arith}
-use Rattle.std.proofs.lemmas.List.{get_or_read, length-map, length-set, map-set}
-use Rattle.stab_core.specs.Link.{LinkValue}
+use Rattle.std.proofs.Common.{◌≡◌, ◌<◌, List, Bool, is_some, get_or, length, map, set, if◌then◌else◌, None, ap, subst, sym, ◌∙◌, arith}
+use Rattle.std.proofs.lemmas.List.{get_or_read, length-map, map-set}
 use Rattle.stab_treecore.specs.Faults.{each_link, restarted_at, restarted_tree}
 use Rattle.stab_treecore.specs.TreeInside.{IsSound}
-use Rattle.stab_treecore.specs.WholeTree.{WholeTree}
 use Rattle.stab_treecore.proofs.Happened.{built, published_at_root, sound_restarted}
 use Rattle.stab_treecore.proofs.state.TreeState.restart.Goals as goal
 

@@ -1,5 +1,5 @@
-use Rattle.std.proofs.Common.{◌≡◌, ◌<◌, ◌++◌, [], is_some, get_or, length, map, set, None, Some, ap, subst, sym, ◌∙◌, arith}
-use Rattle.std.proofs.lemmas.List.{get_or_read, length-map, length-set}
+use Rattle.std.proofs.Common.{◌≡◌, ◌<◌, ◌++◌, is_some, get_or, length, map, None, ap, sym, ◌∙◌, arith}
+use Rattle.std.proofs.lemmas.List.{get_or_read, length-set}
 use Rattle.stab_tree.specs.NodeOpenings.{opening_at}
 use Rattle.stab_treecore.proofs.Linked.{kind-set}
 use Rattle.stab_treecore.proofs.Listed.{as_before, listed_struck}
