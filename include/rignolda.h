@@ -39,18 +39,22 @@
  *   - two_ends_on_a_line_obey_the_link_law: so at most capacity strays (items that lay on the line)
  *     are delivered, then offered items in their order, each at most once; and of the acknowledged
  *     items only some among the first 2 * capacity + 1 can be missing.
- *   - a_tree_of_nodes_obeys_the_tree_law: let each link of a tree of at most 64 nodes be such a
+ *   - a_tree_of_nodes_obeys_the_tree_law: let each link of a tree, of however many nodes, be such a
  *     line, with lawful parameters of its own; let the list of each inner node (neither the root
- *     nor a leaf) begin with at most h items, h being at most 64, and the list of a leaf with none.
+ *     nor a leaf) begin with at most h items, h being any number, and the list of a leaf with none.
  *     C, M and E are the sums over a node's path from the root: of capacity and of 2 * capacity + 1
  *     over the links, and of h over the inner nodes, itself among them. Then the node's list is at
  *     most C + E strays and after them published items in their order, each at most once; and
- *     before its last one only some among the first M can be missing. When the count begins, a
- *     child was offered nothing yet, or its sender holds the first item of the list; what lies
- *     before that item in the buffer is not counted. Where the children of a node are at different
- *     items then, this is no one list. The law holds of each path by itself, as of a tree that is
- *     this path alone: there the list of a node begins with the first item that its child on the
- *     path has not acknowledged.
+ *     before its last one only some among the first M can be missing. By the same law these are no
+ *     more than the first N, the greatest of the following sums, one for each link of the path: the
+ *     link's 2 * capacity + 1, and capacity + 1 of each link above it. Where each capacity is 1, at
+ *     depth d M is 3 * d and N is 2 * d + 1. So N harmless items after a restart are enough. Fewer
+ *     are not: under some schedule all N are missing (sharper_bounds_are_reached, a law of
+ *     stab_reached). When the count begins, a child was offered nothing yet, or its sender holds
+ *     the first item of the list; what lies before that item in the buffer is not counted. Where
+ *     the children of a node are at different items then, this is no one list, and the law holds of
+ *     each path by itself, whatever the links beside it do: there the list of a node begins with
+ *     the first item that its child on the path has not acknowledged.
  *   - calls_of_nodes_are_acts_of_the_tree: what the calls do makes up what these laws are about.
  *     Each call that steps an end, or says what to send, has a clause `act`, which says what step
  *     of the laws' own definitions it is.

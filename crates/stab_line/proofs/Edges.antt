@@ -6,14 +6,16 @@ use Rattle.stab_frames.specs.declared.frame.Frame.{Frame}
 use Rattle.stab_frames.specs.Parameters.{Parameters, AreLawful}
 use Rattle.stab_core.specs.LinkLaw.{LinkLaw}
 use Rattle.stab_core.proofs.ForCallers.{prefix_of_grown, prefix_of_prefix, prefix_with_next}
+use Rattle.stab_core.proofs.LinkLaws.{replay_link_law}
 use Rattle.stab_treecore.specs.TreeLaw.{TreeLaw}
+use Rattle.stab_treecore.proofs.Replayed.{ReplaysObey}
 use Rattle.stab_treecore.proofs.Upwards.{law_below, law_past_opening}
 use Rattle.stab_line.specs.Ends.{SenderEnd, ReceiverEnd, accepts, offered_to}
 use Rattle.stab_line.specs.Line.{Line, LineAct, line_step, line_run, held, with_taken, receives_frame, receives_ack}
 use Rattle.stab_line.specs.Line.{offer_item, frame_sent, frame_comes, ack_sent, ack_comes, frame_lost, ack_lost, sender_closes, receiver_closes}
 use Rattle.stab_line.specs.Edge.{Edge, EdgeAct, is_offer, offers_next, edge_step, edge_run, new_edge}
 use Rattle.stab_line.specs.Edge.{list_grows, child_polled, on_line}
-use Rattle.stab_line.proofs.Lines.{line_obeys_law}
+use Rattle.stab_line.proofs.Lines.{line_obeys}
 
 -- the sender was offered the front of the list, of this length
 record Kept (e : Edge) : Type 0 where
@@ -131,17 +133,18 @@ pub offers_prefix : (p : Parameters) (list : List ℕ) (frames : List Frame) (ac
 offers_prefix p list frames acks sender receiver acts begins =
     (after_run p (new_edge list frames acks sender receiver) acts (record { counted = refl; begins = begins })).kept.begins
 
--- and the link law holds of what happened on the line
-pub edge_obeys_law : (p : Parameters) (list : List ℕ) (frames : List Frame) (acks : List ℕ) (sender : SenderEnd)
+-- and a law of all replays holds of what happened on the line
+pub edge_obeys : (Law : ℕ → List ℕ → List ℕ → ℕ → List ℕ → Type 0) → ReplaysObey Law
+    → (p : Parameters) (list : List ℕ) (frames : List Frame) (acks : List ℕ) (sender : SenderEnd)
     (receiver : ReceiverEnd) (acts : List EdgeAct) → AreLawful p → length frames ≤ p.capacity → length acks ≤ p.capacity
     → IsPrefix (held sender.state.item) list
     → let e = edge_run p (new_edge list frames acks sender receiver) acts in
-    LinkLaw p.capacity (map (λ f. f.item) frames) e.line.offered e.line.acked e.line.delivered
-edge_obeys_law p list frames acks sender receiver acts lawful few_frames few_acks begins =
+    Law p.capacity (map (λ f. f.item) frames) e.line.offered e.line.acked e.line.delivered
+edge_obeys Law obey p list frames acks sender receiver acts lawful few_frames few_acks begins =
     let before : Edge = new_edge list frames acks sender receiver in
     let led : Led p before (edge_run p before acts) = after_run p before acts (record { counted = refl; begins = begins }) in
-    subst (λ (l : Line). LinkLaw p.capacity (map (λ f. f.item) frames) l.offered l.acked l.delivered) led.leads
-    (line_obeys_law p frames acks sender receiver led.acts lawful few_frames few_acks)
+    subst (λ (l : Line). Law p.capacity (map (λ f. f.item) frames) l.offered l.acked l.delivered) led.leads
+    (line_obeys Law obey p frames acks sender receiver led.acts lawful few_frames few_acks)
 
 -- so the child obeys the tree law where its parent does
 pub child_obeys_law : (p : Parameters) (list : List ℕ) (frames : List Frame) (acks : List ℕ) (sender : SenderEnd)
@@ -158,4 +161,4 @@ child_obeys_law p list frames acks sender receiver acts most_strays most_missing
     (most_missing + (2 * p.capacity + 1))
     (law_below p.capacity most_strays e.line.acked items garbage published e.list e.line.offered e.line.delivered
     (offers_prefix p list frames acks sender receiver acts begins) most_missing above
-    (edge_obeys_law p list frames acks sender receiver acts lawful few_frames few_acks begins))
+    (edge_obeys LinkLaw replay_link_law p list frames acks sender receiver acts lawful few_frames few_acks begins))

@@ -13,6 +13,7 @@ use Rattle.stab_core.specs.Replay.{initial, replay}
 use Rattle.stab_core.specs.Step.{after_front, takes, goes_on}
 use Rattle.stab_core.proofs.Replays.{replay-append}
 use Rattle.stab_core.proofs.LinkLaws.{replay_link_law}
+use Rattle.stab_treecore.proofs.Replayed.{ReplaysObey}
 use Rattle.stab_line.specs.Ends.{SenderEnd, ReceiverEnd, new_receiver}
 use Rattle.stab_line.specs.Line.{Line, LineAct, line_step, line_run, link_of, IsReplay, new_count, start_of, with_taken}
 use Rattle.stab_line.specs.Line.{offer_item, frame_sent, frame_comes, ack_sent, ack_comes, frame_lost, ack_lost, sender_closes, receiver_closes}
@@ -365,13 +366,21 @@ pub line_is_replay : (p : Parameters) (frames : List Frame) (acks : List ℕ) (s
 line_is_replay p frames acks sender receiver acts =
     count_is_replay p frames acks sender.state.label sender.state.item sender.closed receiver acts
 
--- so the link law holds of a line whose parameters are lawful and which held at most c messages each way
+-- so a law of all replays holds of a line whose parameters are lawful and which held at most c messages each way
+pub line_obeys : (Law : ℕ → List ℕ → List ℕ → ℕ → List ℕ → Type 0) → ReplaysObey Law
+    → (p : Parameters) (frames : List Frame) (acks : List ℕ) (sender : SenderEnd)
+    (receiver : ReceiverEnd) (acts : List LineAct) → AreLawful p → length frames ≤ p.capacity
+    → length acks ≤ p.capacity → let l = line_run p (new_count frames acks sender receiver) acts in
+    Law p.capacity (map (λ f. f.item) frames) l.offered l.acked l.delivered
+line_obeys Law obey p frames acks sender receiver acts lawful few_frames few_acks =
+    let (events, leads) = line_is_replay p frames acks sender receiver acts in
+    subst (λ (s : LinkState). Law p.capacity (map (λ f. f.item) frames) s.offered s.acked s.delivered) leads
+    (obey p (start_of frames acks sender receiver) events lawful
+    (record { frames = few_frames; acks = few_acks }))
+
+-- as the link law does
 pub line_obeys_law : (p : Parameters) (frames : List Frame) (acks : List ℕ) (sender : SenderEnd)
     (receiver : ReceiverEnd) (acts : List LineAct) → AreLawful p → length frames ≤ p.capacity
     → length acks ≤ p.capacity → let l = line_run p (new_count frames acks sender receiver) acts in
     LinkLaw p.capacity (map (λ f. f.item) frames) l.offered l.acked l.delivered
-line_obeys_law p frames acks sender receiver acts lawful few_frames few_acks =
-    let (events, leads) = line_is_replay p frames acks sender receiver acts in
-    subst (λ (s : LinkState). LinkLaw p.capacity (map (λ f. f.item) frames) s.offered s.acked s.delivered) leads
-    (replay_link_law p (start_of frames acks sender receiver) events lawful
-    (record { frames = few_frames; acks = few_acks }))
+line_obeys_law = line_obeys LinkLaw replay_link_law

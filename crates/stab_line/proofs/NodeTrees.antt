@@ -1,27 +1,31 @@
 -- Each edge of a tree of nodes has a history of its own, so each node obeys the tree law.
-use Rattle.std.proofs.Common.{◌≡◌, ℕ, Bool, true, false, if◌then◌else◌, ◌==◌, List, [], ◌∷◌, ◌++◌, map, slice_get, Option, Some, None, refl, sym, ◌∙◌, ap, subst, append_assoc, append-nil, eqb-true}
+use Rattle.std.proofs.Common.{◌≡◌, ◌<◌, ℕ, Bool, true, false, if◌then◌else◌, ◌==◌, List, [], ◌∷◌, ◌++◌, length, map, slice_get, Option, Some, None, refl, sym, ◌∙◌, ap, subst, append_assoc, append-nil, eqb-true}
 use Rattle.std.specs.Option.{option_map_or}
 use mathlib.Core.List.{IsPrefix}
 use Rattle.stab_frames.specs.declared.frame.Frame.{Frame}
 use Rattle.stab_frames.specs.Parameters.{Parameters}
-use Rattle.stab_core.specs.LinkLaw.{LinkLaw}
+use Rattle.stab_core.specs.LinkLaw.{LinkLaw, SharperLinkLaw}
 use Rattle.stab_core.specs.LinkSetup.{CanBegin, LinkSetup}
 use Rattle.stab_core.specs.Replay.{start_items}
+use Rattle.stab_core.proofs.LinkLaws.{replay_link_law}
 use Rattle.stab_core.proofs.ForCallers.{prefix_of_grown, prefix_of_itself}
 use Rattle.stab_tree.specs.Nodes.{parent_at, root_of}
 use Rattle.stab_treecore.specs.Network.{Network, IsNetwork}
-use Rattle.stab_treecore.specs.NodeLaws.{capacity_into, garbage_into, LinkLawBetween, LinkLawInto, TreeLawAtNodes}
+use Rattle.stab_treecore.specs.NodeLaws.{capacity_into, garbage_into, LawBetween, LawInto, TreeLawAtNode, TreeLawAtNodes}
 use Rattle.stab_tree.specs.NodeOpenings.{opening_at}
-use Rattle.stab_treecore.proofs.AtNodes.{nodes_obey}
+use Rattle.stab_treecore.proofs.AtNodes.{node_obeys, nodes_obey}
+use Rattle.stab_treecore.proofs.Replayed.{ReplaysObey}
+use Rattle.stab_treecore.proofs.SharperNodes.{sharper_node, sharper_nodes}
+use Rattle.stab_treecore.specs.SharperLaw.{SharperTreeLawAtNode, SharperTreeLawAtNodes}
 use Rattle.stab_tree.proofs.ForCallers.{holds_by_child}
 use Rattle.stab_line.specs.Ends.{delivers}
 use Rattle.stab_line.specs.Line.{Line, LineAct, line_step, with_taken, receives_frame, receives_ack}
 use Rattle.stab_line.specs.Line.{offer_item, frame_sent, frame_comes, ack_sent, ack_comes, frame_lost, ack_lost, sender_closes, receiver_closes}
 use Rattle.stab_line.specs.Edge.{Edge, EdgeAct, is_offer, offers_next, edge_step, edge_run, new_edge}
 use Rattle.stab_line.specs.Edge.{list_grows, child_polled, on_line}
-use Rattle.stab_line.specs.NodeTree.{NodeTree, NodeAct, list_of, list_above, parameters_into, edge_into, put, with_edge, node_step, node_run, BeginsInto, TreeBegins}
+use Rattle.stab_line.specs.NodeTree.{NodeTree, NodeAct, list_of, list_above, parameters_into, edge_into, put, with_edge, node_step, node_run, BeginsInto, PathBegins, TreeBegins}
 use Rattle.stab_line.specs.NodeTree.{publishes, polls, at_line}
-use Rattle.stab_line.proofs.Edges.{offers_prefix, edge_obeys_law}
+use Rattle.stab_line.proofs.Edges.{offers_prefix, edge_obeys}
 
 -- ---- an act adds to the delivered list, and takes nothing from it
 
@@ -178,11 +182,11 @@ all_acts net t (act ∷ acts) child =
 
 -- ---- the laws
 
--- The link law holds of what the link into a child did, and what it was offered is a prefix of its parent's list.
-edge_law : (net : Network) (t : NodeTree) (acts : List NodeAct) (child : ℕ) (b : BeginsInto net t child) → CanBegin b.link
+-- A law of all replays holds of what the link into a child did, and what it was offered is a prefix of its parent's list.
+edge_law : (Law : ℕ → List ℕ → List ℕ → ℕ → List ℕ → Type 0) → ReplaysObey Law → (net : Network) (t : NodeTree) (acts : List NodeAct) (child : ℕ) (b : BeginsInto net t child) → CanBegin b.link
     → let after = node_run net t acts in
-    LinkLawBetween b.link.params.capacity (start_items b.link.start) (list_above net after child) (after.lines child).delivered
-edge_law net t acts child b can_begin =
+    LawBetween Law b.link.params.capacity (start_items b.link.start) (list_above net after child) (after.lines child).delivered
+edge_law Law obey net t acts child b can_begin =
     let link : LinkSetup = b.link in
     let after : NodeTree = node_run net t acts in
     let list : List ℕ = list_above net t child in
@@ -201,17 +205,16 @@ edge_law net t acts child b can_begin =
       (after.lines child).acked,
       subst (λ (e : Edge). IsPrefix e.line.offered e.list) led
           (offers_prefix link.params list link.start.frames link.start.acks sender receiver edge_acts b.holds_first),
-      subst (λ (e : Edge). LinkLaw link.params.capacity (start_items link.start) e.line.offered e.line.acked e.line.delivered) led
-          (edge_obeys_law link.params list link.start.frames link.start.acks sender receiver edge_acts can_begin.0
+      subst (λ (e : Edge). Law link.params.capacity (start_items link.start) e.line.offered e.line.acked e.line.delivered) led
+          (edge_obeys Law obey link.params list link.start.frames link.start.acks sender receiver edge_acts can_begin.0
           can_begin.1.frames can_begin.1.acks b.holds_first),
     )
 
 -- the same between the lists of two nodes
-link_law_into : (net : Network) (t : NodeTree) (acts : List NodeAct) → IsNetwork net → TreeBegins net t → (child parent : ℕ)
+link_law_into : (Law : ℕ → List ℕ → List ℕ → ℕ → List ℕ → Type 0) → ReplaysObey Law → (net : Network) (t : NodeTree) (acts : List NodeAct) → IsNetwork net → (child parent : ℕ) → BeginsInto net t child
     → parent_at net.tree.parents child ≡ Some parent
-    → let after = node_run net t acts in LinkLawInto net child (list_of net after parent) (list_of net after child)
-link_law_into net t acts is_network begins child parent is_child =
-    let b : BeginsInto net t child = begins child parent is_child in
+    → let after = node_run net t acts in LawInto Law net child (list_of net after parent) (list_of net after child)
+link_law_into Law obey net t acts is_network child parent b is_child =
     let link : LinkSetup = b.link in
     let after : NodeTree = node_run net t acts in
     let delivered : List ℕ = (after.lines child).delivered in
@@ -225,19 +228,51 @@ link_law_into net t acts is_network begins child parent is_child =
     let can_begin : CanBegin link = holds_by_child CanBegin net.tree.parents net.links child link is_network.can_begin b.leads in (
       delivered,
       ap (λ up. option_map_or (λ _. opening_at net.openings.lists child ++ delivered) up after.published) is_child,
-      subst (λ c. LinkLawBetween c (garbage_into net child) (list_of net after parent) delivered) (sym capacity)
-          (subst (λ items. LinkLawBetween link.params.capacity items (list_of net after parent) delivered) (sym garbage)
-          (subst (λ list. LinkLawBetween link.params.capacity (start_items link.start) list delivered) above
-          (edge_law net t acts child b can_begin))),
+      subst (λ c. LawBetween Law c (garbage_into net child) (list_of net after parent) delivered) (sym capacity)
+          (subst (λ items. LawBetween Law link.params.capacity items (list_of net after parent) delivered) (sym garbage)
+          (subst (λ list. LawBetween Law link.params.capacity (start_items link.start) list delivered) above
+          (edge_law Law obey net t acts child b can_begin))),
     )
+
+-- the list of the root is what was published
+root_list : (net : Network) (t : NodeTree) → IsNetwork net → t.published ≡ net.published → list_of net t (root_of net.tree.parents) ≡ net.published
+root_list net t is_network all_published =
+    let root : ℕ = root_of net.tree.parents in
+    ap (λ up. option_map_or (λ _. opening_at net.openings.lists root ++ (t.lines root).delivered) up t.published)
+    is_network.tree.root_has_none ∙ all_published
 
 -- the tree law at each node
 pub tree_obeys_law : (net : Network) (before : NodeTree) (acts : List NodeAct) → IsNetwork net → TreeBegins net before
     → let after = node_run net before acts in after.published ≡ net.published → TreeLawAtNodes net (list_of net after)
 tree_obeys_law net before acts is_network begins all_published =
     let after : NodeTree = node_run net before acts in
-    let root : ℕ = root_of net.tree.parents in
-    nodes_obey net is_network.tree (list_of net after)
-    (ap (λ up. option_map_or (λ _. opening_at net.openings.lists root ++ (after.lines root).delivered) up after.published)
-    is_network.tree.root_has_none ∙ all_published)
-    is_network.openings_fit (link_law_into net before acts is_network begins)
+    nodes_obey net is_network.tree (list_of net after) (root_list net after is_network all_published) is_network.openings_fit
+    (λ child parent is_child. link_law_into LinkLaw replay_link_law net before acts is_network child parent (begins child parent is_child) is_child)
+
+-- and at one node, where the count of its path begins
+pub path_obeys_law : (net : Network) (before : NodeTree) (acts : List NodeAct) (node : ℕ) → IsNetwork net → PathBegins net before node
+    → node < length net.tree.parents
+    → let after = node_run net before acts in after.published ≡ net.published → TreeLawAtNode net (list_of net after) node
+path_obeys_law net before acts node is_network begins is_node all_published =
+    let after : NodeTree = node_run net before acts in
+    node_obeys net is_network.tree (list_of net after) (root_list net after is_network all_published) is_network.openings_fit node is_node
+    (λ steps child parent leads is_child.
+    link_law_into LinkLaw replay_link_law net before acts is_network child parent (begins steps child parent leads is_child) is_child)
+
+-- the sharper law at each node
+pub tree_obeys_sharper : ReplaysObey SharperLinkLaw → (net : Network) (before : NodeTree) (acts : List NodeAct) → IsNetwork net → TreeBegins net before
+    → let after = node_run net before acts in after.published ≡ net.published → SharperTreeLawAtNodes net (list_of net after)
+tree_obeys_sharper obey net before acts is_network begins all_published =
+    let after : NodeTree = node_run net before acts in
+    sharper_nodes net is_network.tree (list_of net after) (root_list net after is_network all_published) is_network.openings_fit
+    (λ child parent is_child. link_law_into SharperLinkLaw obey net before acts is_network child parent (begins child parent is_child) is_child)
+
+-- and at one node, where the count of its path begins
+pub path_obeys_sharper : ReplaysObey SharperLinkLaw → (net : Network) (before : NodeTree) (acts : List NodeAct) (node : ℕ) → IsNetwork net
+    → PathBegins net before node → node < length net.tree.parents
+    → let after = node_run net before acts in after.published ≡ net.published → SharperTreeLawAtNode net (list_of net after) node
+path_obeys_sharper obey net before acts node is_network begins is_node all_published =
+    let after : NodeTree = node_run net before acts in
+    sharper_node net is_network.tree (list_of net after) (root_list net after is_network all_published) is_network.openings_fit node is_node
+    (λ steps child parent leads is_child.
+    link_law_into SharperLinkLaw obey net before acts is_network child parent (begins steps child parent leads is_child) is_child)

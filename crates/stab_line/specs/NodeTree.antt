@@ -8,6 +8,7 @@ use mathlib.Core.List.{IsPrefix}
 use Rattle.stab_frames.specs.Parameters.{Parameters}
 use Rattle.stab_core.specs.LinkSetup.{LinkSetup}
 use Rattle.stab_tree.specs.Nodes.{parent_at}
+use Rattle.stab_tree.specs.Steps.{ancestor}
 use Rattle.stab_treecore.specs.Network.{Network, setup_into}
 use Rattle.stab_tree.specs.NodeOpenings.{opening_at}
 use Rattle.stab_line.specs.Line.{Line, LineAct, held}
@@ -81,7 +82,14 @@ pub record BeginsInto (net : Network) (t : NodeTree) (child : ℕ) : Type 0 wher
       (t.lines child).sender (t.lines child).receiver
   pub holds_first : IsPrefix (held (t.lines child).sender.state.item) (list_above net t child)
 
--- a new count of the whole tree
+-- A new count of the path to one node. The list of a node on the path begins with the first item
+-- that its child on the path has not acknowledged, wherever its other children are.
+abbrev pub PathBegins : Network → NodeTree → ℕ → Type 0
+PathBegins net t node =
+    (steps child parent : ℕ) → ancestor net.tree.parents steps node ≡ Some child
+    → parent_at net.tree.parents child ≡ Some parent → BeginsInto net t child
+
+-- a new count of the whole tree, where all children of a node are at the same item
 abbrev pub TreeBegins : Network → NodeTree → Type 0
 TreeBegins net t =
     (child parent : ℕ) → parent_at net.tree.parents child ≡ Some parent → BeginsInto net t child

@@ -2,7 +2,7 @@
 //! Each is a function with an empty body; its contract is the law.
 
 ghost use mathlib.Core.List.{IsPrefix};
-ghost use Rattle.std.specs.Prelude.{◌≡◌, ℕ, ◌+◌, ◌*◌, ◌≤◌, List, ◌∷◌, ◌++◌, length, map};
+ghost use Rattle.std.specs.Prelude.{◌≡◌, ℕ, ◌+◌, ◌*◌, ◌<◌, ◌≤◌, List, ◌∷◌, ◌++◌, length, map};
 ghost use Rattle.std.specs.Prelude.{Bool, true, false, Option, Some, None};
 ghost use Rattle.stab_core.specs.LinkLaw.{LinkLaw};
 ghost use Rattle.stab_core.specs.Replay.{initial};
@@ -12,14 +12,15 @@ ghost use Rattle.stab_line.specs.Edge.{EdgeAct, edge_run, is_offer, new_edge};
 ghost use Rattle.stab_line.specs.Line.{after_sending, frame_comes, frame_sent, held, line_step};
 ghost use Rattle.stab_line.specs.Line.{with_taken};
 ghost use Rattle.stab_line.specs.Line.{IsReplay, LineAct, line_run, link_of, new_count, start_of};
-ghost use Rattle.stab_line.specs.NodeTree.{NodeAct, NodeTree, TreeBegins, list_above, list_of};
-ghost use Rattle.stab_line.specs.NodeTree.{node_run, node_step, parameters_into};
+ghost use Rattle.stab_line.specs.NodeTree.{NodeAct, NodeTree, PathBegins, TreeBegins, list_above};
+ghost use Rattle.stab_line.specs.NodeTree.{list_of, node_run, node_step, parameters_into};
 ghost use Rattle.stab_line.specs.NodeTree.{at_line, polls, publishes};
 ghost use Rattle.stab_frames.specs.Parameters.{AreLawful, Parameters};
 ghost use Rattle.stab_frames.specs.declared.frame.Frame.{Frame};
 ghost use Rattle.stab_tree.specs.Nodes.{parent_at};
 ghost use Rattle.stab_treecore.specs.Network.{IsNetwork, Network};
-ghost use Rattle.stab_treecore.specs.NodeLaws.{TreeLawAtNodes};
+ghost use Rattle.stab_treecore.specs.NodeLaws.{TreeLawAtNode, TreeLawAtNodes};
+ghost use Rattle.stab_treecore.specs.SharperLaw.{SharperTreeLawAtNode, SharperTreeLawAtNodes};
 ghost use Rattle.stab_treecore.specs.TreeLaw.{TreeLaw};
 
 /// Two ends on a line that is first in first out, holds at most `c` messages each way, loses any
@@ -107,14 +108,36 @@ pub fn calls_of_nodes_are_acts_of_the_tree()
         ≡ line_step (parameters_into net child) (t.lines child) act }
 {}
 
-/// The tree law at every node of a whole tree of nodes, whatever they and their lines do, in
-/// whatever order: each node offers to its children what is next in its own list. A node has at
-/// most C + E strays, the sums of `c` over the links on its path and of `h` over the inner nodes.
-/// Before its last published item only some among the first M are missing, the sum of `2c + 1`.
+/// The tree law at every node of a whole tree of nodes, of any number, whatever they and their
+/// lines do, in whatever order: each node offers to its children what is next in its own list. A
+/// node has at most C + E strays, the sums of `c` over the links on its path and of `h` over the
+/// inner nodes. Before its last published item only some among the first M are missing, the sum of
+/// `2c + 1`. Where the children of a node are at different items of its list when the count begins,
+/// the law holds of each path by itself: there a list begins with the first item that the child on
+/// the path has not acknowledged, and nothing is asked of the links beside the path. The sharper law
+/// holds as well: at most `c + 1` for each link of the path are missing, and `2c + 1` for one.
 pub fn a_tree_of_nodes_obeys_the_tree_law()
-    ensures { (net : Network) (before : NodeTree) (acts : List NodeAct)
+    ensures at_every_node { (net : Network) (before : NodeTree) (acts : List NodeAct)
         → IsNetwork net → TreeBegins net before
         → let after = node_run net before acts in
         after.published ≡ net.published
         → TreeLawAtNodes net (list_of net after) }
-{}
+    ensures along_each_path { (net : Network) (before : NodeTree) (acts : List NodeAct) (node : ℕ)
+        → IsNetwork net → PathBegins net before node → node < length net.tree.parents
+        → let after = node_run net before acts in
+        after.published ≡ net.published
+        → TreeLawAtNode net (list_of net after) node }
+    ensures sharper_at_every_node { (net : Network) (before : NodeTree) (acts : List NodeAct)
+        → IsNetwork net → TreeBegins net before
+        → let after = node_run net before acts in
+        after.published ≡ net.published
+        → SharperTreeLawAtNodes net (list_of net after) }
+    ensures sharper_along_each_path { (net : Network) (before : NodeTree) (acts : List NodeAct)
+        (node : ℕ)
+        → IsNetwork net → PathBegins net before node → node < length net.tree.parents
+        → let after = node_run net before acts in
+        after.published ≡ net.published
+        → SharperTreeLawAtNode net (list_of net after) node }
+{
+    stab_core::laws::every_replay_obeys_the_sharper_link_law();
+}
