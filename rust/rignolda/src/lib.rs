@@ -13,7 +13,7 @@
 //! C + E strays and after them published items in their order, each at most once; and before its
 //! last one none is missing, except among the first M. C, M and E are sums over the node's path
 //! from the root: of `capacity` and of `2 * capacity + 1` over the links, and over the inner nodes
-//! of the most items, at most 64, that their lists may begin with.
+//! of the most items that their lists may begin with.
 //!
 //! Each call is one of the C library that this crate links, whose code is proved: it is a step of
 //! the definitions that these laws are about, from every bit pattern of its structs. None takes
