@@ -50,7 +50,7 @@
 //! # What is proved
 //!
 //! The header `include/rignolda.h` says what each law asks for; the laws are functions of the crate
-//! `stab_c`, which no program calls, and each of its calls has clauses of its own.
+//! `stab_line`, which no program calls; each call has clauses of its own, in the crate `stab_c`.
 //!
 //! | Law | What it is about here |
 //! |---|---|
