@@ -59,7 +59,8 @@
  *     Each call that steps an end, or says what to send, has a clause `act`, which says what step
  *     of the laws' own definitions it is.
  * Links over connections that are made again, such as TCP, and links in two places of a store have
- * laws of their own: see the last two parts, on sessions and on words.
+ * laws of their own: see the last two parts, on sessions and on words. One tree may have links of
+ * every kind (law a_tree_of_mixed_links_obeys_the_tree_law).
  */
 #ifndef RIGNOLDA_H
 #define RIGNOLDA_H

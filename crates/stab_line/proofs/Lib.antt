@@ -11,3 +11,4 @@ pub mod SessionNames
 pub mod SessionCalls
 pub mod StartLaws
 pub mod RegisterLines
+pub mod MixedTrees

@@ -51,12 +51,12 @@ put_line links n link = fun_ext (λ m. by_same m (m == n))
 
 -- ---- acts at one line of the tree
 
-node_run_append : (net : Network) (t : NodeTree) (first second : List NodeAct)
+pub node_run_append : (net : Network) (t : NodeTree) (first second : List NodeAct)
     → node_run net t (first ++ second) ≡ node_run net (node_run net t first) second
 node_run_append net t [] second = refl
 node_run_append net t (act ∷ first) second = node_run_append net (node_step net t act) first second
 
-abbrev at_lines : ℕ → List LineAct → List NodeAct
+abbrev pub at_lines : ℕ → List LineAct → List NodeAct
 at_lines child [] = []
 at_lines child (act ∷ acts) = nodes.at_line child act ∷ at_lines child acts
 
@@ -70,7 +70,7 @@ one_line_act net t child act no_offer =
     ∙ ap (λ (counts : ℕ → ℕ). record t { counts = counts; lines = put t.lines child (line_step p (t.lines child) act) })
     (put_own t.counts child)
 
-line_acts : (net : Network) (t : NodeTree) (child : ℕ) (acts : List LineAct) → NoOffers acts
+pub line_acts : (net : Network) (t : NodeTree) (child : ℕ) (acts : List LineAct) → NoOffers acts
     → node_run net t (at_lines child acts)
     ≡ record t { lines = put t.lines child (line_run (parameters_into net child) (t.lines child) acts) }
 line_acts net t child [] no_offers = ap (λ (lines : ℕ → Line). record t { lines = lines }) (sym (put_own t.lines child))
@@ -86,7 +86,7 @@ line_acts net t child (act ∷ acts) no_offers =
 -- ---- the acts of the tree
 
 -- some acts lead a tree of nodes from the one state to the other
-abbrev IsNodeRun : Network → NodeTree → NodeTree → Type 0
+abbrev pub IsNodeRun : Network → NodeTree → NodeTree → Type 0
 IsNodeRun net before after = (acts : List NodeAct) × (node_run net before acts ≡ after)
 
 poll_is_run : (net : Network) (t : SessionTree) (child : ℕ) (next : Option ℕ)
@@ -121,7 +121,7 @@ act_is_run net t child act (Some parent) holds in_turn =
     )
 
 -- every link into a child has room for one message
-abbrev HaveRoom : Network → Type 0
+abbrev pub HaveRoom : Network → Type 0
 HaveRoom net = (child parent : ℕ) → parent_at net.tree.parents child ≡ Some parent → 1 ≤ (parameters_into net child).capacity
 
 step_is_run : (net : Network) (t : SessionTree) (act : TreeAct) → HaveRoom net → AllInTurn t
@@ -171,7 +171,7 @@ run_is_run net t (act ∷ acts) holds in_turn =
     (first ++ rest, node_run_append net (nodes_of t) first rest ∙ ap (λ s. node_run net s rest) leads ∙ leads_on)
 
 -- a link that can begin has room
-have_room : (net : Network) (t : NodeTree) → IsNetwork net → TreeBegins net t → HaveRoom net
+pub have_room : (net : Network) (t : NodeTree) → IsNetwork net → TreeBegins net t → HaveRoom net
 have_room net t is_network begins child parent is_child =
     let b : BeginsInto net t child = begins child parent is_child in
     let can_begin : CanBegin b.link = holds_by_child CanBegin net.tree.parents net.links child b.link is_network.can_begin b.leads in

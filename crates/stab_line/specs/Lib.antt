@@ -12,3 +12,4 @@ pub mod SessionNumbers
 pub mod SessionNames
 pub mod StartLaw
 pub mod Registers
+pub mod MixedTree

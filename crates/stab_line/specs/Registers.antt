@@ -4,7 +4,8 @@
 -- receiver's end the other way round. Between a get and the call that is given what it showed, an
 -- end does nothing else; any steps of the other end can come between.
 -- Source: this project's own.
-use Rattle.std.specs.Prelude.{ℕ, ◌+◌, if◌then◌else◌, List, [], ◌∷◌, Option, Some, None}
+use Rattle.std.specs.Prelude.{ℕ, ◌+◌, Bool, true, false, if◌then◌else◌, List, [], ◌∷◌, Option}
+use Rattle.std.specs.Prelude.{Some, None}
 use Rattle.stab_frames.specs.declared.frame.Frame.{Frame}
 use Rattle.stab_frames.specs.Parameters.{Parameters}
 use Rattle.stab_line.specs.Ends.{SenderEnd, ReceiverEnd, accepts, offered_to, frame_to_send}
@@ -45,6 +46,10 @@ pub data RegisterAct : Type 0 where
   ack_deleted : RegisterAct
   sender_closes : RegisterAct
   receiver_closes : RegisterAct
+
+abbrev pub is_offered : RegisterAct → Bool
+is_offered (item_offered item) = true
+is_offered _ = false
 
 -- what a register shows after it was set to this, or not at all
 abbrev pub set_to : {A : Type 0} → Option A → Option A → Option A

@@ -12,6 +12,8 @@ ghost use Rattle.stab_line.specs.Edge.{EdgeAct, edge_run, is_offer, new_edge};
 ghost use Rattle.stab_line.specs.Line.{after_sending, frame_comes, frame_sent, held, line_step};
 ghost use Rattle.stab_line.specs.Line.{with_taken};
 ghost use Rattle.stab_line.specs.Line.{IsReplay, LineAct, line_run, link_of, new_count, start_of};
+ghost use Rattle.stab_line.specs.MixedTree as mixed;
+ghost use Rattle.stab_line.specs.MixedTree.{AllKeepTurns, MixedAct, MixedTree, mixed_run};
 ghost use Rattle.stab_line.specs.NodeTree.{NodeAct, NodeTree, PathBegins, TreeBegins, list_above};
 ghost use Rattle.stab_line.specs.NodeTree.{list_of, node_run, node_step, parameters_into};
 ghost use Rattle.stab_line.specs.NodeTree.{at_line, polls, publishes};
@@ -141,3 +143,13 @@ pub fn a_tree_of_nodes_obeys_the_tree_law()
 {
     stab_core::laws::every_replay_obeys_the_sharper_link_law();
 }
+
+/// The same where each link of the tree goes its own way: over a line, over connections that are
+/// made again, or over two registers of a store.
+pub fn a_tree_of_mixed_links_obeys_the_tree_law()
+    ensures { (net : Network) (before : MixedTree) (acts : List MixedAct)
+        → IsNetwork net → TreeBegins net (mixed.nodes_of net before) → AllKeepTurns before
+        → let after = mixed_run net before acts in
+        after.published ≡ net.published
+        → TreeLawAtNodes net (list_of net (mixed.nodes_of net after)) }
+{}
