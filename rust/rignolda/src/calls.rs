@@ -168,4 +168,9 @@ extern "C" {
         size: usize,
         frame: &Frame,
     ) -> bool;
+
+    pub(crate) fn rignolda_word_of_frame(frame: &Frame) -> u64;
+    pub(crate) fn rignolda_word_frame(word: u64, frame: &mut Frame) -> bool;
+    pub(crate) fn rignolda_word_of_label(label: u16) -> u64;
+    pub(crate) fn rignolda_word_label(word: u64, label: &mut u16) -> bool;
 }

@@ -59,6 +59,8 @@
 //! | `connections_are_a_line`, `connections_obey_the_link_law`, `restarts_leave_connections_in_turn` | [`Session`] of a [`Sender`] and of a [`Receiver`] |
 //! | `a_tree_over_connections_obeys_the_tree_law`, `calls_of_sessions_are_acts_of_the_tree` | [`Session`] of a [`Child`] and of a [`Node`] |
 //! | `numbers_tell_the_newest_connection`, `numbers_may_mean_any_connections` | [`Connection`] |
+//! | `registers_are_a_line`, `registers_obey_the_law_of_their_start` | [`word`] |
+//! | `a_tree_of_mixed_links_obeys_the_tree_law` | a tree in which each link goes its own way |
 //!
 //! Not proved: this crate itself, which hands each call to the C library's. All its types are
 //! [`Send`] and [`Sync`]: what a call may change it has for itself, and it keeps nothing elsewhere.
@@ -68,6 +70,7 @@
 mod calls;
 mod node;
 mod session;
+pub mod word;
 
 pub use node::{Child, Node};
 pub use session::{Connection, Session};
