@@ -15,7 +15,7 @@
  *     that the other uses. What a pointer to const points at is only read, so several calls may
  *     read it at once.
  * A call that returns bool returns true if it did what it is for. Where it returns false, it wrote
- * nothing but the counts that it names.
+ * nothing but what it names: counts, and the turn of a session.
  *
  * What a struct means:
  *   - a label may be any uint16_t, as after a restart with whatever lay in memory;
@@ -337,7 +337,7 @@ bool rignolda_session_send(const rignolda_sender *sender, rignolda_session *sess
 bool rignolda_session_on_ack(rignolda_sender *sender, rignolda_session *session,
                              const rignolda_params *params, uint64_t number, uint16_t label);
 
-/* The same for a receiver and a frame; true as rignolda_receiver_on_frame says. */
+/* The same for a receiver and a frame. True: it is fresh, as rignolda_receiver_on_frame says. */
 bool rignolda_session_on_frame(rignolda_receiver *receiver, rignolda_session *session,
                                uint64_t number, const rignolda_frame *frame, uint32_t *item);
 
@@ -346,9 +346,10 @@ bool rignolda_session_ack(const rignolda_receiver *receiver, rignolda_session *s
                           uint16_t *label);
 
 /*
- * The same for a node, where the other calls on a child and a frame are rignolda_node_poll,
- * rignolda_child_on_ack and rignolda_node_on_frame. Ask for the label to acknowledge by
- * rignolda_session_ack(&node.above, ..). Where the end may not send, a poll offers nothing.
+ * The same for a node over connections, in place of rignolda_node_poll, rignolda_child_on_ack and
+ * rignolda_node_on_frame. Ask for the label to acknowledge by rignolda_session_ack, with the node's
+ * receiver. Where the end may not send, a poll offers nothing. Each child has a session of its own,
+ * and so has the receiver of the node.
  */
 bool rignolda_session_poll(const rignolda_node *node, rignolda_child *child,
                            rignolda_session *session, const uint32_t *list, size_t size,
