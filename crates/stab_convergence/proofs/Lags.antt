@@ -73,7 +73,7 @@ module _ (tree : Nodes) (s : WholeTree) (is : IsState tree s) where
   path_below number w u is_child =
       let deeper : depth_of s.parents w ≡ suc (depth_of s.parents u) =
       subst (λ ps. parent_at ps w ≡ Some u → depth_of ps w ≡ suc (depth_of ps u)) (sym is.parents)
-      (child_is_deeper tree is.is_tree w u) is_child in
+      (child_is_deeper tree.parents is.is_tree w u) is_child in
       ap (λ d. sum_above s.parents number d w) deeper
       ∙ ap (λ o. number w + option_map_or (sum_above s.parents number (depth_of s.parents u)) o 0) is_child
 
@@ -120,7 +120,7 @@ module _ (tree : Nodes) (s : WholeTree) (is : IsState tree s) where
         root_many,
       ) in
       subst (λ ps. (v : ℕ) → v < length ps → MostAt (depth_of ps v) v) (sym is.parents)
-      (holds_at_every_depth tree is.is_tree MostAt (subst (λ ps. MostAt 0 (root_of ps)) is.parents at_root)
+      (holds_at_every_depth tree.parents is.is_tree MostAt (subst (λ ps. MostAt 0 (root_of ps)) is.parents at_root)
       (λ depth child parent is_child. most_below depth child parent (ap (λ ps. parent_at ps child) is.parents ∙ is_child)))
       u is_node
     where
