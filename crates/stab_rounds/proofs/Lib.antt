@@ -20,3 +20,4 @@ pub mod Plays
 pub mod ReadTrees
 pub mod ReadArrives
 pub mod PlaysReads
+pub mod Named

@@ -7,3 +7,4 @@ pub mod Played
 pub mod TreeRounds
 pub mod TreeReadingRounds
 pub mod TreePlayed
+pub mod Refused

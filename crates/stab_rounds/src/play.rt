@@ -1,9 +1,11 @@
-ghost use Rattle.std.specs.Prelude.{◌≡◌, ℕ, ◌≤◌, ◌++◌, [], length, Some, All, IfOk};
+ghost use Rattle.std.specs.Prelude.{◌≡◌, ℕ, ◌≤◌, ◌++◌, [], length, Some, All, IfOk, IfErr};
+ghost use Rattle.stab_rounds.specs.Refused.{IsRoundsReason};
 ghost use Rattle.stab_rounds.specs.TreePlayed.{play, round_from, round_on};
 ghost use Rattle.stab_rounds.specs.TreeRounds.{IsHandedOn, rounds_below};
 ghost use Rattle.stab_tree.specs.NodeOpenings.{FitTree};
 ghost use Rattle.stab_tree.specs.Nodes.{parent_at};
 ghost use Rattle.stab_treecore.specs.Network.{network_of};
+ghost use Rattle.stab_treecore.specs.Refusals.{NamesLink};
 ghost use Rattle.stab_treecore.specs.NodeLaws.{most_missing, most_strays, path_garbage};
 ghost use Rattle.stab_treecore.specs.TreeLaw.{CompleteLaw};
 ghost use Rattle.stab_treecore.specs.TreeReplay.{initial_tree, tree_replay};
@@ -56,9 +58,13 @@ pub fn round_of_all(alloc: Global, tree: &Tree) -> Result<Vec<TreeEvent>, AllocE
     Ok(events)
 }
 
-/// All these events, one after the other.
+/// All these events, one after the other. Where each of them names a link, only memory can be
+/// refused, and the events before that one were made.
 pub(crate) fn apply_all(state: &mut TreeState, events: &[TreeEvent]) -> Result<(), TreeStepFault>
-    ensures { IfOk result (λ _. state.new ≡ tree_replay state.old events.now) }
+    ensures replay { IfOk result (λ _. state.new ≡ tree_replay state.old events.now) }
+    ensures same_tree { state.new.parents ≡ state.old.parents }
+    ensures memory { All (NamesLink state.old.parents) events.now
+        → IfErr result (λ fault. fault ≡ TreeStepFault.Memory) }
 {
     for event in events {
         state.apply(*event)?;
@@ -72,8 +78,12 @@ fn apply_rounds(
     state: &mut TreeState,
     tree: &Tree,
     rounds: u32,
-) -> Result<(), TreeStartFault>
-    ensures { IfOk result (λ _. state.new ≡ tree_replay state.old (play tree.now.parents rounds)) }
+) -> Result<(), TreeStepFault>
+    requires own { state.old.parents ≡ tree.now.parents }
+    ensures replay { IfOk result (λ _.
+        state.new ≡ tree_replay state.old (play tree.now.parents rounds)) }
+    ensures same_tree { state.new.parents ≡ state.old.parents }
+    ensures memory { IfErr result (λ fault. fault ≡ TreeStepFault.Memory) }
 {
     let round = round_of_all(alloc, tree)?;
     'rounds: for _done in 0..rounds {
@@ -84,6 +94,7 @@ fn apply_rounds(
 
 /// The whole tree after so many rounds of every link, from the starts of its links. Where the rounds
 /// are enough, every node has all that its parent has, and misses nothing but among the first items.
+/// It is refused where the tree cannot begin, and else for memory alone; then no state is handed out.
 pub fn run_rounds(
     alloc: Global,
     params: &[Params],
@@ -98,6 +109,9 @@ pub fn run_rounds(
         state ≡ tree_replay (initial_tree
         (network_of params.now tree.now published.now starts.now openings.now))
         (play tree.now.parents rounds)) }
+    ensures same_tree { IfOk result (λ state. state.parents ≡ tree.now.parents) }
+    ensures refused { IfErr result (IsRoundsReason params.now starts.now
+        (network_of params.now tree.now published.now starts.now openings.now)) }
     ensures handed_on { IfOk result (λ state. (capacity child parent : ℕ)
         → let net = network_of params.now tree.now published.now starts.now openings.now in
         All (λ link. link.params.capacity ≤ capacity) net.links

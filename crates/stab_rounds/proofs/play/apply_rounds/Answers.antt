@@ -1,4 +1,7 @@
-use Rattle.std.proofs.Common.{◌+◌, ◌-◌, ◌∙◌, ap, sym}
+use Rattle.std.proofs.Common.{◌+◌, ◌-◌, ◌∙◌, All, ap, subst, sym}
+use Rattle.std.proofs.lemmas.Result.{err_from_is_err_and}
+use Rattle.stab_treecore.specs.Refusals.{NamesLink}
+use Rattle.stab_rounds.proofs.Named.{rounds_named}
 use Rattle.stab_treecore.specs.TreeReplay.{tree_replay}
 use Rattle.stab_rounds.specs.TreePlayed.{play}
 use Rattle.stab_rounds.proofs.Plays.{played_one}
@@ -9,6 +12,16 @@ rounds-preserved c =
     let parents = c.args.tree.now.parents in (
       c.rounds.invariant.0,
       ap (λ t. tree_replay t (play parents (c.args.rounds - (c.rounds._done + 1))))
-          (c.in_ok-apply_all.ensures ∙ ap (λ es. tree_replay c.rounds.state es) (c.deref.ensures.value ∙ c.rounds.invariant.0))
+          (c.in_ok-apply_all.ensures.replay ∙ ap (λ es. tree_replay c.rounds.state es) (c.deref.ensures.value ∙ c.rounds.invariant.0))
           ∙ sym (played_one c.rounds.state parents c.args.rounds c.rounds._done c.rounds-test.true) ∙ c.rounds.invariant.1,
+      c.apply_all.ensures.same_tree ∙ c.rounds.invariant.2,
     )
+
+pub returns-in_err-apply_all-clause-memory : goal.returns-in_err-apply_all-clause-memory
+returns-in_err-apply_all-clause-memory c =
+    let parents = c.args.tree.now.parents in
+    let named : All (NamesLink c.rounds.state.parents) c.deref.result.now =
+    subst (λ ps. All (NamesLink ps) c.deref.result.now) (sym (c.rounds.invariant.2 ∙ c.requires.own))
+    (subst (λ es. All (NamesLink parents) es) (sym (c.deref.ensures.value ∙ c.rounds.invariant.0)) (rounds_named parents)) in
+    let p = err_from_is_err_and c.from_residual-in_err-apply_all.result c.from_residual-in_err-apply_all.ensures.1 in
+    rw (p.1, p.2) (c.in_err-apply_all.ensures.memory named)

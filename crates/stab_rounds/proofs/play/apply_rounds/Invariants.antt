@@ -8,3 +8,4 @@ abbrev pub invariant-rounds : goal.invariant-rounds
 invariant-rounds l =
     (l.round.items ≡ round_from 0 l.tree.parents)
     × (tree_replay l.state (play l.tree.parents (l.fn.rounds - l._done)) ≡ tree_replay l.fn.state (play l.tree.parents l.fn.rounds))
+    × (l.state.parents ≡ l.fn.state.parents)

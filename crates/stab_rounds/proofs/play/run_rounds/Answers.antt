@@ -12,7 +12,7 @@ pub returns-clause-handed_on : goal.returns-clause-handed_on
 returns-clause-handed_on c capacity child parent small is_child enough =
     let net : Network = network_of c.args.params.now c.args.tree.now c.args.published.now c.args.starts.now c.args.openings.now in
     let reached : c.apply_rounds.new.state ≡ tree_replay (initial_tree net) (play c.args.tree.now.parents c.args.rounds) =
-    c.in_ok-apply_rounds.ensures ∙ ap (λ t. tree_replay t (play c.args.tree.now.parents c.args.rounds)) c.in_ok-state.ensures.replay in
+    c.in_ok-apply_rounds.ensures.replay ∙ ap (λ t. tree_replay t (play c.args.tree.now.parents c.args.rounds)) c.in_ok-state.ensures.replay in
     subst (λ (t : WholeTree). IsHandedOn t child parent) (sym reached)
     (c.rounds_bring_everything.ensures.handed_on net capacity c.args.rounds child parent c.in_ok-state.ensures.network small is_child enough)
 
@@ -20,6 +20,6 @@ pub returns-clause-complete : goal.returns-clause-complete
 returns-clause-complete c capacity child parent small is_child enough =
     let net : Network = network_of c.args.params.now c.args.tree.now c.args.published.now c.args.starts.now c.args.openings.now in
     let reached : c.apply_rounds.new.state ≡ tree_replay (initial_tree net) (play c.args.tree.now.parents c.args.rounds) =
-    c.in_ok-apply_rounds.ensures ∙ ap (λ t. tree_replay t (play c.args.tree.now.parents c.args.rounds)) c.in_ok-state.ensures.replay in
+    c.in_ok-apply_rounds.ensures.replay ∙ ap (λ t. tree_replay t (play c.args.tree.now.parents c.args.rounds)) c.in_ok-state.ensures.replay in
     subst (λ (t : WholeTree). CompleteLaw (most_strays net child) (most_missing net child) (path_garbage net child) net.published (received t child)) (sym reached)
     (c.rounds_bring_everything.ensures.complete net capacity c.args.rounds child parent c.in_ok-state.ensures.network small is_child enough)
