@@ -55,6 +55,9 @@
  *     the children of a node are at different items then, this is no one list, and the law holds of
  *     each path by itself, whatever the links beside it do: there the list of a node begins with
  *     the first item that its child on the path has not acknowledged.
+ *   - a_tree_of_nodes_obeys_the_law_of_its_starts: the same with what each link really had under
+ *     way when the count began: its frames in place of capacity, and its frames, its
+ *     acknowledgements and one in place of 2 * capacity + 1.
  *   - calls_of_nodes_are_acts_of_the_tree: what the calls do makes up what these laws are about.
  *     Each call that steps an end, or says what to send, has a clause `act`, which says what step
  *     of the laws' own definitions it is.

@@ -16,6 +16,9 @@ use Rattle.stab_line.specs.Line.{offer_item, frame_sent, frame_comes, ack_sent, 
 use Rattle.stab_line.specs.Edge.{Edge, EdgeAct, is_offer, offers_next, edge_step, edge_run, new_edge}
 use Rattle.stab_line.specs.Edge.{list_grows, child_polled, on_line}
 use Rattle.stab_line.proofs.Lines.{line_obeys}
+use Rattle.stab_line.specs.Line.{start_of}
+use Rattle.stab_line.specs.StartLaw.{LinkLawOfStart}
+use Rattle.stab_line.proofs.StartLaws.{line_obeys_start}
 
 -- the sender was offered the front of the list, of this length
 record Kept (e : Edge) : Type 0 where
@@ -145,6 +148,18 @@ edge_obeys Law obey p list frames acks sender receiver acts lawful few_frames fe
     let led : Led p before (edge_run p before acts) = after_run p before acts (record { counted = refl; begins = begins }) in
     subst (λ (l : Line). Law p.capacity (map (λ f. f.item) frames) l.offered l.acked l.delivered) led.leads
     (line_obeys Law obey p frames acks sender receiver led.acts lawful few_frames few_acks)
+
+-- so does the link law of its start
+pub edge_obeys_start : (p : Parameters) (list : List ℕ) (frames : List Frame) (acks : List ℕ) (sender : SenderEnd)
+    (receiver : ReceiverEnd) (acts : List EdgeAct) → AreLawful p → length frames ≤ p.capacity → length acks ≤ p.capacity
+    → IsPrefix (held sender.state.item) list
+    → let e = edge_run p (new_edge list frames acks sender receiver) acts in
+    LinkLawOfStart (start_of frames acks sender receiver) e.line.offered e.line.acked e.line.delivered
+edge_obeys_start p list frames acks sender receiver acts lawful few_frames few_acks begins =
+    let before : Edge = new_edge list frames acks sender receiver in
+    let led : Led p before (edge_run p before acts) = after_run p before acts (record { counted = refl; begins = begins }) in
+    subst (λ (l : Line). LinkLawOfStart (start_of frames acks sender receiver) l.offered l.acked l.delivered) led.leads
+    (line_obeys_start p frames acks sender receiver led.acts lawful few_frames few_acks)
 
 -- so the child obeys the tree law where its parent does
 pub child_obeys_law : (p : Parameters) (list : List ℕ) (frames : List Frame) (acks : List ℕ) (sender : SenderEnd)

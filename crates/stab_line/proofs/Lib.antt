@@ -12,3 +12,4 @@ pub mod SessionCalls
 pub mod StartLaws
 pub mod RegisterLines
 pub mod MixedTrees
+pub mod StartTrees

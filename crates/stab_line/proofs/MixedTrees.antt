@@ -14,7 +14,9 @@ use Rattle.stab_line.specs.MixedTree.{Way, over_line, over_connections, over_reg
 use Rattle.stab_line.specs.MixedTree.{MixedTree, MixedAct, publishes, polls, at_way, nodes_of, offered_at, offers, acts_at, mixed_step, mixed_run, AllKeepTurns}
 use Rattle.stab_line.specs.Registers.{Registers, RegisterAct, is_offered, register_step}
 use Rattle.stab_line.specs.Registers as registers
+use Rattle.stab_line.specs.StartTree.{TreeLawOfStarts}
 use Rattle.stab_line.proofs.NodeTrees.{tree_obeys_law}
+use Rattle.stab_line.proofs.StartTrees.{tree_obeys_starts}
 use Rattle.stab_line.proofs.RegisterLines as of_registers
 use Rattle.stab_line.proofs.SessionLines.{Led}
 use Rattle.stab_line.proofs.SessionLines as of_connections
@@ -179,4 +181,15 @@ mixed_tree_obeys_law net before acts is_network begins keep all_published =
     let (node_acts, leads) = run_is_run net before acts (have_room net (nodes_of net before) is_network begins) keep in
     subst (λ (t : NodeTree). TreeLawAtNodes net (list_of net t)) leads
     (tree_obeys_law net (nodes_of net before) node_acts is_network begins
+    (ap (λ (t : NodeTree). t.published) leads ∙ all_published))
+
+-- with what was under way on each link when the count began as well
+pub mixed_tree_obeys_starts : (net : Network) (before : MixedTree) (acts : List MixedAct) → IsNetwork net
+    → TreeBegins net (nodes_of net before) → AllKeepTurns before
+    → let after = mixed_run net before acts in
+    after.published ≡ net.published → TreeLawOfStarts net (list_of net (nodes_of net after))
+mixed_tree_obeys_starts net before acts is_network begins keep all_published =
+    let (node_acts, leads) = run_is_run net before acts (have_room net (nodes_of net before) is_network begins) keep in
+    subst (λ (t : NodeTree). TreeLawOfStarts net (list_of net t)) leads
+    (tree_obeys_starts net (nodes_of net before) node_acts is_network begins
     (ap (λ (t : NodeTree). t.published) leads ∙ all_published))

@@ -1,10 +1,10 @@
 -- Each edge of a tree of nodes has a history of its own, so each node obeys the tree law.
-use Rattle.std.proofs.Common.{◌≡◌, ◌<◌, ℕ, Bool, true, false, if◌then◌else◌, ◌==◌, List, [], ◌∷◌, ◌++◌, length, map, slice_get, Option, Some, None, refl, sym, ◌∙◌, ap, subst, append_assoc, append-nil, eqb-true}
+use Rattle.std.proofs.Common.{◌≡◌, ◌<◌, ◌+◌, arith, ℕ, Bool, true, false, if◌then◌else◌, ◌==◌, List, [], ◌∷◌, ◌++◌, length, map, slice_get, Option, Some, None, refl, sym, ◌∙◌, ap, subst, append_assoc, append-nil, eqb-true}
 use Rattle.std.specs.Option.{option_map_or}
 use mathlib.Core.List.{IsPrefix}
 use Rattle.stab_frames.specs.declared.frame.Frame.{Frame}
 use Rattle.stab_frames.specs.Parameters.{Parameters}
-use Rattle.stab_core.specs.LinkLaw.{LinkLaw, SharperLinkLaw}
+use Rattle.stab_core.specs.LinkLaw.{LinkLaw, SharperLinkLaw, LinkLawWithin}
 use Rattle.stab_core.specs.LinkSetup.{CanBegin, LinkSetup}
 use Rattle.stab_core.specs.Replay.{start_items}
 use Rattle.stab_core.proofs.LinkLaws.{replay_link_law}
@@ -19,13 +19,15 @@ use Rattle.stab_treecore.proofs.SharperNodes.{sharper_node, sharper_nodes}
 use Rattle.stab_treecore.specs.SharperLaw.{SharperTreeLawAtNode, SharperTreeLawAtNodes}
 use Rattle.stab_tree.proofs.ForCallers.{holds_by_child}
 use Rattle.stab_line.specs.Ends.{delivers}
-use Rattle.stab_line.specs.Line.{Line, LineAct, line_step, with_taken, receives_frame, receives_ack}
+use Rattle.stab_line.specs.Line.{Line, LineAct, line_step, start_of, with_taken, receives_frame, receives_ack}
 use Rattle.stab_line.specs.Line.{offer_item, frame_sent, frame_comes, ack_sent, ack_comes, frame_lost, ack_lost, sender_closes, receiver_closes}
 use Rattle.stab_line.specs.Edge.{Edge, EdgeAct, is_offer, offers_next, edge_step, edge_run, new_edge}
 use Rattle.stab_line.specs.Edge.{list_grows, child_polled, on_line}
 use Rattle.stab_line.specs.NodeTree.{NodeTree, NodeAct, list_of, list_above, parameters_into, edge_into, put, with_edge, node_step, node_run, BeginsInto, PathBegins, TreeBegins}
 use Rattle.stab_line.specs.NodeTree.{publishes, polls, at_line}
-use Rattle.stab_line.proofs.Edges.{offers_prefix, edge_obeys}
+use Rattle.stab_line.specs.StartLaw.{LinkLawOfStart}
+use Rattle.stab_line.proofs.Edges.{offers_prefix, edge_obeys, edge_obeys_start}
+use Rattle.stab_line.proofs.StartLaws.{within_start}
 
 -- ---- an act adds to the delivered list, and takes nothing from it
 
@@ -208,6 +210,42 @@ edge_law Law obey net t acts child b can_begin =
       subst (λ (e : Edge). Law link.params.capacity (start_items link.start) e.line.offered e.line.acked e.line.delivered) led
           (edge_obeys Law obey link.params list link.start.frames link.start.acks sender receiver edge_acts can_begin.0
           can_begin.1.frames can_begin.1.acks b.holds_first),
+    )
+
+-- the same with the bounds of what was under way when the count began
+pub edge_start_law : (net : Network) (t : NodeTree) (acts : List NodeAct) (child : ℕ) (b : BeginsInto net t child)
+    → CanBegin b.link → let after = node_run net t acts in
+    (offered : List ℕ) × (acked : ℕ) × IsPrefix offered (list_above net after child)
+    × LinkLawWithin (length b.link.start.frames) (length b.link.start.acks + 1 + length b.link.start.frames)
+    (start_items b.link.start) offered acked (after.lines child).delivered
+edge_start_law net t acts child b can_begin =
+    let link : LinkSetup = b.link in
+    let after : NodeTree = node_run net t acts in
+    let list : List ℕ = list_above net t child in
+    let sender = (t.lines child).sender in
+    let receiver = (t.lines child).receiver in
+    let (edge_acts, leads) = all_acts net t acts child in
+    let params : parameters_into net child ≡ link.params =
+    ap (λ o. option_map_or (λ (l : LinkSetup). l.params) o (record { capacity = 0; labels = 0 })) b.leads
+    in
+    let led : edge_run link.params (new_edge list link.start.frames link.start.acks sender receiver) edge_acts
+    ≡ edge_into net after child =
+    subst (λ p. edge_run p (new_edge list link.start.frames link.start.acks sender receiver) edge_acts ≡ edge_into net after child) params
+    (ap (λ e. edge_run (parameters_into net child) e edge_acts) (sym b.begins) ∙ leads)
+    in
+    let of_start : LinkLawOfStart (start_of link.start.frames link.start.acks sender receiver) (after.lines child).offered
+    (after.lines child).acked (after.lines child).delivered =
+    subst (λ (e : Edge). LinkLawOfStart (start_of link.start.frames link.start.acks sender receiver) e.line.offered e.line.acked e.line.delivered) led
+    (edge_obeys_start link.params list link.start.frames link.start.acks sender receiver edge_acts can_begin.0
+    can_begin.1.frames can_begin.1.acks b.holds_first)
+    in (
+      (after.lines child).offered,
+      (after.lines child).acked,
+      subst (λ (e : Edge). IsPrefix e.line.offered e.list) led
+          (offers_prefix link.params list link.start.frames link.start.acks sender receiver edge_acts b.holds_first),
+      within_start (start_of link.start.frames link.start.acks sender receiver) (length link.start.frames)
+          (length link.start.acks + 1 + length link.start.frames) (after.lines child).offered (after.lines child).acked
+          (after.lines child).delivered (omega arith) (omega arith) of_start,
     )
 
 -- the same between the lists of two nodes

@@ -13,3 +13,4 @@ pub mod SessionNames
 pub mod StartLaw
 pub mod Registers
 pub mod MixedTree
+pub mod StartTree

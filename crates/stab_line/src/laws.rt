@@ -19,6 +19,7 @@ ghost use Rattle.stab_line.specs.NodeTree.{list_of, node_run, node_step, paramet
 ghost use Rattle.stab_line.specs.NodeTree.{at_line, polls, publishes};
 ghost use Rattle.stab_frames.specs.Parameters.{AreLawful, Parameters};
 ghost use Rattle.stab_frames.specs.declared.frame.Frame.{Frame};
+ghost use Rattle.stab_line.specs.StartTree.{TreeLawOfStarts};
 ghost use Rattle.stab_tree.specs.Nodes.{parent_at};
 ghost use Rattle.stab_treecore.specs.Network.{IsNetwork, Network};
 ghost use Rattle.stab_treecore.specs.NodeLaws.{TreeLawAtNode, TreeLawAtNodes};
@@ -144,12 +145,28 @@ pub fn a_tree_of_nodes_obeys_the_tree_law()
     stab_core::laws::every_replay_obeys_the_sharper_link_law();
 }
 
-/// The same where each link of the tree goes its own way: over a line, over connections that are
+/// The same with what each link really had under way when the count began, in place of the
+/// capacities: a link adds its frames to the strays, and its frames, its acknowledgements and one
+/// to the items that may be missing.
+pub fn a_tree_of_nodes_obeys_the_law_of_its_starts()
+    ensures { (net : Network) (before : NodeTree) (acts : List NodeAct)
+        → IsNetwork net → TreeBegins net before
+        → let after = node_run net before acts in
+        after.published ≡ net.published
+        → TreeLawOfStarts net (list_of net after) }
+{}
+
+/// Both hold where each link of the tree goes its own way: over a line, over connections that are
 /// made again, or over two registers of a store.
 pub fn a_tree_of_mixed_links_obeys_the_tree_law()
-    ensures { (net : Network) (before : MixedTree) (acts : List MixedAct)
+    ensures law { (net : Network) (before : MixedTree) (acts : List MixedAct)
         → IsNetwork net → TreeBegins net (mixed.nodes_of net before) → AllKeepTurns before
         → let after = mixed_run net before acts in
         after.published ≡ net.published
         → TreeLawAtNodes net (list_of net (mixed.nodes_of net after)) }
+    ensures of_starts { (net : Network) (before : MixedTree) (acts : List MixedAct)
+        → IsNetwork net → TreeBegins net (mixed.nodes_of net before) → AllKeepTurns before
+        → let after = mixed_run net before acts in
+        after.published ≡ net.published
+        → TreeLawOfStarts net (list_of net (mixed.nodes_of net after)) }
 {}
