@@ -131,18 +131,19 @@ module _ (capacity most_strays acked : ℕ) (start_items garbage published recei
 -- each node obeys the tree law with what the links on its path had under way
 pub tree_obeys_starts : (net : Network) (before : NodeTree) (acts : List NodeAct) → IsNetwork net → TreeBegins net before
     → let after = node_run net before acts in after.published ≡ net.published → TreeLawOfStarts net (list_of net after)
-tree_obeys_starts net before acts is_network begins all_published =
+tree_obeys_starts net before acts is_network begins all_published node is_node =
     let after : NodeTree = node_run net before acts in
     let parents = net.tree.parents in
     let root : ℕ = root_of parents in
     let hold_of = hold_at parents net.openings.hold in
     let short = (openings_fit parents net.openings is_network.openings_fit).short in
-    each_adds net.tree is_network.tree net.published (list_of net after)
+    each_adds net.tree.parents is_network.tree net.published (list_of net after)
     (ap (λ up. option_map_or (λ _. opening_at net.openings.lists root ++ (after.lines root).delivered) up after.published)
     is_network.tree.root_has_none ∙ all_published)
+    (λ _. Unit {0}) (λ child parent is_child on. tt)
     (λ child. frames_into net child + hold_of child) (missing_into net)
     (λ child. opening_at net.openings.lists child ++ garbage_into net child)
-    (λ child parent most_strays most_missing garbage is_child at_parent.
+    (λ child parent most_strays most_missing garbage on is_child at_parent.
     let b : BeginsInto net before child = begins child parent is_child in
     let link : LinkSetup = b.link in
     let can_begin : CanBegin link = holds_by_child CanBegin parents net.links child link is_network.can_begin b.leads in
@@ -174,4 +175,4 @@ tree_obeys_starts net before acts is_network begins all_published =
     subst (λ xs. TreeLaw (frames_into net child + hold_of child + most_strays) (missing_into net child + most_missing) xs net.published (list_of net after child))
     (sym (append_assoc opening (garbage_into net child) garbage))
     (subst (λ xs. TreeLaw (frames_into net child + hold_of child + most_strays) (missing_into net child + most_missing) (opening ++ (garbage_into net child ++ garbage)) net.published xs)
-    (sym list) larger))
+    (sym list) larger)) node is_node tt
