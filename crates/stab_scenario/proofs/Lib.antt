@@ -1,0 +1,7 @@
+pub mod Entries
+pub mod Stepwise
+pub mod Counting
+pub mod Spared
+pub mod Reading
+pub mod Refused
+pub mod Climbing

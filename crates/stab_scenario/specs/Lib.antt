@@ -1,0 +1,7 @@
+pub mod Refusals
+pub mod Entries
+pub mod Scenarios
+pub mod Played
+pub mod LastFault
+pub mod Counts
+pub mod Texts

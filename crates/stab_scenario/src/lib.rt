@@ -1,0 +1,24 @@
+//! A scenario: a job of a tree, and steps that happen to it in their order, faults among them.
+//!
+//! A step is a [`Change`](stab_faults::Change) of the tree, or a number of rounds or of reading
+//! rounds of all its links. [`read_scenario`] reads a job that has one member more, `steps`, and
+//! answers the scenario that the bytes mean, or the first check that they fail, by the definitions
+//! in `specs/`. The layer above uses one fact: the text of [`scenario_text`] says of each node what
+//! the definition of its scenario gives, counted from the last fault on the node's path, and beside
+//! it what the law allows.
+#![tactic(auto)]
+
+mod changes;
+mod count;
+mod entry;
+mod fault;
+mod hits;
+pub mod laws;
+mod read;
+mod step;
+mod text;
+
+pub use fault::{ScenarioFault, StepFault};
+pub use read::{Scenario, read_scenario};
+pub use step::Step;
+pub use text::scenario_text;
