@@ -1,8 +1,9 @@
-ghost use Rattle.std.specs.Prelude.{◌≡◌, ◌<◌, ◌≤◌, ℕ, List, ◌++◌, IfOk, length};
+ghost use Rattle.std.specs.Prelude.{◌≡◌, ◌<◌, ◌≤◌, ◌⊎◌, ℕ, List, ◌++◌, IfOk, IfErr, length};
 ghost use Rattle.stab_convergence.specs.Converged.{HasConverged};
 ghost use Rattle.stab_convergence.specs.PathRounds.{rounds_since};
 ghost use Rattle.stab_faults.specs.Changes.{changes_replay};
 ghost use Rattle.stab_faults.specs.Hits.{Spare};
+ghost use Rattle.stab_faults.specs.Refusals.{IsChangeReason};
 ghost use Rattle.stab_faults.specs.Since.{capacity_at, moment};
 ghost use Rattle.stab_rounds.specs.TreePlayed.{play_reads};
 ghost use Rattle.stab_rounds.specs.TreeRounds.{IsOpen};
@@ -15,7 +16,7 @@ use stab_core::Start;
 use stab_faults::{Change, ChangeFault};
 use stab_frames::{Item, Params};
 use stab_tree::{Openings, Tree};
-use stab_treecore::TreeState;
+use stab_treecore::{TreeState, TreeStepFault};
 use std::alloc::Global;
 
 /// The whole tree after these changes, and then after so many reading rounds of every link, each of
@@ -38,6 +39,11 @@ pub fn run_and_settle(
         state ≡ tree_replay (changes_replay (initial_tree
         (network_of params.now tree.now published.now starts.now openings.now)) changes.now)
         (play_reads capacity tree.now.parents rounds)) }
+    ensures same_tree { IfOk result (λ state. state.parents ≡ tree.now.parents) }
+    ensures refused { IfErr result (λ fault.
+        IsChangeReason params.now starts.now
+        (network_of params.now tree.now published.now starts.now openings.now) changes.now fault
+        ⊎ (fault ≡ ChangeFault.Act TreeStepFault.Memory)) }
     ensures converged { IfOk result (λ state.
         (before after : List Change) (node : ℕ) → changes.now ≡ before ++ after
         → let s = changes_replay (initial_tree

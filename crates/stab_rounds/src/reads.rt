@@ -1,4 +1,5 @@
-ghost use Rattle.std.specs.Prelude.{◌≡◌, ℕ, ◌≤◌, ◌++◌, [], ◌∷◌, length, replicate, Some, All, IfOk};
+ghost use Rattle.std.specs.Prelude.{◌≡◌, ℕ, ◌≤◌, ◌++◌, [], ◌∷◌, length, replicate, Some, All, IfOk, IfErr};
+ghost use Rattle.stab_rounds.specs.Refused.{IsRoundsReason};
 ghost use Rattle.stab_frames.specs.Parameters.{Parameters};
 ghost use Rattle.stab_rounds.specs.TreePlayed.{act_on, play_reads, reading_round_from};
 ghost use Rattle.stab_rounds.specs.TreePlayed.{reading_round_on};
@@ -93,8 +94,11 @@ pub fn apply_reading_rounds(
     capacity: u16,
     rounds: u32,
 ) -> Result<(), TreeStepFault>
-    ensures { IfOk result (λ _. state.new
+    ensures replay { IfOk result (λ _. state.new
         ≡ tree_replay state.old (play_reads capacity tree.now.parents rounds)) }
+    ensures same_tree { state.new.parents ≡ state.old.parents }
+    ensures memory { state.old.parents ≡ tree.now.parents
+        → IfErr result (λ fault. fault ≡ TreeStepFault.Memory) }
 {
     let round = reading_round_of_all(alloc, tree, capacity)?;
     'rounds: for _done in 0..rounds {
@@ -105,7 +109,8 @@ pub fn apply_reading_rounds(
 
 /// The whole tree after so many reading rounds of every link, from the starts of its links; each
 /// takes so many messages before it sends. Where the rounds are enough, and no link has a larger
-/// capacity, every node has all that its parent has, and misses nothing but among the first items.
+/// capacity, every node has all that its parent has, and misses nothing but among the first items. It
+/// is refused where the tree cannot begin, and else for memory alone; then no state is handed out.
 pub fn run_reading_rounds(
     alloc: Global,
     params: &[Params],
@@ -121,6 +126,9 @@ pub fn run_reading_rounds(
         state ≡ tree_replay (initial_tree
         (network_of params.now tree.now published.now starts.now openings.now))
         (play_reads capacity tree.now.parents rounds)) }
+    ensures same_tree { IfOk result (λ state. state.parents ≡ tree.now.parents) }
+    ensures refused { IfErr result (IsRoundsReason params.now starts.now
+        (network_of params.now tree.now published.now starts.now openings.now)) }
     ensures handed_on { IfOk result (λ state. (child parent : ℕ)
         → let net = network_of params.now tree.now published.now starts.now openings.now in
         All (λ link. link.params.capacity ≤ capacity) net.links

@@ -19,7 +19,7 @@ returns-clause-converged c before after node parts is_node spare is_open small e
     let changed : c.in_ok-state.state ≡ m = begun.replay ∙ (ap (λ es. changes_replay t es) parts ∙ changes-append t before after) in
     let same : c.args.tree.now.parents ≡ m.parents = sym begun.same_tree ∙ ap (λ (u : WholeTree). u.parents) changed in
     let reached : c.apply_reading_rounds.new.state ≡ tree_replay m (play_reads c.args.capacity m.parents c.args.rounds) =
-    c.in_ok-apply_reading_rounds.ensures
+    c.in_ok-apply_reading_rounds.ensures.replay
     ∙ (ap (λ u. tree_replay u (play_reads c.args.capacity c.args.tree.now.parents c.args.rounds)) changed
     ∙ ap (λ ps. tree_replay m (play_reads c.args.capacity ps c.args.rounds)) same) in
     let fit = subst (λ es. Fit t es) parts (all_fit t c.args.changes.now begun.made) in

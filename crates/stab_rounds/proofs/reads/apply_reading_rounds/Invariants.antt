@@ -9,3 +9,4 @@ invariant-rounds l =
     (l.round.items ≡ reading_round_from l.fn.capacity 0 l.tree.parents)
     × (tree_replay l.state (play_reads l.fn.capacity l.tree.parents (l.fn.rounds - l._done))
     ≡ tree_replay l.fn.state (play_reads l.fn.capacity l.tree.parents l.fn.rounds))
+    × (l.state.parents ≡ l.fn.state.parents)

@@ -13,7 +13,7 @@ returns-clause-handed_on c child parent small is_child enough =
     let net : Network = network_of c.args.params.now c.args.tree.now c.args.published.now c.args.starts.now c.args.openings.now in
     let played = play_reads c.args.capacity c.args.tree.now.parents c.args.rounds in
     let reached : c.apply_reading_rounds.new.state ≡ tree_replay (initial_tree net) played =
-    c.in_ok-apply_reading_rounds.ensures ∙ ap (λ t. tree_replay t played) c.in_ok-state.ensures.replay in
+    c.in_ok-apply_reading_rounds.ensures.replay ∙ ap (λ t. tree_replay t played) c.in_ok-state.ensures.replay in
     subst (λ (t : WholeTree). IsHandedOn t child parent) (sym reached)
     (c.reading_rounds_bring_everything.ensures.handed_on net c.args.capacity c.args.rounds child parent c.in_ok-state.ensures.network small is_child enough)
 
@@ -22,6 +22,6 @@ returns-clause-complete c child parent small is_child enough =
     let net : Network = network_of c.args.params.now c.args.tree.now c.args.published.now c.args.starts.now c.args.openings.now in
     let played = play_reads c.args.capacity c.args.tree.now.parents c.args.rounds in
     let reached : c.apply_reading_rounds.new.state ≡ tree_replay (initial_tree net) played =
-    c.in_ok-apply_reading_rounds.ensures ∙ ap (λ t. tree_replay t played) c.in_ok-state.ensures.replay in
+    c.in_ok-apply_reading_rounds.ensures.replay ∙ ap (λ t. tree_replay t played) c.in_ok-state.ensures.replay in
     subst (λ (t : WholeTree). CompleteLaw (most_strays net child) (most_missing net child) (path_garbage net child) net.published (received t child)) (sym reached)
     (c.reading_rounds_bring_everything.ensures.complete net c.args.capacity c.args.rounds child parent c.in_ok-state.ensures.network small is_child enough)
