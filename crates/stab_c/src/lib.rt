@@ -1,5 +1,6 @@
-//! The library for agents of one's own: a sender's half, a receiver's half and a node as plain
-//! structs, for C and whatever calls C. `include/rignolda.h` declares what is exported here.
+//! The library for agents of one's own: a sender's half, a receiver's half, a node and a session
+//! over connections as plain structs, and the words of a store, for C and whatever calls C.
+//! `include/rignolda.h` declares what is exported here.
 //!
 //! No call reads, writes, waits, takes memory or looks at a clock, and none has a `requires`: every
 //! bit pattern of a struct means a state, and each call is the step of the definitions of
