@@ -14,6 +14,7 @@ mod fault;
 mod job;
 pub mod laws;
 mod random;
+mod scenario;
 
 pub use answer::{act_explain, act_worst};
 pub use bounds::{BoundsFault, act_bounds};
@@ -21,3 +22,4 @@ pub use check::act_check;
 pub use draw::act_draw;
 pub use fault::CheckFault;
 pub use random::{RandomWriteFault, act_random};
+pub use scenario::{StepsFault, act_scenario};
