@@ -1,0 +1,228 @@
+#!/usr/bin/env python3
+"""scenario.py: what `rignolda scenario` has to print, in plain Python, from docs/FORMATS.md and from
+the rules of reference.py beside it.
+
+    tests/faults/scenario.py FILE             prints the lines of a scenario
+    tests/faults/scenario.py --search N       N random scenarios, each also given to the program that
+                                              RIGNOLDA in the environment names; any difference ends
+                                              it with status 1
+
+It is an independent program: nothing of it is made from the crates. It takes scenarios that are
+well formed; what is refused is in the tables of tests/check_tables.py."""
+import concurrent.futures, json, os, random, subprocess, sys
+
+sys.dont_write_bytecode = True
+from reference import Link, Tree
+
+UNUSED = 65535
+ROUND = ["offer", "send_frame", "recv_frame", "send_ack", "recv_ack"]
+
+
+def reading_round(capacity):
+    """Each end takes all that can be queued before it sends."""
+    return (["offer"] + ["recv_frame"] * capacity + ["send_frame", "recv_frame"]
+            + ["recv_ack"] * capacity + ["send_ack", "recv_ack"])
+
+
+class Closing(Link):
+    """A link that can be closed, and never changes after that but by a fault."""
+
+    def __init__(s, *parts):
+        super().__init__(*parts)
+        s.closed = False
+
+    def act(s, act, above, place=0):
+        if act == "close":
+            s.closed = True
+        elif not s.closed:
+            super().act(act, above, place)
+
+
+class Scenario:
+    def __init__(s, job):
+        s.names = [node["name"] for node in job["tree"]]
+        parents = [node.get("parent") for node in job["tree"]]
+        parents = [None if name is None else s.names.index(name) for name in parents]
+        children = [n for n, parent in enumerate(parents) if parent is not None]
+        own = job.get("links") or [None] * len(children)
+        starts = job.get("starts") or [{"send": 0, "recv": UNUSED}] * len(children)
+        links = [None] * len(parents)
+        for child, numbers, start in zip(children, own, starts):
+            numbers = numbers or job
+            links[child] = Closing(numbers["capacity"], numbers["labels"], *s.queued(start))
+        s.tree = Tree(parents, links, job["items"])
+        if job.get("version", 1) == 2 and "openings" in job:
+            s.tree.openings = [list(opening) for opening in job["openings"]]
+        s.since, s.moments = [0] * len(parents), {0: s.moment()}
+        for number, step in enumerate(job["steps"], 1):
+            s.step(number, step)
+
+    @staticmethod
+    def queued(start):
+        frames = [tuple(frame) for frame in start.get("frames", [])]
+        return frames, list(start.get("acks", [])), start["send"], start["recv"]
+
+    def moment(s):
+        """How many items each node has, and what each parent has for each child of it."""
+        nodes = range(len(s.names))
+        return ([len(s.tree.list_of(n)) for n in nodes],
+                [s.tree.backlog(n) if s.tree.links[n] else None for n in nodes])
+
+    def all_links(s, acts_of):
+        for child, link in enumerate(s.tree.links):
+            for act in acts_of(link) if link else []:
+                s.tree.act(child, act)
+
+    def step(s, number, step):
+        """A step is told by its last value, since a node may be called like a step."""
+        last = step[-1]
+        if len(step) == 2 and isinstance(last, list):
+            s.tree.published += last
+        elif len(step) == 2 and isinstance(last, int):
+            for _ in range(last):
+                s.all_links(lambda link: ROUND if step[0] == "rounds"
+                            else reading_round(link.capacity))
+        elif isinstance(last, (dict, list)):
+            node = s.names.index(step[1])
+            if step[0] == "strike":
+                s.tree.links[node].strike(*s.queued(last))
+            else:
+                s.tree.restart(node, last)
+            s.hit(number, node)
+        else:
+            s.tree.act(s.names.index(step[0]), *step[1:])
+
+    def hit(s, number, place):
+        """A fault at this node, or at the link into it, hits it and all nodes beneath."""
+        s.moments[number] = s.moment()
+        for node in range(len(s.names)):
+            at = node
+            while at is not None and at != place:
+                at = s.tree.parents[at]
+            if at == place:
+                s.since[node] = number
+
+    def lines(s):
+        for node, name in enumerate(s.names):
+            since, got = s.since[node], s.tree.list_of(node)
+            way = list(s.tree.path(node))
+            if not way:
+                yield f"{name} since {since} published {len(got)}"
+                yield " ".join(["items:", *map(str, got)])
+                continue
+            had, backlog = s.moments[since]
+            got = got[had[node]:]
+            strays = sum(s.tree.links[n].capacity for n in way)
+            strays += sum(len(backlog[n]) for n in way[:-1])
+            missing = sum(2 * s.tree.links[n].capacity + 1 for n in way)
+            root = s.tree.parents[way[-1]]
+            published = backlog[way[-1]] + s.tree.published[had[root]:]
+            yield (f"{name} since {since} received {len(got)} strays at most {strays} "
+                   f"missing among the first {missing}")
+            yield " ".join(["items:", *map(str, got)])
+            yield " ".join(["published:", *map(str, published)])
+
+
+def text_of(job):
+    return "".join(line + "\n" for line in Scenario(job).lines())
+
+
+# ---- random scenarios
+
+ACTS = ROUND * 4 + ["recv_frame_keep", "recv_ack_keep", "lose_frame", "lose_ack"]
+
+
+def random_start(rng, capacity, labels):
+    def some(make):
+        return [make() for _ in range(rng.randint(0, capacity))]
+    start = {"send": rng.randrange(labels), "recv": rng.choice([rng.randrange(labels), UNUSED])}
+    frames = some(lambda: [rng.randrange(labels + 1), rng.randrange(900, 999)])
+    acks = some(lambda: rng.randrange(labels + 1))
+    if frames or rng.random() < 0.5:
+        start["frames"] = frames
+    if acks or rng.random() < 0.5:
+        start["acks"] = acks
+    return start
+
+
+def random_step(rng, names, links, root):
+    """One step of a tree with these links, by the names of their children."""
+    draw = rng.random()
+    items = [rng.randrange(100, 200) for _ in range(rng.randint(0, 3))]
+    if draw < 0.04:
+        return ["publish", items]
+    if draw < 0.08:
+        return ["restart", rng.choice(names), items]
+    if draw < 0.1 or not links:
+        return ["rounds" if rng.random() < 0.5 else "reading_rounds", rng.randint(0, 4)]
+    child = rng.choice(list(links))
+    if draw < 0.15:
+        return ["strike", child, random_start(rng, *links[child])]
+    if draw < 0.153:
+        return [child, "close"]
+    act = rng.choice(ACTS)
+    return [child, act, rng.randrange(3)] if act.startswith("lose") else [child, act]
+
+
+def random_job(rng):
+    count = rng.randint(1, 6)
+    words = ["publish", "strike", "restart", "rounds", "reading_rounds", "offer", "a", "b", "c"]
+    names = rng.sample(words, count)
+    order = list(range(count))
+    rng.shuffle(order)
+    above = {order[0]: None}
+    for n, place in enumerate(order[1:], 1):
+        above[place] = names[rng.choice(order[:n])]
+    tree = [{"name": names[n]} | ({"parent": above[n]} if above[n] is not None else {})
+            for n in range(count)]
+    job = {"capacity": rng.randint(1, 3), "tree": tree,
+           "items": [rng.randrange(1, 90) for _ in range(rng.randint(0, 6))]}
+    job["labels"] = 2 * job["capacity"] + 2 + rng.randint(0, 2)
+    children = [names[n] for n in range(count) if above[n] is not None]
+    links = {child: (job["capacity"], job["labels"]) for child in children}
+    if rng.random() < 0.5:
+        job["links"] = []
+        for child in children:
+            c = rng.randint(1, 3)
+            own = {"capacity": c, "labels": 2 * c + 2} if rng.random() < 0.5 else None
+            job["links"].append(own)
+            links[child] = (own["capacity"], own["labels"]) if own else links[child]
+    if rng.random() < 0.7:
+        job["starts"] = [random_start(rng, *links[child]) for child in children]
+    if rng.random() < 0.3:
+        inner = set(above.values())
+        held = [n for n in range(count) if above[n] is not None and names[n] in inner]
+        job.update(version=2, h=3, openings=[
+            [rng.randrange(200, 300) for _ in range(rng.randint(0, 3))] if n in held else []
+            for n in range(count)])
+    root = names[order[0]]
+    steps = rng.randint(0, 60)
+    job["steps"] = [random_step(rng, names, links, root) for _ in range(steps)]
+    return job
+
+
+def differs(seed):
+    """What the program prints of a random scenario, where it is not what is printed here."""
+    job = random_job(random.Random(seed))
+    done = subprocess.run([os.environ["RIGNOLDA"], "scenario"], input=json.dumps(job).encode(),
+                          capture_output=True)
+    seen = done.returncode, done.stdout.decode(), done.stderr.decode()
+    return None if seen == (0, text_of(job), "") else (seed, job, seen, text_of(job))
+
+
+def search(count):
+    with concurrent.futures.ThreadPoolExecutor(4) as pool:
+        for found in pool.map(differs, range(count)):
+            if found:
+                seed, job, seen, wanted = found
+                print(f"scenario {seed}: {json.dumps(job)}\nprinted {seen}\nwanted {wanted}")
+                return 1
+    print(f"{count} scenarios, no difference")
+    return 0
+
+
+if __name__ == "__main__":
+    if sys.argv[1] == "--search":
+        sys.exit(search(int(sys.argv[2])))
+    with open(sys.argv[1]) as file:
+        sys.stdout.write(text_of(json.load(file)))
