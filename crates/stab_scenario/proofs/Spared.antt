@@ -7,7 +7,7 @@ use Rattle.stab_faults.specs.declared.change.Change.TheVariants.{Act, Publish, S
 use Rattle.stab_faults.specs.Hits.{Hits, Spare}
 use Rattle.stab_frames.specs.Parameters.{Parameters}
 use Rattle.stab_rounds.specs.TreePlayed.{round_from}
-use Rattle.stab_tree.specs.IsTree.{IsTree}
+use Rattle.stab_tree.specs.IsTree.{IsRooted}
 use Rattle.stab_tree.specs.Links.{links_of}
 use Rattle.stab_tree.specs.Nodes.{Nodes, parent_at}
 use Rattle.stab_tree.specs.Steps.{Reaches, ancestor, depth_of}
@@ -60,11 +60,11 @@ no_longer ps (suc depth) (suc k) node root other leads ends goes =
         omega (arith, shorter)
 
 -- a node that is not on the path is not reached
-pub not_reached : (t : Nodes) → IsTree t → (node other : ℕ) → node < length t.parents → is_on_path t.parents node other ≡ false
+pub not_reached : (t : Nodes) → IsRooted t.parents → (node other : ℕ) → node < length t.parents → is_on_path t.parents node other ≡ false
     → Reaches t.parents node other → ⊥
 not_reached t tree node other is_node not (k, goes) =
     not_within t.parents (depth_of t.parents node) other node not k
-    (no_longer t.parents (depth_of t.parents node) k node _ other ((tree_depths t tree).steps node is_node) tree.root_has_none goes) goes
+    (no_longer t.parents (depth_of t.parents node) k node _ other ((tree_depths t.parents tree).steps node is_node) tree.root_has_none goes) goes
 
 -- ---- changes
 
@@ -79,7 +79,7 @@ spare_repeated ps node (suc times) events rest spare =
     subst (Spare ps node) (sym (append_assoc (acts events) (repeated times events) rest))
     (spare_acts ps node events (repeated times events ++ rest) (spare_repeated ps node times events rest spare))
 
-module _ (t : Nodes) (tree : IsTree t) (params : List Parameters) (node : ℕ) (is_node : node < length t.parents) where
+module _ (t : Nodes) (tree : IsRooted t.parents) (params : List Parameters) (node : ℕ) (is_node : node < length t.parents) where
   spare_step : (step : Step) (rest : List Change) → hits t.parents node step ≡ false → Spare t.parents node rest
       → Spare t.parents node (changes_in t.parents params step ++ rest)
   spare_step (One (Act e)) rest not spare = ((λ never. never), spare)

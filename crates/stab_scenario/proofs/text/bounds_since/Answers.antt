@@ -12,9 +12,9 @@ returns c =
     let node = c.args.node in
     let bounds = c.bounds_at-bounds in
     let strays : bounds.result.link_strays ≡ strays_bound net node =
-    subst (λ (n : Network). bounds.result.link_strays ≡ strays_bound n node) c.in_ok-judge.ensures bounds.ensures.link_strays in
+    subst (λ (n : Network). bounds.result.link_strays ≡ strays_bound n node) c.in_ok-judge.ensures bounds.ensures.sums.link_strays in
     let missing : bounds.result.missing ≡ most_missing net node =
-    subst (λ (n : Network). bounds.result.missing ≡ most_missing n node) c.in_ok-judge.ensures bounds.ensures.missing in (
+    subst (λ (n : Network). bounds.result.missing ≡ most_missing n node) c.in_ok-judge.ensures bounds.ensures.sums.missing in (
       ap (λ n. n + c.old_backlogs.result) (c.from.ensures ∙ strays)
           ∙ (ap (λ n. strays_bound net node + n) c.old_backlogs.ensures.sum
           ∙ strays_are net s node c.requires.same_tree c.requires.same_capacities),
