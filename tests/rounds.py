@@ -187,13 +187,13 @@ def tree_case(rng, reading):
     return needed, enough
 
 
-def chain(rounds):
+def chain(rounds, what_each=ROUND):
     """The chain r, a, b of two worst links with the items 10, 11, 12."""
     a = Link(1, 4, [(2, 99)], [0], 0, 1)
     b = Link(1, 4, [(2, 98)], [0], 0, 1)
     for _ in range(rounds):
         for link, above in ((a, [10, 11, 12]), (b, a.delivered)):
-            for what in ROUND:
+            for what in what_each:
                 link.act(what, above)
     return a, b
 
@@ -222,6 +222,9 @@ def main():
     for rounds in (1, 4, 16):
         a, b = chain(rounds)
         print(f"chain after {rounds} rounds:", a.delivered, a.acked, b.delivered, b.acked)
+    for rounds in (1, 2, 6):
+        a, b = chain(rounds, reading_round(1))
+        print(f"chain after {rounds} reading rounds:", a.delivered, a.acked, b.delivered, b.acked)
     print(f"{sum(results)} passed, {len(results) - sum(results)} failed")
     return 0 if all(results) else 1
 

@@ -7,7 +7,10 @@ ghost use Rattle.stab_tree.specs.NodeOpenings.{FitTree};
 use serde_json::Value;
 use stab_core::{Event, Link, Start, link_text};
 use stab_frames::{Frame, Item, Params, Sequence};
-use stab_rounds::{apply_reading_round, count_rounds, pass_on, round_of_all, run_rounds};
+use stab_rounds::{
+    apply_reading_round, count_rounds, pass_on, reading_round_of_all, round_of_all,
+    run_reading_rounds, run_rounds,
+};
 use stab_tree::{NodeId, Tree, read_tree};
 use stab_treecore::Openings;
 use std::alloc::Global;
@@ -20,7 +23,7 @@ const TAKE_ACK: Event = Event::RecvAck { keep: false };
 const KEEP_FRAME: Event = Event::RecvFrame { keep: true };
 
 /// The worst start of capacity 1, whose stray is this item.
-fn worst_start(rt: &(impl Abort + Alloc<A = Global>), stray: Item) -> Start {
+pub(crate) fn worst_start(rt: &(impl Abort + Alloc<A = Global>), stray: Item) -> Start {
     let frame = Frame {
         label: 2,
         item: stray,
@@ -157,13 +160,13 @@ fn one_reading_round_passes_an_item_on(rt: HostRuntime) {
 
 /// A tree, and what its nodes begin with.
 #[derive(Drop)]
-struct Opened {
-    tree: Tree,
-    openings: Openings,
+pub(crate) struct Opened {
+    pub(crate) tree: Tree,
+    pub(crate) openings: Openings,
 }
 
 /// The chain r, a, b, whose nodes begin with nothing.
-fn chain(rt: &(impl Abort + Alloc<A = Global>)) -> Opened
+pub(crate) fn chain(rt: &(impl Abort + Alloc<A = Global>)) -> Opened
     ensures fit { FitTree result.tree.parents result.openings }
 {
     let text = r#"[{"name":"r"},{"name":"a","parent":"r"},{"name":"b","parent":"a"}]"#;
@@ -236,7 +239,7 @@ fn is_after(rt: &(impl Abort + Alloc<A = Global>), row: &After) -> bool {
 }
 
 /// Whether a link has delivered this, and so many items on it are acknowledged.
-fn has(link: Option<&Link>, delivered: &[Item], acked: u64) -> bool {
+pub(crate) fn has(link: Option<&Link>, delivered: &[Item], acked: u64) -> bool {
     match link {
         Some(link) => link.delivered() == delivered && link.acked() == acked,
         None => false,
@@ -247,5 +250,73 @@ fn has(link: Option<&Link>, delivered: &[Item], acked: u64) -> bool {
 fn rounds_bring_everything_down_a_chain(rt: HostRuntime) {
     for row in &AFTER {
         assert!(&rt; is_after(&rt, row), "after {} rounds", row.rounds);
+    }
+}
+
+#[test]
+fn a_reading_round_of_the_chain_has_fourteen_events(rt: HostRuntime) {
+    let opened = chain(&rt);
+    let round = reading_round_of_all(rt.alloc(), &opened.tree, 1).expect(&rt, "memory");
+    assert!(&rt;
+        round.len() == 14,
+        "five events and two more for each of two links"
+    );
+}
+
+/// By `tests/rounds.py`. Six reading rounds are said to be enough: 3 + 1 + 1 + 1.
+static AFTER_READING: [After; 3] = [
+    After {
+        rounds: 1,
+        a: &[99, 10],
+        a_acked: 1,
+        b: &[98, 99],
+        b_acked: 1,
+    },
+    After {
+        rounds: 2,
+        a: &[99, 10, 11],
+        a_acked: 2,
+        b: &[98, 99, 10],
+        b_acked: 2,
+    },
+    After {
+        rounds: 6,
+        a: &[99, 10, 11, 12],
+        a_acked: 3,
+        b: &[98, 99, 10, 11, 12],
+        b_acked: 4,
+    },
+];
+
+/// Whether the chain has this after so many reading rounds.
+fn is_after_reading(rt: &(impl Abort + Alloc<A = Global>), row: &After) -> bool {
+    let params = Params::new(1, 4).expect(rt, "parameters");
+    let opened = chain(rt);
+    let mut starts = Vec::new(rt.alloc());
+    starts.push(worst_start(rt, 99)).expect(rt, "memory");
+    starts.push(worst_start(rt, 98)).expect(rt, "memory");
+    let state = run_reading_rounds(
+        rt.alloc(),
+        &[params, params],
+        &opened.tree,
+        &[10, 11, 12],
+        &starts,
+        &opened.openings,
+        1,
+        row.rounds,
+    )
+    .expect(rt, "a state");
+    has(state.link(NodeId::new(1)), row.a, row.a_acked)
+        && has(state.link(NodeId::new(2)), row.b, row.b_acked)
+}
+
+#[test]
+fn reading_rounds_bring_everything_down_a_chain(rt: HostRuntime) {
+    for row in &AFTER_READING {
+        assert!(&rt;
+            is_after_reading(&rt, row),
+            "after {} reading rounds",
+            row.rounds
+        );
     }
 }
