@@ -1,10 +1,9 @@
 -- Each event of a round is on a link that is there.
 use Rattle.std.proofs.Common.{◌≡◌, ℕ, zero, suc, ◌+◌, ◌<◌, List, [], ◌∷◌, ◌++◌, length, get_or, Option, Some, None, IsSome, All, replicate, refl, sym, ◌∙◌, ap, subst, arith}
 use Rattle.std.specs.List.{AllByRecursion as Each}
-use Rattle.stab_core.specs.declared.act.LinkAct.{LinkAct}
 use Rattle.stab_treecore.specs.declared.event.TreeEvent.{TreeEvent}
 use Rattle.stab_treecore.specs.Refusals.{NamesLink}
-use Rattle.stab_rounds.specs.TreePlayed.{act_on, round_from, reading_round_from}
+use Rattle.stab_rounds.specs.TreePlayed.{round_from, reading_round_from}
 
 -- what the nodes from this one on have as parents
 abbrev Behind : List (Option ℕ) → ℕ → List (Option ℕ) → Type 0

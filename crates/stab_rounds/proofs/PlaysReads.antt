@@ -8,8 +8,8 @@ use Rattle.stab_treecore.specs.declared.event.TreeEvent.{TreeEvent}
 use Rattle.stab_treecore.specs.Network.{IsNetwork, Network}
 use Rattle.stab_treecore.specs.TreeReplay.{initial_tree, tree_replay}
 use Rattle.stab_treecore.specs.WholeTree.{WholeTree}
-use Rattle.stab_rounds.specs.ReadingRounds.{Reads, offer, frames, frame, acks, ack, reading_from}
-use Rattle.stab_rounds.specs.TreeReadingRounds.{IsReadingRound, ReadingRounds}
+use Rattle.stab_rounds.specs.ReadingRounds.{offer, frames, acks, reading_from}
+use Rattle.stab_rounds.specs.TreeReadingRounds.{ReadingRounds}
 use Rattle.stab_rounds.specs.TreeRounds.{acts_on, IsOpen}
 use Rattle.stab_rounds.specs.TreePlayed.{act_on, reading_round_on, reading_round_from, play_reads}
 use Rattle.stab_rounds.proofs.Final.{capacity_few}

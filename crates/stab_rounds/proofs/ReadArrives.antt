@@ -17,7 +17,7 @@ use Rattle.stab_treecore.specs.WholeTree.{WholeTree, received}
 use Rattle.stab_treecore.proofs.Replayed.{ReplaysObey, opening_is_run, replay_keeps}
 use Rattle.stab_rounds.specs.ReadingRounds.{offer, reading_from}
 use Rattle.stab_rounds.specs.TreeRounds.{acts_on, IsOpen, IsHandedOn}
-use Rattle.stab_rounds.specs.TreeReadingRounds.{IsReadingRound, ReadingRounds, reading_rounds_below}
+use Rattle.stab_rounds.specs.TreeReadingRounds.{ReadingRounds, reading_rounds_below}
 use Rattle.stab_rounds.proofs.TreeSteps.{At, Fixed, fixed_of, IsSound, OpenAt, keeps_all, run_is_sound, known, linked, offered_few, acked_few, replay_append, open_before, none_or_some, grows_over}
 use Rattle.stab_rounds.proofs.Drains.{Drained, top, under, drained_over}
 use Rattle.stab_rounds.proofs.ReadTrees.{read_progress, flush_many, reading_takes}

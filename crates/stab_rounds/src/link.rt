@@ -21,7 +21,8 @@ fn apply_times(link: &mut Link, event: Event, times: u16) -> Result<(), AllocErr
 }
 
 /// One round of a link: this item is offered, which an idle sender takes, a frame is sent and taken,
-/// an acknowledgement is sent and taken.
+/// an acknowledgement is sent and taken. Where memory is refused, the events before were applied, and
+/// the others were not.
 pub fn apply_round(link: &mut Link, item: Item) -> Result<(), AllocError>
     ensures { IfOk result (λ _. link.new ≡ link_at link.old.params
         (replay link.old.params link.old.state (round_with item))) }
@@ -35,7 +36,7 @@ pub fn apply_round(link: &mut Link, item: Item) -> Result<(), AllocError>
 }
 
 /// Offers this item and makes `2c + 1` rounds, which acknowledge an item from any state of the link:
-/// this one, if the sender was idle.
+/// this one, if the sender was idle. Where memory is refused, the events before were applied.
 pub fn pass_on(link: &mut Link, params: Params, item: Item) -> Result<(), AllocError>
     requires own { link.old.params ≡ params }
     ensures replay { IfOk result (λ _. link.new ≡ link_at link.old.params
@@ -56,6 +57,7 @@ pub fn pass_on(link: &mut Link, params: Params, item: Item) -> Result<(), AllocE
 
 /// One reading round of a link: this item is offered, and each end takes all that is queued before
 /// it sends. From any state of the link it acknowledges an item: this one, if the sender was idle.
+/// Where memory is refused, the events before were applied.
 pub fn apply_reading_round(link: &mut Link, params: Params, item: Item) -> Result<(), AllocError>
     requires own { link.old.params ≡ params }
     ensures replay { IfOk result (λ _. link.new ≡ link_at link.old.params
