@@ -17,14 +17,13 @@ use Rattle.stab_faults.proofs.Contained.{changes-append}
 use Rattle.stab_faults.proofs.Kept.{none_or_some, OnPath, path_up, since_at_first}
 use Rattle.stab_faults.proofs.NodesSince.{complete_since, root_alone, since_spared}
 use Rattle.stab_faults.proofs.Obeying.{ObeysSince}
-use Rattle.stab_rounds.specs.ReadingRounds.{offer, reading_from}
-use Rattle.stab_rounds.specs.TreeRounds.{acts_on, IsHandedOn}
+use Rattle.stab_rounds.specs.TreeRounds.{IsHandedOn}
 use Rattle.stab_rounds.proofs.Drains.{Drained, top, under}
 use Rattle.stab_rounds.proofs.Final.{handed_on_by}
 use Rattle.stab_rounds.proofs.ReadArrives.{IsRoundOf, RoundsOf, Stages, reads_drain, running}
 use Rattle.stab_rounds.proofs.TreeSteps.{linked}
-use Rattle.stab_convergence.specs.PathRounds.{acts_among, PublishesNothing, IsPathOpen, IsPathRound, PathRounds, rounds_since}
-use Rattle.stab_convergence.specs.Converged.{CompleteSince, HasConverged, IsPathHandedOn}
+use Rattle.stab_convergence.specs.PathRounds.{acts_among, PublishesNothing, IsPathOpen, PathRounds, rounds_since}
+use Rattle.stab_convergence.specs.Converged.{CompleteSince, HasConverged}
 use Rattle.stab_convergence.proofs.Alike.{Alike, alike_over, itself, same_lists}
 use Rattle.stab_convergence.proofs.Lags.{farther, few_left, fixed_at, lag, state_is_sound}
 

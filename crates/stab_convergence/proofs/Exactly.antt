@@ -1,6 +1,6 @@
 -- Where each link of a node's path has acknowledged 2c + 2 items since any state, and has handed on all: from then on the node receives
 -- exactly what is published.
-use Rattle.std.proofs.Common.{◌≡◌, inl, inr, ℕ, zero, suc, ◌+◌, ◌-◌, ◌*◌, ◌<◌, ◌≤◌, List, [], ◌∷◌, ◌++◌, length, drop, Option, Some, None, option_and_then, refl, ap, sym, ◌∙◌, subst, arith}
+use Rattle.std.proofs.Common.{◌≡◌, inl, inr, ℕ, zero, suc, ◌<◌, ◌≤◌, List, [], ◌∷◌, ◌++◌, length, drop, Some, None, option_and_then, refl, ap, sym, ◌∙◌, subst, arith}
 use mathlib.Core.List.{IsPrefix}
 use Rattle.std.specs.Option.{option_map_or}
 use Rattle.std.proofs.lemmas.List.{append-nil, length-append, length-drop}
@@ -13,12 +13,12 @@ use Rattle.stab_core.proofs.ForCallers.{prefix_of_itself, prefix_of_prefix}
 use Rattle.stab_core.proofs.Shifted.{after_all}
 use Rattle.stab_tree.specs.Nodes.{Nodes, parent_at, root_of}
 use Rattle.stab_tree.specs.Steps.{Reaches, ancestor}
-use Rattle.stab_treecore.specs.WholeTree.{WholeTree, link_into, received}
+use Rattle.stab_treecore.specs.WholeTree.{WholeTree, received}
 use Rattle.stab_faults.specs.declared.change.Change.{Change}
 use Rattle.stab_faults.specs.Changes.{changes_replay}
 use Rattle.stab_faults.specs.Hits.{Spare}
 use Rattle.stab_faults.specs.Since.{IsState, acked_at, capacity_at, gained}
-use Rattle.stab_faults.proofs.Grown.{prefix_dropped, prefix_no_longer}
+use Rattle.stab_faults.proofs.Grown.{prefix_dropped}
 use Rattle.stab_faults.proofs.Kept.{none_or_some, gained_is, OnPath, path_up}
 use Rattle.stab_faults.proofs.NodesSince.{has_link, since_spared}
 use Rattle.stab_convergence.specs.Converged.{IsPathHandedOn}

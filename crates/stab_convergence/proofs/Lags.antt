@@ -1,5 +1,5 @@
 -- Of any state of a whole tree: the most items that a node can yet have, and so how many rounds the link into it can need.
-use Rattle.std.proofs.Common.{◌≡◌, inl, inr, ℕ, zero, suc, ◌+◌, ◌-◌, ◌<◌, ◌≤◌, List, [], ◌++◌, length, drop, Option, Some, None, refl, ap, sym, ◌∙◌, subst, arith}
+use Rattle.std.proofs.Common.{◌≡◌, inl, inr, ℕ, suc, ◌+◌, ◌-◌, ◌<◌, ◌≤◌, [], ◌++◌, length, drop, Some, None, refl, ap, sym, ◌∙◌, subst, arith}
 use Rattle.std.specs.Option.{option_map_or}
 use Rattle.std.proofs.lemmas.Bool.{cases_lt}
 use Rattle.std.proofs.lemmas.List.{length-append, length-drop}
@@ -10,7 +10,7 @@ use Rattle.stab_tree.specs.Nodes.{Nodes, parent_at, root_of}
 use Rattle.stab_tree.specs.Steps.{depth_of}
 use Rattle.stab_tree.proofs.ForCallers.{child_is_deeper, holds_at_every_depth}
 use Rattle.stab_treecore.specs.Paths.{path_sum, sum_above}
-use Rattle.stab_treecore.specs.WholeTree.{WholeTree, link_into, received, source}
+use Rattle.stab_treecore.specs.WholeTree.{WholeTree, received, source}
 use Rattle.stab_treecore.proofs.ForChanges.{sum_above-add}
 use Rattle.stab_faults.specs.Since.{IsState, backlog, capacity_at}
 use Rattle.stab_rounds.proofs.Coming.{to_come, few_idle, few_coming}

@@ -1,9 +1,7 @@
 -- Reading rounds that are made after changes of a network: they are such rounds of every path, so every node comes back.
-use Rattle.std.proofs.Common.{◌≡◌, ℕ, zero, suc, ◌<◌, ◌≤◌, List, [], ◌∷◌, ◌++◌, length, map, Some, Option, refl, ap, sym, ◌∙◌, subst}
+use Rattle.std.proofs.Common.{◌≡◌, ℕ, zero, suc, ◌<◌, ◌≤◌, List, [], ◌∷◌, ◌++◌, length, map, Option, refl, ap, sym, subst}
 use Rattle.std.proofs.lemmas.List.{map-append}
-use Rattle.stab_core.specs.Link.{LinkValue}
 use Rattle.stab_core.specs.LinkLaw.{LinkLaw}
-use Rattle.stab_tree.specs.Nodes.{parent_at}
 use Rattle.stab_treecore.specs.declared.event.TreeEvent.{TreeEvent}
 use Rattle.stab_treecore.specs.Network.{IsNetwork, Network}
 use Rattle.stab_treecore.specs.TreeReplay.{initial_tree, tree_replay}
@@ -15,7 +13,6 @@ use Rattle.stab_faults.specs.Changes.{Fit, changes_replay}
 use Rattle.stab_faults.specs.Hits.{Spare}
 use Rattle.stab_faults.specs.Since.{IsState, capacity_at, moment}
 use Rattle.stab_faults.proofs.Contained.{changes-append}
-use Rattle.stab_faults.proofs.NodesSince.{since_spared}
 use Rattle.stab_faults.proofs.Obeying.{ObeysSince}
 use Rattle.stab_faults.proofs.Running.{fit_front}
 use Rattle.stab_faults.proofs.Schedules.{schedule_state}
@@ -24,7 +21,7 @@ use Rattle.stab_rounds.specs.TreeRounds.{acts_on, IsOpen}
 use Rattle.stab_rounds.specs.TreePlayed.{play_reads, reading_round_from}
 use Rattle.stab_rounds.proofs.Plays.{no_close_keeps}
 use Rattle.stab_rounds.proofs.PlaysReads.{reads_close_nothing, reads_of_each}
-use Rattle.stab_convergence.specs.PathRounds.{acts_among, IsPathRound, PathRounds, PublishesNothing, rounds_since}
+use Rattle.stab_convergence.specs.PathRounds.{acts_among, PathRounds, PublishesNothing, rounds_since}
 use Rattle.stab_convergence.specs.Converged.{HasConverged}
 use Rattle.stab_convergence.proofs.Converges.{converges}
 

@@ -1,8 +1,7 @@
 -- A link that has acknowledged 2c + 2 items since any state, where no item waits and no frame is on its way: the label of the next item is
 -- nowhere in it, so from then on it delivers exactly what it is offered, each item once.
-use Rattle.std.proofs.Common.{◌≡◌, ◌≢◌, ℕ, zero, suc, ◌+◌, ◌-◌, ◌*◌, ◌<◌, ◌≤◌, inl, inr, List, [], ◌∷◌, ◌++◌, length, map, drop, slice_index, get_or, refl, sym, ◌∙◌, ap, ap₂, subst, arith, Contains}
+use Rattle.std.proofs.Common.{◌≡◌, ◌≢◌, ℕ, zero, suc, ◌+◌, ◌*◌, ◌<◌, ◌≤◌, inl, inr, List, [], ◌∷◌, ◌++◌, length, map, drop, slice_index, refl, sym, ◌∙◌, ap, subst, arith, Contains}
 use mathlib.Core.List.{IsPrefix}
-use Rattle.std.specs.List.{AllByRecursion as Each}
 use Rattle.std.proofs.lemmas.Bool.{cases_lt}
 use Rattle.std.proofs.lemmas.List.{length-append, length-map}
 use Rattle.stab_frames.specs.Parameters.{Parameters, AreLawful}
@@ -14,7 +13,7 @@ use Rattle.stab_core.specs.Replay.{IsLawful, initial, replay, start_items}
 use Rattle.stab_core.specs.Since.{start_at, IsBounded, acked_since, delivered_since, offered_since}
 use Rattle.stab_core.specs.Trace.{Traced, traced_initial, traced_replay}
 use Rattle.stab_core.proofs.Bounded.{replay_bounded}
-use Rattle.stab_core.proofs.Circle.{Absent, AllAre, TurnsTo, circle, at_receiver}
+use Rattle.stab_core.proofs.Circle.{Absent, TurnsTo, circle, at_receiver}
 use Rattle.stab_core.proofs.Events.{Invariant, every_replay_keeps}
 use Rattle.stab_core.proofs.ForCallers.{below_higher, member_is_below, rises_from_lower}
 use Rattle.stab_core.proofs.FreeLabel.{IsFree, free_label}

@@ -1,17 +1,14 @@
 -- A node has come back after faults: it has all that was published since, and so has each node
 -- above it.
 -- Source: this project's own.
-use Rattle.std.specs.Prelude.{◌≡◌, ℕ, ◌≤◌, ◌<◌, List, [], length, Some}
-use Rattle.stab_faults.specs.declared.change.Change.{Change}
-use Rattle.stab_faults.specs.Changes.{changes_replay}
-use Rattle.stab_faults.specs.Hits.{Spare}
+use Rattle.std.specs.Prelude.{◌≡◌, ℕ, List, Some}
 use Rattle.stab_faults.specs.Moment.{Moment, garbage_since, missing_since, published_since}
 use Rattle.stab_faults.specs.Moment.{strays_since}
-use Rattle.stab_faults.specs.Since.{backlog, gained, moment, queued_at}
+use Rattle.stab_faults.specs.Since.{gained, moment}
 use Rattle.stab_rounds.specs.TreeRounds.{IsHandedOn}
-use Rattle.stab_tree.specs.Nodes.{parent_at, root_of}
+use Rattle.stab_tree.specs.Nodes.{parent_at}
 use Rattle.stab_tree.specs.Steps.{Reaches}
-use Rattle.stab_treecore.specs.TreeLaw.{CompleteLaw, TreeLaw}
+use Rattle.stab_treecore.specs.TreeLaw.{CompleteLaw}
 use Rattle.stab_treecore.specs.WholeTree.{WholeTree}
 
 -- the complete law of a node that gained this list since the moment
