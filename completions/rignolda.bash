@@ -3,7 +3,7 @@ _rignolda() {
     local word=${COMP_WORDS[COMP_CWORD]} flags='' files=''
     COMPREPLY=()
     if [ "$COMP_CWORD" -eq 1 ]; then
-        mapfile -t COMPREPLY < <(compgen -W 'bounds check draw explain random worst help --help --version' -- "$word")
+        mapfile -t COMPREPLY < <(compgen -W 'bounds check draw explain random scenario worst help --help --version' -- "$word")
         return
     fi
     case ${COMP_WORDS[1]} in
@@ -31,13 +31,17 @@ _rignolda() {
                 --hold|--labels) return ;;
             esac
             ;;
+        scenario)
+            flags='--help'
+            files=yes
+            ;;
         worst)
             flags='--capacity --labels --help'
             case ${COMP_WORDS[COMP_CWORD - 1]} in
                 --capacity|--labels) return ;;
             esac
             ;;
-        help) flags='bounds check draw explain random worst help' ;;
+        help) flags='bounds check draw explain random scenario worst help' ;;
     esac
     mapfile -t COMPREPLY < <(compgen -W "$flags" -- "$word")
     if [ -n "$files" ] && [[ $word != -* ]]; then

@@ -27,6 +27,9 @@ complete -c rignolda -n '__fish_seen_subcommand_from random' -l repeat -x -d 'Of
 complete -c rignolda -n '__fish_seen_subcommand_from random' -l hold -x -d 'How many items a node may begin with, up to 64 [default: 2]'
 complete -c rignolda -n '__fish_seen_subcommand_from random' -l labels -x -d 'How many labels each link has; drawn for each link where it is left out'
 complete -c rignolda -n '__fish_seen_subcommand_from random' -l help -d 'Print help'
+complete -c rignolda -n __fish_use_subcommand -a scenario -d 'Says what a scenario of acts, rounds and faults makes of a tree'
+complete -c rignolda -n '__fish_seen_subcommand_from scenario' -l help -d 'Print help'
+complete -c rignolda -n '__fish_seen_subcommand_from scenario' -F
 complete -c rignolda -n __fish_use_subcommand -a worst -d 'Prints a link job that delivers as many strays and misses as many items as can be'
 complete -c rignolda -n '__fish_seen_subcommand_from worst' -l capacity -x -d 'How many entries each queue holds, 1 to 64'
 complete -c rignolda -n '__fish_seen_subcommand_from worst' -l labels -x -d 'How many labels there are, from twice the capacity and two to 1000'

@@ -20,7 +20,7 @@ from pathlib import Path
 sys.dont_write_bytecode = True
 
 from tables import rignolda_check, rignolda_draw, rignolda_explain, rignolda_files, rignolda_jobs
-from tables import rignolda_lines
+from tables import rignolda_lines, rignolda_scenario
 from tables import stab_jobs, stab_limits, stab_lines, stab_links, stab_openings, stab_parts
 from tables import stab_trees
 from tables.program import program
@@ -28,6 +28,7 @@ from tables.rows import Printed, Repeated
 
 TABLES = [
     rignolda_lines, rignolda_explain, rignolda_check, rignolda_draw, rignolda_files, rignolda_jobs,
+    rignolda_scenario,
     stab_lines, stab_jobs, stab_trees, stab_parts, stab_links, stab_openings, stab_limits,
 ]
 # No run takes longer, in seconds.

@@ -85,6 +85,7 @@ LINES = [
     (0, "explain trees/every_member.json"), (1, "explain refused_trees/unknown_node.json"),
     (0, "explain worst_start.json"), (1, "explain"),
     (0, "bounds trees/every_member.json"), (1, "bounds worst_start.json"),
+    (0, "scenario scenarios/one_restart.json"), (1, "scenario trees/every_member.json"),
     (0, "check worst_start.json worst_start.out"),
     (1, "check worst_start.json links/two_clean_rounds.out"),
     (0, "check trees/an_offer_of_nothing.json trees/an_offer_of_nothing.out"),

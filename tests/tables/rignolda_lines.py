@@ -10,13 +10,14 @@ Makes and examines the jobs of stab
 Usage: rignolda <COMMAND>
 
 Commands:
-  bounds   Says what the laws allow each node of a job: strays, and missing items
-  check    Says whether a report of a job obeys the laws, or which part of it is broken
-  draw     Draws the run of a link job or of a tree's schedule, a line for each event
-  explain  Says what is wrong with a link job or a job of a tree, and where
-  random   Prints a job of a tree with random garbage in it, the same for the same options
-  worst    Prints a link job that delivers as many strays and misses as many items as can be
-  help     Print this message or the help of the given subcommand(s)
+  bounds    Says what the laws allow each node of a job: strays, and missing items
+  check     Says whether a report of a job obeys the laws, or which part of it is broken
+  draw      Draws the run of a link job or of a tree's schedule, a line for each event
+  explain   Says what is wrong with a link job or a job of a tree, and where
+  random    Prints a job of a tree with random garbage in it, the same for the same options
+  scenario  Says what a scenario of acts, rounds and faults makes of a tree
+  worst     Prints a link job that delivers as many strays and misses as many items as can be
+  help      Print this message or the help of the given subcommand(s)
 
 Options:
   -h, --help     Print help

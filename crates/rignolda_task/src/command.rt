@@ -34,6 +34,11 @@ pub enum Request {
     Bounds {
         file: Option<String>,
     },
+    /// Print what the steps of a scenario come to at each node; it is read from standard input where no
+    /// file is named.
+    Scenario {
+        file: Option<String>,
+    },
     /// Say whether a report of a job obeys; where no file is named, that one is on standard input.
     Check {
         job: Option<String>,
@@ -73,6 +78,7 @@ fn job_request(alloc: Global, word: &str, matches: &ArgMatches<'_>) -> Result<Re
     Ok(match word {
         "explain" => Request::Explain { file },
         "bounds" => Request::Bounds { file },
+        "scenario" => Request::Scenario { file },
         _ => Request::Draw {
             svg: matches.get_flag("svg"),
             file,

@@ -12,6 +12,7 @@ mod hint;
 mod line;
 mod program;
 mod random;
+mod scenario;
 
 pub use command::{Request, parse};
 pub use program::run;

@@ -157,6 +157,11 @@ const LINES: &[Line] = &[
         ],
     },
     Line {
+        name: "scenario",
+        about: "Says what a scenario of acts, rounds and faults makes of a tree",
+        arguments: &[JOB],
+    },
+    Line {
         name: "worst",
         about: "Prints a link job that delivers as many strays and misses as many items as can be",
         arguments: &[

@@ -2,6 +2,7 @@ use crate::bounds::bounds_of;
 use crate::check::check_of;
 use crate::command::{Request, parse};
 use crate::hint::hint_of;
+use crate::scenario::scenario_of;
 use clap::Error;
 use clap::error::ErrorKind;
 use rignolda_acts::{RandomWriteFault, act_draw, act_explain, act_random, act_worst};
@@ -75,6 +76,7 @@ fn done<R: Files + Input + Print + Eprint + AllocGlobal>(
             status_found(rt, explained)
         }
         Request::Bounds { file } => bounds_of(rt, file, is_typed),
+        Request::Scenario { file } => scenario_of(rt, file, is_typed),
         Request::Check { job, report } => check_of(rt, job, report, is_typed),
     }
 }
