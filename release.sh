@@ -53,6 +53,12 @@ make_release() {
     # (what is no more of a release goes)
     mkdir -p -- "$release" && find "$release" -mindepth 1 -delete &&
         cp -- "$work/release/"* "$release/" || fail "the files of $release cannot be written"
+    # (the package of the crate for Rust has the archive of its target inside)
+    if [ -d "$top/rust/rignolda" ] && [ -f "$release/librignolda.a" ]; then
+        mkdir -p -- "$top/rust/rignolda/lib" &&
+            cp -- "$release/librignolda.a" "$top/rust/rignolda/lib/x86_64-linux.a" ||
+            fail "the files of $top/rust/rignolda/lib cannot be written"
+    fi
     say "release/ has what these sources give (${artefacts[*]}); commit all of it"
 }
 

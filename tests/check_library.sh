@@ -140,6 +140,8 @@ gate() {
     in_c 'the kit' '20000 1' 300 "${words[@]}"
     holds 'the checker of reports' tests/library/try_check_report.py
     holds 'every order of acts over connections' tests/library/sessions.py 4 2
+    holds 'the crate for Rust has the archive of the release' \
+        cmp rust/rignolda/lib/x86_64-linux.a release/librignolda.a
     agents_refuse
     holds 'all of the archive needs nothing else' "$kit/bin/clang" -nostdlib -static \
         -fuse-ld=lld -Wl,--whole-archive "$library" -Wl,-e,rignolda_params_check -o "$work/alone"

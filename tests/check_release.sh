@@ -393,6 +393,7 @@ man/stab.1
 page/index.html
 page/rignolda.wasm
 rust/rignolda/Cargo.toml
+rust/rignolda/lib/x86_64-linux.a
 rust/rignolda/src/lib.rs
 stab' ]
 
