@@ -183,6 +183,9 @@ whole() {
     agents_refuse
     holds 'agents: what make can do' helps
     holds 'agents: a tree' make -s -C agents INCLUDE="$include" LIBRARY="$library" run
+    holds 'agents: a tree over TCP' make -s -C agents INCLUDE="$include" LIBRARY="$library" tcp
+    holds 'agents: spoiled ones over TCP are caught' \
+        make -s -C agents INCLUDE="$include" LIBRARY="$library" tcp_spoiled
     holds 'agents: 20 drawn trees' agents/trials runs 20
     holds 'agents: 20 drawn trees, in which one is killed alone' agents/trials restarts 20
     holds 'agents: spoiled ones are caught' are_caught
