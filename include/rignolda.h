@@ -21,8 +21,10 @@
  *   - a label may be any uint16_t, as after a restart with whatever lay in memory;
  *   - holding, closed, there and turn are true at any value but 0;
  *   - the item of a sender counts only while it is holding;
- *   - a length past the end of the buffer is read as the buffer's. Where a child's count of offered
- *     items is past the end of the list, it is offered nothing until the list is longer than that.
+ *   - a node keeps the items of its list from place `forgotten` on, and no more than the last
+ *     `size` of them: any other length or count of forgotten items means that too. Where a child's
+ *     count of offered items is past the end of the list, it is offered nothing until the list is
+ *     longer than that.
  *
  * A count of a link is what the laws are about: all that happens on it from a moment that you
  * choose, whatever the structs and the line hold then. From its beginning to its end a link has one
@@ -30,7 +32,8 @@
  * them, where one is put back from a copy, and where a second copy is used: what was delivered
  * before may come again. Begin a new count then. What a node received before is no part of it, but
  * for its backlog (rignolda_node_backlog) for its child on a path: that is the node's opening, with
- * which its list begins.
+ * which its list begins. A child that is left behind gets no more than what its sender holds: its
+ * count goes on with nothing to come, and a new one begins where the child is made anew.
  *
  * The laws (functions of the module laws of the crate stab_line):
  *   - two_ends_on_a_line_are_a_link: two ends on a line that is first in first out, holds at most
@@ -113,22 +116,28 @@ typedef struct rignolda_receiver {
 } rignolda_receiver;
 RIGNOLDA_SIZE_IS(rignolda_receiver, 4);
 
-/* A node: the receiver of the link from its parent, and the length of the list that you keep. */
+/*
+ * A node: the receiver of the link from its parent, and the counts of its list. The list is all
+ * that the node ever had, and the buffer that you lend is a ring for the end of it: the item at
+ * place i of the list, 0 being the first, is list[i % size]. The node keeps those from `forgotten`
+ * on.
+ */
 typedef struct rignolda_node {
     rignolda_receiver above;
-    uint32_t length;     /* items in the list: its opening, then what was delivered or published */
-    uint32_t old_frames; /* frames that were not fresh; it stops at 4294967295 */
+    uint64_t length;     /* items of the list: its opening, then what was delivered or published */
+    uint64_t forgotten;  /* how many of them, from the front, are no more kept */
+    uint64_t old_frames; /* frames that were not fresh; it stops at UINT64_MAX */
 } rignolda_node;
-RIGNOLDA_SIZE_IS(rignolda_node, 12);
+RIGNOLDA_SIZE_IS(rignolda_node, 32);
 
 /* A child of a node: the sender of the link to it, and counts. */
 typedef struct rignolda_child {
     rignolda_sender sender;
-    uint32_t offered;      /* items of the list, from its front, that the sender took */
-    uint32_t acknowledged; /* how many acknowledgements it waited for; it stops at 4294967295 */
-    uint32_t ignored;      /* acknowledgements that changed nothing; it stops at 4294967295 */
+    uint64_t offered;      /* the place in the list of the item that it is offered next */
+    uint64_t acknowledged; /* how many acknowledgements it waited for; it stops at UINT64_MAX */
+    uint64_t ignored;      /* acknowledgements that changed nothing; it stops at UINT64_MAX */
 } rignolda_child;
-RIGNOLDA_SIZE_IS(rignolda_child, 20);
+RIGNOLDA_SIZE_IS(rignolda_child, 32);
 
 /* What rignolda_params_check returns. */
 #define RIGNOLDA_LAWFUL 0
@@ -202,43 +211,56 @@ bool rignolda_receiver_ack(const rignolda_receiver *receiver, uint16_t *label);
 /* Closes the receiver for good; only rignolda_receiver_init makes an open one. All else stays. */
 void rignolda_receiver_close(rignolda_receiver *receiver);
 
-/* ---- A node: one receiver above, one child for each link below, and a list in your buffer ---- */
+/* ---- A node: one receiver above, a child for each link below, and a ring in your buffer ---- */
 
 /*
  * In each call of one node, list and size are the same buffer; size counts its items (of 4 bytes
- * each), which nothing else changes. Frames, offers and acknowledgements of a node go by the calls
- * below alone. Ask for the label to acknowledge by rignolda_receiver_ack(&node.above, ..), and
- * close the ends by rignolda_receiver_close and rignolda_sender_close. The receiver of the root is
- * not used.
+ * each), which nothing else changes. As many places as the longest backlog that you allow are
+ * enough for ever, if you forget (rignolda_node_forget) what each child was offered. Frames, offers
+ * and acknowledgements of a node go by the calls below alone. Ask for the label to acknowledge by
+ * rignolda_receiver_ack(&node.above, ..), and close the ends by rignolda_receiver_close and
+ * rignolda_sender_close. The receiver of the root is not used.
  */
 
 /*
  * Makes a node whose list is the first `opening` items of the buffer, with an open receiver that
- * remembers this label. 0 is a node that begins with nothing.
+ * remembers this label. 0 is a node that begins with nothing. Of an opening that is longer than the
+ * buffer, the node keeps as many items as the buffer has places.
  * Law: these items count as strays; h is the most of them that an inner node may begin with.
  */
-void rignolda_node_init(rignolda_node *node, uint16_t label, uint32_t opening);
+void rignolda_node_init(rignolda_node *node, uint16_t label, uint64_t opening);
 
-/*
- * Makes a child that was offered nothing, with an idle and open sender of this label. Where it is
- * one that is added again, it is offered the list from its front once more, in a new count.
- */
+/* Makes a child that begins at the list's front, with an idle and open sender of this label. */
 void rignolda_child_init(rignolda_child *child, uint16_t label);
 
 /*
- * Puts an item at the end of the list: what the root does to publish. True: it is there, and what
- * lies behind it in the buffer stays as it was. False: the list is full (size items, or 4294967295
- * of them); node and list stay as they were.
+ * The same for a child that is added later, or again: it begins at this place of the list. True:
+ * the node keeps the list from there on, or the place is the list's end. False: the place is past
+ * the end, or what is there is no more kept; the child stays as it was. So a child with a backlog
+ * of n items begins at node.length - n.
+ * A new count of its link begins. Close first what the child had open.
+ * Law: it gets at most capacity strays, then the list from this place on in its order, each item at
+ * most once; of those that it acknowledges only some among the first 2 * capacity + 1 can be
+ * missing (a_child_made_anew_gets_the_list_from_its_place).
+ */
+bool rignolda_child_init_at(rignolda_child *child, const rignolda_node *node, size_t size,
+                            uint16_t label, uint64_t place);
+
+/*
+ * Puts an item at the end of the list: what the root does to publish. True: it is there, in place
+ * list[(length - 1) % size], and the rest of the buffer stays as it was. False: the node keeps as
+ * many items as the buffer has places, or its list has UINT64_MAX items; node and buffer stay as
+ * they were.
  * Call it at the root alone: no law speaks of an item that another node puts into its list.
  */
 bool rignolda_node_publish(rignolda_node *node, uint32_t *list, size_t size, uint32_t item);
 
 /*
  * Gives the node a frame from its parent. True: the frame is fresh, and its item is now the last of
- * the list; what lies behind it in the buffer stays as it was. False, and the buffer, the length
- * and the receiver stay as they were: the frame is old (then old_frames is one more), or the
- * receiver is closed, or the list is full. A fresh frame that finds the list full is lost, as on
- * the line.
+ * the list; the rest of the buffer stays as it was. False, and the buffer, the length and the
+ * receiver stay as they were: the frame is old (then old_frames is one more), or the receiver is
+ * closed, or there is no place, as rignolda_node_publish says. A fresh frame that finds no place is
+ * lost, as on the line.
  * So the list is its opening and then what the receiver delivered.
  * Law: it is at most C + E strays, then published items in their order.
  */
@@ -248,8 +270,10 @@ bool rignolda_node_on_frame(rignolda_node *node, uint32_t *list, size_t size,
 /*
  * Asks what to send to a child now. First the child's sender is offered the next item, where there
  * is one and the sender is open and idle; then offered is one more. True: *frame is the frame to
- * send. False: the sender is closed, or has nothing to send; *frame stays as it was.
- * Law: what a child is offered is a prefix of the list (offers_are_a_prefix_of_the_list).
+ * send. False: the sender is closed, or has nothing to send; *frame stays as it was. A child that
+ * is left behind is offered nothing; the item that its sender holds is sent as before.
+ * Law: what a child is offered is a prefix of the list from its place on
+ * (offers_are_a_prefix_of_the_list).
  */
 bool rignolda_node_poll(const rignolda_node *node, rignolda_child *child, const uint32_t *list,
                         size_t size, rignolda_frame *frame);
@@ -261,8 +285,44 @@ bool rignolda_node_poll(const rignolda_node *node, rignolda_child *child, const 
 bool rignolda_child_on_ack(rignolda_child *child, const rignolda_params *params, uint16_t label);
 
 /*
- * The backlog of a child, in items: the one that its sender holds, and those still to be offered.
- * It is what the `h` of a restart has to bound. Nothing changes.
+ * Forgetting. The item that a sender holds lies in the sender, so what each child was offered is no
+ * more needed in the buffer:
+ *
+ *     uint64_t place = node.length;
+ *     for (each child)
+ *         place = rignolda_child_needs(&node, child, place);
+ *     rignolda_node_forget(&node, place);
+ *
+ * A child that is left out holds nothing back. So leave out one that takes nothing, and its
+ * siblings go on: once the item that it would be offered next is forgotten, it is left behind.
+ * Before that it can still come back as it is. Neither the laws nor the list change: they speak of
+ * the whole list.
+ */
+
+/*
+ * The place from which on the child needs the list, if that is before this place; else this place.
+ * A child that would be offered next what the node has forgotten needs nothing. Nothing changes.
+ */
+uint64_t rignolda_child_needs(const rignolda_node *node, const rignolda_child *child,
+                              uint64_t place);
+
+/*
+ * Forgets what is before this place of the list, or all of it where the place is past the end; what
+ * was forgotten before stays so. What is at the place and behind it is kept, and a child whose
+ * count of offered items is the place or more is as it was before.
+ */
+void rignolda_node_forget(rignolda_node *node, uint64_t place);
+
+/*
+ * Whether the child is left behind: the item that it would be offered next is no more kept. It
+ * stays so until the child is made anew (rignolda_child_init_at). Nothing changes.
+ */
+bool rignolda_node_left_behind(const rignolda_node *node, const rignolda_child *child, size_t size);
+
+/*
+ * The backlog of a child, in items: the one that its sender holds, and those still to be offered
+ * (to a child that is left behind, none). It is what the `h` of a restart has to bound. It stops at
+ * UINT64_MAX. Nothing changes.
  */
 uint64_t rignolda_node_backlog(const rignolda_node *node, const rignolda_child *child, size_t size);
 
@@ -361,8 +421,9 @@ bool rignolda_session_child_on_ack(rignolda_child *child, rignolda_session *sess
                                    const rignolda_params *params, uint64_t number, uint16_t label);
 
 /*
- * A fresh frame that finds the list full is lost, and the turn with it: nothing more is sent on
- * this connection, until an end leaves it. So while the list is full, better read nothing.
+ * A fresh frame that finds no place in the list is lost, and the turn with it: nothing more is sent
+ * on this connection, until an end leaves it. So while there is no place, better read nothing;
+ * there is one while node.length - node.forgotten < size.
  */
 bool rignolda_session_node_on_frame(rignolda_node *node, rignolda_session *session,
                                     uint64_t number, uint32_t *list, size_t size,

@@ -1,11 +1,13 @@
-ghost use Rattle.std.specs.Prelude.{◌≡◌, ◌&&◌, not, true, false, is_none, is_some, slice_get};
-ghost use Rattle.std.specs.Prelude.{◌+◌, ◌<◌, IfSome, if◌then◌else◌};
+ghost use Rattle.std.specs.Prelude.{◌≡◌, ◌&&◌, not, true, false, is_none, is_some, length, List};
+ghost use Rattle.std.specs.Prelude.{ℕ, ◌+◌, ◌<◌, IfSome, if◌then◌else◌};
 ghost use Rattle.stab_frames.specs.Parameters.{fault_of};
-ghost use Rattle.stab_line.specs.Acts.{IsAckReceived, IsPolled, answered};
+ghost use Rattle.stab_line.specs.Acts.{IsAckReceived, IsFrameSent, IsPolled, answered};
 ghost use Rattle.stab_line.specs.Ends.{acknowledges, after_ack, frame_to_send, new_sender};
 ghost use Rattle.stab_c.specs.Meaning.{frame_of, parameters_of, sender_end, written_frame};
-ghost use Rattle.stab_c.specs.NodeList.{counted, list_in, most_items, offered_next, takes_next};
+ghost use Rattle.stab_c.specs.NodeList.{IsList, counted, is_left_behind, item_kept, offered_next};
+ghost use Rattle.stab_c.specs.NodeList.{takes_next};
 
+use crate::backlog::first_kept;
 use crate::line::{LineFrame, LinkParams};
 use crate::node::Node;
 use crate::sender::{
@@ -19,12 +21,13 @@ use crate::sender::{
 pub struct Child {
     /// The sender of the link to the child.
     pub sender: SenderHalf,
-    /// How many items of the list, from its front, the sender was offered.
-    pub offered: u32,
+    /// How many items of the list, from its front, the sender was offered, or were before the place
+    /// at which the child began.
+    pub offered: u64,
     /// How many of them were acknowledged; it stops at the highest count.
-    pub acknowledged: u32,
+    pub acknowledged: u64,
     /// How many acknowledgements changed nothing; it stops at the highest count.
-    pub ignored: u32,
+    pub ignored: u64,
 }
 
 /// Makes a child that was offered nothing, with an idle and open sender of this label.
@@ -41,16 +44,19 @@ pub extern "C" fn rignolda_child_init(child: &mut Child, label: u16)
     child.ignored = 0;
 }
 
-/// Offers the sender of the child the next item of the node's list, where there is one and the
+/// Offers the sender of the child the next item of the node's list, where the node keeps it and the
 /// sender is open and idle.
 fn offer_next(node: &Node, child: &mut Child, list: &[u32])
     ensures sender { sender_end child.new.sender ≡ offered_next (sender_end child.old.sender)
-        (slice_get (list_in list.now node.now) child.old.offered) }
+        (item_kept node.now list.now child.old.offered) }
     ensures offered { child.new.offered ≡
-        (if takes_next (sender_end child.old.sender) child.old (list_in list.now node.now)
+        (if takes_next (sender_end child.old.sender)
+        (item_kept node.now list.now child.old.offered)
         then child.old.offered + 1 else child.old.offered) }
     ensures acknowledged { child.new.acknowledged ≡ child.old.acknowledged }
     ensures ignored { child.new.ignored ≡ child.old.ignored }
+    ensures left { is_left_behind node.now child.old (length list.now) ≡ true →
+        child.new ≡ child.old }
 {
     let Some(item) = item_at(node, child.offered, list) else {
         return;
@@ -60,22 +66,21 @@ fn offer_next(node: &Node, child: &mut Child, list: &[u32])
     }
 }
 
-/// The item at a place of the node's list, if the list is as long.
-#[tactic(auto, using(crate::proofs::Lists::get_taken, crate::proofs::Lists::get_not_taken))]
-fn item_at(node: &Node, place: u32, list: &[u32]) -> Option<u32>
-    ensures item { result ≡ slice_get (list_in list.now node.now) place }
-    ensures below { IfSome result (λ _. place < most_items) }
+/// The item at a place of the node's list, if the node keeps it.
+fn item_at(node: &Node, place: u64, list: &[u32]) -> Option<u32>
+    ensures item { result ≡ item_kept node.now list.now place }
+    ensures below { IfSome result (λ _. place < node.now.length) }
 {
-    let length = node.length;
-    if length <= place {
+    let size = list.len() as u64;
+    if place < first_kept(node, list.len()) || place >= node.length || size == 0 {
         return None;
     }
-    list.get(place as usize).copied()
+    list.get((place % size) as usize).copied()
 }
 
 /// Offers the child its next item, where there is one and its sender is open and idle. Then it
 /// writes the frame to send to the child now, and returns true; or returns false where there is
-/// none.
+/// none. A child that is left behind is offered nothing.
 #[unsafe(no_mangle)]
 pub extern "C" fn rignolda_node_poll(
     node: &Node,
@@ -84,18 +89,23 @@ pub extern "C" fn rignolda_node_poll(
     frame: &mut LineFrame,
 ) -> bool
     ensures sender { sender_end child.new.sender ≡ offered_next (sender_end child.old.sender)
-        (slice_get (list_in list.now node.now) child.old.offered) }
+        (item_kept node.now list.now child.old.offered) }
     ensures offered { child.new.offered ≡
-        (if takes_next (sender_end child.old.sender) child.old (list_in list.now node.now)
+        (if takes_next (sender_end child.old.sender)
+        (item_kept node.now list.now child.old.offered)
         then child.old.offered + 1 else child.old.offered) }
     ensures acknowledged { child.new.acknowledged ≡ child.old.acknowledged }
     ensures ignored { child.new.ignored ≡ child.old.ignored }
     ensures some { result ≡ is_some (frame_to_send (sender_end child.new.sender)) }
     ensures written { frame.new ≡
         written_frame frame.old (frame_to_send (sender_end child.new.sender)) }
-    ensures act { IsPolled (list_in list.now node.now) child.old.offered
-        (sender_end child.old.sender) child.new.offered (sender_end child.new.sender)
-        (answered result (frame_of frame.new)) }
+    ensures act { (items : List ℕ) → IsList node.now list.now items
+        → is_left_behind node.now child.old (length list.now) ≡ false
+        → IsPolled items child.old.offered (sender_end child.old.sender) child.new.offered
+        (sender_end child.new.sender) (answered result (frame_of frame.new)) }
+    ensures left { is_left_behind node.now child.old (length list.now) ≡ true →
+        (child.new ≡ child.old)
+        × IsFrameSent (sender_end child.old.sender) (answered result (frame_of frame.new)) }
 {
     offer_next(node, child, list);
     rignolda_sender_frame(&child.sender, frame)

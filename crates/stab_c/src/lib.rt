@@ -7,6 +7,7 @@
 //! `stab_line` from there. What a call refuses it leaves as it was, and it then returns 0.
 #![tactic(auto)]
 
+mod backlog;
 mod child;
 mod line;
 mod node;
@@ -16,11 +17,13 @@ mod session;
 mod session_node;
 mod word;
 
+pub use backlog::{
+    rignolda_child_init_at, rignolda_child_needs, rignolda_node_backlog, rignolda_node_forget,
+    rignolda_node_left_behind,
+};
 pub use child::{Child, rignolda_child_init, rignolda_child_on_ack, rignolda_node_poll};
 pub use line::{LineFrame, LinkParams, rignolda_params_check};
-pub use node::{
-    Node, rignolda_node_backlog, rignolda_node_init, rignolda_node_on_frame, rignolda_node_publish,
-};
+pub use node::{Node, rignolda_node_init, rignolda_node_on_frame, rignolda_node_publish};
 pub use receiver::{
     ReceiverHalf, rignolda_receiver_ack, rignolda_receiver_close, rignolda_receiver_init,
     rignolda_receiver_is_fresh, rignolda_receiver_on_frame,

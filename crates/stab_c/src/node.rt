@@ -1,40 +1,44 @@
-ghost use Rattle.std.specs.Prelude.{◌≡◌, ◌&&◌, true, false, drop, length, if◌then◌else◌};
+ghost use Rattle.std.specs.Prelude.{◌≡◌, ◌+◌, ◌%◌, ◌&&◌, List, false, length, set, if◌then◌else◌};
+ghost use Rattle.std.specs.Prelude.{ℕ};
 ghost use Rattle.stab_line.specs.Acts.{IsFrameReceived};
 ghost use Rattle.stab_line.specs.Ends.{after_frame, delivers, new_receiver};
 ghost use Rattle.stab_line.specs.Line.{with_taken};
 ghost use Rattle.stab_c.specs.Meaning.{frame_of, receiver_end};
-ghost use Rattle.stab_c.specs.NodeList.{backlog, counted, has_place, is_old, list_in};
-ghost use Rattle.stab_c.specs.NodeList.{loses_frame, takes_frame};
+ghost use Rattle.stab_c.specs.NodeList.{IsList, counted, has_place, is_old, loses_frame};
+ghost use Rattle.stab_c.specs.NodeList.{takes_frame};
 
-use crate::child::Child;
 use crate::line::LineFrame;
 use crate::receiver::{
     ReceiverHalf, rignolda_receiver_init, rignolda_receiver_is_fresh, rignolda_receiver_on_frame,
 };
 
-/// A node, as C sees it: the receiver of the link above, and the length of the list that its caller
-/// keeps.
+/// A node, as C sees it: the receiver of the link above, and how much of its list is in the buffer
+/// that its caller lends.
 #[repr(C)]
 #[derive(Clone, Copy)]
 pub struct Node {
     /// The receiver of the link from its parent. The root has none, and publishes.
     pub above: ReceiverHalf,
-    /// How many items the list has: its opening, then what was delivered or published.
-    pub length: u32,
+    /// How many items the list ever had: its opening, then what was delivered or published.
+    pub length: u64,
+    /// How many of them, from its front, are no more in the buffer.
+    pub forgotten: u64,
     /// How many frames were not fresh; it stops at the highest count.
-    pub old_frames: u32,
+    pub old_frames: u64,
 }
 
 /// Makes a node whose receiver remembers this label, and whose list is the first `opening` items of
 /// the buffer.
 #[unsafe(no_mangle)]
-pub extern "C" fn rignolda_node_init(node: &mut Node, label: u16, opening: u32)
+pub extern "C" fn rignolda_node_init(node: &mut Node, label: u16, opening: u64)
     ensures receiver { receiver_end node.new.above ≡ new_receiver label }
     ensures list { node.new.length ≡ opening }
+    ensures kept { node.new.forgotten ≡ 0 }
     ensures count { node.new.old_frames ≡ 0 }
 {
     rignolda_receiver_init(&mut node.above, label);
     node.length = opening;
+    node.forgotten = 0;
     node.old_frames = 0;
 }
 
@@ -42,19 +46,22 @@ pub extern "C" fn rignolda_node_init(node: &mut Node, label: u16, opening: u32)
 #[unsafe(no_mangle)]
 pub extern "C" fn rignolda_node_publish(node: &mut Node, list: &mut [u32], item: u32) -> bool
     ensures had_place { result ≡ has_place node.old list.old }
-    ensures list { list_in list.new node.new ≡ with_taken result (list_in list.old node.old) item }
-    ensures size { length list.new ≡ length list.old }
-    ensures behind { drop node.new.length list.new ≡ drop node.new.length list.old }
+    ensures written { list.new ≡
+        (if result then set list.old (node.old.length % length list.old) item else list.old) }
+    ensures list { (items : List ℕ) → IsList node.old list.old items
+        → IsList node.new list.new (with_taken result items item) }
+    ensures length { node.new.length ≡
+        (if result then node.old.length + 1 else node.old.length) }
+    ensures forgotten { node.new.forgotten ≡ node.old.forgotten }
     ensures receiver { node.new.above ≡ node.old.above }
     ensures count { node.new.old_frames ≡ node.old.old_frames }
     ensures refused { result ≡ false → node.new ≡ node.old }
-    ensures unwritten { result ≡ false → list.new ≡ list.old }
 {
-    let place = node.length as usize;
-    if node.length == u32::MAX || list.len() <= place {
+    let size = list.len() as u64;
+    if node.length == u64::MAX || node.length.saturating_sub(node.forgotten) >= size {
         return false;
     }
-    list[place] = item;
+    list[(node.length % size) as usize] = item;
     node.length += 1;
     true
 }
@@ -68,18 +75,20 @@ pub extern "C" fn rignolda_node_on_frame(
     frame: &LineFrame,
 ) -> bool
     ensures taken { result ≡ takes_frame node.old list.old (frame_of frame.now) }
-    ensures list { list_in list.new node.new ≡
-        with_taken result (list_in list.old node.old) frame.now.item }
-    ensures size { length list.new ≡ length list.old }
-    ensures behind { drop node.new.length list.new ≡ drop node.new.length list.old }
+    ensures written { list.new ≡
+        (if result then set list.old (node.old.length % length list.old) frame.now.item
+        else list.old) }
+    ensures list { (items : List ℕ) → IsList node.old list.old items
+        → IsList node.new list.new (with_taken result items frame.now.item) }
+    ensures length { node.new.length ≡
+        (if result then node.old.length + 1 else node.old.length) }
+    ensures forgotten { node.new.forgotten ≡ node.old.forgotten }
     ensures receiver { receiver_end node.new.above ≡
         (if result then after_frame (receiver_end node.old.above) (frame_of frame.now)
         else receiver_end node.old.above) }
     ensures count { node.new.old_frames ≡
         counted (is_old (receiver_end node.old.above) (frame_of frame.now)) node.old.old_frames }
-    ensures refused { result ≡ false →
-        (node.new.above ≡ node.old.above) × (node.new.length ≡ node.old.length) }
-    ensures unwritten { result ≡ false → list.new ≡ list.old }
+    ensures refused { result ≡ false → node.new.above ≡ node.old.above }
     ensures act { loses_frame node.old list.old (frame_of frame.now) ≡ false →
         IsFrameReceived (receiver_end node.old.above) (frame_of frame.now) result
         (receiver_end node.new.above) }
@@ -95,15 +104,4 @@ pub extern "C" fn rignolda_node_on_frame(
     }
     let mut delivered = 0;
     rignolda_receiver_on_frame(&mut node.above, frame, &mut delivered)
-}
-
-/// The backlog of a child: the item that its sender holds, and those that it is still to be
-/// offered. A closed sender has one too.
-#[unsafe(no_mangle)]
-pub extern "C" fn rignolda_node_backlog(node: &Node, child: &Child, size: usize) -> u64
-    ensures { result ≡ backlog node.now child.now size }
-{
-    let items = u64::from(node.length).min(size as u64);
-    let waiting = u64::from(child.sender.holding != 0);
-    items.saturating_sub(u64::from(child.offered)) + waiting
 }

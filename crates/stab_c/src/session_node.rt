@@ -1,13 +1,13 @@
 ghost use Rattle.std.specs.Prelude.{◌≡◌, ◌&&◌, not, true, false, if◌then◌else◌, is_none, is_some};
-ghost use Rattle.std.specs.Prelude.{drop, length, slice_get};
+ghost use Rattle.std.specs.Prelude.{ℕ, ◌+◌, ◌%◌, List, length, set};
 ghost use Rattle.stab_frames.specs.Parameters.{fault_of};
 ghost use Rattle.stab_line.specs.Acts.{IsPolled, answered};
 ghost use Rattle.stab_line.specs.Ends.{acknowledges, after_frame, frame_to_send};
 ghost use Rattle.stab_line.specs.Line.{with_taken};
 ghost use Rattle.stab_c.specs.Meaning.{frame_of, parameters_of, receiver_end, sender_end};
 ghost use Rattle.stab_c.specs.Meaning.{written_frame};
-ghost use Rattle.stab_c.specs.NodeList.{counted, is_old, list_in, loses_frame, offered_next};
-ghost use Rattle.stab_c.specs.NodeList.{takes_frame};
+ghost use Rattle.stab_c.specs.NodeList.{IsList, counted, is_left_behind, is_old, item_kept};
+ghost use Rattle.stab_c.specs.NodeList.{loses_frame, offered_next, takes_frame};
 ghost use Rattle.stab_line.specs.Session.{after_message, has, may_send, sent_now, turn_after};
 ghost use Rattle.stab_line.specs.SessionActs.{IsAckHandled, IsFrameHandled};
 ghost use Rattle.stab_c.specs.SessionMeaning.{session_of};
@@ -31,19 +31,22 @@ pub extern "C" fn rignolda_session_poll(
 ) -> bool
     ensures some { result ≡ is_some (sent_now (session_of session.old)
         (frame_to_send (offered_next (sender_end child.old.sender)
-        (slice_get (list_in list.now node.now) child.old.offered)))) }
+        (item_kept node.now list.now child.old.offered)))) }
     ensures written { frame.new ≡ written_frame frame.old (sent_now (session_of session.old)
         (frame_to_send (offered_next (sender_end child.old.sender)
-        (slice_get (list_in list.now node.now) child.old.offered)))) }
+        (item_kept node.now list.now child.old.offered)))) }
     ensures session { session_of session.new ≡ turn_after (session_of session.old)
         (answered result (frame_of frame.new)) }
     ensures number { session.new.number ≡ session.old.number }
     ensures refused { result ≡ false → session.new ≡ session.old }
     ensures waits { may_send (session_of session.old) ≡ false → child.new ≡ child.old }
-    ensures act { may_send (session_of session.old) ≡ true →
-        IsPolled (list_in list.now node.now) child.old.offered
-        (sender_end child.old.sender) child.new.offered (sender_end child.new.sender)
-        (answered result (frame_of frame.new)) }
+    ensures act { may_send (session_of session.old) ≡ true → (items : List ℕ)
+        → IsList node.now list.now items
+        → is_left_behind node.now child.old (length list.now) ≡ false
+        → IsPolled items child.old.offered (sender_end child.old.sender) child.new.offered
+        (sender_end child.new.sender) (answered result (frame_of frame.new)) }
+    ensures left { is_left_behind node.now child.old (length list.now) ≡ true →
+        child.new ≡ child.old }
 {
     if !is_in_turn(session) || !rignolda_node_poll(node, child, list, frame) {
         return false;
@@ -95,19 +98,21 @@ pub extern "C" fn rignolda_session_node_on_frame(
 ) -> bool
     ensures taken { result ≡ (has (session_of session.old) number
         && takes_frame node.old list.old (frame_of frame.now)) }
-    ensures list { list_in list.new node.new ≡
-        with_taken result (list_in list.old node.old) frame.now.item }
-    ensures size { length list.new ≡ length list.old }
-    ensures behind { drop node.new.length list.new ≡ drop node.new.length list.old }
+    ensures written { list.new ≡
+        (if result then set list.old (node.old.length % length list.old) frame.now.item
+        else list.old) }
+    ensures list { (items : List ℕ) → IsList node.old list.old items
+        → IsList node.new list.new (with_taken result items frame.now.item) }
+    ensures length { node.new.length ≡
+        (if result then node.old.length + 1 else node.old.length) }
+    ensures forgotten { node.new.forgotten ≡ node.old.forgotten }
     ensures receiver { receiver_end node.new.above ≡
         (if result then after_frame (receiver_end node.old.above) (frame_of frame.now)
         else receiver_end node.old.above) }
     ensures count { node.new.old_frames ≡
         counted (has (session_of session.old) number
         && is_old (receiver_end node.old.above) (frame_of frame.now)) node.old.old_frames }
-    ensures refused { result ≡ false →
-        (node.new.above ≡ node.old.above) × (node.new.length ≡ node.old.length) }
-    ensures unwritten { result ≡ false → list.new ≡ list.old }
+    ensures refused { result ≡ false → node.new.above ≡ node.old.above }
     ensures session { session_of session.new ≡
         (if loses_frame node.old list.old (frame_of frame.now) then session_of session.old
         else after_message (session_of session.old) number) }

@@ -42,8 +42,9 @@ pub(crate) struct Receiver {
 #[derive(Debug, Default)]
 pub(crate) struct Node {
     pub(crate) above: Receiver,
-    pub(crate) length: u32,
-    pub(crate) old_frames: u32,
+    pub(crate) length: u64,
+    pub(crate) forgotten: u64,
+    pub(crate) old_frames: u64,
 }
 
 /// `rignolda_child`.
@@ -51,9 +52,9 @@ pub(crate) struct Node {
 #[derive(Debug, Default)]
 pub(crate) struct Child {
     pub(crate) sender: Sender,
-    pub(crate) offered: u32,
-    pub(crate) acknowledged: u32,
-    pub(crate) ignored: u32,
+    pub(crate) offered: u64,
+    pub(crate) acknowledged: u64,
+    pub(crate) ignored: u64,
 }
 
 /// `rignolda_session`.
@@ -69,8 +70,8 @@ const _: () = assert!(core::mem::size_of::<Params>() == 4);
 const _: () = assert!(core::mem::size_of::<Frame>() == 8);
 const _: () = assert!(core::mem::size_of::<Sender>() == 8);
 const _: () = assert!(core::mem::size_of::<Receiver>() == 4);
-const _: () = assert!(core::mem::size_of::<Node>() == 12);
-const _: () = assert!(core::mem::size_of::<Child>() == 20);
+const _: () = assert!(core::mem::size_of::<Node>() == 32);
+const _: () = assert!(core::mem::size_of::<Child>() == 32);
 const _: () = assert!(core::mem::size_of::<Session>() == 16);
 
 extern "C" {
@@ -92,8 +93,14 @@ extern "C" {
     pub(crate) fn rignolda_receiver_ack(receiver: &Receiver, label: &mut u16) -> bool;
     pub(crate) fn rignolda_receiver_close(receiver: &mut Receiver);
 
-    pub(crate) fn rignolda_node_init(node: &mut Node, label: u16, opening: u32);
-    pub(crate) fn rignolda_child_init(child: &mut Child, label: u16);
+    pub(crate) fn rignolda_node_init(node: &mut Node, label: u16, opening: u64);
+    pub(crate) fn rignolda_child_init_at(
+        child: &mut Child,
+        node: &Node,
+        size: usize,
+        label: u16,
+        place: u64,
+    ) -> bool;
     pub(crate) fn rignolda_node_publish(
         node: &mut Node,
         list: *mut u32,
@@ -115,6 +122,9 @@ extern "C" {
     ) -> bool;
     pub(crate) fn rignolda_child_on_ack(child: &mut Child, params: &Params, label: u16) -> bool;
     pub(crate) fn rignolda_node_backlog(node: &Node, child: &Child, size: usize) -> u64;
+    pub(crate) fn rignolda_child_needs(node: &Node, child: &Child, place: u64) -> u64;
+    pub(crate) fn rignolda_node_forget(node: &mut Node, place: u64);
+    pub(crate) fn rignolda_node_left_behind(node: &Node, child: &Child, size: usize) -> bool;
 
     pub(crate) fn rignolda_session_init(session: &mut Session);
     pub(crate) fn rignolda_session_made(session: &mut Session) -> u64;

@@ -8,17 +8,17 @@
 //! order, each at most once; and none that is acknowledged is missing, except among the first
 //! `2 * capacity + 1`.
 //!
-//! A [`Node`] is a receiver, a list in memory that the caller lends, and a [`Child`] for each link
-//! below it. In a tree of nodes, with a line like this for each link, the list of a node is at most
+//! A [`Node`] is a receiver, a list, and a [`Child`] for each link below it. It keeps of its list
+//! what a child still needs, in a ring that it owns. In a tree of nodes, with a line like this for each link, the list of a node is at most
 //! C + E strays and after them published items in their order, each at most once; and before its
 //! last one none is missing, except among the first M. C, M and E are sums over the node's path
 //! from the root: of `capacity` and of `2 * capacity + 1` over the links, and over the inner nodes
 //! of the most items that their lists may begin with.
 //!
 //! Each call is one of the C library that this crate links, whose code is proved: it is a step of
-//! the definitions that these laws are about, from every bit pattern of its structs. None takes
-//! memory, waits, reads a clock, or panics. What goes over a line, and when, is the caller's. The
-//! header `include/rignolda.h` names the laws.
+//! the definitions that these laws are about, from every bit pattern of its structs. None waits,
+//! reads a clock, or panics, and none takes memory but those that make a [`Node`]. What goes over a
+//! line, and when, is the caller's. The header `include/rignolda.h` names the laws.
 //!
 //! ```
 //! use rignolda::{Params, Receiver, Sender};
@@ -47,6 +47,11 @@
 //! cloned. Where the children of a node begin at different items, the law of the tree holds of each
 //! path by itself.
 //!
+//! What a node forgets changes no count: the laws speak of its whole list. A child that is made anew
+//! by [`Node::child`] begins one: it gets at most `capacity` strays, then the list of its node from
+//! its place on, in its order, each item at most once; and none that it acknowledged is missing,
+//! except among the first `2 * capacity + 1`.
+//!
 //! # What is proved
 //!
 //! The header `include/rignolda.h` says what each law asks for; the laws are functions of the crate
@@ -56,6 +61,7 @@
 //! |---|---|
 //! | `two_ends_on_a_line_are_a_link`, `two_ends_on_a_line_obey_the_link_law` | [`Sender`] and [`Receiver`] |
 //! | `a_tree_of_nodes_obeys_the_tree_law`, `calls_of_nodes_are_acts_of_the_tree` | [`Node`] and [`Child`] |
+//! | `a_child_made_anew_gets_the_list_from_its_place` | [`Node::child`] |
 //! | `connections_are_a_line`, `connections_obey_the_link_law`, `restarts_leave_connections_in_turn` | [`Session`] of a [`Sender`] and of a [`Receiver`] |
 //! | `a_tree_over_connections_obeys_the_tree_law`, `calls_of_sessions_are_acts_of_the_tree` | [`Session`] of a [`Child`] and of a [`Node`] |
 //! | `numbers_tell_the_newest_connection`, `numbers_may_mean_any_connections` | [`Connection`] |
@@ -66,6 +72,8 @@
 //! [`Send`] and [`Sync`]: what a call may change it has for itself, and it keeps nothing elsewhere.
 #![no_std]
 #![warn(missing_docs)]
+
+extern crate alloc;
 
 mod calls;
 mod node;

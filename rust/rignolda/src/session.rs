@@ -1,5 +1,5 @@
 //! Ends of links over connections that are made again.
-use crate::{calls, Child, Frame, Node, Receiver, Sender};
+use crate::{calls, Child, Frame, Node, Params, Receiver, Sender};
 use core::num::NonZeroU64;
 
 /// The number of a connection in one [`Session`], to be kept beside its socket.
@@ -85,6 +85,16 @@ impl<End> Session<End> {
         unsafe { calls::rignolda_session_ended(&mut self.raw, connection.0.get()) }
     }
 
+    /// Takes another end in place of the one that it had, which it gives back: a child that is made
+    /// anew, say. The connection that it had is left, and is to be closed; the numbers go on, so
+    /// none of before is given again. [A new count](crate#a-count) begins.
+    pub fn renew(&mut self, end: End) -> End {
+        let number = self.raw.number;
+        // SAFETY: the call has this session for itself.
+        unsafe { calls::rignolda_session_ended(&mut self.raw, number) };
+        core::mem::replace(&mut self.end, end)
+    }
+
     /// The end, to be read. What is to be sent comes from this session alone.
     pub fn end(&self) -> &End {
         &self.end
@@ -155,8 +165,12 @@ impl Session<Receiver> {
 
 impl Session<Child> {
     /// Offers the child the node's next item, if its sender has none, and gives the frame to write
-    /// now, as [`Session::send`]. Where the end may not send, nothing is offered.
-    pub fn poll(&mut self, node: &Node<'_>) -> Option<Frame> {
+    /// now, as [`Session::send`]. Where the end may not send, nothing is offered; nor where the
+    /// child is another node's.
+    pub fn poll(&mut self, node: &Node) -> Option<Frame> {
+        if !node.has(&self.end) {
+            return None;
+        }
         let mut frame = calls::Frame::default();
         let (list, size) = (node.list.as_ptr(), node.list.len());
         // SAFETY: the call has the child, the session and the frame for itself, and only reads the
@@ -187,12 +201,27 @@ impl Session<Child> {
     pub fn close(&mut self) {
         self.end.close();
     }
+
+    /// As [`Child::offered`].
+    pub fn offered(&self) -> u64 {
+        self.end.offered()
+    }
+
+    /// As [`Child::acknowledged`].
+    pub fn acknowledged(&self) -> u64 {
+        self.end.acknowledged()
+    }
+
+    /// As [`Child::ignored`].
+    pub fn ignored(&self) -> u64 {
+        self.end.ignored()
+    }
 }
 
-impl Session<Node<'_>> {
+impl Session<Node> {
     /// Handles a frame that came by this connection, as [`Node::on_frame`]. By one that the end has
-    /// left, nothing changes. A fresh frame that finds the list full is lost, and the turn with it,
-    /// until an end leaves this connection: so while the list is full, better read nothing.
+    /// left, nothing changes. A fresh frame for which the node has no room is lost, and the turn
+    /// with it, until an end leaves this connection: so while there is none, better read nothing.
     pub fn on_frame(&mut self, connection: Connection, frame: Frame) -> bool {
         let (list, size) = (self.end.list.as_mut_ptr(), self.end.list.len());
         let number = connection.0.get();
@@ -218,6 +247,41 @@ impl Session<Node<'_>> {
     /// Closes the link from above for good.
     pub fn close(&mut self) {
         self.end.close();
+    }
+
+    /// As [`Node::forget`].
+    pub fn forget<'a>(&mut self, children: impl IntoIterator<Item = &'a Child>) {
+        self.end.forget(children);
+    }
+
+    /// As [`Node::child`].
+    pub fn child(&self, params: Params, label: u16, backlog: u64) -> Child {
+        self.end.child(params, label, backlog)
+    }
+
+    /// As [`Node::left_behind`].
+    pub fn left_behind(&self, child: &Child) -> bool {
+        self.end.left_behind(child)
+    }
+
+    /// As [`Node::backlog`].
+    pub fn backlog(&self, child: &Child) -> u64 {
+        self.end.backlog(child)
+    }
+
+    /// As [`Node::length`].
+    pub fn length(&self) -> u64 {
+        self.end.length()
+    }
+
+    /// As [`Node::forgotten`].
+    pub fn forgotten(&self) -> u64 {
+        self.end.forgotten()
+    }
+
+    /// As [`Node::items`].
+    pub fn items(&self) -> impl DoubleEndedIterator<Item = u32> + '_ {
+        self.end.items()
     }
 }
 

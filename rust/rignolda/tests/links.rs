@@ -1,5 +1,5 @@
 //! Links of the two halves, by their public calls.
-use rignolda::{Child, Frame, Node, Params, ParamsError, Receiver, Sender};
+use rignolda::{Frame, Node, Params, ParamsError, Receiver, Sender};
 
 fn params(capacity: u16, labels: u16) -> Params {
     Params::new(capacity, labels).expect("lawful parameters")
@@ -72,24 +72,26 @@ fn nothing_happens_after_a_close() {
 }
 
 #[test]
-fn a_full_list_takes_no_fresh_frame() {
-    let mut memory = [50, 0];
-    let mut node = Node::new(9, &mut memory, 1);
+fn a_full_node_takes_no_fresh_frame() {
+    let mut node = Node::with_opening(9, 2, &[50]);
     assert!(node.on_frame(Frame { label: 0, item: 7 }));
     assert!(!node.on_frame(Frame { label: 1, item: 8 }));
-    assert_eq!((node.ack(), node.items()), (Some(0), &[50, 7][..]));
+    assert_eq!((node.ack(), node.as_slices().0), (Some(0), &[50, 7][..]));
     assert!(!node.on_frame(Frame { label: 0, item: 7 }));
     assert_eq!((node.old_frames(), node.publish(3)), (1, false));
+    node.forget([]);
+    assert!(node.on_frame(Frame { label: 1, item: 8 }));
+    assert_eq!((node.as_slices().0, node.length()), (&[8][..], 3));
 }
 
-/// A chain of three hands a list on in its order, though each frame is repeated.
+/// A chain of three hands its list on in its order, though each frame is repeated.
 #[test]
 fn a_chain_hands_its_list_on() {
-    let (mut top, mut middle, mut bottom) = ([0; 64], [0; 64], [0; 64]);
-    let mut root = Node::new(0, &mut top, 0);
-    let mut inner = Node::new(65535, &mut middle, 0);
-    let mut leaf = Node::new(65535, &mut bottom, 0);
-    let (mut upper, mut lower) = (Child::new(params(2, 6), 0), Child::new(params(1, 4), 0));
+    let mut root = Node::new(0, 64);
+    let mut inner = Node::new(65535, 64);
+    let mut leaf = Node::new(65535, 64);
+    let mut upper = root.child(params(2, 6), 0, 0);
+    let mut lower = inner.child(params(1, 4), 0, 0);
     for item in 0..50 {
         assert!(root.publish(item));
     }
@@ -103,7 +105,7 @@ fn a_chain_hands_its_list_on() {
             lower.on_ack(leaf.ack().unwrap());
         }
     }
-    assert_eq!(leaf.items(), root.items());
+    assert!(leaf.items().eq(0..50));
     assert_eq!(
         (upper.acknowledged(), upper.ignored(), lower.offered()),
         (50, 50, 50)

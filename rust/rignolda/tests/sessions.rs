@@ -179,10 +179,9 @@ fn connections_that_break_and_come_late_are_a_line() {
 /// A root and a leaf: what is published arrives, and a connection that was left brings nothing.
 #[test]
 fn a_tree_over_connections() {
-    let (mut above, mut below) = ([0; 8], [0; 8]);
-    let mut root = Node::new(0, &mut above, 0);
-    let mut link = Session::new(Child::new(Params::new(1, 4).unwrap(), 0));
-    let mut leaf = Session::new(Node::new(65535, &mut below, 0));
+    let mut root = Node::new(0, 8);
+    let mut link = Session::new(root.child(Params::new(1, 4).unwrap(), 0, 0));
+    let mut leaf = Session::new(Node::new(65535, 8));
     assert!(root.publish(7) && root.publish(8));
 
     assert_eq!(link.poll(&root), None, "there is no connection");
@@ -207,17 +206,46 @@ fn a_tree_over_connections() {
         );
         assert!(link.on_ack(now, label));
     }
-    assert_eq!(leaf.end().items(), [7, 8]);
+    assert!(leaf.items().eq([7, 8]));
     assert_eq!(root.backlog(link.end()), 0);
+    leaf.forget([]);
+    assert_eq!((leaf.length(), leaf.forgotten()), (2, 2));
+}
+
+/// A child that was left behind is made anew: it leaves its connection, and no number comes again.
+#[test]
+fn a_child_that_comes_back_leaves_its_connection() {
+    let params = Params::new(1, 4).unwrap();
+    let mut root = Node::new(0, 2);
+    let mut link = Session::new(root.child(params, 0, 0));
+    let first = link.accepted().unwrap();
+    assert!(root.publish(7) && root.publish(8));
+    assert_eq!(link.poll(&root).map(|frame| frame.item), Some(7));
+    root.forget([link.end()]);
+    assert!(!root.left_behind(link.end()), "the next item is kept");
+    root.forget([]);
+    assert!(root.left_behind(link.end()) && root.backlog(link.end()) == 1);
+    assert!(link.on_ack(first, 0));
+    assert_eq!(link.poll(&root), None, "it is offered nothing more");
+
+    assert!(root.publish(9));
+    let before = link.renew(root.child(params, 3, 2));
+    assert_eq!((before.acknowledged(), link.offered()), (1, 2));
+    assert!(!link.has(first) && !link.on_ack(first, 3));
+    assert_eq!(link.poll(&root), None, "there is no connection");
+    assert_ne!(link.accepted(), Some(first));
+    assert_eq!(link.poll(&root).map(|frame| frame.item), Some(9));
 }
 
 /// The types can be moved to and shared with other threads.
 #[test]
-fn ends_and_sessions_are_send_and_sync() {
+fn nodes_ends_and_sessions_are_send_and_sync() {
     fn check<T: Send + Sync>() {}
+    check::<Node>();
+    check::<Child>();
     check::<Session<Sender>>();
     check::<Session<Receiver>>();
     check::<Session<Child>>();
-    check::<Session<Node<'static>>>();
+    check::<Session<Node>>();
     check::<Connection>();
 }

@@ -1,0 +1,97 @@
+ghost use Rattle.std.specs.Prelude.{◌≡◌, ℕ, ◌≤◌, List, true, false};
+ghost use Rattle.stab_line.specs.Ends.{new_sender};
+ghost use Rattle.stab_c.specs.Meaning.{sender_end};
+ghost use Rattle.stab_c.specs.NodeList as list;
+ghost use Rattle.stab_c.specs.NodeList.{IsList, backlog, forgotten_before, is_kept_place};
+ghost use Rattle.stab_c.specs.NodeList.{is_left_behind, item_kept, needs_from};
+ghost use Rattle.stab_c.specs.declared.child.Child.{Child as ChildStruct};
+
+use crate::child::{Child, rignolda_child_init};
+use crate::node::Node;
+
+/// The place from which on a node keeps its list in a buffer of this size.
+pub(crate) fn first_kept(node: &Node, size: usize) -> u64
+    ensures { result ≡ list.first_kept node.now size }
+{
+    node.forgotten.max(node.length.saturating_sub(size as u64))
+}
+
+/// Whether the child is left behind: the item that it would be offered next is no more kept.
+#[unsafe(no_mangle)]
+pub extern "C" fn rignolda_node_left_behind(node: &Node, child: &Child, size: usize) -> bool
+    ensures { result ≡ is_left_behind node.now child.now size }
+{
+    child.offered < first_kept(node, size)
+}
+
+/// The backlog of a child: the item that its sender holds, and those that it is still to be
+/// offered. A closed sender has one too. It stops at the highest count.
+#[unsafe(no_mangle)]
+pub extern "C" fn rignolda_node_backlog(node: &Node, child: &Child, size: usize) -> u64
+    ensures { result ≡ backlog node.now child.now size }
+{
+    let waiting = u64::from(child.sender.holding != 0);
+    if rignolda_node_left_behind(node, child, size) {
+        return waiting;
+    }
+    node.length
+        .saturating_sub(child.offered)
+        .saturating_add(waiting)
+}
+
+/// The place from which on the child needs the list, where that is before this place; else this
+/// place. A child that needs what was forgotten needs nothing more.
+#[unsafe(no_mangle)]
+pub extern "C" fn rignolda_child_needs(node: &Node, child: &Child, place: u64) -> u64
+    ensures { result ≡ needs_from node.now child.now place }
+{
+    if child.offered < node.forgotten {
+        place
+    } else {
+        place.min(child.offered)
+    }
+}
+
+/// Forgets the items of the list before this place, or all where the list has fewer. The buffer has
+/// these places free then.
+#[unsafe(no_mangle)]
+pub extern "C" fn rignolda_node_forget(node: &mut Node, place: u64)
+    ensures forgotten { node.new.forgotten ≡ forgotten_before node.old place }
+    ensures length { node.new.length ≡ node.old.length }
+    ensures receiver { node.new.above ≡ node.old.above }
+    ensures count { node.new.old_frames ≡ node.old.old_frames }
+    ensures list { (buffer items : List ℕ) → IsList node.old buffer items
+        → IsList node.new buffer items }
+    ensures kept { (buffer : List ℕ) (later : ℕ) → place ≤ later
+        → item_kept node.new buffer later ≡ item_kept node.old buffer later }
+    ensures children { (child : ChildStruct) (size : ℕ) → place ≤ child.offered
+        → is_left_behind node.new child size ≡ is_left_behind node.old child size }
+{
+    node.forgotten = node.forgotten.max(place.min(node.length));
+}
+
+/// Makes a child that begins at this place of the node's list, with an idle and open sender of this
+/// label, and returns true, if the node keeps the list from there on. The place may be the list's
+/// end.
+#[unsafe(no_mangle)]
+pub extern "C" fn rignolda_child_init_at(
+    child: &mut Child,
+    node: &Node,
+    size: usize,
+    label: u16,
+    place: u64,
+) -> bool
+    ensures kept { result ≡ is_kept_place node.now size place }
+    ensures sender { result ≡ true → sender_end child.new.sender ≡ new_sender label }
+    ensures offered { result ≡ true → child.new.offered ≡ place }
+    ensures acknowledged { result ≡ true → child.new.acknowledged ≡ 0 }
+    ensures ignored { result ≡ true → child.new.ignored ≡ 0 }
+    ensures refused { result ≡ false → child.new ≡ child.old }
+{
+    if place < first_kept(node, size) || place > node.length {
+        return false;
+    }
+    rignolda_child_init(child, label);
+    child.offered = place;
+    true
+}
