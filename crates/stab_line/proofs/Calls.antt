@@ -91,13 +91,13 @@ publish_acts net t root item is_root =
 
 -- ---- a list that begins with items from before the count
 
-get_past : (dropped list : List ℕ) (n : ℕ) → slice_get (dropped ++ list) (length dropped + n) ≡ slice_get list n
+pub get_past : (dropped list : List ℕ) (n : ℕ) → slice_get (dropped ++ list) (length dropped + n) ≡ slice_get list n
 get_past [] list n = let same : 0 + n ≡ n = omega arith in ap (λ k. slice_get list k) same
 get_past (x ∷ dropped) list n =
     let same : suc (length dropped) + n ≡ suc (length dropped + n) = omega arith in
     ap (λ k. slice_get (x ∷ dropped ++ list) k) same ∙ get_past dropped list n
 
-counts_past : (taken : Bool) (before n : ℕ) → (if taken then before + n + 1 else before + n) ≡ before + (if taken then n + 1 else n)
+pub counts_past : (taken : Bool) (before n : ℕ) → (if taken then before + n + 1 else before + n) ≡ before + (if taken then n + 1 else n)
 counts_past true before n = omega arith
 counts_past false before n = refl
 

@@ -13,3 +13,4 @@ pub mod StartLaws
 pub mod RegisterLines
 pub mod MixedTrees
 pub mod StartTrees
+pub mod Places

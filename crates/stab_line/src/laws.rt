@@ -3,12 +3,12 @@
 
 ghost use mathlib.Core.List.{IsPrefix};
 ghost use Rattle.std.specs.Prelude.{◌≡◌, ℕ, ◌+◌, ◌*◌, ◌<◌, ◌≤◌, List, ◌∷◌, ◌++◌, length, map};
-ghost use Rattle.std.specs.Prelude.{Bool, true, false, Option, Some, None};
+ghost use Rattle.std.specs.Prelude.{Bool, true, false, Option, Some, None, drop};
 ghost use Rattle.stab_core.specs.LinkLaw.{LinkLaw};
 ghost use Rattle.stab_core.specs.Replay.{initial};
 ghost use Rattle.stab_line.specs.Ends.{ReceiverEnd, SenderEnd};
 ghost use Rattle.stab_line.specs.Acts.{IsFrameReceived, IsPolled};
-ghost use Rattle.stab_line.specs.Edge.{EdgeAct, edge_run, is_offer, new_edge};
+ghost use Rattle.stab_line.specs.Edge.{EdgeAct, edge_at, edge_run, is_offer, new_edge};
 ghost use Rattle.stab_line.specs.Line.{after_sending, frame_comes, frame_sent, held, line_step};
 ghost use Rattle.stab_line.specs.Line.{with_taken};
 ghost use Rattle.stab_line.specs.Line.{IsReplay, LineAct, line_run, link_of, new_count, start_of};
@@ -19,6 +19,7 @@ ghost use Rattle.stab_line.specs.NodeTree.{list_of, node_run, node_step, paramet
 ghost use Rattle.stab_line.specs.NodeTree.{at_line, polls, publishes};
 ghost use Rattle.stab_frames.specs.Parameters.{AreLawful, Parameters};
 ghost use Rattle.stab_frames.specs.declared.frame.Frame.{Frame};
+ghost use Rattle.stab_line.specs.StartLaw.{LinkLawOfStart};
 ghost use Rattle.stab_line.specs.StartTree.{TreeLawOfStarts};
 ghost use Rattle.stab_tree.specs.Nodes.{parent_at};
 ghost use Rattle.stab_treecore.specs.Network.{IsNetwork, Network};
@@ -70,6 +71,45 @@ pub fn a_child_obeys_the_tree_law()
         → IsPrefix (held sender.state.item) list
         → let e = edge_run p (new_edge list frames acks sender receiver) acts in
         TreeLaw most_strays most_missing garbage published e.list
+        → TreeLaw (most_strays + p.capacity + length opening)
+        (most_missing + (2 * p.capacity + 1))
+        (opening ++ (map (λ f. f.item) frames ++ garbage)) published
+        (opening ++ e.line.delivered) }
+{}
+
+/// A child that is made anew at a place of its node's list gets the list from there on, whatever
+/// was before, is on the line and happens later: what it is offered is a prefix of that, at most `c`
+/// strays are delivered and then offered items in their order, each at most once, and of the
+/// acknowledged ones only some among the first `2c + 1` can be missing. By what really was under
+/// way when it was made, these are fewer. And it obeys the tree law where the list of its node does
+/// from that place on.
+pub fn a_child_made_anew_gets_the_list_from_its_place()
+    ensures offered { (p : Parameters) (place : ℕ) (list : List ℕ) (frames : List Frame)
+        (acks : List ℕ) (sender : SenderEnd) (receiver : ReceiverEnd) (acts : List EdgeAct)
+        → place ≤ length list → IsPrefix (held sender.state.item) (drop place list)
+        → let e = edge_run p (edge_at place list frames acks sender receiver) acts in
+        IsPrefix e.line.offered (drop place e.list) }
+    ensures delivered { (p : Parameters) (place : ℕ) (list : List ℕ) (frames : List Frame)
+        (acks : List ℕ) (sender : SenderEnd) (receiver : ReceiverEnd) (acts : List EdgeAct)
+        → AreLawful p → length frames ≤ p.capacity → length acks ≤ p.capacity
+        → place ≤ length list → IsPrefix (held sender.state.item) (drop place list)
+        → let e = edge_run p (edge_at place list frames acks sender receiver) acts in
+        LinkLaw p.capacity (map (λ f. f.item) frames) e.line.offered e.line.acked
+        e.line.delivered }
+    ensures of_its_start { (p : Parameters) (place : ℕ) (list : List ℕ) (frames : List Frame)
+        (acks : List ℕ) (sender : SenderEnd) (receiver : ReceiverEnd) (acts : List EdgeAct)
+        → AreLawful p → length frames ≤ p.capacity → length acks ≤ p.capacity
+        → place ≤ length list → IsPrefix (held sender.state.item) (drop place list)
+        → let e = edge_run p (edge_at place list frames acks sender receiver) acts in
+        LinkLawOfStart (start_of frames acks sender receiver) e.line.offered e.line.acked
+        e.line.delivered }
+    ensures in_a_tree { (p : Parameters) (place : ℕ) (list : List ℕ) (frames : List Frame)
+        (acks : List ℕ) (sender : SenderEnd) (receiver : ReceiverEnd) (acts : List EdgeAct)
+        (most_strays most_missing : ℕ) (opening garbage published : List ℕ)
+        → AreLawful p → length frames ≤ p.capacity → length acks ≤ p.capacity
+        → place ≤ length list → IsPrefix (held sender.state.item) (drop place list)
+        → let e = edge_run p (edge_at place list frames acks sender receiver) acts in
+        TreeLaw most_strays most_missing garbage published (drop place e.list)
         → TreeLaw (most_strays + p.capacity + length opening)
         (most_missing + (2 * p.capacity + 1))
         (opening ++ (map (λ f. f.item) frames ++ garbage)) published
