@@ -86,9 +86,12 @@ static void draw_all(void) {
                                 (uint8_t)(draw() >> 63 ? 0 : number())};
     *receiver = (rignolda_receiver){labels[draw() >> 62],
                                     (uint16_t)(draw() >> 63 ? 0 : number())};
-    *node = (rignolda_node){*receiver, (uint32_t)number(), (uint32_t)number()};
-    *child = (rignolda_child){*sender, (uint32_t)number(), (uint32_t)number(),
-                              (uint32_t)number()};
+    /* (often close to each other, as the calls leave them) */
+    uint64_t length = draw() >> 63 ? number() : draw();
+    *node = (rignolda_node){*receiver, length, draw() >> 62 ? length - number() : number(),
+                            number()};
+    *child = (rignolda_child){*sender, draw() >> 62 ? length - number() : number(), number(),
+                              number()};
     *session = (rignolda_session){number(), (uint32_t)(draw() >> 62 ? number() : 0),
                                   (uint32_t)(draw() >> 62 ? number() : 0)};
     *item = (uint32_t)number();
@@ -196,63 +199,119 @@ static void try_receiver(void) {
     must(receiver->label == frame->label && !receiver->closed, "open, its label");
 }
 
-static uint32_t one_more(uint32_t count) { return count == UINT32_MAX ? count : count + 1; }
+static uint64_t one_more(uint64_t count) { return count == UINT64_MAX ? count : count + 1; }
+
+static int same_node(rignolda_node one, rignolda_node other) {
+    return !memcmp(&one.above, &other.above, sizeof one.above) && one.length == other.length &&
+           one.forgotten == other.forgotten && one.old_frames == other.old_frames;
+}
+
+/* The first place of the list that a node keeps. */
+static uint64_t first_kept(rignolda_node its, uint64_t size) {
+    uint64_t first = its.length > size ? its.length - size : 0;
+    return its.forgotten > first ? its.forgotten : first;
+}
+
+static int has_place(rignolda_node its, uint64_t size) {
+    return its.length != UINT64_MAX &&
+           (its.length > its.forgotten ? its.length - its.forgotten : 0) < size;
+}
 
 static void try_node(void) {
     uint32_t size = (uint32_t)(draw() >> 32) % (MOST_ITEMS + 1);
     uint32_t *list = list_end - size, list_before[MOST_ITEMS];
     for (uint32_t i = 0; i < size; i++)
         list_before[i] = list[i] = (uint32_t)number();
-    rignolda_node before = *node;
-    rignolda_child child_before = *child;
-    uint32_t used = before.length < size ? before.length : size;
+    rignolda_node before = *node, longer = before;
+    int room = has_place(before, size);
+    uint64_t last = room ? before.length % size : 0;
+    longer.length += (uint64_t)room;
     part = "node_publish";
     bool done = rignolda_node_publish(node, list, size, *item);
-    must(done == (used < size), "where there is room");
-    must(done ? node->length == used + 1 && list[used] == *item
-              : !memcmp(node, &before, sizeof before), "the item is the last");
+    must(done == room, "where there is room");
+    must(same_node(*node, longer) && (!done || list[last] == *item), "the item is the last");
     if (done)
-        list[used] = list_before[used];
+        list[last] = list_before[last];
     must(!memcmp(list, list_before, 4 * size), "the other items stay");
     part = "node_on_frame";
     *node = before;
     int other = frame->label != before.above.label, open = !before.above.closed;
     done = rignolda_node_on_frame(node, list, size, frame);
-    must(done == (open && other && used < size), "where it is new and there is room");
+    must(done == (open && other && room), "where it is new and there is room");
     if (done) {
-        must(node->length == used + 1 && list[used] == frame->item &&
-             node->above.label == frame->label && !node->above.closed &&
-             node->old_frames == before.old_frames, "the last item, and the label remembered");
-        list[used] = list_before[used];
+        longer.above = node->above;
+        must(same_node(*node, longer) && list[last] == frame->item &&
+             node->above.label == frame->label && !node->above.closed,
+             "the last item, and the label remembered");
+        list[last] = list_before[last];
     } else {
-        must(!memcmp(&node->above, &before.above, sizeof before.above) &&
-             node->length == before.length, "nothing is taken");
-        uint32_t old = open && !other ? one_more(before.old_frames) : before.old_frames;
-        must(node->old_frames == old, "old ones count");
+        longer = before;
+        longer.old_frames = open && !other ? one_more(before.old_frames) : before.old_frames;
+        must(same_node(*node, longer), "nothing is taken, and old ones count");
     }
     must(!memcmp(list, list_before, 4 * size), "the other items stay");
-    part = "node_poll";
-    *node = before;
-    rignolda_child wanted = *child;
-    uint32_t offered = wanted.offered < used ? wanted.offered : used;
-    if (!wanted.sender.holding && !wanted.sender.closed && offered < used) {
-        wanted.sender.holding = 1, wanted.sender.item = list[offered];
-        wanted.offered = offered + 1;
-    }
+}
+
+static void try_poll(void) {
+    uint32_t size = (uint32_t)(draw() >> 32) % (MOST_ITEMS + 1);
+    uint32_t *list = list_end - size, list_before[MOST_ITEMS];
+    for (uint32_t i = 0; i < size; i++)
+        list_before[i] = list[i] = (uint32_t)number();
+    rignolda_node before = *node;
+    rignolda_child child_before = *child, wanted = *child;
     rignolda_frame frame_before = *frame;
-    done = rignolda_node_poll(node, child, list, size, frame);
+    uint64_t first = first_kept(before, size);
+    int behind = wanted.offered < first, has_next = !behind && wanted.offered < before.length;
+    part = "node_left_behind";
+    must(rignolda_node_left_behind(node, child, size) == behind, "what it needs is not kept");
+    part = "node_backlog";
+    uint64_t backlog = has_next ? before.length - wanted.offered : 0;
+    backlog = wanted.sender.holding ? one_more(backlog) : backlog;
+    must(rignolda_node_backlog(node, child, size) == backlog, "held, and still to be offered");
+    part = "node_poll";
+    if (!wanted.sender.holding && !wanted.sender.closed && has_next) {
+        wanted.sender.holding = 1, wanted.sender.item = list[wanted.offered % size];
+        wanted.offered++;
+    }
+    bool done = rignolda_node_poll(node, child, list, size, frame);
     must(done == (wanted.sender.holding && !wanted.sender.closed), "where it has an item");
     must(as_wanted(child->sender, wanted.sender) && child->offered == wanted.offered &&
          child->acknowledged == wanted.acknowledged && child->ignored == wanted.ignored,
          "the next item is offered");
     must(done ? frame->item == wanted.sender.item && frame->label == wanted.sender.label
               : !memcmp(frame, &frame_before, sizeof *frame), "its frame");
-    must(!memcmp(node, &before, sizeof before) && !memcmp(list, list_before, 4 * size),
-         "node and list stay");
-    part = "node_backlog";
+    must(same_node(*node, before) && !memcmp(list, list_before, 4 * size), "node and list stay");
+    part = "child_init_at";
     *child = child_before;
-    uint64_t backlog = used - offered + (uint64_t)(child->sender.holding != 0);
-    must(rignolda_node_backlog(node, child, size) == backlog, "held, and still to be offered");
+    uint64_t at = draw() >> 62 ? before.length - number() : number();
+    done = rignolda_child_init_at(child, node, size, *label, at);
+    must(done == (at >= first && at <= before.length), "at a place that is kept, or the end");
+    must(done ? child->sender.label == *label && !child->sender.holding && !child->sender.closed &&
+                    child->offered == at && child->acknowledged == 0 && child->ignored == 0
+              : !memcmp(child, &child_before, sizeof *child), "nothing offered but from there");
+}
+
+static void try_forget(void) {
+    rignolda_node before = *node, wanted = before;
+    rignolda_child child_before = *child;
+    uint64_t at = draw() >> 62 ? before.length - number() : number();
+    uint64_t size = draw() >> 63 ? number() : (draw() >> 32) % MOST_ITEMS;
+    part = "child_needs";
+    uint64_t needed = child->offered >= before.forgotten && child->offered < at ? child->offered
+                                                                                : at;
+    must(rignolda_child_needs(node, child, at) == needed, "the lower place, unless forgotten");
+    must(same_node(*node, before) && !memcmp(child, &child_before, sizeof *child), "all stays");
+    part = "node_forget";
+    int behind = child->offered < first_kept(before, size);
+    rignolda_node_forget(node, at);
+    uint64_t end = at < before.length ? at : before.length;
+    wanted.forgotten = end > before.forgotten ? end : before.forgotten;
+    must(same_node(*node, wanted), "what is before the place");
+    must(child->offered < at || rignolda_node_left_behind(node, child, size) == behind,
+         "a child that needs what is behind the place is as before");
+    *node = before;
+    rignolda_node_forget(node, needed);
+    must(rignolda_node_left_behind(node, child, size) == behind, "nor one that was asked");
 }
 
 static void try_child(void) {
@@ -269,10 +328,10 @@ static void try_child(void) {
     must(child->sender.label == *label && !child->sender.holding && !child->sender.closed &&
          child->offered == 0 && child->acknowledged == 0 && child->ignored == 0, "nothing offered");
     part = "node_init";
-    uint32_t opening = *item;
+    uint64_t opening = number();
     rignolda_node_init(node, *label, opening);
     must(node->above.label == *label && !node->above.closed && node->length == opening &&
-         node->old_frames == 0, "its opening");
+         node->forgotten == 0 && node->old_frames == 0, "its opening");
 }
 
 /* Compares the session with one that is wanted: the turn counts only while it has a connection. */
@@ -406,7 +465,7 @@ static void try_session_node(void) {
     int fresh = !node->above.closed && frame->label != node->above.label;
     done = rignolda_session_node_on_frame(node, session, its, list, size, frame);
     wanted = has && rignolda_node_on_frame(&node_wanted, list_wanted, size, frame);
-    must(done == wanted && !memcmp(node, &node_wanted, sizeof *node) &&
+    must(done == wanted && same_node(*node, node_wanted) &&
          !memcmp(list, list_wanted, 4 * size), "as node_on_frame");
     must_take_turn(before, has && (done || !fresh));
 }
@@ -471,6 +530,10 @@ int main(int argc, char **argv) {
         try_receiver();
         draw_all();
         try_node();
+        draw_all();
+        try_poll();
+        draw_all();
+        try_forget();
         draw_all();
         try_child();
         draw_all();

@@ -95,6 +95,9 @@ all_need_from node (child ∷ children) place =
 abbrev pub forgotten_before : Node → ℕ → ℕ
 forgotten_before node place = max node.forgotten (min place node.length)
 
+abbrev pub after_forgetting : Node → ℕ → Node
+after_forgetting node place = record node { forgotten = forgotten_before node place }
+
 -- the place is one of those from which on the node keeps its list, or the list's end
 abbrev pub is_kept_place : Node → ℕ → ℕ → Bool
 is_kept_place node size place = nat_le (first_kept node size) place && nat_le place node.length

@@ -1,8 +1,8 @@
-ghost use Rattle.std.specs.Prelude.{◌≡◌, ℕ, ◌≤◌, List, true, false};
+ghost use Rattle.std.specs.Prelude.{◌≡◌, ℕ, ◌≤◌, List, true, false, length};
 ghost use Rattle.stab_line.specs.Ends.{new_sender};
 ghost use Rattle.stab_c.specs.Meaning.{sender_end};
 ghost use Rattle.stab_c.specs.NodeList as list;
-ghost use Rattle.stab_c.specs.NodeList.{IsList, backlog, forgotten_before, is_kept_place};
+ghost use Rattle.stab_c.specs.NodeList.{IsList, after_forgetting, backlog, is_kept_place};
 ghost use Rattle.stab_c.specs.NodeList.{is_left_behind, item_kept, needs_from};
 ghost use Rattle.stab_c.specs.declared.child.Child.{Child as ChildStruct};
 
@@ -56,10 +56,7 @@ pub extern "C" fn rignolda_child_needs(node: &Node, child: &Child, place: u64) -
 /// these places free then.
 #[unsafe(no_mangle)]
 pub extern "C" fn rignolda_node_forget(node: &mut Node, place: u64)
-    ensures forgotten { node.new.forgotten ≡ forgotten_before node.old place }
-    ensures length { node.new.length ≡ node.old.length }
-    ensures receiver { node.new.above ≡ node.old.above }
-    ensures count { node.new.old_frames ≡ node.old.old_frames }
+    ensures forgotten { node.new ≡ after_forgetting node.old place }
     ensures list { (buffer items : List ℕ) → IsList node.old buffer items
         → IsList node.new buffer items }
     ensures kept { (buffer : List ℕ) (later : ℕ) → place ≤ later
@@ -86,6 +83,9 @@ pub extern "C" fn rignolda_child_init_at(
     ensures offered { result ≡ true → child.new.offered ≡ place }
     ensures acknowledged { result ≡ true → child.new.acknowledged ≡ 0 }
     ensures ignored { result ≡ true → child.new.ignored ≡ 0 }
+    ensures not_left { result ≡ true → is_left_behind node.now child.new size ≡ false }
+    ensures in_list { (buffer items : List ℕ) → IsList node.now buffer items → result ≡ true →
+        place ≤ length items }
     ensures refused { result ≡ false → child.new ≡ child.old }
 {
     if place < first_kept(node, size) || place > node.length {

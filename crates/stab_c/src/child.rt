@@ -72,7 +72,7 @@ fn item_at(node: &Node, place: u64, list: &[u32]) -> Option<u32>
     ensures below { IfSome result (λ _. place < node.now.length) }
 {
     let size = list.len() as u64;
-    if place < first_kept(node, list.len()) || place >= node.length || size == 0 {
+    if place < first_kept(node, list.len()) || place >= node.length {
         return None;
     }
     list.get((place % size) as usize).copied()

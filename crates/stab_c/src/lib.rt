@@ -9,6 +9,7 @@
 
 mod backlog;
 mod child;
+pub mod laws;
 mod line;
 mod node;
 mod receiver;

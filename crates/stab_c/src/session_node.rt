@@ -9,7 +9,7 @@ ghost use Rattle.stab_c.specs.Meaning.{written_frame};
 ghost use Rattle.stab_c.specs.NodeList.{IsList, counted, is_left_behind, is_old, item_kept};
 ghost use Rattle.stab_c.specs.NodeList.{loses_frame, offered_next, takes_frame};
 ghost use Rattle.stab_line.specs.Session.{after_message, has, may_send, sent_now, turn_after};
-ghost use Rattle.stab_line.specs.SessionActs.{IsAckHandled, IsFrameHandled};
+ghost use Rattle.stab_line.specs.SessionActs.{IsAckHandled, IsFrameHandled, IsFrameSentInTurn};
 ghost use Rattle.stab_c.specs.SessionMeaning.{session_of};
 
 use crate::child::{Child, rignolda_child_on_ack, rignolda_node_poll};
@@ -46,7 +46,9 @@ pub extern "C" fn rignolda_session_poll(
         → IsPolled items child.old.offered (sender_end child.old.sender) child.new.offered
         (sender_end child.new.sender) (answered result (frame_of frame.new)) }
     ensures left { is_left_behind node.now child.old (length list.now) ≡ true →
-        child.new ≡ child.old }
+        (child.new ≡ child.old)
+        × IsFrameSentInTurn (sender_end child.old.sender) (session_of session.old)
+        (answered result (frame_of frame.new)) (session_of session.new) }
 {
     if !is_in_turn(session) || !rignolda_node_poll(node, child, list, frame) {
         return false;
