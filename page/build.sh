@@ -57,7 +57,8 @@ build() {
         { cat -- "$work/log" >&2; fail "the module was not linked"; }
 }
 
-# Writes the page with the module $1 to standard output.
+# Writes the page with the module $1 to standard output, without lines of comments and
+# without the spaces before the other lines.
 page() {
     local line module
     module=$(base64 -w 0 -- "$1")
@@ -65,7 +66,8 @@ page() {
         if [[ $line == *'{{MODULE}}'* ]]; then
             line=${line%%'{{MODULE}}'*}$module${line#*'{{MODULE}}'}
         fi
-        printf '%s\n' "$line"
+        line=${line#"${line%%[! ]*}"}
+        [[ $line == '// '* ]] || printf '%s\n' "$line"
     done <"$top/page/page.html"
 }
 

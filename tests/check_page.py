@@ -6,7 +6,7 @@
 It takes the commands `chromium` and `firefox-esr` (Debian's packages), and the program by ./stab.
 In each browser it looks that
 
-- the page is at most 100 kB, and ready in less than 200 ms;
+- the page is at most 120 kB, and ready in less than 200 ms;
 - each link example, and each drawn job (1,000 of them), gives the text of `stab link --trace`, and
   the strays and missing items that are counted are within their bounds;
 - each tree example that fits the page, and each drawn small tree with a schedule (1,000 of them),
@@ -37,7 +37,7 @@ import time
 TOP = pathlib.Path(__file__).resolve().parent.parent
 PAGE = TOP / "page" / "index.html"
 DATA = TOP / "crates" / "stab_checks" / "data"
-MOST_BYTES = 100_000
+MOST_BYTES = 120_000
 MOST_MILLISECONDS = 200
 SECONDS = 60
 
@@ -433,20 +433,20 @@ class Checks:
         said = browser.run(state)
         self.see(f"{name}: the tree at its end", said[0] and said[1] == said[2] == 48 and said[3] == "b", said)
         self.see(f"{name}: counts at the nodes", said[4] == ["0 of at most 0; 0 of at most 0", "1 of at most 1; 3 of at most 3",
-                                                             "1 of at most 2; 5 of at most 6"], said)
+                                                             "1 of at most 2; 5 of at most 6 (sharper: 5)"], said)
         browser.run("$('t-at').value = 6; $('t-at').dispatchEvent(new Event('input'));")
         said = browser.run("return [treeAt, $('t-happened').textContent, tree.names[child]];")
-        self.see(f"{name}: the slider of the tree", said[0] == 6 and "delivers 99" in said[1] and said[2] == "a", said)
+        self.see(f"{name}: the slider of the tree", said[0] == 6 and "99 is delivered: a stray" in said[1] and said[2] == "a", said)
         browser.run("document.body.dispatchEvent(new KeyboardEvent('keydown', {key: 'ArrowLeft', bubbles: true}));")
         self.see(f"{name}: the left key in the tree", browser.run(state)[1] == 5)
         browser.run("document.querySelector('[data-act=recv_frame]').click();")
         self.see(f"{name}: an event replaces the rest of the schedule", browser.run(state)[1:3] == [6, 6])
         self.see(f"{name}: the saved schedule", json.loads(browser.run("return treeJobText(tree)"))["schedule"][5] == ["a", "recv_frame"])
         browser.run("showTree(TREES['A clean chain, nothing done yet'], 'x'); pick(2);")
-        dim = "return [...document.querySelectorAll('[data-act]')].filter(b => !b.disabled).map(b => b.dataset.act);"
-        self.see(f"{name}: nothing to offer yet", browser.run(dim) == ["send_ack", "close"], browser.run(dim))
+        dim = "return [...document.querySelectorAll('[data-act]')].filter(b => !isDim(b)).map(b => b.dataset.act);"
+        self.see(f"{name}: nothing to offer yet", browser.run(dim) == ["close", "send_ack"], browser.run(dim))
         browser.run("pick(1);")
-        self.see(f"{name}: the root offers", browser.run(dim) == ["offer", "send_ack", "close"], browser.run(dim))
+        self.see(f"{name}: the root offers", browser.run(dim) == ["offer", "close", "send_ack"], browser.run(dim))
         browser.run("showTree(TREES['A wider second link'], 'x'); goTree(12); share();")
         address = browser.run("return location.href")
         browser.go(address)
@@ -512,8 +512,8 @@ class Checks:
         self.see(f"{name}: an event replaces the rest", browser.run(state)[:2] == [5, 5])
         self.see(f"{name}: its text", browser.run("return jobText(job)").count("send_ack") == 2)
         browser.run("show(RUNS['A clean start'], 'x');")
-        dim = "return [...document.querySelectorAll('[data-event]')].filter(b => !b.disabled).map(b => b.dataset.event);"
-        self.see(f"{name}: what can happen to a clean link", browser.run(dim) == ["offer", "send_ack", "close"], browser.run(dim))
+        dim = "return [...document.querySelectorAll('[data-event]')].filter(b => !isDim(b)).map(b => b.dataset.event);"
+        self.see(f"{name}: what can happen to a clean link", browser.run(dim) == ["offer", "close", "send_ack"], browser.run(dim))
         browser.run("show(RUNS['Two labels are too few'], 'x'); go(99); share();")
         address = browser.run("return location.href")
         browser.go(address)
@@ -559,7 +559,7 @@ def main():
     words.add_argument("browsers", nargs="*", default=["chromium", "firefox"])
     words = words.parse_args()
     checks, draw = Checks(), random.Random(words.seed)
-    checks.see("the page is at most 100 kB", PAGE.stat().st_size <= MOST_BYTES)
+    checks.see("the page is at most 120 kB", PAGE.stat().st_size <= MOST_BYTES)
     files = sorted(DATA.glob("links/*.json")) + sorted(DATA.glob("refused/*.json"))
     jobs = [(f.name, f.read_bytes()) for f in files + [DATA / "worst_start.json"]]
     # (what is no UTF-8 cannot be pasted)
