@@ -15,6 +15,13 @@ In each browser it looks that
 - each job that the program refuses is refused, and no other, but for trees that are too large;
 - each exercise is refused with too few events, and solved with the events that are given here, and
   what is said of events that only seem to solve it is right;
+- what is drawn of the circle is what the module says, an item is delivered where the page says that its
+  acknowledgement will show it, and the rows and stars are those of the runs in docs/PROTOCOL.md;
+- rounds are counted as docs/PROTOCOL.md counts them;
+- the hint, the live check and the solution of an exercise come when they should;
+- what follows a fault in a tree is what the program says of the job that is saved;
+- a step of the slider takes less than 50 ms at 4,096 events, at 360 pixels nothing is cut off, and
+  nothing but the picture of a page is printed;
 - what is said of missing items fits the number of labels, and of an item whose frame is under way;
 - the buttons, the slider, the keys and the address do what they say;
 
@@ -27,6 +34,7 @@ import json
 import os
 import pathlib
 import random
+import re
 import shutil
 import socket
 import subprocess
@@ -39,6 +47,7 @@ PAGE = TOP / "page" / "index.html"
 DATA = TOP / "crates" / "stab_checks" / "data"
 MOST_BYTES = 120_000
 MOST_MILLISECONDS = 200
+MOST_MILLISECONDS_OF_A_STEP = 50
 SECONDS = 60
 
 WIDE, NARROW = (1100, 900), (390, 800)
@@ -376,6 +385,16 @@ TEXTS = """return args[0].map(text => {
     const job = readJob(text), link = linkAt(job, job.events.length), c = job.capacity;
     if (link.strays > c || missingPlaces(link).length !== link.missing) return 'counted wrong';
     if (missingPlaces(link).some(i => i > 2 * c)) return 'the law is broken';
+    const { steps } = follow(job, asPairs(job.events), link.effects, link.offered);
+    for (let k = 0; k <= job.events.length; k += k < 40 ? 1 : 37) {
+      const row = rowAt(job, k), step = steps[k], said = s => JSON.stringify(s);
+      if (row.send !== step.send || row.recv !== step.recv.label || said(row.acks) !== said(step.acks.map(a => a.label))
+        || said(row.frames) !== said(step.frames.map(f => [f.label, f.item]))
+        || said(row.queued.map(o => o[0] ? o[1] : null)) !== said(step.frames.map(f => f.number)))
+        return 'another state is drawn after ' + k;
+    }
+    const good = link.effects.flatMap((effect, k) => effect === "Acked" ? [steps[k].isGood] : []);
+    if (good.some((is, i) => is && !hasCome(link, i))) return 'a good acknowledgement shows nothing';
     return traceText(job);
   } catch (error) { return error instanceof Fault ? null : "error: " + error; }
 });"""
@@ -459,6 +478,162 @@ class Checks:
         said = browser.run("tryJob(args[0], 'x'); return [isTreeSeen, job.events.length]",
                            json.dumps({"capacity": 1, "labels": 4, "start": {"send": 0, "recv": 1}, "events": ["send_ack"]}))
         self.see(f"{name}: a link job shows the link", said == [False, 1], said)
+
+    def drawn_rows(self, browser, name):
+        """The rows of the runs that docs/PROTOCOL.md draws, stars included; and rounds."""
+        page = (TOP / "docs" / "PROTOCOL.md").read_text()
+        blocks = re.findall(r"\(`((?:links/)?\w+)`[^)`]*\)[^`]*```\n( +SENDER.*?)```", page, re.S)
+        self.see(f"{name}: there are drawn runs", len(blocks) >= 8, len(blocks))
+        for title, block in blocks:
+            file = DATA / f"{title}.json"
+            lines = [line for line in block.split("\n")[1:] if line.strip()]
+            heads = [(m.group(), m.start()) for m in re.finditer(r"\S+", lines[0])]
+            ends = [at for _, at in heads[1:]] + [None]
+            said = browser.run("show(readJob(args[0]), 'x', 1e9); drawRows(); return [...$('rows').rows].map(r => [...r.cells].map(c => c.textContent));",
+                               file.read_text())
+            for line in lines[1:]:
+                cell = {(head, i): line[at:end].strip() for i, ((head, at), end) in enumerate(zip(heads, ends))}
+                keys = list(cell)
+                number = line[:heads[0][1]].strip()
+                row = said[int(number) if number else 0]
+                names = [key[0] for key in keys]
+                # (the offered item may have a star here, where it is a stray of the link above)
+                clean = lambda text: " ".join(w for w in text.split() if w not in ("v", "^", "x")) or "-"
+                wanted = [clean(cell[keys[names.index(head)]]) for head in ("frames", "acks")]
+                wanted.append(cell[keys[len(names) - 1 - names[::-1].index("label")]])
+                if "delivers" in names:
+                    wanted.append(cell[keys[names.index("delivers")]])
+                found = row[6:8] + row[8:8 + len(wanted) - 2]
+                self.see(f"{name}: row {number} of {title}", found == wanted, f"{found} and not {wanted}")
+        for title, wanted in (("links/three_rounds_for_an_item", [6, 13, 20]), ("links/two_clean_rounds", [5, 10]), ("worst_start", [])):
+            said = browser.run("show(readJob(args[0]), 'x', 1e9); return [tracked.rounds, $('rounds').textContent];", (DATA / f"{title}.json").read_text())
+            self.see(f"{name}: rounds of {title}", said == [wanted, f"Rounds: {len(wanted)}"], said)
+
+    def lesson(self, browser, name):
+        """The circle, the exercise beside it, questions, the address, and where the focus is."""
+        said = browser.run("""show(RUNS['The worst start'], 'The worst start');
+            return [$('happened').textContent, [...$('labels').children].map(c => c.className),
+                    ['frames', 'acks'].map(id => $(id).querySelector('button').className), $('of-recv').className];""")
+        self.see(f"{name}: the start", "Nobody knows from when" in said[0] and said[1:] == [[" next", "", "", "free"], ["msg old ", "msg old lie"], "badge msg old "], said)
+        says = "go(args[0]); return [$('says').textContent, $('says').className, $('happened').textContent];"
+        for at, part, style, told in (
+                (1, "does not show that it was delivered", "some", "But a 0 is in the link already"),
+                (2, "may be acknowledged and never arrive", "some", "was on the line before you came. The sender waited for 0: item 10 is acknowledged, and it was never"),
+                (3, "may be acknowledged", "some", "sends 1, the label that it remembers since the start"),
+                (6, "may be acknowledged", "some", "Its label 2 is not the remembered 1, so 99 is delivered: a stray"),
+                (9, "cannot go missing", "done", "This 2 came with a stray."), (11, "will show that it was delivered", "done", "label 3, item 13")):
+            said = browser.run(says, at)
+            self.see(f"{name}: what is said at {at}", part in said[0] and said[1] == style and told in said[2], said)
+        # (the shape of this circle is always good, and the first item is missing all the same)
+        said = browser.run("show(RUNS['The receiver remembers the first label'], 'x', 4); return [$('says').textContent, $('missing').textContent];")
+        self.see(f"{name}: a good shape is not enough", "does not show" in said[0] and said[1].startswith("Missing: 0"), said)
+
+        card = "return [!$('task').hidden, $('task').querySelector('[role=status]').textContent, $('task').innerText.includes('Show a solution'), $('task').innerText.includes('Hint'), $('item').value];"
+        browser.run("$('item').value = 77; $('tasks').children[3].click();")
+        said = browser.run(card)
+        self.see(f"{name}: an exercise begins", said == [True, "So far 0 of 3 items are missing.", False, True, "10"], said)
+        browser.run("[...$('task').querySelectorAll('button')].find(b => b.textContent === 'Hint').click();")
+        self.see(f"{name}: a hint", "Three labels are on the circle" in browser.run("return $('task').innerText"))
+        browser.run("for (const event of args[0]) { if (event[0] === 'offer') { $('item').value = event[1]; event.splice(1); } document.querySelector(`[data-event=${[].concat(event)[0]}]`).click(); }", WORST)
+        said = browser.run(card)
+        self.see(f"{name}: it is solved by hand", said[:4] == [True, "Done.", True, False], said)
+        browser.run("[...$('task').querySelectorAll('button')].find(b => b.textContent === 'Show a solution').click(); $('last').click();")
+        said = browser.run("return [$('task').querySelector('[role=status]').textContent, job.events.length, $('task').hidden]")
+        self.see(f"{name}: the solution solves it", said == ["Done.", 9, False], said)
+        self.see(f"{name}: another run has no exercise", browser.run("$('runs').value = 'A clean start'; $('load').click(); return $('task').hidden"))
+        solved = """return [TASKS.map((task, i) => checkTask(i, { ...task.job, events: task.solution })),
+            TREE_TASKS.map((task, i) => checkTree(i, { ...task.job, events: task.solution }))]"""
+        self.see(f"{name}: all solutions solve", browser.run(solved) == [[""] * 6, [""] * 3], browser.run(solved))
+
+        ask = "return [$('ask').hidden, at, $('ask').innerText, $('happened').textContent, $('score').textContent];"
+        browser.run("$('asks').checked = true; show(RUNS['The worst start'], 'x', 1); $('forth').click();")
+        said = browser.run(ask)
+        self.see(f"{name}: a question", said[:2] == [False, 1] and "What will the sender do now?" in said[2], said)
+        browser.run("$('ask').querySelectorAll('button')[0].click();")
+        said = browser.run(ask)
+        self.see(f"{name}: a right answer", said[:2] == [True, 2] and "Right. This 0" in said[3] and said[4] == "1 of 1 right", said)
+        browser.run("go(5); document.querySelector('[data-event=recv_frame]').click(); $('ask').querySelectorAll('button')[1].click();")
+        said = browser.run(ask)
+        self.see(f"{name}: a wrong answer", said[:2] == [True, 6] and "No. This frame" in said[3] and said[4] == "1 of 2 right", said)
+        browser.run("$('asks').checked = false;")
+
+        browser.run("show(RUNS['A clean start'], 'x'); document.querySelector('[data-event=offer]').focus(); document.activeElement.click();")
+        self.see(f"{name}: the focus stays", browser.run("return document.activeElement.dataset.event") == "offer")
+        browser.run("document.querySelector('[data-event=send_frame]').click(); $('frames').querySelector('button').focus(); document.activeElement.click();")
+        said = browser.run("return [document.activeElement.id, job.events.at(-1), $('happened').textContent]")
+        self.see(f"{name}: a message is lost by pressing it", said[:2] == ["frames", ["lose_frame", 0]] and "label 0, item 10" in said[2], said)
+        at = browser.run("return at")
+        browser.run("document.querySelector('.table').dispatchEvent(new KeyboardEvent('keydown', {key: 'ArrowLeft', bubbles: true}));")
+        self.see(f"{name}: keys in the table do not step", browser.run("return at") == at)
+        for garbage in ("#job=garbage", "#nothing", "#tree=e30"):
+            browser.go(PAGE.as_uri() + garbage)
+            self.wait(browser)
+            said = browser.run("return [$('fault').textContent, job.events.length];")
+            self.see(f"{name}: the address {garbage}", "cannot be read" in said[0] and said[1] == 12, said)
+        said = browser.run("share(); const had = location.hash; $('load').click(); return [had.slice(0, 5), location.hash];")
+        self.see(f"{name}: another run clears the address", said == ["#job=", ""], said)
+        said = browser.run("tryJob('{\"capacity\":1.0,\"labels\":4,\"start\":{\"send\":0,\"recv\":1},\"events\":[]}'); return $('fault').textContent")
+        self.see(f"{name}: a number with a point", "and not a number with a point" in said, said)
+
+    def time(self, browser, name):
+        times = browser.run("""show(readJob(args[0]), 'x', 4000);
+            return [4001, 2000, 4096, 4095, 100, 4090, 3000, 4001, 2000, 50].map(to => {
+                const from = performance.now();
+                $('at').value = to;
+                $('at').dispatchEvent(new Event('input'));
+                return Math.round(performance.now() - from);
+            });""", long_job())
+        print(f"{name}: steps of the slider take {times} ms")
+        self.see(f"{name}: a step of the slider", sorted(times)[2] < MOST_MILLISECONDS_OF_A_STEP, times)
+
+    def narrow(self, browser, name):
+        """At 360 pixels, if the browser can be so narrow, and in print."""
+        browser.size(360, 800, False)
+        for view in ("show(RUNS['The worst start of capacity two'], 'x', 8);", "$('tasks').children[4].click();", "$('see-tree').click();",
+                     "show(readJob(args[0]), 'x', 9);"):
+            browser.run(view, long_job())
+            said = browser.run("return [document.documentElement.scrollWidth, innerWidth, screen.width]")
+            self.see(f"{name}: nothing is cut off at 360 pixels", said[0] <= max(360, said[1] if name == "firefox" else 0), said)
+        browser.size(*WIDE, False)
+        if name == "chromium":
+            browser.run("show(RUNS['The worst start'], 'x', 9);")
+            browser.ask("Emulation.setEmulatedMedia", media="print")
+            said = browser.run("""return [...document.querySelectorAll('button, input, select, textarea, summary')].filter(e =>
+                e.checkVisibility() && !e.classList.contains('msg')).length""")
+            self.see(f"{name}: no control is printed", said == 0, said)
+            self.see(f"{name}: the table is printed whole", browser.run("return getComputedStyle(document.querySelector('.table')).maxHeight") == "none")
+            browser.ask("Emulation.setEmulatedMedia", media="")
+
+    def faults(self, browser, name):
+        """A struck link and a restarted node, against the program's answer to the job that is saved."""
+        state = "return [treeAt, isAtRest(stateOf(treeAt)), ['t-rest', 't-strike', 't-restart'].map(id => isDim($(id)))];"
+        browser.run("showTree(TREES['A clean chain, nothing done yet'], 'x');")
+        self.see(f"{name}: a tree with work left", browser.run(state) == [0, False, [False, True, True]], browser.run(state))
+        browser.run("$('t-strike').click();")
+        self.see(f"{name}: no fault before the rest", browser.run("return tree.since ?? ''") == "")
+        browser.run("$('t-rest').click();")
+        said = browser.run(state)
+        self.see(f"{name}: everything comes to rest", said == [40, True, [True, False, False]], said)
+        for press, node, start, events in (
+                ("t-strike", 1, {"frames": [[2, 910]], "acks": [0], "send": 0, "recv": 1}, WORST_ON + ROUND),
+                ("t-strike", 2, {"frames": [[2, 920]], "acks": [0], "send": 0, "recv": 1}, WORST_ON + ROUND),
+                ("t-restart", 1, {"frames": [], "acks": [], "send": 0, "recv": 0}, ROUND)):
+            browser.run("""showTree(TREES['A clean chain, nothing done yet'], 'x'); $('t-rest').click();
+                pick(args[1]); $(args[0]).click();""", press, node)
+            saved = json.loads(browser.run("return treeJobText(tree)"))
+            self.see(f"{name}: the start after {press} at {node}", saved["starts"][node - 1] == start and saved["items"][0] == 14, saved)
+            if node == 2:
+                browser.run("pick(1); for (let i = 0; i < 5; i++) for (const word of args[0]) act(word); pick(2);", ROUND)
+            browser.run("for (const word of args[0]) act(word); $('t-rest').click();", events)
+            text = browser.run("return treeJobText(tree)")
+            want = program(text.encode(), "tree")
+            said = browser.run("return [treeText(tree), treeAfter(tree, tree.events.length).nodes.map(n => [n.strays, n.mostStrays, n.missing, n.mostMissing]), $('t-since').textContent];")
+            self.see(f"{name}: the tree after {press} at {node}", said[0] == want and said[1] == standing(text, want), f"{said} and not {want}")
+            lost = [[0, 0], [1, 3], [1, 3]] if press == "t-strike" and node == 1 else [[0, 0], [0, 0], [1, 3]] if node == 2 else [[0, 0], [0, 1], [0, 2]]
+            self.see(f"{name}: what {press} at {node} costs", [row[::2] for row in said[1]] == lost, said[1])
+            self.see(f"{name}: it is said", "All numbers count from there" in said[2], said)
+        browser.run("showTree(readTree(args[0]), 'x');", json.dumps({"capacity": 1, "labels": 4, "items": [1], "tree": [{"name": "r"}]}))
+        self.see(f"{name}: a lone root has no link", browser.run("return $('t-one').hidden"))
 
     def exercises(self, browser, name):
         for i, events in enumerate(SOLVED):
@@ -605,9 +780,14 @@ def main():
                     checks.exercises(browser, name)
                     checks.labels(browser, name)
                     checks.hands(browser, name)
+                    checks.drawn_rows(browser, name)
+                    checks.lesson(browser, name)
+                    checks.time(browser, name)
                     checks.trees(browser, name, trees, wanted_trees)
                     checks.tree_exercises(browser, name)
                     checks.tree_hands(browser, name)
+                    checks.faults(browser, name)
+                    checks.narrow(browser, name)
                 if words.pictures:
                     os.makedirs(words.pictures, exist_ok=True)
                     browser.go(PAGE.as_uri())
