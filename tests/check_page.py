@@ -483,20 +483,23 @@ class Checks:
         """The rows of the runs that docs/PROTOCOL.md draws, stars included; and rounds."""
         page = (TOP / "docs" / "PROTOCOL.md").read_text()
         blocks = re.findall(r"\(`((?:links/)?\w+)`[^)`]*\)[^`]*```\n( +SENDER.*?)```", page, re.S)
+        jobs = [(title, (DATA / f"{title}.json").read_text(), block) for title, block in blocks]
+        two = re.search(r"## What goes wrong with two labels.*?```\n( +SENDER.*?)```", page, re.S)[1]
+        jobs.append(("two labels", browser.run("return jobText(RUNS['The shortest run with two labels'])"), two))
         self.see(f"{name}: there are drawn runs", len(blocks) >= 8, len(blocks))
-        for title, block in blocks:
-            file = DATA / f"{title}.json"
+        for title, text, block in jobs:
             lines = [line for line in block.split("\n")[1:] if line.strip()]
             heads = [(m.group(), m.start()) for m in re.finditer(r"\S+", lines[0])]
             ends = [at for _, at in heads[1:]] + [None]
-            said = browser.run("show(readJob(args[0]), 'x', 1e9); drawRows(); return [...$('rows').rows].map(r => [...r.cells].map(c => c.textContent));",
-                               file.read_text())
+            said = browser.run("show(readJob(args[0], true), 'x', 1e9); drawRows(); return [...$('rows').rows].map(r => [...r.cells].map(c => c.textContent));",
+                               text)
             for line in lines[1:]:
                 cell = {(head, i): line[at:end].strip() for i, ((head, at), end) in enumerate(zip(heads, ends))}
                 keys = list(cell)
                 number = line[:heads[0][1]].strip()
                 row = said[int(number) if number else 0]
                 names = [key[0] for key in keys]
+                self.see(f"{name}: event {number} of {title}", not number or row[1] == cell[keys[0]].rstrip("*"), f"{row[1]} and not {cell[keys[0]]}")
                 # (the offered item may have a star here, where it is a stray of the link above)
                 clean = lambda text: " ".join(w for w in text.split() if w not in ("v", "^", "x")) or "-"
                 wanted = [clean(cell[keys[names.index(head)]]) for head in ("frames", "acks")]
