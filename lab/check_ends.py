@@ -163,7 +163,37 @@ def address(start, labels, capacity, events):
     return "page/index.html#job=" + text
 
 
-def tell(start, events, why, labels, capacity):
+# What an event is called by its effect: where it did nothing, and where it did something.
+EFFECTS = {"offer": ("Nothing", "Held"), "send_frame": ("Lost", "Sent"),
+           "send_ack": ("Lost", "Sent"), "recv_frame": ("Old", "Fresh"),
+           "recv_ack": ("Ignored", "Acked")}
+
+
+def recorded(ends, start, labels, capacity, events):
+    """The run as it was, in the address of the page: what these ends did, and nothing else."""
+    state, (send, recv) = start
+    rows, before = [], None
+    for event, said, now in [(None, "The start.", state), *events]:
+        name = (event if isinstance(event, str) else (event or [""])[0]).replace("_keep", "")
+        did = before is not None and {"offer": now.offered > before.offered,
+                                      "send_frame": len(now.frames) > len(before.frames),
+                                      "send_ack": len(now.acks) > len(before.acks),
+                                      "recv_frame": len(now.delivered) > len(before.delivered),
+                                      "recv_ack": now.acked > before.acked}.get(name)
+        effect = EFFECTS[name][did] if name in EFFECTS else "Lost" if name else ""
+        frame, _ = ends.call(ends.sender, now.sender, "send")
+        ack, _ = ends.call(ends.receiver, now.receiver, "acknowledge")
+        rows.append([frame and frame[0], ack, now.acked, now.offered, now.frames, now.acks,
+                     now.delivered, effect, said[0].upper() + said[1:]])
+        before = now
+    job = {"capacity": capacity, "labels": max(2, labels),
+           "start": {"frames": state.frames, "acks": state.acks, "send": send, "recv": recv},
+           "events": [event[0] for event in events]}
+    text = base64.urlsafe_b64encode(json.dumps({"job": job, "rows": rows}).encode()).decode()
+    return "page/index.html#run=" + text.rstrip("=")
+
+
+def tell(ends, start, events, why, labels, capacity):
     state, (send, recv) = start
     print(f"BROKEN after {len(events)} events: {why}")
     print(f"start: frames {list(state.frames)}, acknowledgements {list(state.acks)}, "
@@ -171,6 +201,7 @@ def tell(start, events, why, labels, capacity):
     for place, (_, said, then) in enumerate(events, 1):
         print(f"{place:3}  {said:56}  frames {list(then.frames)}  "
               f"acknowledgements {list(then.acks)}  delivered {list(then.delivered)}")
+    print("this run, drawn: " + recorded(ends, start, labels, capacity, events))
     print("the same start and events with right ends: "
           + address(start, labels, capacity, events))
     return 1
@@ -197,7 +228,7 @@ def judge(ends, capacity, labels, items):
         why = fault(state, capacity)
         if why is not None:
             start, events = run_to(state)
-            return tell(start, events, why, labels, capacity)
+            return tell(ends, start, events, why, labels, capacity)
         for name, said, then in moves(ends, state, capacity, items):
             if then not in came_from:
                 came_from[then] = state, name, said
@@ -213,7 +244,7 @@ def judge(ends, capacity, labels, items):
                 start, events = run_to(state)
                 why = (f"in the last {2 * capacity + 1} rounds nothing was lost, and no item "
                        "counts as acknowledged")
-                return tell(start, events + more, why, labels, capacity)
+                return tell(ends, start, events + more, why, labels, capacity)
     print(f"These ends obey the law of a link: capacity {capacity}, {labels} labels, {items} items, "
           f"{count} starts, {len(came_from)} states.")
     return 0

@@ -57,8 +57,8 @@ build() {
         { cat -- "$work/log" >&2; fail "the module was not linked"; }
 }
 
-# Writes the page with the module $1 to standard output, without lines of comments and
-# without the spaces before the other lines.
+# Writes the page with the module $1 to standard output, without empty lines, lines
+# of comments, and the spaces before the other lines.
 page() {
     local line module
     module=$(base64 -w 0 -- "$1")
@@ -67,7 +67,7 @@ page() {
             line=${line%%'{{MODULE}}'*}$module${line#*'{{MODULE}}'}
         fi
         line=${line#"${line%%[! ]*}"}
-        [[ $line == '// '* ]] || printf '%s\n' "$line"
+        [[ -z $line || $line == '// '* ]] || printf '%s\n' "$line"
     done <"$top/page/page.html"
 }
 

@@ -39,7 +39,8 @@ def main():
         if status == 1:
             events = re.findall(r"^ *(\d+)  ", said.stdout, re.MULTILINE)
             well = (well and first.startswith(f"BROKEN after {len(events)} events")
-                    and "page/index.html#job=" in said.stdout)
+                    and "page/index.html#job=" in said.stdout
+                    and "page/index.html#run=" in said.stdout)
         failed += not well
         print("same  " if well else "OTHER ", name, *words, "" if well else first + said.stderr)
     print(f"{len(CASES) - failed} passed, {failed} failed")

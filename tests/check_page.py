@@ -20,6 +20,7 @@ In each browser it looks that
 - rounds are counted as docs/PROTOCOL.md counts them;
 - the hint, the live check and the solution of an exercise come when they should;
 - what follows a fault in a tree is what the program says of the job that is saved;
+- a run that the lab writes into an address is drawn as it was, and a spoiled one is refused;
 - a step of the slider takes less than 50 ms at 4,096 events, at 360 pixels nothing is cut off, and
   nothing but the picture of a page is printed;
 - what is said of missing items fits the number of labels, and of an item whose frame is under way;
@@ -578,6 +579,27 @@ class Checks:
         said = browser.run("tryJob('{\"capacity\":1.0,\"labels\":4,\"start\":{\"send\":0,\"recv\":1},\"events\":[]}'); return $('fault').textContent")
         self.see(f"{name}: a number with a point", "and not a number with a point" in said, said)
 
+    def lab(self, browser, name):
+        """Runs of wrong ends, as lab/check_ends.py writes them into an address."""
+        for ends, events, missing, strays, last in (("two_labels", 14, "3 of at most 3", "1 of at most 1", "item 3 counts as acknowledged"),
+                                                    ("any_acknowledgement", 8, "4 of at most 3", "0 of at most 1", "item 3 counts as acknowledged"),
+                                                    ("every_frame", 2, "0 of at most 3", "2 of at most 1", "90 is delivered")):
+            said = subprocess.run([TOP / "lab/check_ends.py", TOP / f"lab/ends/{ends}.py"], capture_output=True, text=True).stdout
+            address = re.search(r"index.html(#run=\S+)", said)[1]
+            browser.go(PAGE.as_uri() + address)
+            self.wait(browser)
+            found = browser.run("""for (let k = 0; k <= job.events.length; k++) go(k);
+                return [$('fault').textContent, at, $('missing').textContent, $('strays').textContent, $('happened').textContent,
+                    [...document.querySelectorAll('[data-event]')].every(isDim), $('says').textContent];""")
+            self.see(f"{name}: a run of {ends}", found[:4] == ["", events, f"Missing: {missing}", f"Strays: {strays}"] and found[4].endswith(last)
+                     and found[5] and found[6].startswith("These are other ends"), found)
+        text = base64.urlsafe_b64decode(address[5:] + "==").decode()
+        spoiled = base64.urlsafe_b64encode(text.replace('[[65535, 90]]', '[[7, 90]]').replace('[[0, 90]]', '[[7, 90]]', 1).encode()).decode().rstrip("=")
+        browser.go(PAGE.as_uri() + "#run=" + spoiled)
+        self.wait(browser)
+        said = browser.run("return [$('fault').textContent, 'record' in job];")
+        self.see(f"{name}: a run that does not follow", "do not follow" in said[0] and not said[1], said)
+
     def time(self, browser, name):
         times = browser.run("""show(readJob(args[0]), 'x', 4000);
             return [4001, 2000, 4096, 4095, 100, 4090, 3000, 4001, 2000, 50].map(to => {
@@ -785,6 +807,7 @@ def main():
                     checks.hands(browser, name)
                     checks.drawn_rows(browser, name)
                     checks.lesson(browser, name)
+                    checks.lab(browser, name)
                     checks.time(browser, name)
                     checks.trees(browser, name, trees, wanted_trees)
                     checks.tree_exercises(browser, name)
