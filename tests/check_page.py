@@ -21,6 +21,7 @@ In each browser it looks that
 - the hint, the live check and the solution of an exercise come when they should;
 - what follows a fault in a tree is what the program says of the job that is saved;
 - a run that the lab writes into an address is drawn as it was, and a spoiled one is refused;
+- the runs on the slides of the lesson are those of the page;
 - a step of the slider takes less than 50 ms at 4,096 events, at 360 pixels nothing is cut off, and
   nothing but the picture of a page is printed;
 - what is said of missing items fits the number of labels, and of an item whose frame is under way;
@@ -600,6 +601,20 @@ class Checks:
         said = browser.run("return [$('fault').textContent, 'record' in job];")
         self.see(f"{name}: a run that does not follow", "do not follow" in said[0] and not said[1], said)
 
+    def slides(self, browser, name):
+        """The runs on the slides of the lesson are drawn as the page draws them, and nothing is cut off."""
+        drawn = []
+        for title in ("The worst start", "The shortest run with two labels"):
+            drawn.append(browser.run("show(RUNS[args[0]], 'x', 1e9); return [...$('drawn').querySelectorAll('text')].map(e => e.textContent);", title))
+        browser.go((TOP / "lab/slides.html").as_uri())
+        time.sleep(0.5)
+        said = browser.run("return [...document.querySelectorAll('svg.run')].map(svg => [...svg.querySelectorAll('text')].map(e => e.textContent));")
+        self.see(f"{name}: the runs on the slides", said == drawn, f"{said} and not {drawn}")
+        said = browser.run("return [document.querySelectorAll('section').length, document.documentElement.scrollWidth - innerWidth];")
+        self.see(f"{name}: the slides", said[0] == 12 and said[1] <= 0, said)
+        browser.go(PAGE.as_uri())
+        self.wait(browser)
+
     def time(self, browser, name):
         times = browser.run("""show(readJob(args[0]), 'x', 4000);
             return [4001, 2000, 4096, 4095, 100, 4090, 3000, 4001, 2000, 50].map(to => {
@@ -808,6 +823,7 @@ def main():
                     checks.drawn_rows(browser, name)
                     checks.lesson(browser, name)
                     checks.lab(browser, name)
+                    checks.slides(browser, name)
                     checks.time(browser, name)
                     checks.trees(browser, name, trees, wanted_trees)
                     checks.tree_exercises(browser, name)
