@@ -34,11 +34,11 @@ acts-append (Publish items ∷ before) after = acts-append before after
 acts-append (Strike child start ∷ before) after = acts-append before after
 acts-append (Restart node list ∷ before) after = acts-append before after
 
-spare_first : (parents : List (Option ℕ)) (node : ℕ) (before after : List Change) → Spare parents node (before ++ after) → Spare parents node before
+pub spare_first : (parents : List (Option ℕ)) (node : ℕ) (before after : List Change) → Spare parents node (before ++ after) → Spare parents node before
 spare_first parents node [] after spare = tt
 spare_first parents node (change ∷ before) after spare = (spare.0, spare_first parents node before after spare.1)
 
-spare_later : (parents : List (Option ℕ)) (node : ℕ) (before after : List Change) → Spare parents node (before ++ after) → Spare parents node after
+pub spare_later : (parents : List (Option ℕ)) (node : ℕ) (before after : List Change) → Spare parents node (before ++ after) → Spare parents node after
 spare_later parents node [] after spare = spare
 spare_later parents node (change ∷ before) after spare = spare_later parents node before after spare.1
 

@@ -26,7 +26,7 @@ use Rattle.stab_convergence.specs.Exact.{IsExact, IsPathClean}
 use Rattle.stab_convergence.proofs.Ready.{settled_link}
 
 -- a front that is as long is the whole
-whole_front : (xs ys : List ℕ) → IsPrefix xs ys → length ys ≤ length xs → xs ≡ ys
+pub whole_front : (xs ys : List ℕ) → IsPrefix xs ys → length ys ≤ length xs → xs ≡ ys
 whole_front xs ys ([], is) long = sym (append-nil xs) ∙ is
 whole_front xs ys (z ∷ rest, is) long = absurd (omega (arith, length-append xs (z ∷ rest), ap length is))
 

@@ -68,7 +68,7 @@ module _ (tree : Nodes) (s : WholeTree) (is : IsState tree s) where
       )
 
   -- a sum over the path of a child
-  path_below : (number : ℕ → ℕ) (w u : ℕ) → parent_at s.parents w ≡ Some u
+  pub path_below : (number : ℕ → ℕ) (w u : ℕ) → parent_at s.parents w ≡ Some u
       → path_sum s.parents number w ≡ number w + path_sum s.parents number u
   path_below number w u is_child =
       let deeper : depth_of s.parents w ≡ suc (depth_of s.parents u) =

@@ -4,3 +4,8 @@ pub mod Converges
 pub mod Ready
 pub mod Exactly
 pub mod Played
+pub mod Settled
+pub mod Beneath
+pub mod Clean
+pub mod ForGood
+pub mod FromStart

@@ -2,3 +2,4 @@ pub mod PathRounds
 pub mod Converged
 pub mod Arrival
 pub mod Exact
+pub mod Greatest

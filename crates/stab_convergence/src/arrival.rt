@@ -1,68 +1,53 @@
-ghost use Rattle.std.specs.Prelude.{◌≡◌, ◌<◌, ◌≤◌, ◌+◌, ◌*◌, ℕ, length, All};
+ghost use Rattle.std.specs.Prelude.{◌≡◌, ◌≤◌, ◌+◌, ◌*◌, ℕ, length, map, All, Some};
 ghost use Rattle.stab_convergence.specs.Arrival.{arrival_reading_rounds, arrival_rounds};
+ghost use Rattle.stab_convergence.specs.Greatest.{greatest};
 ghost use Rattle.stab_frames.specs.Parameters.{Parameters};
 ghost use Rattle.stab_judge.specs.NodeBounds.{AreBoundsAt};
-ghost use Rattle.stab_rounds.specs.TreeReadingRounds.{reading_rounds_below};
-ghost use Rattle.stab_rounds.specs.TreeRounds.{rounds_below};
+ghost use Rattle.stab_tree.specs.Nodes.{parent_at};
 ghost use Rattle.stab_treecore.specs.Network.{Network};
 
-use stab_frames::{Item, Params};
-use stab_judge::{Bounds, Judge};
-use stab_tree::{NodeId, Tree};
+use stab_frames::Params;
+use stab_judge::Bounds;
 
-/// After how many rounds of all links, or reading rounds, a node has all that it will ever have.
-#[derive(Clone, Copy, Debug, PartialEq, Eq)]
-pub struct Arrival {
-    pub rounds: u64,
-    pub reading_rounds: u64,
-}
-
-/// How many rounds a node of these bounds needs to hand on all that it can have: as many as there
-/// are items, published or stray, and one more, and one for each link above it.
-fn rounds_of(bounds: Bounds, published: u32, capacity: u16) -> Arrival
+/// How many items a node of these bounds can have, where so many are published, and one more: they
+/// are published ones or strays.
+fn most_items(bounds: Bounds, published: u32) -> u64
     requires few { bounds.link_strays + bounds.opening_strays ≤ 131070 * bounds.depth }
-    ensures rounds { (net : Network) (node : ℕ) → AreBoundsAt net node bounds
-        → length net.published ≡ published → result.rounds ≡ rounds_below net capacity node }
-    ensures reading_rounds { (net : Network) (node : ℕ) → AreBoundsAt net node bounds
-        → length net.published ≡ published → result.reading_rounds ≡ reading_rounds_below net node }
+    ensures { result ≡ published + (bounds.link_strays + bounds.opening_strays) + 1 }
 {
-    let items = u64::from(published) + (bounds.link_strays + bounds.opening_strays) + 1;
-    let links = u64::from(bounds.depth);
-    Arrival {
-        rounds: (2 * u64::from(capacity) + 1) * items + links,
-        reading_rounds: items + links,
-    }
+    u64::from(published) + (bounds.link_strays + bounds.opening_strays) + 1
 }
 
-/// After how many rounds of all links, or reading rounds, from the start on the node has all that it
-/// will ever have, where no link has a larger capacity than this one. The numbers are sums over the
-/// path of the node's parent; they say nothing of other nodes.
-pub fn arrival_at(
-    judge: &Judge,
-    tree: &Tree,
-    published: &[Item],
-    capacity: u16,
-    node: NodeId,
-) -> Arrival
-    requires its_tree { judge.now.tree ≡ tree.now }
-    requires its_items { judge.now.published ≡ published.now }
-    requires few { length published.now ≤ 4294967295 }
-    requires node { node < length tree.now.parents }
-    ensures rounds { result.rounds ≡ arrival_rounds judge.now capacity node }
-    ensures reading_rounds { result.reading_rounds ≡ arrival_reading_rounds judge.now node }
+/// After how many rounds of all links from the start on a node has all that it will ever have: its
+/// parent has these bounds, so many items are published, and no link has a larger capacity than
+/// this one. The number is a sum over the path of the parent, and says nothing of other nodes. The
+/// root has everything at once.
+pub fn arrival_rounds(parent: Bounds, published: u32, capacity: u16) -> u64
+    requires few { parent.link_strays + parent.opening_strays ≤ 131070 * parent.depth }
+    ensures { (net : Network) (node above : ℕ) → parent_at net.tree.parents node ≡ Some above
+        → AreBoundsAt net above parent → length net.published ≡ published
+        → result ≡ arrival_rounds net capacity node }
 {
-    match tree.parent(node) {
-        None => Arrival {
-            rounds: 0,
-            reading_rounds: 0,
-        },
-        Some(parent) => rounds_of(judge.bounds_at(parent), published.len() as u32, capacity),
-    }
+    (2 * u64::from(capacity) + 1) * most_items(parent, published) + u64::from(parent.depth)
+}
+
+/// After how many reading rounds of its path from the start on a node has all that it will ever
+/// have: its parent has these bounds, and so many items are published. The root has everything at
+/// once.
+pub fn arrival_reading_rounds(parent: Bounds, published: u32) -> u64
+    requires few { parent.link_strays + parent.opening_strays ≤ 131070 * parent.depth }
+    ensures rounds { (net : Network) (node above : ℕ) → parent_at net.tree.parents node ≡ Some above
+        → AreBoundsAt net above parent → length net.published ≡ published
+        → result ≡ arrival_reading_rounds net node }
+    ensures one_each { published ≤ result }
+{
+    most_items(parent, published) + u64::from(parent.depth)
 }
 
 /// The largest capacity of these links, and 0 where there are none.
 pub fn largest_capacity(params: &[Params]) -> u16
-    ensures { All (λ (p : Parameters). p.capacity ≤ result) params.now }
+    ensures greatest { result ≡ greatest (map (λ (p : Parameters). p.capacity) params.now) }
+    ensures none_larger { All (λ (p : Parameters). p.capacity ≤ result) params.now }
 {
     let mut largest = 0;
     for own in params {

@@ -9,5 +9,5 @@ mod arrival;
 pub mod laws;
 mod settle;
 
-pub use arrival::{Arrival, arrival_at, largest_capacity};
+pub use arrival::{arrival_reading_rounds, arrival_rounds, largest_capacity};
 pub use settle::run_and_settle;

@@ -1,0 +1,128 @@
+-- From the start of a network on, so many reading rounds of a node's path as are counted from its bounds are enough.
+use Rattle.std.proofs.Common.{◌≡◌, ℕ, zero, suc, ◌+◌, ◌<◌, ◌≤◌, List, [], ◌∷◌, ◌++◌, length, map, get_or, Option, Some, None, option_map, refl, ap, sym, ◌∙◌, subst, length-append, arith}
+use Rattle.std.specs.Option.{option_map_or}
+use Rattle.stab_core.specs.Link.{LinkValue, link_at}
+use Rattle.stab_core.specs.LinkLaw.{LinkLaw}
+use Rattle.stab_core.specs.LinkSetup.{LinkSetup}
+use Rattle.stab_core.specs.Replay.{initial}
+use Rattle.stab_tree.specs.ByChild.{by_child}
+use Rattle.stab_tree.specs.NodeOpenings.{hold_at, opening_at}
+use Rattle.stab_tree.specs.Nodes.{parent_at, root_of}
+use Rattle.stab_tree.specs.Steps.{depth_of}
+use Rattle.stab_tree.proofs.ForCallers.{child_is_node, holds_at_every_depth, map-by_child, one_by_child, openings_fit}
+use Rattle.stab_treecore.specs.Network.{IsNetwork, Network, setup_into}
+use Rattle.stab_treecore.specs.NodeLaws.{capacity_into, held_bound, most_strays, strays_bound}
+use Rattle.stab_treecore.specs.Paths.{path_sum, sum_above}
+use Rattle.stab_treecore.specs.TreeReplay.{initial_tree, opened}
+use Rattle.stab_treecore.specs.WholeTree.{WholeTree, link_into, received}
+use Rattle.stab_treecore.proofs.ForChanges.{opening_is_run}
+use Rattle.stab_faults.specs.declared.change.Change.{Change}
+use Rattle.stab_faults.specs.Changes.{changes_replay}
+use Rattle.stab_faults.specs.Hits.{Spare}
+use Rattle.stab_faults.specs.Since.{IsState, backlog, capacity_at, moment}
+use Rattle.stab_faults.proofs.Obeying.{ObeysSince}
+use Rattle.stab_faults.proofs.States.{opening_fed}
+use Rattle.stab_rounds.proofs.TreeSteps.{At, fixed_of, IsSound, known, linked, of_link, root_has, run_is_sound}
+use Rattle.stab_rounds.specs.TreeReadingRounds.{reading_rounds_below}
+use Rattle.stab_convergence.specs.Arrival.{arrival_reading_rounds}
+use Rattle.stab_convergence.specs.Converged.{HasConverged}
+use Rattle.stab_convergence.specs.PathRounds.{IsPathOpen, PathRounds, PublishesNothing, rounds_since}
+use Rattle.stab_convergence.proofs.Converges.{converges}
+use Rattle.stab_convergence.proofs.Lags.{backlog_counts, path_below}
+
+module _ (net : Network) (is : IsNetwork net) where
+  abbrev s : WholeTree
+  s = initial_tree net
+
+  abbrev parents : List (Option ℕ)
+  parents = net.tree.parents
+
+  abbrev hold : ℕ → ℕ
+  hold = hold_at net.tree.parents net.openings.hold
+
+  abbrev had : ℕ → ℕ
+  had w = length (backlog s w)
+
+  abbrev paid : ℕ → ℕ
+  paid w = capacity_at s w + 1
+
+  is_state : IsState net.tree s
+  is_state = (opening_fed net is).is_state
+
+  is_sound : IsSound (fixed_of net) s
+  is_sound = run_is_sound net is.can_begin s (opening_is_run net is.one_per_link)
+
+  capacity_is : (w parent : ℕ) → parent_at parents w ≡ Some parent → capacity_at s w ≡ capacity_into net w
+  capacity_is w parent is_child =
+      let (p, state, there) = linked (fixed_of net) s is_sound w parent is_child in
+      ap (λ o. option_map_or (λ (l : LinkValue). l.params.capacity) o 0) there ∙ (known (fixed_of net) s is_sound w p state there).capacity
+
+  -- at first the link into a node is its start
+  at_start : (w : ℕ) (setup : LinkSetup) → setup_into net w ≡ Some setup → At s w setup.params (initial setup.start)
+  at_start w setup leads =
+      ap (λ links. get_or links w None) (sym (map-by_child opened parents net.links))
+      ∙ (mapped (by_child parents net.links) w ∙ ap (λ o. option_map opened o) leads)
+    where
+      mapped : (xs : List (Option LinkSetup)) (i : ℕ) → get_or (map (option_map opened) xs) i None ≡ option_map opened (get_or xs i None)
+      mapped [] i = refl
+      mapped (x ∷ xs) zero = refl
+      mapped (x ∷ xs) (suc i) = mapped xs i
+
+  -- what a node has, and what the nodes above it have for the next of its path, is published or held
+  abbrev FewAt : ℕ → ℕ → Type 0
+  FewAt depth u = length (received s u) + sum_above parents had depth u ≤ length net.published + sum_above parents hold depth u
+
+  few_below : (depth child parent : ℕ) → parent_at parents child ≡ Some parent → FewAt depth parent → FewAt (suc depth) child
+  few_below depth child parent is_child few =
+      let (setup, leads) = one_by_child parents net.links 0 child parent is.one_per_link is_child in
+      let there = at_start child setup leads in
+      let opening = (openings_fit parents net.openings is.openings_fit).short child in
+      let its_had : sum_above parents had (suc depth) child ≡ had child + sum_above parents had depth parent =
+      ap (λ o. had child + option_map_or (sum_above parents had depth) o 0) is_child in
+      let its_hold : sum_above parents hold (suc depth) child ≡ hold child + sum_above parents hold depth parent =
+      ap (λ o. hold child + option_map_or (sum_above parents hold depth) o 0) is_child in
+      let list : received s child ≡ opening_at net.openings.lists child ++ [] =
+      of_link s child (link_at setup.params (initial setup.start)) there in
+      let counts : length (backlog s child) + 0 ≡ length (received s parent) =
+      backlog_counts net.tree s is_state child parent setup.params (initial setup.start) is_child there in
+      omega (arith, few, opening, its_had, its_hold, counts, ap (λ xs. length xs) list, length-append (opening_at net.openings.lists child) [])
+
+  few_at : (node : ℕ) → node < length parents → FewAt (depth_of parents node) node
+  few_at node is_node = holds_at_every_depth parents is.tree FewAt (omega (arith, ap (λ xs. length xs) root_list)) few_below node is_node
+    where
+      root_list : received s (root_of parents) ≡ net.published
+      root_list = root_has (fixed_of net) s is_sound (root_of parents) is.tree.root_has_none
+
+  abbrev PaidAt : ℕ → ℕ → Type 0
+  PaidAt depth u = sum_above parents paid depth u ≤ sum_above parents (capacity_into net) depth u + depth
+
+  paid_at : (node : ℕ) → node < length parents → PaidAt (depth_of parents node) node
+  paid_at =
+      holds_at_every_depth parents is.tree PaidAt (omega arith)
+      (λ depth child parent is_child few.
+      let capacity = capacity_is child parent is_child in
+      let its_paid : sum_above parents paid (suc depth) child ≡ paid child + sum_above parents paid depth parent =
+      ap (λ o. paid child + option_map_or (sum_above parents paid depth) o 0) is_child in
+      let its_sum : sum_above parents (capacity_into net) (suc depth) child ≡ capacity_into net child + sum_above parents (capacity_into net) depth parent =
+      ap (λ o. capacity_into net child + option_map_or (sum_above parents (capacity_into net) depth) o 0) is_child in
+      omega (arith, few, capacity, its_paid, its_sum))
+
+  enough : (node parent : ℕ) → parent_at parents node ≡ Some parent → rounds_since (moment s) node ≤ arrival_reading_rounds net node
+  enough node parent is_child =
+      let is_node : parent < length parents = is.tree.known_parents node parent is_child in
+      let (setup, leads) = one_by_child parents net.links 0 node parent is.one_per_link is_child in
+      let counts : length (backlog s node) + 0 ≡ length (received s parent) =
+      backlog_counts net.tree s is_state node parent setup.params (initial setup.start) is_child (at_start node setup leads) in
+      let since : rounds_since (moment s) node ≡ path_sum parents had node + path_sum parents paid parent + 1 =
+      ap (λ o. path_sum parents had node + option_map_or (path_sum parents paid) o 0 + 1) is_child in
+      let arrives : arrival_reading_rounds net node ≡ reading_rounds_below net parent =
+      ap (λ o. option_map_or (reading_rounds_below net) o 0) is_child in
+      omega (arith, few_at parent is_node, paid_at parent is_node, counts, since, arrives, path_below net.tree s is_state had node parent is_child)
+
+  pub from_start : ObeysSince LinkLaw → (changes : List Change) (rounds node parent : ℕ) → parent_at net.tree.parents node ≡ Some parent
+      → Spare net.tree.parents node changes → PublishesNothing changes → let t = changes_replay (initial_tree net) changes in
+      IsPathOpen t node → PathRounds (initial_tree net) node rounds changes → arrival_reading_rounds net node ≤ rounds
+      → HasConverged (initial_tree net) t node
+  from_start obey changes rounds node parent is_child spare nothing is_open are_rounds many =
+      converges obey net.tree s [] changes rounds node is_state (child_is_node parents node parent is_child) spare is_state nothing is_open are_rounds
+      (omega (arith, many, enough node parent is_child))

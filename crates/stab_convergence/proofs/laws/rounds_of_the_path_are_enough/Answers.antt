@@ -1,0 +1,5 @@
+use Rattle.stab_convergence.proofs.FromStart.{from_start}
+use Rattle.stab_convergence.proofs.laws.rounds_of_the_path_are_enough.Goals as goal
+
+pub returns : goal.returns
+returns c net changes rounds node parent is = from_start net is c.link_law_from_any_state.ensures changes rounds node parent
