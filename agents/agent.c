@@ -39,6 +39,7 @@
 #include <err.h>
 #include <errno.h>
 #include <fcntl.h>
+#include <inttypes.h>
 #include <poll.h>
 #include <signal.h>
 #include <stdbool.h>
@@ -55,9 +56,8 @@ enum {
     ACK_BYTES = 2,             /* a label */
     MOST_CHILDREN = 63,
     LONGEST_BACKLOG = 64,      /* an agent with this backlog for a child takes no frame */
-    PLACES = 1 << 20,          /* of the list, which grows for as long as the agent lives */
+    PLACES = 1 << 10,          /* of the buffer, for what a child of the root still has to get */
     MOST_SETTINGS = 256,
-    LIFETIME = 120,            /* seconds, after which an agent ends in any case */
 };
 static const uint64_t FIRST_PAUSE = 1000000, LONGEST_PAUSE = 64000000;     /* nanoseconds */
 
@@ -66,15 +66,15 @@ struct child {
     char name[33];
     int frames, acks;              /* its lines */
     rignolda_child link;           /* the sender's end, and its place in the list */
-    uint32_t acked_before;         /* the present count began */
+    uint64_t acked_before;         /* the present count began */
     uint64_t due, pause;           /* when to transmit again, and how long to wait after that */
 };
 
 static bool is_root = true;
 static int frames = -1, acks = -1;             /* the lines from and to the parent */
 static rignolda_params params = {.capacity = 1, .labels = 255};
-static rignolda_node node;                     /* the receiver's end, and the length of the list */
-static uint32_t list[PLACES];
+static rignolda_node node;                     /* the receiver's end, and counts of the list */
+static uint32_t list[PLACES];                  /* a ring, for what is not forgotten */
 static struct child children[MOST_CHILDREN];
 static unsigned count_of_children;
 
@@ -144,10 +144,18 @@ static uint64_t backlog(void) {
     return longest;
 }
 
+/* Forgets what each child was offered: the item that it has to acknowledge is in its sender. */
+static void forget(void) {
+    uint64_t place = node.length;
+    for (unsigned i = 0; i < count_of_children; i++)
+        place = rignolda_child_needs(&node, &children[i].link, place);
+    rignolda_node_forget(&node, place);
+}
+
 /* The parent's frame brings an item, if its label is new. */
 static void on_frame(const rignolda_frame *frame) {
     if (rignolda_node_on_frame(&node, list, PLACES, frame))
-        fprintf(log_file, "item %u\n", list[node.length - 1]);
+        fprintf(log_file, "item %u\n", list[(node.length - 1) % PLACES]);
 }
 
 /* Takes what the parent has sent, and acknowledges every frame, the old ones too. What it brings
@@ -211,9 +219,10 @@ static void look_down(struct child *child) {
     send_to(child);
 }
 
-/* Publishes the settings. Each line of the file is the number of a setting, up to 255, and its
- * value, up to 16777215; together they are an item. First come harmless items, of which some may
- * be missing: the same settings. Then come all, and none of these is missing anywhere. */
+/* Publishes the settings, as soon as there is room for all. Each line of the file is the number of
+ * a setting, up to 255, and its value, up to 16777215; together they are an item. First come
+ * harmless items, of which some may be missing: the same settings. Then come all, and none of these
+ * is missing anywhere. */
 static void publish(void) {
     uint32_t items[MOST_SETTINGS];
     unsigned count = 0, number, value;
@@ -223,10 +232,14 @@ static void publish(void) {
     while (count < MOST_SETTINGS && fscanf(file, "%u %u", &number, &value) == 2)
         items[count++] = (number & 0xff) << 24 | (value & 0xffffff);
     fclose(file);
+    if (harmless + count > PLACES)
+        errx(1, "%u items at once: a root has room for %u", harmless + count, PLACES);
+    if (node.length - node.forgotten + harmless + count > PLACES)
+        return;
     for (unsigned i = 0; count > 0 && i < harmless + count; i++) {
         uint32_t item = items[i < harmless ? i % count : i - harmless];
         if (!rignolda_node_publish(&node, list, PLACES, item))
-            errx(1, "the list is full: start this agent again");
+            errx(1, "no room for an item");
         fprintf(log_file, "item %u\n", item);
     }
     unread_settings = false;
@@ -237,10 +250,25 @@ static void publish(void) {
 static void end_count(void) {
     for (unsigned i = 0; i < count_of_children; i++) {
         struct child *child = &children[i];
-        fprintf(log_file, "acked %s %u\nignored %s %u\n", child->name,
+        fprintf(log_file, "acked %s %" PRIu64 "\nignored %s %" PRIu64 "\n", child->name,
                 child->link.acknowledged - child->acked_before, child->name, child->link.ignored);
     }
-    fprintf(log_file, "old %u\n", node.old_frames);
+    fprintf(log_file, "old %" PRIu64 "\n", node.old_frames);
+}
+
+/* Writes what is not yet handed on to the slowest child. The first item of it may be in the child's
+ * sender alone. */
+static void write_in_hand(void) {
+    const struct child *slowest = NULL;
+    for (unsigned i = 0; i < count_of_children; i++)
+        if (rignolda_node_backlog(&node, &children[i].link, PLACES) == backlog())
+            slowest = &children[i];
+    if (!slowest)
+        return;
+    if (slowest->link.sender.holding)
+        fprintf(log_file, "hand %u\n", slowest->link.sender.item);
+    for (uint64_t i = slowest->link.offered; i < node.length; i++)
+        fprintf(log_file, "hand %u\n", list[i % PLACES]);
 }
 
 /* Stops until this process is continued. A new count begins there, so what stands is written. */
@@ -253,11 +281,10 @@ static void stop(void) {
     for (unsigned i = 0; i < count_of_children; i++) {
         struct child *child = &children[i];
         child->acked_before = child->link.acknowledged;
-        fprintf(log_file, "child %s %u %u\n", child->name, child->link.sender.label,
+        fprintf(log_file, "child %s %u %" PRIu64 "\n", child->name, child->link.sender.label,
                 child->link.acknowledged);
     }
-    for (uint64_t i = node.length - backlog(); i < node.length; i++)
-        fprintf(log_file, "hand %u\n", list[i]);
+    write_in_hand();
     raise(SIGSTOP);
 }
 
@@ -305,6 +332,7 @@ static void wait_for_more(int signals) {
  * handled before the next one: so nobody can tell that from a line without a place for it here. */
 static void live(int signals) {
     for (;;) {
+        forget();
         if (unread_settings)
             publish();
         if (!is_root && !parent_has_ended)
@@ -341,9 +369,8 @@ int main(int argc, char **argv) {
         errx(2, "a capacity of %u and %u labels", params.capacity, params.labels);
     const char *name = argv[optind++];
 
-    /* It ends with whoever has started it, and at the latest when its time is over. */
+    /* It ends with whoever has started it. */
     prctl(PR_SET_PDEATHSIG, SIGKILL);
-    alarm(LIFETIME);
     sigset_t set;
     sigemptyset(&set);
     sigaddset(&set, SIGHUP), sigaddset(&set, SIGUSR1);

@@ -13,6 +13,9 @@ bool __wrap_rignolda_child_on_ack(rignolda_child *child, const rignolda_params *
 #ifdef STEPS_ON_ANY_ACK
     label = child->sender.label;
 #endif
+#ifdef HANDS_ON_TWICE
+    uint32_t item = child->sender.item;
+#endif
     bool acked = __real_rignolda_child_on_ack(child, params, label);
 #ifdef TWO_LABELS
     child->sender.label %= 2;
@@ -21,7 +24,8 @@ bool __wrap_rignolda_child_on_ack(rignolda_child *child, const rignolda_params *
     /* the first item of its list, as after a restart: so perhaps a stray */
     static rignolda_child *before;
     if (acked && child != before && child->acknowledged == 1)
-        child->offered = child->acknowledged = 0, before = child;
+        child->sender.item = item, child->sender.holding = 1, child->acknowledged = 0,
+        before = child;
 #endif
     return acked;
 }

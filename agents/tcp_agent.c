@@ -14,14 +14,19 @@
  * moves bytes. Whoever else may connect has to be kept out by other means, as by TLS with a
  * certificate of the child.
  *
- * It runs until a signal comes or its list is full. USR1 makes it write where it is and stop, until
- * it is continued; so it begins, too. TERM ends it once each child has acknowledged everything, and
- * KILL where it is: nothing of it has to be saved.
+ * It runs until a signal comes: of its list it keeps what a child still has to get. A child that
+ * acknowledges nothing for a while holds its siblings up no more. If they go on for so long that
+ * what it needs is forgotten, it is left behind; when it is back, it begins with what is kept.
+ *
+ * USR1 makes it write where it is and stop, until it is continued; so it begins, too. TERM ends it
+ * once each child that still takes has acknowledged everything, and KILL where it is: nothing of it
+ * has to be saved.
  *
  * Standard output has a line for each thing that somebody may want to know:
  *
  *     item ITEM        an item was received, or at the root published
- *     child NUMBER N   how many items this child has acknowledged in this life of the agent
+ *     child NUMBER N   the place in the list of the first item that this child has not acknowledged
+ *     anew NUMBER N    a child that was left behind begins at this place
  *     mark N           how many items there are; then the agent stops
  *     ended N          how many connections it made or accepted in its life
  */
@@ -31,6 +36,7 @@
 #include <arpa/inet.h>
 #include <err.h>
 #include <errno.h>
+#include <inttypes.h>
 #include <netinet/in.h>
 #include <netinet/tcp.h>
 #include <poll.h>
@@ -50,15 +56,15 @@ enum {
     ACK_BYTES = 2,         /* a label */
     MOST_CHILDREN = 63,
     MOST_STRANGERS = 16,   /* connections that were accepted, and whose number has not come */
-    LONGEST_BACKLOG = 64,  /* an agent with this backlog for a child takes no frame */
-    PLACES = 1 << 20,      /* of the list */
+    PLACES = 64,           /* of the buffer: the longest backlog for a child */
 };
 /* Milliseconds. None of them matters to the bounds. */
 enum {
     PACE = 2,              /* between two items of the root */
-    PATIENCE = 50,         /* a parent leaves a connection on which no answer has come for so long */
+    PATIENCE = 50,         /* a parent leaves a connection on which no answer came for so long */
     LONG_PATIENCE = 100,   /* and a child one on which nothing has come */
     PAUSE = 5,             /* before a child connects again */
+    LONGEST_SILENCE = 3000, /* a child that takes nothing for so long holds nobody up */
 };
 
 /* A connection: what came of the next message, and what is not yet written of the last one. */
@@ -75,11 +81,12 @@ struct child {
     rignolda_child link;
     rignolda_session session;
     struct connection connection;
+    long since;            /* when it last acknowledged an item, or had nothing to acknowledge */
 };
 
 static rignolda_params params = {.capacity = 1, .labels = 255};
 static rignolda_node node;
-static uint32_t list[PLACES];
+static uint32_t list[PLACES];      /* a ring */
 static rignolda_session above;
 static struct connection to_parent = {.socket = -1};
 static struct child children[MOST_CHILDREN];
@@ -160,21 +167,51 @@ static void put(struct connection *it, const void *message, unsigned bytes) {
 
 /* ---- The node ------------------------------------------------------------------------------- */
 
-static uint64_t backlog(void) {
-    uint64_t longest = 0;
-    for (unsigned i = 0; i < count_of_children; i++) {
-        uint64_t its = rignolda_node_backlog(&node, &children[i].link, PLACES);
-        longest = its > longest ? its : longest;
-    }
-    return longest;
+static uint64_t backlog(const struct child *child) {
+    return rignolda_node_backlog(&node, &child->link, PLACES);
 }
 
-/* A frame that finds the list full would be lost, and the turn with it: so none is read then. */
-static bool has_room(void) { return backlog() < LONGEST_BACKLOG && node.length < PLACES; }
+/* Whether a child takes what it gets. One that does not is as if there were none. */
+static bool takes(const struct child *child) {
+    return backlog(child) == 0 || now() - child->since <= LONGEST_SILENCE;
+}
+
+static bool is_behind(const struct child *child) {
+    return rignolda_node_left_behind(&node, &child->link, PLACES);
+}
+
+/* Whether a child that takes has still to acknowledge something. */
+static bool has_backlog(void) {
+    for (unsigned i = 0; i < count_of_children; i++)
+        if (backlog(&children[i]) > 0 && takes(&children[i]))
+            return true;
+    return false;
+}
+
+/* Forgets what was offered to each child that takes. */
+static void forget(void) {
+    uint64_t place = node.length;
+    for (unsigned i = 0; i < count_of_children; i++)
+        if (takes(&children[i]))
+            place = rignolda_child_needs(&node, &children[i].link, place);
+    rignolda_node_forget(&node, place);
+}
+
+/* A child that is back and was left behind begins with what is kept, under another label than its
+ * last one. Its link counts anew from here on. */
+static void begin_anew(struct child *child) {
+    uint16_t label = (uint16_t)((child->link.sender.label + 1) % params.labels);
+    if (rignolda_child_init_at(&child->link, &node, PLACES, label, node.forgotten))
+        printf("anew %u %" PRIu64 "\n", child->number, node.forgotten);
+    child->since = now();
+}
+
+/* A frame for whose item there is no room would be lost, and the turn with it: so none is read. */
+static bool has_room(void) { return node.length - node.forgotten < PLACES; }
 
 /* The newest item is written before anybody hears of it. */
 static void tell(void) {
-    printf("item %u\n", list[node.length - 1]);
+    printf("item %u\n", list[(node.length - 1) % PLACES]);
     fflush(stdout);
 }
 
@@ -219,9 +256,11 @@ static void look_down(struct child *child, bool is_readable) {
     if (it->socket < 0)
         return;
     int came = is_readable ? receive(it, ACK_BYTES) : 0;
-    if (came > 0)
-        rignolda_session_child_on_ack(&child->link, &child->session, &params, it->number,
-                                      (uint16_t)(it->in[0] << 8 | it->in[1]));
+    bool acked = came > 0 &&
+                 rignolda_session_child_on_ack(&child->link, &child->session, &params, it->number,
+                                               (uint16_t)(it->in[0] << 8 | it->in[1]));
+    if (acked || backlog(child) == 0)
+        child->since = now();
     rignolda_frame frame = {0};
     if (rignolda_session_poll(&node, &child->link, &child->session, list, PLACES, &frame)) {
         uint8_t bytes[FRAME_BYTES] = {
@@ -243,6 +282,8 @@ static bool is_welcome(struct connection *it) {
         if (children[i].number == it->in[0]) {
             uint64_t number = rignolda_session_accepted(&children[i].session);
             take_up(&children[i].connection, it->socket, number);
+            if (is_behind(&children[i]))
+                begin_anew(&children[i]);
             return true;
         }
     hang_up(it);
@@ -275,8 +316,9 @@ static void publish(void) {
 
 static void stop(void) {
     for (unsigned i = 0; i < count_of_children; i++)
-        printf("child %u %u\n", children[i].number, children[i].link.acknowledged);
-    printf("mark %u\n", node.length);
+        printf("child %u %" PRIu64 "\n", children[i].number,
+               children[i].link.offered - (children[i].link.sender.holding != 0));
+    printf("mark %" PRIu64 "\n", node.length);
     fflush(stdout);
     raise(SIGSTOP);
 }
@@ -290,7 +332,7 @@ static void on_signal(uint32_t signal) {
 
 static void live(int signals, int listener) {
     struct pollfd looked_at[MOST_CHILDREN + MOST_STRANGERS + 3];
-    while (!is_ending || backlog() > 0) {
+    while (!is_ending || has_backlog()) {
         nfds_t count = 0;
         bool takes_frames = !is_ending && has_room();
         looked_at[count++] = (struct pollfd){.fd = signals, .events = POLLIN};
@@ -317,6 +359,7 @@ static void live(int signals, int listener) {
         else if (!parent_port)
             publish();
         look_at_strangers(listener, looked_at[1].revents);
+        forget();
     }
     printf("ended %lu\n", connections);
 }
@@ -364,6 +407,7 @@ int main(int argc, char **argv) {
         struct child *child = &children[count_of_children++];
         child->number = (uint8_t)number(argv[optind]);
         child->connection.socket = -1;
+        child->since = now();
         rignolda_child_init(&child->link, label);
         rignolda_session_init(&child->session);
     }

@@ -60,7 +60,7 @@ for program in rt "$compiler" "$emulator"; do
     fi
 done
 holds 'the archive is built' builds
-for test in link fuzz; do
+for test in link fuzz lists; do
     holds "$test builds" "$compiler" -std=gnu11 -O2 -Wall -Wextra -Werror -Iinclude -static \
         "tests/library/$test.c" "$archive" -o "$work/$test.aarch64"
     printf '#!/bin/sh\nexec %s %s "$@"\n' "$emulator" "$work/$test.aarch64" >"$work/$test"
@@ -69,5 +69,6 @@ done
 holds 'the drawn runs' tests/library/compare.py runs "$work/link"
 holds '1000 drawn links' tests/library/compare.py drawn "$work/link" 1000
 holds 'structs with drawn bits' "$work/fuzz" 100000 1
+holds 'a list up to the end of its count' "$work/lists" 100000 16 18446744073709501615
 printf '%s passed, %s failed\n' "$passed" "$failed"
 [ "$failed" -eq 0 ]

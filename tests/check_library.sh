@@ -39,7 +39,7 @@ holds() {
 in_c() {
     local name=$1 rounds=$2 jobs=$3 test
     shift 3
-    for test in link fuzz sessions; do
+    for test in link fuzz sessions lists; do
         # (the source before the archive, which a linker reads in this order)
         holds "$name: $test builds" "$1" "tests/library/$test.c" "${@:2}" -o "$work/$test"
     done
@@ -48,7 +48,20 @@ in_c() {
     # shellcheck disable=SC2086
     holds "$name: structs with drawn bits" "$work/fuzz" $rounds
     holds "$name: a million steps over connections" "$work/sessions" 1000000 1
+    holds "$name: lists that are forgotten, up to the end of their count" forget "$work/lists"
     holds "$name: ends that do what they may not" break_a_bound "$work/sessions"
+}
+
+# Whether a node hands on its list from places on that take years to reach: past 2^32 items, past
+# 10^10, past 2^63 and up to the last before 2^64; and from the first, in the smallest buffers.
+forget() {
+    local from places
+    for from in 0 4294917296 9999950000 9223372036854725808 18446744073709501615; do
+        "$1" 100000 16 "$from" || return
+    done
+    for places in 1 2 3 7 4096; do
+        "$1" 100000 "$places" 0 || return
+    done
 }
 
 # Whether the program over connections finds a bound broken with each of its two words.

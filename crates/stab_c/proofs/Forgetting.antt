@@ -1,12 +1,12 @@
 -- What a node keeps when it forgets, and that every node has a list.
-use Rattle.std.proofs.Common.{◌≡◌, ℕ, zero, suc, ◌+◌, ◌-◌, ◌%◌, ◌<◌, ◌≤◌, min, max, inl, inr, Bool, true, false, if◌then◌else◌, nat_lt}
-use Rattle.std.proofs.Common.{List, [], ◌∷◌, ◌++◌, length, get_or, slice_get, Option, Some, None, Contains, refl, sym, ◌∙◌, ap, subst, arith, lt-ltb, le-ltb, ltb-true, eq-or-lt_of_le}
+use Rattle.std.proofs.Common.{◌≡◌, ℕ, zero, suc, ◌%◌, ◌<◌, ◌≤◌, inl, inr, nat_lt}
+use Rattle.std.proofs.Common.{List, [], ◌∷◌, ◌++◌, length, get_or, slice_get, Some, Contains, refl, sym, ◌∙◌, ap, arith, lt-ltb, le-ltb}
 use Rattle.std.proofs.lemmas.Bool.{cases_lt}
 use Rattle.std.proofs.lemmas.List.{length_push}
 use Rattle.std.proofs.lemmas.Option.{slice_get-get_or, slice_get_past}
 use Rattle.stab_c.specs.declared.child.Child.{Child}
 use Rattle.stab_c.specs.declared.node.Node.{Node}
-use Rattle.stab_c.specs.NodeList.{IsList, first_kept, item_kept, is_left_behind, needs_from, all_need_from, forgotten_before, after_forgetting}
+use Rattle.stab_c.specs.NodeList.{IsList, first_kept, item_kept, is_left_behind, needs_from, all_need_from, after_forgetting}
 use Rattle.stab_c.proofs.Lists.{get_added, get_before}
 use Rattle.stab_c.proofs.Rings.{kept_here, none_past}
 

@@ -1,6 +1,6 @@
 -- What the buffer of a node holds after an item was added to its list.
-use Rattle.std.proofs.Common.{◌≡◌, ◌≢◌, ℕ, zero, suc, ◌+◌, ◌-◌, ◌*◌, ◌/◌, ◌%◌, ◌<◌, ◌≤◌, min, max, ◌⊎◌, inl, inr, Bool, true, false, if◌then◌else◌, ◌&&◌, nat_le, nat_lt}
-use Rattle.std.proofs.Common.{List, [], ◌∷◌, ◌++◌, length, set, slice_get, Option, Some, None, refl, sym, ◌∙◌, ap, subst, arith, length-set, mul-le-mul_left, mul-suc, eq-or-lt_of_le, le-leb, lt-ltb, le-ltb}
+use Rattle.std.proofs.Common.{◌≡◌, ◌≢◌, ℕ, suc, ◌+◌, ◌-◌, ◌*◌, ◌/◌, ◌%◌, ◌<◌, ◌≤◌, inl, inr}
+use Rattle.std.proofs.Common.{List, [], ◌∷◌, ◌++◌, length, set, slice_get, None, refl, sym, ◌∙◌, ap, subst, arith, length-set, mul-le-mul_left, mul-suc, eq-or-lt_of_le, le-leb, lt-ltb, le-ltb}
 use Rattle.std.proofs.lemmas.Bool.{cases_lt, lt-leb}
 use Rattle.std.proofs.lemmas.List.{length_push}
 use Rattle.std.proofs.lemmas.Option.{slice_get_past}
@@ -95,3 +95,13 @@ module _ (before after : Node) (buffer items : List ℕ) (item : ℕ)
           ]
         ],
       )
+
+-- the same of a length and a buffer that are so
+pub list_put : (before : Node) (longer : ℕ) (buffer written items : List ℕ) (item : ℕ)
+    → before.length - before.forgotten < length buffer
+    → written ≡ set buffer (before.length % length buffer) item → longer ≡ before.length + 1
+    → IsList before buffer items → IsList (record before { length = longer }) written (items ++ item ∷ [])
+list_put before longer buffer written items item room is counted is_list =
+    let after : Node = record before { length = longer } in
+    subst (λ ring. IsList after ring (items ++ item ∷ [])) (sym is)
+    (list_added before after buffer items item room counted refl is_list)

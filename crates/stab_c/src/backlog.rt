@@ -10,7 +10,7 @@ use crate::child::{Child, rignolda_child_init};
 use crate::node::Node;
 
 /// The place from which on a node keeps its list in a buffer of this size.
-pub(crate) fn first_kept(node: &Node, size: usize) -> u64
+fn first_kept(node: &Node, size: usize) -> u64
     ensures { result ≡ list.first_kept node.now size }
 {
     node.forgotten.max(node.length.saturating_sub(size as u64))

@@ -7,7 +7,6 @@ ghost use Rattle.stab_c.specs.Meaning.{frame_of, parameters_of, sender_end, writ
 ghost use Rattle.stab_c.specs.NodeList.{IsList, counted, is_left_behind, item_kept, offered_next};
 ghost use Rattle.stab_c.specs.NodeList.{takes_next};
 
-use crate::backlog::first_kept;
 use crate::line::{LineFrame, LinkParams};
 use crate::node::Node;
 use crate::sender::{
@@ -72,7 +71,8 @@ fn item_at(node: &Node, place: u64, list: &[u32]) -> Option<u32>
     ensures below { IfSome result (λ _. place < node.now.length) }
 {
     let size = list.len() as u64;
-    if place < first_kept(node, list.len()) || place >= node.length {
+    // (as `first_kept`, without a maximum to work out)
+    if place >= node.length || place < node.forgotten || node.length - place > size {
         return None;
     }
     list.get((place % size) as usize).copied()

@@ -8,9 +8,7 @@ ghost use Rattle.stab_c.specs.NodeList.{IsList, counted, has_place, is_old, lose
 ghost use Rattle.stab_c.specs.NodeList.{takes_frame};
 
 use crate::line::LineFrame;
-use crate::receiver::{
-    ReceiverHalf, rignolda_receiver_init, rignolda_receiver_is_fresh, rignolda_receiver_on_frame,
-};
+use crate::receiver::{ReceiverHalf, rignolda_receiver_init, rignolda_receiver_is_fresh};
 
 /// A node, as C sees it: the receiver of the link above, and how much of its list is in the buffer
 /// that its caller lends.
@@ -102,6 +100,6 @@ pub extern "C" fn rignolda_node_on_frame(
     if !rignolda_node_publish(node, list, frame.item) {
         return false;
     }
-    let mut delivered = 0;
-    rignolda_receiver_on_frame(&mut node.above, frame, &mut delivered)
+    node.above.label = frame.label;
+    true
 }

@@ -24,10 +24,10 @@ polled_past : (p : Parameters) (front : List ℕ) (e : Edge) (next : Option ℕ)
 polled_past p front e None = refl
 polled_past p front e (Some item) =
     ap (λ count. record {
-        list = front ++ e.list;
-        count = count;
-        line = (offers_next p e (Some item)).line;
-      }) (counts_past (accepts e.line.sender) (length front) e.count)
+      list = front ++ e.list;
+      count = count;
+      line = (offers_next p e (Some item)).line;
+    }) (counts_past (accepts e.line.sender) (length front) e.count)
 
 acted_past : (p : Parameters) (front : List ℕ) (e : Edge) (act : LineAct) (offers : Bool)
     → (if offers then with_front front e else record (with_front front e) { line = line_step p e.line act })
@@ -109,7 +109,7 @@ module _ (p : Parameters) (place : ℕ) (list : List ℕ) (frames : List Frame) 
           (opening ++ (map (λ f. f.item) frames ++ garbage)) published (opening ++ whole.line.delivered)
       obeys_there most_strays most_missing opening garbage published above =
           subst (λ (l : Line). TreeLaw (most_strays + p.capacity + length opening) (most_missing + (2 * p.capacity + 1))
-            (opening ++ (map (λ f. f.item) frames ++ garbage)) published (opening ++ l.delivered)) (sym same_line)
+          (opening ++ (map (λ f. f.item) frames ++ garbage)) published (opening ++ l.delivered)) (sym same_line)
           (child_obeys_law p (drop place list) frames acks sender receiver acts most_strays most_missing opening garbage published
           lawful few_frames few_acks holds
           (subst (λ items. TreeLaw most_strays most_missing garbage published items) same_list above))
