@@ -259,7 +259,8 @@ def drawn_tree(draw):
     tree = [{"name": name, "parent": above[name]} if name in above else {"name": name} for name in order]
     children = [name for name in order if name in above]
     capacity = draw.choice([1, 1, 1, 2, 3, 8])
-    job = {"capacity": capacity, "labels": draw.choice([2 * capacity + 2, 2 * capacity + 3, 1000]), "tree": tree,
+    job = {"capacity": capacity, "labels": draw.choice([2 * capacity + 2, 2 * capacity + 3, 1000]),
+        "tree": tree,
            "items": [PUBLISHED + i for i in range(draw.choice([0, 3, 10, 30, 256]))]}
     params = {name: (job["capacity"], job["labels"]) for name in children}
     if draw.random() < 0.5:
@@ -272,9 +273,12 @@ def drawn_tree(draw):
         job["starts"] = []
         for name in children:
             own, labels = params[name]
-            label = lambda: draw.choice([draw.randrange(labels), draw.randrange(labels), draw.randrange(65536)])
-            job["starts"].append({"frames": [[label(), draw.randrange(PUBLISHED)] for _ in range(draw.randint(0, own))],
-                                  "acks": [label() for _ in range(draw.randint(0, own))], "send": label(), "recv": label()})
+            label = lambda: draw.choice([draw.randrange(labels), draw.randrange(labels),
+                draw.randrange(65536)])
+            job["starts"].append({"frames": [[label(), draw.randrange(PUBLISHED)]
+                for _ in range(draw.randint(0, own))],
+                                  "acks": [label() for _ in range(draw.randint(0,
+                                      own))], "send": label(), "recv": label()})
     words = ["offer", "send_frame", "recv_frame", "send_ack", "recv_ack"] * 5
     words += ["recv_frame_keep", "recv_ack_keep", "lose_frame", "lose_ack"]
     schedule = []
@@ -293,7 +297,8 @@ def fits_page(job):
     job = json.loads(job)
     wide = [job["capacity"]] + [own["capacity"] for own in job.get("links", []) if own]
     held = job.get("version") == 2 and any(job.get("openings", []))
-    return len(job["tree"]) <= 8 and len(job.get("schedule", [])) <= 256 and len(job["items"]) <= 256 and max(wide) <= 8 and not held
+    return len(job["tree"]) <= 8 and len(job.get("schedule",
+        [])) <= 256 and len(job["items"]) <= 256 and max(wide) <= 8 and not held
 
 
 def standing(job, text):
@@ -364,7 +369,8 @@ UNSOLVED = [
 ]
 
 # the same for the exercises of a tree: the node, and what happens on the link into it
-WORST_ON = ["offer", "recv_ack", "send_ack", "offer", "recv_ack", "recv_frame", "send_ack", "offer", "recv_ack"]
+WORST_ON = ["offer", "recv_ack", "send_ack", "offer", "recv_ack", "recv_frame", "send_ack", "offer",
+    "recv_ack"]
 ROUND = ["offer", "send_frame", "recv_frame", "send_ack", "recv_ack"]
 A, B = 1, 2
 SOLVED_TREES = [
@@ -433,15 +439,19 @@ class Checks:
                     if answer[0] != want:
                         continue
                     counts = standing(data, want)
-                    self.see(f"{name}: bounds of {job}", [row[1::2] for row in answer[1]] == [row[1::2] for row in counts], answer)
-                    self.see(f"{name}: within bounds of {job}", all(a <= b and c <= d for a, b, c, d in answer[1]), answer)
+                    self.see(f"{name}: bounds of {job}", [row[1::2] for row in answer[1]] == [row[1::2]
+                        for row in counts], answer)
+                    self.see(f"{name}: within bounds of {job}",
+                        all(a <= b and c <= d for a, b, c, d in answer[1]), answer)
                     if tells_apart(data):
-                        self.see(f"{name}: counts of {job}", answer[1] == counts, f"{answer[1]} and not {counts}")
+                        self.see(f"{name}: counts of {job}", answer[1] == counts,
+                            f"{answer[1]} and not {counts}")
 
     def tree_exercises(self, browser, name):
         body = "return checkTree(args[0], { ...TREE_TASKS[args[0]].job, events: args[1] });"
         for i, events in enumerate(SOLVED_TREES):
-            self.see(f"{name}: tree exercise {i + 1} is solved", browser.run(body, i, events) == "", browser.run(body, i, events))
+            self.see(f"{name}: tree exercise {i + 1} is solved", browser.run(body, i, events) == "",
+                browser.run(body, i, events))
             self.see(f"{name}: tree exercise {i + 1} fails", browser.run(body, i, events[:-1]) != "")
             self.see(f"{name}: tree exercise {i + 1} from another start",
                      browser.run("return checkTree(args[0], TREES['A clean tree']);", i) != "")
@@ -452,33 +462,40 @@ class Checks:
             [...$('t-nodes').rows].map(row => [...row.cells].slice(2, 4).map(cell => cell.textContent).join('; '))];"""
         browser.run("$('see-tree').click(); $('t-runs').value = 'Two links under one schedule'; $('t-load').click(); $('t-last').click();")
         said = browser.run(state)
-        self.see(f"{name}: the tree at its end", said[0] and said[1] == said[2] == 48 and said[3] == "b", said)
-        self.see(f"{name}: counts at the nodes", said[4] == ["0 of at most 0; 0 of at most 0", "1 of at most 1; 3 of at most 3",
+        self.see(f"{name}: the tree at its end", said[0] and said[1] == said[2] == 48 and said[3] == "b",
+            said)
+        self.see(f"{name}: counts at the nodes", said[4] == ["0 of at most 0; 0 of at most 0",
+            "1 of at most 1; 3 of at most 3",
                                                              "1 of at most 2; 5 of at most 6 (sharper: 5)"], said)
         browser.run("$('t-at').value = 6; $('t-at').dispatchEvent(new Event('input'));")
         said = browser.run("return [treeAt, $('t-happened').textContent, tree.names[child]];")
-        self.see(f"{name}: the slider of the tree", said[0] == 6 and "99 is delivered: a stray" in said[1] and said[2] == "a", said)
+        self.see(f"{name}: the slider of the tree", said[0] == 6 and "99 is delivered: a stray" in said[1]
+            and said[2] == "a", said)
         browser.run("document.body.dispatchEvent(new KeyboardEvent('keydown', {key: 'ArrowLeft', bubbles: true}));")
         self.see(f"{name}: the left key in the tree", browser.run(state)[1] == 5)
         browser.run("document.querySelector('[data-act=recv_frame]').click();")
         self.see(f"{name}: an event replaces the rest of the schedule", browser.run(state)[1:3] == [6, 6])
-        self.see(f"{name}: the saved schedule", json.loads(browser.run("return treeJobText(tree)"))["schedule"][5] == ["a", "recv_frame"])
+        self.see(f"{name}: the saved schedule",
+            json.loads(browser.run("return treeJobText(tree)"))["schedule"][5] == ["a", "recv_frame"])
         browser.run("showTree(TREES['A clean chain, nothing done yet'], 'x'); pick(2);")
         dim = "return [...document.querySelectorAll('[data-act]')].filter(b => !isDim(b)).map(b => b.dataset.act);"
         self.see(f"{name}: nothing to offer yet", browser.run(dim) == ["close", "send_ack"], browser.run(dim))
         browser.run("pick(1);")
-        self.see(f"{name}: the root offers", browser.run(dim) == ["offer", "close", "send_ack"], browser.run(dim))
+        self.see(f"{name}: the root offers", browser.run(dim) == ["offer", "close", "send_ack"],
+            browser.run(dim))
         browser.run("showTree(TREES['A wider second link'], 'x'); goTree(12); share();")
         address = browser.run("return location.href")
         browser.go(address)
         self.wait(browser)
         said = browser.run("return [isTreeSeen, treeAt, tree.events.length, $('fault').textContent];")
         self.see(f"{name}: a tree in the address", said == [True, 12, 22, ""], said)
-        many = json.dumps({"capacity": 1, "labels": 4, "items": [], "tree": [{"name": f"n{i}", **({"parent": "n0"} if i else {})} for i in range(9)]})
+        many = json.dumps({"capacity": 1, "labels": 4, "items": [],
+            "tree": [{"name": f"n{i}", **({"parent": "n0"} if i else {})} for i in range(9)]})
         said = browser.run("tryJob(args[0]); return $('fault').textContent", many)
         self.see(f"{name}: a tree that is too large", "this page takes at most 8 nodes" in said, said)
         said = browser.run("tryJob(args[0], 'x'); return [isTreeSeen, job.events.length]",
-                           json.dumps({"capacity": 1, "labels": 4, "start": {"send": 0, "recv": 1}, "events": ["send_ack"]}))
+                           json.dumps({"capacity": 1, "labels": 4, "start": {"send": 0, "recv": 1},
+                               "events": ["send_ack"]}))
         self.see(f"{name}: a link job shows the link", said == [False, 1], said)
 
     def drawn_rows(self, browser, name):
@@ -487,7 +504,8 @@ class Checks:
         blocks = re.findall(r"\(`((?:links/)?\w+)`[^)`]*\)[^`]*```\n( +SENDER.*?)```", page, re.S)
         jobs = [(title, (DATA / f"{title}.json").read_text(), block) for title, block in blocks]
         two = re.search(r"## What goes wrong with two labels.*?```\n( +SENDER.*?)```", page, re.S)[1]
-        jobs.append(("two labels", browser.run("return jobText(RUNS['The shortest run with two labels'])"), two))
+        jobs.append(("two labels", browser.run("return jobText(RUNS['The shortest run with two labels'])"),
+            two))
         self.see(f"{name}: there are drawn runs", len(blocks) >= 8, len(blocks))
         for title, text, block in jobs:
             lines = [line for line in block.split("\n")[1:] if line.strip()]
@@ -496,12 +514,14 @@ class Checks:
             said = browser.run("show(readJob(args[0], true), 'x', 1e9); drawRows(); return [...$('rows').rows].map(r => [...r.cells].map(c => c.textContent));",
                                text)
             for line in lines[1:]:
-                cell = {(head, i): line[at:end].strip() for i, ((head, at), end) in enumerate(zip(heads, ends))}
+                cell = {(head, i): line[at:end].strip() for i,
+                    ((head, at), end) in enumerate(zip(heads, ends))}
                 keys = list(cell)
                 number = line[:heads[0][1]].strip()
                 row = said[int(number) if number else 0]
                 names = [key[0] for key in keys]
-                self.see(f"{name}: event {number} of {title}", not number or row[1] == cell[keys[0]].rstrip("*"), f"{row[1]} and not {cell[keys[0]]}")
+                self.see(f"{name}: event {number} of {title}", not number
+                    or row[1] == cell[keys[0]].rstrip("*"), f"{row[1]} and not {cell[keys[0]]}")
                 # (the offered item may have a star here, where it is a stray of the link above)
                 clean = lambda text: " ".join(w for w in text.split() if w not in ("v", "^", "x")) or "-"
                 wanted = [clean(cell[keys[names.index(head)]]) for head in ("frames", "acks")]
@@ -510,7 +530,8 @@ class Checks:
                     wanted.append(cell[keys[names.index("delivers")]])
                 found = row[6:8] + row[8:8 + len(wanted) - 2]
                 self.see(f"{name}: row {number} of {title}", found == wanted, f"{found} and not {wanted}")
-        for title, wanted in (("links/three_rounds_for_an_item", [6, 13, 20]), ("links/two_clean_rounds", [5, 10]), ("worst_start", [])):
+        for title, wanted in (("links/three_rounds_for_an_item", [6, 13, 20]),
+            ("links/two_clean_rounds", [5, 10]), ("worst_start", [])):
             said = browser.run("show(readJob(args[0]), 'x', 1e9); return [tracked.rounds, $('rounds').textContent];", (DATA / f"{title}.json").read_text())
             self.see(f"{name}: rounds of {title}", said == [wanted, f"Rounds: {len(wanted)}"], said)
 
@@ -519,54 +540,69 @@ class Checks:
         said = browser.run("""show(RUNS['The worst start'], 'The worst start');
             return [$('happened').textContent, [...$('labels').children].map(c => c.className),
                     ['frames', 'acks'].map(id => $(id).querySelector('button').className), $('of-recv').className];""")
-        self.see(f"{name}: the start", "Nobody knows from when" in said[0] and said[1:] == [[" next", "", "", "free"], ["msg old ", "msg old lie"], "badge msg old "], said)
+        self.see(f"{name}: the start", "Nobody knows from when" in said[0]
+            and said[1:] == [[" next", "", "", "free"], ["msg old ", "msg old lie"], "badge msg old "], said)
         says = "go(args[0]); return [$('says').textContent, $('says').className, $('happened').textContent];"
         for at, part, style, told in (
                 (1, "does not show that it was delivered", "some", "But a 0 is in the link already"),
-                (2, "may be acknowledged and never arrive", "some", "was on the line before you came. The sender waited for 0: item 10 is acknowledged, and it was never"),
+                (2, "may be acknowledged and never arrive", "some",
+                    "was on the line before you came. The sender waited for 0: item 10 is acknowledged, and it was never"),
                 (3, "may be acknowledged", "some", "sends 1, the label that it remembers since the start"),
-                (6, "may be acknowledged", "some", "Its label 2 is not the remembered 1, so 99 is delivered: a stray"),
-                (9, "cannot go missing", "done", "This 2 came with a stray."), (11, "will show that it was delivered", "done", "label 3, item 13")):
+                (6, "may be acknowledged", "some",
+                    "Its label 2 is not the remembered 1, so 99 is delivered: a stray"),
+                (9, "cannot go missing", "done", "This 2 came with a stray."), (11,
+                    "will show that it was delivered", "done", "label 3, item 13")):
             said = browser.run(says, at)
-            self.see(f"{name}: what is said at {at}", part in said[0] and said[1] == style and told in said[2], said)
+            self.see(f"{name}: what is said at {at}", part in said[0] and said[1] == style
+                and told in said[2], said)
         # (the shape of this circle is always good, and the first item is missing all the same)
         said = browser.run("show(RUNS['The receiver remembers the first label'], 'x', 4); return [$('says').textContent, $('missing').textContent];")
-        self.see(f"{name}: a good shape is not enough", "does not show" in said[0] and said[1].startswith("Missing: 0"), said)
+        self.see(f"{name}: a good shape is not enough", "does not show" in said[0]
+            and said[1].startswith("Missing: 0"), said)
 
         card = "return [!$('task').hidden, $('task').querySelector('[role=status]').textContent, $('task').innerText.includes('Show a solution'), $('task').innerText.includes('Hint'), $('item').value];"
         browser.run("$('item').value = 77; $('tasks').children[3].click();")
         said = browser.run(card)
-        self.see(f"{name}: an exercise begins", said == [True, "So far 0 of 3 items are missing.", False, True, "10"], said)
+        self.see(f"{name}: an exercise begins", said == [True, "So far 0 of 3 items are missing.", False,
+            True, "10"], said)
         browser.run("[...$('task').querySelectorAll('button')].find(b => b.textContent === 'Hint').click();")
-        self.see(f"{name}: a hint", "Three labels are on the circle" in browser.run("return $('task').innerText"))
+        self.see(f"{name}: a hint",
+            "Three labels are on the circle" in browser.run("return $('task').innerText"))
         browser.run("for (const event of args[0]) { if (event[0] === 'offer') { $('item').value = event[1]; event.splice(1); } document.querySelector(`[data-event=${[].concat(event)[0]}]`).click(); }", WORST)
         said = browser.run(card)
         self.see(f"{name}: it is solved by hand", said[:4] == [True, "Done.", True, False], said)
         browser.run("[...$('task').querySelectorAll('button')].find(b => b.textContent === 'Show a solution').click(); $('last').click();")
         said = browser.run("return [$('task').querySelector('[role=status]').textContent, job.events.length, $('task').hidden]")
         self.see(f"{name}: the solution solves it", said == ["Done.", 9, False], said)
-        self.see(f"{name}: another run has no exercise", browser.run("$('runs').value = 'A clean start'; $('load').click(); return $('task').hidden"))
+        self.see(f"{name}: another run has no exercise",
+            browser.run("$('runs').value = 'A clean start'; $('load').click(); return $('task').hidden"))
         solved = """return [TASKS.map((task, i) => checkTask(i, { ...task.job, events: task.solution })),
             TREE_TASKS.map((task, i) => checkTree(i, { ...task.job, events: task.solution }))]"""
-        self.see(f"{name}: all solutions solve", browser.run(solved) == [[""] * 6, [""] * 3], browser.run(solved))
+        self.see(f"{name}: all solutions solve", browser.run(solved) == [[""] * 6, [""] * 3],
+            browser.run(solved))
 
         ask = "return [$('ask').hidden, at, $('ask').innerText, $('happened').textContent, $('score').textContent];"
         browser.run("$('asks').checked = true; show(RUNS['The worst start'], 'x', 1); $('forth').click();")
         said = browser.run(ask)
-        self.see(f"{name}: a question", said[:2] == [False, 1] and "What will the sender do now?" in said[2], said)
+        self.see(f"{name}: a question", said[:2] == [False, 1] and "What will the sender do now?" in said[2],
+            said)
         browser.run("$('ask').querySelectorAll('button')[0].click();")
         said = browser.run(ask)
-        self.see(f"{name}: a right answer", said[:2] == [True, 2] and "Right. This 0" in said[3] and said[4] == "1 of 1 right", said)
+        self.see(f"{name}: a right answer", said[:2] == [True, 2] and "Right. This 0" in said[3]
+            and said[4] == "1 of 1 right", said)
         browser.run("go(5); document.querySelector('[data-event=recv_frame]').click(); $('ask').querySelectorAll('button')[1].click();")
         said = browser.run(ask)
-        self.see(f"{name}: a wrong answer", said[:2] == [True, 6] and "No. This frame" in said[3] and said[4] == "1 of 2 right", said)
+        self.see(f"{name}: a wrong answer", said[:2] == [True, 6] and "No. This frame" in said[3]
+            and said[4] == "1 of 2 right", said)
         browser.run("$('asks').checked = false;")
 
         browser.run("show(RUNS['A clean start'], 'x'); document.querySelector('[data-event=offer]').focus(); document.activeElement.click();")
-        self.see(f"{name}: the focus stays", browser.run("return document.activeElement.dataset.event") == "offer")
+        self.see(f"{name}: the focus stays",
+            browser.run("return document.activeElement.dataset.event") == "offer")
         browser.run("document.querySelector('[data-event=send_frame]').click(); $('frames').querySelector('button').focus(); document.activeElement.click();")
         said = browser.run("return [document.activeElement.id, job.events.at(-1), $('happened').textContent]")
-        self.see(f"{name}: a message is lost by pressing it", said[:2] == ["frames", ["lose_frame", 0]] and "label 0, item 10" in said[2], said)
+        self.see(f"{name}: a message is lost by pressing it", said[:2] == ["frames", ["lose_frame", 0]]
+            and "label 0, item 10" in said[2], said)
         at = browser.run("return at")
         browser.run("document.querySelector('.table').dispatchEvent(new KeyboardEvent('keydown', {key: 'ArrowLeft', bubbles: true}));")
         self.see(f"{name}: keys in the table do not step", browser.run("return at") == at)
@@ -582,20 +618,26 @@ class Checks:
 
     def lab(self, browser, name):
         """Runs of wrong ends, as lab/check_ends.py writes them into an address."""
-        for ends, events, missing, strays, last in (("two_labels", 14, "3 of at most 3", "1 of at most 1", "item 3 counts as acknowledged"),
-                                                    ("any_acknowledgement", 8, "4 of at most 3", "0 of at most 1", "item 3 counts as acknowledged"),
-                                                    ("every_frame", 2, "0 of at most 3", "2 of at most 1", "90 is delivered")):
-            said = subprocess.run([TOP / "lab/check_ends.py", TOP / f"lab/ends/{ends}.py"], capture_output=True, text=True).stdout
+        for ends, events, missing, strays, last in (("two_labels", 14, "3 of at most 3", "1 of at most 1",
+            "item 3 counts as acknowledged"),
+                                                    ("any_acknowledgement", 8, "4 of at most 3",
+                                                        "0 of at most 1", "item 3 counts as acknowledged"),
+                                                    ("every_frame", 2, "0 of at most 3", "2 of at most 1",
+                                                        "90 is delivered")):
+            said = subprocess.run([TOP / "lab/check_ends.py", TOP / f"lab/ends/{ends}.py"],
+                capture_output=True, text=True).stdout
             address = re.search(r"index.html(#run=\S+)", said)[1]
             browser.go(PAGE.as_uri() + address)
             self.wait(browser)
             found = browser.run("""for (let k = 0; k <= job.events.length; k++) go(k);
                 return [$('fault').textContent, at, $('missing').textContent, $('strays').textContent, $('happened').textContent,
                     [...document.querySelectorAll('[data-event]')].every(isDim), $('says').textContent];""")
-            self.see(f"{name}: a run of {ends}", found[:4] == ["", events, f"Missing: {missing}", f"Strays: {strays}"] and found[4].endswith(last)
+            self.see(f"{name}: a run of {ends}", found[:4] == ["", events, f"Missing: {missing}",
+                f"Strays: {strays}"] and found[4].endswith(last)
                      and found[5] and found[6].startswith("These are other ends"), found)
         text = base64.urlsafe_b64decode(address[5:] + "==").decode()
-        spoiled = base64.urlsafe_b64encode(text.replace('[[65535, 90]]', '[[7, 90]]').replace('[[0, 90]]', '[[7, 90]]', 1).encode()).decode().rstrip("=")
+        spoiled = base64.urlsafe_b64encode(text.replace('[[65535, 90]]', '[[7, 90]]').replace('[[0, 90]]',
+            '[[7, 90]]', 1).encode()).decode().rstrip("=")
         browser.go(PAGE.as_uri() + "#run=" + spoiled)
         self.wait(browser)
         said = browser.run("return [$('fault').textContent, 'record' in job];")
@@ -607,7 +649,8 @@ class Checks:
         for title in ("The worst start", "The shortest run with two labels"):
             drawn.append(browser.run("show(RUNS[args[0]], 'x', 1e9); return [...$('drawn').querySelectorAll('text')].map(e => e.textContent);", title))
         slides = TOP / "lab/slides.html"
-        said = [re.findall(r"<text[^>]*>([^<]*)</text>", svg) for svg in re.findall(r'<svg class="run".*?</svg>', slides.read_text(), re.S)]
+        said = [re.findall(r"<text[^>]*>([^<]*)</text>", svg)
+            for svg in re.findall(r'<svg class="run".*?</svg>', slides.read_text(), re.S)]
         self.see(f"{name}: the runs on the slides", said == drawn, f"{said} and not {drawn}")
         # (Firefox can be asked by a script of the page alone, and these slides take none)
         if name == "chromium":
@@ -632,11 +675,13 @@ class Checks:
     def narrow(self, browser, name):
         """At 360 pixels, if the browser can be so narrow, and in print."""
         browser.size(360, 800, False)
-        for view in ("show(RUNS['The worst start of capacity two'], 'x', 8);", "$('tasks').children[4].click();", "$('see-tree').click();",
+        for view in ("show(RUNS['The worst start of capacity two'], 'x', 8);",
+            "$('tasks').children[4].click();", "$('see-tree').click();",
                      "show(readJob(args[0]), 'x', 9);"):
             browser.run(view, long_job())
             said = browser.run("return [document.documentElement.scrollWidth, innerWidth, screen.width]")
-            self.see(f"{name}: nothing is cut off at 360 pixels", said[0] <= max(360, said[1] if name == "firefox" else 0), said)
+            self.see(f"{name}: nothing is cut off at 360 pixels",
+                said[0] <= max(360, said[1] if name == "firefox" else 0), said)
         browser.size(*WIDE, False)
         if name == "chromium":
             browser.run("show(RUNS['The worst start'], 'x', 9);")
@@ -644,14 +689,16 @@ class Checks:
             said = browser.run("""return [...document.querySelectorAll('button, input, select, textarea, summary')].filter(e =>
                 e.checkVisibility() && !e.classList.contains('msg')).length""")
             self.see(f"{name}: no control is printed", said == 0, said)
-            self.see(f"{name}: the table is printed whole", browser.run("return getComputedStyle(document.querySelector('.table')).maxHeight") == "none")
+            self.see(f"{name}: the table is printed whole",
+                browser.run("return getComputedStyle(document.querySelector('.table')).maxHeight") == "none")
             browser.ask("Emulation.setEmulatedMedia", media="")
 
     def faults(self, browser, name):
         """A struck link and a restarted node, against the program's answer to the job that is saved."""
         state = "return [treeAt, isAtRest(stateOf(treeAt)), ['t-rest', 't-strike', 't-restart'].map(id => isDim($(id)))];"
         browser.run("showTree(TREES['A clean chain, nothing done yet'], 'x');")
-        self.see(f"{name}: a tree with work left", browser.run(state) == [0, False, [False, True, True]], browser.run(state))
+        self.see(f"{name}: a tree with work left", browser.run(state) == [0, False, [False, True, True]],
+            browser.run(state))
         browser.run("$('t-strike').click();")
         self.see(f"{name}: no fault before the rest", browser.run("return tree.since ?? ''") == "")
         browser.run("$('t-rest').click();")
@@ -664,18 +711,22 @@ class Checks:
             browser.run("""showTree(TREES['A clean chain, nothing done yet'], 'x'); $('t-rest').click();
                 pick(args[1]); $(args[0]).click();""", press, node)
             saved = json.loads(browser.run("return treeJobText(tree)"))
-            self.see(f"{name}: the start after {press} at {node}", saved["starts"][node - 1] == start and saved["items"][0] == 14, saved)
+            self.see(f"{name}: the start after {press} at {node}", saved["starts"][node - 1] == start
+                and saved["items"][0] == 14, saved)
             if node == 2:
                 browser.run("pick(1); for (let i = 0; i < 5; i++) for (const word of args[0]) act(word); pick(2);", ROUND)
             browser.run("for (const word of args[0]) act(word); $('t-rest').click();", events)
             text = browser.run("return treeJobText(tree)")
             want = program(text.encode(), "tree")
             said = browser.run("return [treeText(tree), treeAfter(tree, tree.events.length).nodes.map(n => [n.strays, n.mostStrays, n.missing, n.mostMissing]), $('t-since').textContent];")
-            self.see(f"{name}: the tree after {press} at {node}", said[0] == want and said[1] == standing(text, want), f"{said} and not {want}")
-            lost = [[0, 0], [1, 3], [1, 3]] if press == "t-strike" and node == 1 else [[0, 0], [0, 0], [1, 3]] if node == 2 else [[0, 0], [0, 1], [0, 2]]
+            self.see(f"{name}: the tree after {press} at {node}", said[0] == want
+                and said[1] == standing(text, want), f"{said} and not {want}")
+            lost = [[0, 0], [1, 3], [1, 3]] if press == "t-strike" and node == 1 else [[0, 0], [0, 0],
+                [1, 3]] if node == 2 else [[0, 0], [0, 1], [0, 2]]
             self.see(f"{name}: what {press} at {node} costs", [row[::2] for row in said[1]] == lost, said[1])
             self.see(f"{name}: it is said", "All numbers count from there" in said[2], said)
-        browser.run("showTree(readTree(args[0]), 'x');", json.dumps({"capacity": 1, "labels": 4, "items": [1], "tree": [{"name": "r"}]}))
+        browser.run("showTree(readTree(args[0]), 'x');", json.dumps({"capacity": 1, "labels": 4, "items": [1],
+            "tree": [{"name": "r"}]}))
         self.see(f"{name}: a lone root has no link", browser.run("return $('t-one').hidden"))
 
     def exercises(self, browser, name):
@@ -703,24 +754,29 @@ class Checks:
                 (5, 2, "of at most 5", "The bound holds with 5 labels"),
                 (4, 2, "Missing: ", "with 4 labels there is no bound: with capacity 2 it needs 5")]:
             said = browser.run(body, labels, capacity, 23)
-            self.see(f"{name}: {labels} labels with capacity {capacity}", missing in said[0] and why in said[1]
+            self.see(f"{name}: {labels} labels with capacity {capacity}", missing in said[0]
+                and why in said[1]
                      and ("at most" in said[0]) == (labels > 2 * capacity)
                      and ("one more" in said[1]) == (labels < 2 * capacity + 2), said)
         said = browser.run(body, 2, 1, 7)
-        self.see(f"{name}: an item under way", said[2].endswith("is acknowledged, though its frame is still under way.")
+        self.see(f"{name}: an item under way",
+            said[2].endswith("is acknowledged, though its frame is still under way.")
                  and said[3:] == ["gone", "late"], said)
         said = browser.run(body, 2, 1, 9)
         self.see(f"{name}: and it comes", "item number 1" in said[2] and said[3:] == ["gone", "sent"], said)
         said = browser.run(body, 2, 1, 23)
-        self.see(f"{name}: an item that was lost", said[2].endswith("is acknowledged, and it was never delivered."), said)
+        self.see(f"{name}: an item that was lost",
+            said[2].endswith("is acknowledged, and it was never delivered."), said)
 
     def hands(self, browser, name):
         """Buttons, slider, keys and the address."""
         state = "return [at, job.events.length, $('happened').textContent, $('strays').textContent];"
         browser.run("show(RUNS['The worst start'], 'x'); for (let i = 0; i < 12; i++) $('forth').click();")
         said = browser.run(state)
-        self.see(f"{name}: forward to the end", said[:2] == [12, 12] and said[3] == "Strays: 1 of at most 1", said)
-        self.see(f"{name}: missing of the worst start", browser.run("return $('missing').textContent") == "Missing: 3 of at most 3")
+        self.see(f"{name}: forward to the end", said[:2] == [12, 12] and said[3] == "Strays: 1 of at most 1",
+            said)
+        self.see(f"{name}: missing of the worst start",
+            browser.run("return $('missing').textContent") == "Missing: 3 of at most 3")
         browser.run("$('at').value = 6; $('at').dispatchEvent(new Event('input'));")
         said = browser.run(state)
         self.see(f"{name}: the slider", said[0] == 6 and "a stray" in said[2], said)
@@ -731,7 +787,8 @@ class Checks:
         self.see(f"{name}: its text", browser.run("return jobText(job)").count("send_ack") == 2)
         browser.run("show(RUNS['A clean start'], 'x');")
         dim = "return [...document.querySelectorAll('[data-event]')].filter(b => !isDim(b)).map(b => b.dataset.event);"
-        self.see(f"{name}: what can happen to a clean link", browser.run(dim) == ["offer", "close", "send_ack"], browser.run(dim))
+        self.see(f"{name}: what can happen to a clean link", browser.run(dim) == ["offer", "close",
+            "send_ack"], browser.run(dim))
         browser.run("show(RUNS['Two labels are too few'], 'x'); go(99); share();")
         address = browser.run("return location.href")
         browser.go(address)
@@ -794,7 +851,8 @@ def main():
     trees = [(f.name, f.read_text()) for f in files]
     # (the page does not look at scripts and turns)
     unseen = lambda text: any(f'"{word}"' in text for word in ("scripts", "turns"))
-    trees = [(f.name, text) for f, (_, text) in zip(files, trees) if "refused" not in f.parent.name or not unseen(text)]
+    trees = [(f.name, text) for f, (_, text) in zip(files, trees) if "refused" not in f.parent.name
+        or not unseen(text)]
     trees += [(f"drawn tree {i}", drawn_tree(draw)) for i in range(words.jobs)]
     wanted_trees = [program(text.encode(), "tree") for _, text in trees]
     fitting = sum(want is not None and fits_page(text) for (_, text), want in zip(trees, wanted_trees))
