@@ -1,9 +1,9 @@
 -- From the edge law of each link, counted from a moment, to the tree law at each node.
-use Rattle.std.proofs.Common.{◌≡◌, ℕ, ◌<◌, ◌++◌, List, length, sym, subst}
+use Rattle.std.proofs.Common.{◌≡◌, ℕ, ◌<◌, ◌++◌, List, length, Some, sym, subst}
 use Rattle.stab_core.specs.LinkLaw.{LinkLaw, SharperLinkLaw}
 use Rattle.stab_core.specs.Replay.{replay, start_items}
 use Rattle.stab_tree.specs.IsTree.{IsRooted}
-use Rattle.stab_tree.specs.Nodes.{Nodes}
+use Rattle.stab_tree.specs.Nodes.{Nodes, parent_at}
 use Rattle.stab_treecore.specs.NodeLaws.{LawBetween}
 use Rattle.stab_faults.proofs.Obeying.{ObeysSince}
 use Rattle.stab_faults.specs.EdgeSince.{EdgeSinceInto, EdgesSince}
@@ -39,3 +39,12 @@ pub sharper_law_of_edges_since : ObeysSince SharperLinkLaw → (tree : Nodes) (m
 sharper_law_of_edges_since obey tree m gained is_tree same edges node is_node =
     sharper_law_of_path tree is_tree m same gained (λ _. Unit {0}) (λ w parent on child. tt)
     (λ w parent on child. edge_obeys SharperLinkLaw obey m gained w parent (edges w parent child)) node is_node tt
+
+-- the same where of each link nothing but the link law is known
+pub law_of_links_since : (tree : Nodes) (m : Moment) (gained : ℕ → List ℕ) → IsRooted tree.parents → m.parents ≡ tree.parents
+    → ((child parent : ℕ) → parent_at m.parents child ≡ Some parent
+    → LawBetween LinkLaw (m.capacity child) (m.queued child) (m.backlog child ++ gained parent) (gained child))
+    → (node : ℕ) → node < length m.parents → LawSince m gained node
+law_of_links_since tree m gained is_tree same links node is_node =
+    law_of_path tree is_tree m same gained (λ _. Unit {0}) (λ w parent on child. tt)
+    (λ w parent on child. links w parent child) node is_node tt

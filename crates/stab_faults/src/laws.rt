@@ -15,7 +15,8 @@ ghost use Rattle.stab_tree.specs.IsTree.{IsRooted};
 ghost use Rattle.stab_tree.specs.Nodes.{Nodes, parent_at};
 ghost use Rattle.stab_tree.specs.Steps.{ancestor};
 ghost use Rattle.stab_treecore.specs.Network.{IsNetwork, Network};
-ghost use Rattle.stab_treecore.specs.NodeLaws.{most_missing, most_strays, path_garbage};
+ghost use Rattle.stab_treecore.specs.NodeLaws.{LinkLawBetween, most_missing, most_strays};
+ghost use Rattle.stab_treecore.specs.NodeLaws.{path_garbage};
 ghost use Rattle.stab_treecore.specs.Paths.{lists_above, path_sum, sum_above};
 ghost use Rattle.stab_treecore.specs.TreeLaw.{TreeLaw};
 ghost use Rattle.stab_treecore.specs.TreeReplay.{initial_tree};
@@ -118,6 +119,18 @@ pub fn tree_law_of_edges_since()
     stab_core::laws::link_law_from_any_state();
     stab_core::laws::sharper_link_law_from_any_state();
 }
+
+/// The tree law at a node, counted from a moment, where of each link nothing is known but that it
+/// obeys the link law since: what its sender offered is a prefix of what its parent had for the
+/// child at the moment and received since.
+pub fn tree_law_of_links_since()
+    ensures { (tree : Nodes) (m : Moment) (gain : ℕ → List ℕ)
+        → IsRooted tree.parents → m.parents ≡ tree.parents
+        → ((child parent : ℕ) → parent_at m.parents child ≡ Some parent
+        → LinkLawBetween (m.capacity child) (m.queued child) (m.backlog child ++ gain parent)
+        (gain child))
+        → (node : ℕ) → node < length m.parents → LawSince m gain node }
+{}
 
 /// A node that no fault hits keeps the promise of the start, in the words of the tree law, whatever
 /// faults hit other nodes and links.
