@@ -117,7 +117,7 @@ class Scenario:
             missing = sum(2 * s.tree.links[n].capacity + 1 for n in way)
             root = s.tree.parents[way[-1]]
             published = backlog[way[-1]] + s.tree.published[had[root]:]
-            yield (f"{name} since {since} received {len(got)} strays at most {strays} "
+            yield (f"{name} since {since} received {len(got)}, strays at most {strays}, "
                    f"missing among the first {missing}")
             yield " ".join(["items:", *map(str, got)])
             yield " ".join(["published:", *map(str, published)])

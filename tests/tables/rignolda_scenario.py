@@ -35,10 +35,10 @@ STEPS = [
 STRUCK = """\
 r since 0 published 3
 items: 7 8 20
-a since 0 received 2 strays at most 1 missing among the first 3
+a since 0 received 2, strays at most 1, missing among the first 3
 items: 7 8
 published: 7 8 20
-b since 8 received 2 strays at most 3 missing among the first 6
+b since 8 received 2, strays at most 3, missing among the first 6
 items: 99 8
 published: 8 20
 """
@@ -76,8 +76,8 @@ ROWS = [
     Row("tells a scenario in a file", ["scenario", "job"], files={"job": chain(*STEPS)}, out=STRUCK),
     Row("restarts the root", ["scenario"], chain(["restart", "r", [3]], ["a", "offer"]),
         out="r since 1 published 1\nitems: 3\n"
-            "a since 1 received 0 strays at most 1 missing among the first 3\nitems:\npublished: 3\n"
-            "b since 1 received 0 strays at most 2 missing among the first 6\nitems:\npublished: 3\n"),
+            "a since 1 received 0, strays at most 1, missing among the first 3\nitems:\npublished: 3\n"
+            "b since 1 received 0, strays at most 2, missing among the first 6\nitems:\npublished: 3\n"),
     Row("tells a lone root", ["scenario"],
         '{"capacity":1,"labels":4,"tree":[{"name":"publish"}],"items":[1],'
         '"steps":[["rounds",3],["publish",[2]],["reading_rounds",65535]]}',

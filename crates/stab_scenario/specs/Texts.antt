@@ -23,7 +23,7 @@ root_text name since published =
 -- the words of what the law allows
 unfoldable pub bounds_words : ℕ → ℕ → List ℕ
 bounds_words strays missing =
-    codes " strays at most" ++ number_entry strays ++ codes " missing among the first"
+    codes ", strays at most" ++ number_entry strays ++ codes ", missing among the first"
     ++ number_entry missing ++ newline
 
 -- the lines of another node

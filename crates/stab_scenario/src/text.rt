@@ -25,9 +25,10 @@ use stab_tree::NodeId;
 use stab_treecore::TreeState;
 use std::alloc::{AllocError, Global};
 
-/// The whole tree of a job after these steps.
+/// The whole tree of a job after these steps. They are refused where they are too many changes, or
+/// one of these cannot be made.
 #[tactic(auto, using(crate::proofs::Refused::unrun_by_list, crate::proofs::Refused::unrun_by_change))]
-fn state_after(alloc: Global, job: &Job, steps: &[Step]) -> Result<TreeState, ScenarioFault>
+pub fn state_after(alloc: Global, job: &Job, steps: &[Step]) -> Result<TreeState, ScenarioFault>
     ensures after { IfOk result (λ state. state ≡ state_after job.now steps.now) }
     ensures same_tree { IfOk result (λ state. state.parents ≡ job.now.tree.parents) }
     ensures same_capacities { IfOk result (λ state. (w : ℕ)
@@ -89,7 +90,7 @@ fn push_bounds(text: &mut String, strays: u128, missing: u64) -> Result<(), Allo
 {
     write!(
         text,
-        " strays at most {strays} missing among the first {missing}\n"
+        ", strays at most {strays}, missing among the first {missing}\n"
     )
 }
 
