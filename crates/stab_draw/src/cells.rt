@@ -16,7 +16,7 @@ use std::alloc::AllocError;
 
 /// Adds the rest of a line: the link, and the item that was delivered in this step.
 #[tactic(auto, unfolding(crate::specs::Runs::state_cells))]
-pub(crate) fn push_state_cells(
+pub fn push_state_cells(
     text: &mut String,
     link: &Link,
     delivered: Option<Item>,
@@ -66,7 +66,7 @@ pub(crate) fn push_act_cell(text: &mut String, event: Option<Event>) -> Result<(
 
 /// Adds the name of a node in its column.
 #[tactic(auto, unfolding(crate::specs::Words::cell))]
-pub(crate) fn push_name_cell(text: &mut String, tree: &Tree, node: NodeId) -> Result<(), AllocError>
+pub fn push_name_cell(text: &mut String, tree: &Tree, node: NodeId) -> Result<(), AllocError>
     ensures { OnOk result
         (string_bytes text.new ≡ string_bytes text.old ++ name_cell tree.now node) }
 {
@@ -100,7 +100,7 @@ pub(crate) fn push_effect_cell(text: &mut String, effect: Effect) -> Result<(), 
 
 /// Adds a label or a count in a narrow column.
 #[tactic(auto, unfolding(crate::specs::Words::cell))]
-fn push_number_cell(text: &mut String, number: u64) -> Result<(), AllocError>
+pub fn push_number_cell(text: &mut String, number: u64) -> Result<(), AllocError>
     ensures { OnOk result
         (string_bytes text.new ≡ string_bytes text.old ++ cell 5 (decimal number)) }
 {

@@ -141,7 +141,7 @@ fn rows_from(
 }
 
 /// Takes a step, and adds its row.
-fn push_step_row(
+pub fn push_step_row(
     rows: &mut Vec<Row>,
     tree: &Tree,
     state: &mut TreeState,

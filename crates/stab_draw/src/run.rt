@@ -42,7 +42,7 @@ fn push_event_lines(text: &mut String, link: &mut Link, events: &[Event]) -> Res
 
 /// Adds the line of the start.
 #[tactic(auto, unfolding(crate::specs::Runs::start_line))]
-pub(crate) fn push_start_line(text: &mut String, link: &Link) -> Result<(), AllocError>
+pub fn push_start_line(text: &mut String, link: &Link) -> Result<(), AllocError>
     ensures { OnOk result
         (string_bytes text.new ≡ string_bytes text.old ++ start_line link.now.state) }
 {

@@ -141,7 +141,7 @@ fn push_step_lines(
 }
 
 /// Takes a step, and adds its line.
-fn push_step_line(
+pub fn push_step_line(
     text: &mut String,
     tree: &Tree,
     state: &mut TreeState,

@@ -3,11 +3,13 @@
 ghost use Rattle.std.specs.Prelude.{◌≡◌, ◌≤◌, [], ◌∷◌, ◌++◌, IfErr, IfOk, OnOk, length, replicate};
 ghost use Rattle.stab_rounds.specs.TreePlayed.{act_on};
 ghost use Rattle.stab_tree.specs.Links.{links_of};
+ghost use Rattle.stab_scenario.specs.Counts.{IsUnrun};
 ghost use Rattle.stab_scenario.specs.Played.{IsUnlisted, acts, changes_in, changes_of};
 ghost use Rattle.stab_scenario.specs.Played.{most_changes, reading_round_of};
 ghost use Rattle.stab_scenario.specs.Played.{reading_round_on, repeated};
 
-use crate::fault::ListFault;
+use crate::fault::{ListFault, ScenarioFault};
+use crate::read::Scenario;
 use crate::step::Step;
 use stab_core::LinkAct;
 use stab_faults::Change;
@@ -73,7 +75,7 @@ fn push_reading_round(
 }
 
 /// One reading round of every link, in file order.
-fn reading_round_of_all(
+pub fn reading_round_of_all(
     alloc: Global,
     tree: &Tree,
     params: &[Params],
@@ -180,5 +182,17 @@ pub(crate) fn changes_of(
     if changes.len() > MAX_EVENTS {
         return Err(ListFault::TooMany);
     }
+    Ok(changes)
+}
+
+/// The changes that the steps of a scenario are. They are refused where they are too many.
+#[tactic(auto, using(crate::proofs::Refused::unrun_by_list))]
+pub fn listed_changes(alloc: Global, scenario: &Scenario) -> Result<Vec<Change>, ScenarioFault>
+    ensures listed { IfOk result (λ changes. changes.items ≡ changes_of
+        scenario.now.job.tree.parents scenario.now.job.params scenario.now.steps) }
+    ensures refused { IfErr result (IsUnrun scenario.now.job scenario.now.steps) }
+{
+    let job = &scenario.job;
+    let changes = changes_of(alloc, job.tree(), job.params(), scenario.steps.as_slice())?;
     Ok(changes)
 }

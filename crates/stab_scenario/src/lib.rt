@@ -18,7 +18,8 @@ mod read;
 mod step;
 mod text;
 
+pub use changes::{listed_changes, reading_round_of_all};
 pub use fault::{ScenarioFault, StepFault};
 pub use read::{Scenario, read_scenario};
 pub use step::Step;
-pub use text::scenario_text;
+pub use text::{scenario_text, state_after};
