@@ -1,0 +1,5 @@
+pub mod Standing
+pub mod Entries
+pub mod Members
+pub mod Meaning
+pub mod Jobs

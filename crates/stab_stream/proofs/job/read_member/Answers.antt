@@ -1,0 +1,31 @@
+use Rattle.std.proofs.Common.{arith}
+use Rattle.stab_stream.specs.Members.{in_member}
+use Rattle.stab_stream.proofs.Meaning.{not_capped}
+use Rattle.stab_stream.proofs.Members.{has_capacity, has_labels, has_start, has_events}
+use Rattle.stab_stream.proofs.job.read_member.Goals as goal
+
+pub returns-in-Some-clause-value : goal.returns-in-Some-clause-value
+returns-in-Some-clause-value c =
+    let old = c.args.parts.now in
+    let number = c.in-Some in
+    let first = not_capped 65535 in_member number.capacity c.args.reader.now c.next_u16.new.reader (number.ensures.value in_member) number.ensures.small in
+    λ yes. (first.0, first.1, λ ms has. rw c.in-capacity.is (has_capacity old.capacity old.labels old.start old.events first.0 ms has number.capacity first.2))
+
+pub returns-in-Some-next_u16-clause-value : goal.returns-in-Some-next_u16-clause-value
+returns-in-Some-next_u16-clause-value c =
+    let old = c.args.parts.now in
+    let number = c.in-Some-next_u16 in
+    let first = not_capped 65535 in_member number.labels c.args.reader.now c.next_u16-in-labels.new.reader (number.ensures.value in_member) number.ensures.small in
+    λ yes. (first.0, first.1, λ ms has. rw c.in-labels.is (has_labels old.capacity old.labels old.start old.events first.0 ms has number.labels first.2))
+
+pub returns-in-Some-2-clause-value : goal.returns-in-Some-2-clause-value
+returns-in-Some-2-clause-value c =
+    let old = c.args.parts.now in
+    let first = rw c.in-Some-2.is at c.in_ok-start-in-start.ensures.value in
+    λ yes. (first.0, first.1, λ ms has. rw c.in-start.is (has_start old.capacity old.labels old.start old.events first.0 ms has c.in-Some-2.start first.2))
+
+pub returns-in-Some-3-clause-value : goal.returns-in-Some-3-clause-value
+returns-in-Some-3-clause-value c =
+    let old = c.args.parts.now in
+    let first = (rw c.in-Some-3.is at c.in_ok-events-in-events.ensures.value) in_member (omega arith) in
+    λ yes. rw c.from_vec.ensures (first.0, first.1, λ ms has. rw c.in-events.is (has_events old.capacity old.labels old.start old.events first.0 ms has c.in-Some-3.events.items first.2))

@@ -1,0 +1,12 @@
+use Rattle.std.proofs.Common.{ℕ, ◌≤◌, ◌<◌, length}
+use Rattle.stab_stream.proofs.Entries.{ReadBefore}
+use Rattle.stab_stream.proofs.list.read_entries.Given as goal
+
+-- whatever entries the tokens that are left mean, the list goes before them
+abbrev pub invariant-entries : goal.invariant-entries
+invariant-entries g l =
+    (n : ℕ) × (length l.reader ≤ n) × (length l.reader ≤ length l.initial.reader)
+    × ((depth : ℕ) → 0 < depth → ReadBefore depth g.E.Entry.meaning (length l.initial.reader) l.initial.reader l.list.items n l.reader)
+
+abbrev pub decreases-entries : goal.decreases-entries
+decreases-entries g l = length l.reader

@@ -1,0 +1,12 @@
+use Rattle.std.proofs.Common.{◌≡◌, ◌-◌, ◌∷◌, ap, ◌∙◌, arith}
+use Rattle.json.specs.Token.{Token}
+use Rattle.json.specs.Reads.{token_of}
+use Rattle.stab_stream.proofs.Standing.{a_list}
+use Rattle.stab_stream.proofs.list.read_list.Goals as goal
+
+pub returns-clause-value : goal.returns-clause-value
+returns-clause-value g c =
+    let ts = c.next.new.self in
+    let is : c.args.reader.now ≡ Token.begin_array ∷ ts = c.in-Some-BeginArray.ensures.value ∙ ap (λ k. token_of k ∷ ts) c.in-Some-BeginArray.field-0-is in
+    let inside = rw c.in-Some.is at c.in_ok-list.ensures.value in
+    λ depth deep. rw is (a_list depth g.E.Entry.meaning ts c.read_entries.new.reader c.in-Some.list.items (omega (arith, deep)) (inside (depth - 1) (omega (arith, deep))))

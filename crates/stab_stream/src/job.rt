@@ -1,0 +1,182 @@
+ghost use Rattle.std.specs.Prelude.{◌≡◌, ◌≢◌, ◌≤◌, ◌<◌, [], length, Some, None, Ok, Err};
+ghost use Rattle.std.specs.Prelude.{MatchResult, IfSome, IfOk, OnErr, IsTrue};
+ghost use Rattle.json.specs.Lex.{tokens};
+ghost use Rattle.serde_json.specs.Data.{Data, Members, no_members, put, object};
+ghost use Rattle.stab_frames.specs.Parameters.{fault_of};
+ghost use Rattle.stab_json.specs.Values.{value_of};
+ghost use Rattle.stab_script.specs.LinkJobs.{link_job, most_events};
+ghost use Rattle.stab_stream.specs.Standing.{Stands, MembersMake};
+ghost use Rattle.stab_stream.specs.Members.{in_job, in_member, HasJob};
+
+use crate::list::read_list;
+use crate::number::next_u16;
+use crate::start::read_start;
+use json::{Reader, Scratch, Token};
+use stab_core::{Event, Start};
+use stab_frames::{Params, Sequence};
+use stab_script::{LinkJob, LinkJobFault, MAX_EVENTS, read_link_job};
+use std::alloc::{AllocError, Global};
+
+/// What was read of a link job so far.
+#[derive(Drop)]
+struct JobParts {
+    capacity: Option<u16>,
+    labels: Option<u16>,
+    start: Option<Start>,
+    events: Option<Sequence<Event>>,
+}
+
+/// The link job that these bytes mean, or the first check that they fail; memory may be refused
+/// before a later check.
+pub fn read_job(alloc: Global, bytes: &[u8]) -> Result<LinkJob, LinkJobFault>
+    ensures job { MatchResult result
+        (λ job. link_job bytes.now ≡ Ok job)
+        (λ fault. fault ≢ LinkJobFault.Memory → link_job bytes.now ≡ Err fault) }
+    // `Json` comes only where the bytes have no value, and `Memory` only where there is a byte.
+    ensures json { result ≡ Err LinkJobFault.Json → value_of bytes.now ≡ None }
+    ensures memory { result ≡ Err LinkJobFault.Memory → 0 < length bytes.now }
+{
+    match read_plain(alloc, bytes) {
+        Ok(Some(job)) => Ok(job),
+        Ok(None) => read_link_job(alloc, bytes),
+        Err(_) => Err(LinkJobFault::Memory),
+    }
+}
+
+/// The link job that these bytes mean, where they have the plain form; nothing is said of them
+/// where there is none.
+pub(crate) fn read_plain(alloc: Global, bytes: &[u8]) -> Result<Option<LinkJob>, AllocError>
+    ensures job { IfOk result (λ found. IfSome found (λ job. link_job bytes.now ≡ Ok job)) }
+    ensures memory { OnErr result (0 < length bytes.now) }
+{
+    let Ok(text) = std::str::from_utf8(bytes) else {
+        return Ok(None);
+    };
+    let Some(parts) = read_text(alloc, text)? else {
+        return Ok(None);
+    };
+    let Some(job) = whole_job(parts) else {
+        return Ok(None);
+    };
+    Ok(Some(job))
+}
+
+/// The parts of the link job that a text is, where it has the plain form.
+fn read_text(alloc: Global, text: &str) -> Result<Option<JobParts>, AllocError>
+    ensures value { IfOk result (λ found. IfSome found (λ parts. (ms : Members)
+        × (Stands in_job (tokens text.now) (object ms) [])
+        × HasJob parts.capacity parts.labels parts.start parts.events ms)) }
+    ensures memory { OnErr result (0 < length text.now) }
+{
+    let mut scratch = Scratch::new(alloc);
+    let mut reader = Reader::new(text, &mut scratch)?;
+    let Some(Token::BeginObject) = reader.next() else {
+        return Ok(None);
+    };
+    let Some(parts) = read_members(alloc, &mut reader)? else {
+        return Ok(None);
+    };
+    match reader.next() {
+        Some(_) => Ok(None),
+        None => Ok(Some(parts)),
+    }
+}
+
+/// The members of a link job, whose opening brace was taken.
+fn read_members(alloc: Global, reader: &mut Reader<'_>) -> Result<Option<JobParts>, AllocError>
+    ensures { IfOk result (λ found. IfSome found (λ parts. (ms : Members)
+        × (MembersMake in_member no_members (length reader.old) reader.old ms reader.new)
+        × HasJob parts.capacity parts.labels parts.start parts.events ms)) }
+{
+    let mut parts = JobParts {
+        capacity: None,
+        labels: None,
+        start: None,
+        events: None,
+    };
+    'members: loop {
+        let Ok(name) = reader.next_key() else {
+            return Ok(None);
+        };
+        let Some(name) = name else {
+            return Ok(Some(parts));
+        };
+        if !read_member(alloc, reader, name, &mut parts)? {
+            return Ok(None);
+        }
+    }
+}
+
+/// Reads the member of that name, whose value comes next; false where it has not the plain form.
+fn read_member(
+    alloc: Global,
+    reader: &mut Reader<'_>,
+    name: &str,
+    parts: &mut JobParts,
+) -> Result<bool, AllocError>
+    ensures value { IfOk result (λ done. IsTrue done → (d : Data)
+        × (Stands in_member reader.old d reader.new)
+        × ((ms : Members)
+        → HasJob parts.old.capacity parts.old.labels parts.old.start parts.old.events ms
+        → HasJob parts.new.capacity parts.new.labels parts.new.start parts.new.events
+        (put name.now d ms))) }
+    ensures shorter { IfOk result (λ done. IsTrue done → length reader.new < length reader.old) }
+{
+    match name {
+        "capacity" => {
+            let Some(capacity) = next_u16(reader) else {
+                return Ok(false);
+            };
+            parts.capacity = Some(capacity);
+        }
+        "labels" => {
+            let Some(labels) = next_u16(reader) else {
+                return Ok(false);
+            };
+            parts.labels = Some(labels);
+        }
+        "start" => {
+            let Some(start) = read_start(alloc, reader)? else {
+                return Ok(false);
+            };
+            parts.start = Some(start);
+        }
+        "events" => {
+            let Some(events) = read_list::<Event>(alloc, reader)? else {
+                return Ok(false);
+            };
+            parts.events = Some(Sequence::from_vec(events));
+        }
+        _ => return Ok(false),
+    }
+    Ok(true)
+}
+
+/// The link job of these parts, where all are there and pass each check.
+fn whole_job(parts: JobParts) -> Option<LinkJob>
+    ensures { IfSome result (λ job. (parts.capacity ≡ Some job.params.capacity)
+        × (parts.labels ≡ Some job.params.labels)
+        × (fault_of job.params.capacity job.params.labels ≡ None)
+        × (parts.start ≡ Some job.start)
+        × (parts.events ≡ Some job.events)
+        × (length job.events ≤ most_events)) }
+{
+    let JobParts {
+        capacity,
+        labels,
+        start,
+        events,
+    } = parts;
+    let events = events?;
+    if events.len() > MAX_EVENTS {
+        return None;
+    }
+    let Ok(params) = Params::new(capacity?, labels?) else {
+        return None;
+    };
+    Some(LinkJob {
+        params,
+        start: start?,
+        events,
+    })
+}

@@ -1,0 +1,76 @@
+ghost use Rattle.std.specs.Prelude.{◌≡◌, ◌≤◌, ◌<◌, ℕ, length, Some, IfSome};
+ghost use Rattle.serde_json.specs.Data.{number, unsigned};
+ghost use Rattle.serde_json.specs.Read.{number_of};
+ghost use Rattle.stab_stream.specs.Standing.{Stands};
+
+use crate::entry::Entry;
+use fast_float::Numeral;
+use json::{Reader, Token};
+
+/// The whole number that the text of a JSON number is, where it is one of 64 bits.
+#[tactic(auto, unfolding(serde_json::specs::Read::number_of))]
+fn whole_of(text: &str) -> Option<u64>
+    ensures { IfSome result (λ n. number_of text.now ≡ Some (unsigned n)) }
+{
+    let bytes = text.as_bytes();
+    if bytes.is_empty() || bytes[0] == b'-' {
+        return None;
+    }
+    Numeral::scan(bytes).to_u64()
+}
+
+/// The whole number that comes next.
+pub(crate) fn next_whole(reader: &mut Reader<'_>) -> Option<u64>
+    ensures value { IfSome result (λ n. (depth : ℕ)
+        → Stands depth reader.old (number (unsigned n)) reader.new) }
+    ensures shorter { IfSome result (λ _. length reader.new < length reader.old) }
+{
+    match reader.next()? {
+        Token::Number(text) => whole_of(text),
+        _ => None,
+    }
+}
+
+/// The whole number of 16 bits that comes next.
+pub(crate) fn next_u16(reader: &mut Reader<'_>) -> Option<u16>
+    ensures value { IfSome result (λ n. (depth : ℕ)
+        → Stands depth reader.old (number (unsigned n)) reader.new) }
+    ensures small { IfSome result (λ n. n ≤ 65535) }
+    ensures shorter { IfSome result (λ _. length reader.new < length reader.old) }
+{
+    let number = next_whole(reader)?;
+    if number <= 65535 {
+        Some(number as u16)
+    } else {
+        None
+    }
+}
+
+/// The whole number of 32 bits that comes next.
+pub(crate) fn next_u32(reader: &mut Reader<'_>) -> Option<u32>
+    ensures value { IfSome result (λ n. (depth : ℕ)
+        → Stands depth reader.old (number (unsigned n)) reader.new) }
+    ensures small { IfSome result (λ n. n ≤ 4294967295) }
+    ensures shorter { IfSome result (λ _. length reader.new < length reader.old) }
+{
+    let number = next_whole(reader)?;
+    if number <= 4_294_967_295 {
+        Some(number as u32)
+    } else {
+        None
+    }
+}
+
+/// A label.
+impl Entry for u16 {
+    type Read = u16;
+
+    ghost use Rattle.stab_json.specs.Values.{label};
+
+    ghost meaning = { label };
+
+    fn next(reader: &mut Reader<'_>) -> Option<u16> {
+        let label = next_u16(reader)?;
+        Some(label)
+    }
+}
