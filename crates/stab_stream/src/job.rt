@@ -14,7 +14,7 @@ use crate::start::read_start;
 use json::{Reader, Scratch, Token};
 use stab_core::{Event, Start};
 use stab_frames::{Params, Sequence};
-use stab_script::{LinkJob, LinkJobFault, MAX_EVENTS, read_link_job};
+use stab_script::{LinkJob, LinkJobFault, MAX_EVENTS};
 use std::alloc::{AllocError, Global};
 
 /// What was read of a link job so far.
@@ -28,7 +28,7 @@ struct JobParts {
 
 /// The link job that these bytes mean, or the first check that they fail; memory may be refused
 /// before a later check.
-pub fn read_job(alloc: Global, bytes: &[u8]) -> Result<LinkJob, LinkJobFault>
+pub fn read_link_job(alloc: Global, bytes: &[u8]) -> Result<LinkJob, LinkJobFault>
     ensures job { MatchResult result
         (λ job. link_job bytes.now ≡ Ok job)
         (λ fault. fault ≢ LinkJobFault.Memory → link_job bytes.now ≡ Err fault) }
@@ -38,14 +38,14 @@ pub fn read_job(alloc: Global, bytes: &[u8]) -> Result<LinkJob, LinkJobFault>
 {
     match read_plain(alloc, bytes) {
         Ok(Some(job)) => Ok(job),
-        Ok(None) => read_link_job(alloc, bytes),
+        Ok(None) => stab_script::read_link_job(alloc, bytes),
         Err(_) => Err(LinkJobFault::Memory),
     }
 }
 
 /// The link job that these bytes mean, where they have the plain form; nothing is said of them
 /// where there is none.
-pub(crate) fn read_plain(alloc: Global, bytes: &[u8]) -> Result<Option<LinkJob>, AllocError>
+fn read_plain(alloc: Global, bytes: &[u8]) -> Result<Option<LinkJob>, AllocError>
     ensures job { IfOk result (λ found. IfSome found (λ job. link_job bytes.now ≡ Ok job)) }
     ensures memory { OnErr result (0 < length bytes.now) }
 {

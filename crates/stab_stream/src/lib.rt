@@ -1,10 +1,10 @@
 //! Link jobs read from their text as a stream of JSON tokens, without a tree of values.
 //!
-//! [`read_job`] has the contract of `stab_script::read_link_job`, clause by clause, and is the one
-//! fact that the layer above uses. A job in the plain form, which is a text of nothing but the
-//! members that a job has, each as it has to be, is read token by token, straight into its lists.
-//! Any other text is read by `stab_script` through a value of `serde_json`, so each refusal and
-//! their order are its own.
+//! [`read_link_job`] has the contract of the function of that name in `stab_script`, clause by
+//! clause, which is the one fact that the layer above uses. A job in the plain form is a text of the
+//! members of a link job and nothing else, each as it has to be: it is read token by token, straight
+//! into its lists. Any other text is read by `stab_script`, through a value of `serde_json`, so each
+//! refusal and their order are its own.
 #![tactic(auto)]
 
 mod entry;
@@ -15,4 +15,4 @@ mod list;
 mod number;
 mod start;
 
-pub use job::read_job;
+pub use job::read_link_job;

@@ -4,19 +4,29 @@ ghost use Rattle.serde_json.specs.Read.{number_of};
 ghost use Rattle.stab_stream.specs.Standing.{Stands};
 
 use crate::entry::Entry;
-use fast_float::Numeral;
 use json::{Reader, Token};
 
-/// The whole number that the text of a JSON number is, where it is one of 64 bits.
-#[tactic(auto, unfolding(serde_json::specs::Read::number_of))]
+/// The largest number that a digit more leaves within 64 bits.
+const MOST_BEFORE_A_DIGIT: u64 = 1_844_674_407_370_955_160;
+
+/// The whole number that the text of a JSON number is, where it is digits alone, and one of 64 bits;
+/// of the largest ten of these nothing is said.
+#[tactic(auto, using(crate::proofs::Numbers::digit_is))]
 fn whole_of(text: &str) -> Option<u64>
     ensures { IfSome result (λ n. number_of text.now ≡ Some (unsigned n)) }
 {
     let bytes = text.as_bytes();
-    if bytes.is_empty() || bytes[0] == b'-' {
+    if bytes.is_empty() {
         return None;
     }
-    Numeral::scan(bytes).to_u64()
+    let mut number: u64 = 0;
+    for byte in bytes {
+        if !byte.is_ascii_digit() || number > MOST_BEFORE_A_DIGIT {
+            return None;
+        }
+        number = number * 10 + (*byte - b'0') as u64;
+    }
+    Some(number)
 }
 
 /// The whole number that comes next.
