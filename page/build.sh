@@ -57,16 +57,23 @@ build() {
         { cat -- "$work/log" >&2; fail "the module was not linked"; }
 }
 
-# Writes the page with the module $1 to standard output, without empty lines, lines
-# of comments, and the spaces before the other lines.
+# Writes the page with the module $1 to standard output, without empty lines, lines of comments,
+# the spaces before other lines, and those that a style does not need.
 page() {
-    local line module
+    local line module is_style=
     module=$(base64 -w 0 -- "$1")
     while IFS= read -r line || [ -n "$line" ]; do
         if [[ $line == *'{{MODULE}}'* ]]; then
             line=${line%%'{{MODULE}}'*}$module${line#*'{{MODULE}}'}
         fi
         line=${line#"${line%%[! ]*}"}
+        case $line in
+        '<style>') is_style=1 ;;
+        '</style>') is_style= ;;
+        esac
+        if [ -n "$is_style" ]; then
+            line=${line//: /:} line=${line//; /;} line=${line// \{/\{} line=${line//\{ /\{}
+        fi
         [[ -z $line || $line == '// '* ]] || printf '%s\n' "$line"
     done <"$top/page/page.html"
 }

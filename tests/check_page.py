@@ -596,6 +596,10 @@ class Checks:
             and said[4] == "1 of 2 right", said)
         browser.run("$('asks').checked = false;")
 
+        said = browser.run("""$('n-capacity').value = 3; fillWorst(); ownStart();
+            return [job.capacity, job.labels, job.start, name];""")
+        worst = {"frames": [[4, 97], [5, 98], [6, 99]], "acks": [0, 1, 2], "send": 0, "recv": 3}
+        self.see(f"{name}: the worst start of capacity 3", said == [3, 8, worst, "a start of your own"], said)
         browser.run("show(RUNS['A clean start'], 'x'); document.querySelector('[data-event=offer]').focus(); document.activeElement.click();")
         self.see(f"{name}: the focus stays",
             browser.run("return document.activeElement.dataset.event") == "offer")
