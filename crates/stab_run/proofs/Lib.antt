@@ -1,5 +1,4 @@
 pub mod Paired
-pub mod InOrder
 pub mod Begun
 pub mod OfKinds
 pub mod Reasons

@@ -1,4 +1,5 @@
--- What a report shows of the scripts of its job: of each link of two words, and of each locked link.
+-- What a report shows of the scripts of its job: of each link of two words, and of each locked
+-- link.
 -- Example: The root published 7, 8, the link into a begins clean, and its script drops more frames
 -- than the job has turns. A report that a received 7 is explained by no steps that keep to the
 -- script: they store no frame, so a load shows none. Where the script drops the first frame alone,
@@ -20,12 +21,12 @@ use Rattle.stab_word.specs.declared.view.SendStep.{SendStep}
 use Rattle.stab_word.specs.declared.view.RecvStep.{RecvStep}
 use Rattle.stab_node.specs.ByNode.{entry_into, received_at}
 use Rattle.stab_node.specs.Work.{HasOffered, OffersUnlessRefused}
-use Rattle.stab_run.specs.AnyEnds.{MayRefuseOffer}
-use Rattle.stab_run.specs.LinkKinds.{behind_lock, kind_for, two_words}
+use Rattle.stab_links.specs.AnyEnds.{MayRefuseOffer}
+use Rattle.stab_links.specs.LinkKinds.{behind_lock, kind_for, two_words}
 use Rattle.stab_run.specs.Reports.{Reported, acked_at}
-use Rattle.stab_run.specs.Scripted.{IsLetThrough, ScriptedSendFinished, ack_stores}
-use Rattle.stab_run.specs.Scripted.{frame_stores}
-use Rattle.stab_run.specs.declared.links.Links.{Links}
+use Rattle.stab_links.specs.Scripted.{IsLetThrough, ScriptedSendFinished, ack_stores}
+use Rattle.stab_links.specs.Scripted.{frame_stores}
+use Rattle.stab_links.specs.declared.links.Links.{Links}
 use mathlib.Core.List.{IsPrefix}
 
 -- Some steps of the two ends of the link into a child, interleaved, explain what the report says of

@@ -1,9 +1,6 @@
-pub mod AnyEnds
-pub mod Scripted
 pub mod Reports
 pub mod RunFaults
 pub mod LinkRuns
-pub mod LinkKinds
-pub mod AnyLinks
+pub mod Kept
 pub mod ByScript
 pub mod Runs

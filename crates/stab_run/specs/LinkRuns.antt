@@ -1,13 +1,9 @@
 -- A run of workers over links: what the workers leave, and what settling the links shows.
 -- Source: this project's own.
 use Rattle.std.specs.Prelude.{◌≡◌, ◌<◌, ℕ, List, [], ◌∷◌, ◌++◌, length, Option, Some}
-use Rattle.stab_acts.specs.Scripts.{Acts}
-use Rattle.stab_core.specs.declared.event.Event.{Event}
 use Rattle.stab_core.specs.LinkSetup.{LinkSetup}
-use Rattle.stab_core.specs.Replay.{initial, replay}
 use Rattle.stab_ends.specs.Accounts.{SenderAccount, ReceiverAccount}
-use Rattle.stab_ends.specs.Agreement.{Agree}
-use Rattle.stab_lock.specs.Scripted.{IsNotedUnder}
+use Rattle.stab_links.specs.Settled.{IsSettled}
 use Rattle.stab_lock.specs.declared.settle.SettleFault.{SettleFault}
 use Rattle.stab_node.specs.declared.account.Ended.{Ended}
 use Rattle.stab_node.specs.declared.account.Ended.TheVariants.{Upstream}
@@ -17,19 +13,6 @@ use Rattle.stab_tree.specs.Nodes.{parent_at, root_of}
 use Rattle.stab_treecore.specs.Network.{Network}
 use Rattle.stab_tree.specs.NodeOpenings.{opening_at}
 use Rattle.stab_node.specs.ByNode.{ended_at, entry_into, received_at}
-
--- one list of events explains the accounts of both ends of a link
-pub record IsSettled (link : LinkSetup) (send : SenderAccount) (recv : ReceiverAccount) : Type 0 where
-  pub events : List Event
-  pub agree : Agree (replay link.params (initial link.start) events) send recv
-
--- one list of events explains the accounts of both ends of a locked link, and some calls of the ends
--- noted it, each under the next act of its half of this script
-pub record IsSettledByScript (link : LinkSetup) (script : Acts) (send : SenderAccount)
-    (recv : ReceiverAccount) : Type 0 where
-  pub events : List Event
-  pub agree : Agree (replay link.params (initial link.start) events) send recv
-  pub noted : IsNotedUnder link.params link.start script events
 
 -- of each link, with its two finished ends, this holds: the three lists are in the same order
 abbrev pub AllOfEach : {L S R : Type 0} → (L → S → R → Type 0) → List L → List S → List R → Type 0
@@ -50,23 +33,24 @@ pub record HoldsInto (P : LinkSetup → Type 0) (parents : List (Option ℕ)) (l
   pub holds : P link
 
 -- this holds of the first of these links, with the first account of each side and this reason
-abbrev pub HoldsOfFirst : (LinkSetup → SenderAccount → ReceiverAccount → SettleFault → Type 0) → List LinkSetup
-    → List SenderAccount → List ReceiverAccount → SettleFault → Type 0
+abbrev pub HoldsOfFirst : (LinkSetup → SenderAccount → ReceiverAccount → SettleFault → Type 0)
+    → List LinkSetup → List SenderAccount → List ReceiverAccount → SettleFault → Type 0
 HoldsOfFirst P (link ∷ links) (send ∷ sends) (recv ∷ recvs) why = P link send recv why
 HoldsOfFirst P links sends recvs why = ⊥
 
 -- the accounts of the links into the nodes before this one are settled
-abbrev pub SettledBefore : List (Option ℕ) → List LinkSetup → List SenderAccount → List ReceiverAccount → ℕ → Type 0
+abbrev pub SettledBefore : List (Option ℕ) → List LinkSetup → List SenderAccount
+    → List ReceiverAccount → ℕ → Type 0
 SettledBefore parents links sends recvs node =
-    (earlier : ℕ) (link : LinkSetup) (send : SenderAccount) (recv : ReceiverAccount) → earlier < node
-    → entry_into parents links earlier ≡ Some link → entry_into parents sends earlier ≡ Some send
-    → entry_into parents recvs earlier ≡ Some recv → IsSettled link send recv
+    (earlier : ℕ) (link : LinkSetup) (send : SenderAccount) (recv : ReceiverAccount)
+    → earlier < node → entry_into parents links earlier ≡ Some link
+    → entry_into parents sends earlier ≡ Some send → entry_into parents recvs earlier ≡ Some recv → IsSettled link send recv
 
 -- The link into this child is the first in file order that is not settled with its two accounts:
 -- this holds of it, of both accounts and of this reason.
 pub record IsFirstRefused (P : LinkSetup → SenderAccount → ReceiverAccount → SettleFault → Type 0)
-    (parents : List (Option ℕ)) (links : List LinkSetup) (sends : List SenderAccount) (recvs : List ReceiverAccount)
-    (child : ℕ) (why : SettleFault) : Type 0 where
+    (parents : List (Option ℕ)) (links : List LinkSetup) (sends : List SenderAccount)
+    (recvs : List ReceiverAccount) (child : ℕ) (why : SettleFault) : Type 0 where
   pub link : LinkSetup
   pub send : SenderAccount
   pub recv : ReceiverAccount

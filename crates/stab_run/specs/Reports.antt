@@ -11,7 +11,7 @@ use Rattle.stab_tree.specs.Nodes.{Nodes}
 use Rattle.stab_tree.specs.Steps.{depth_of}
 use Rattle.stab_treecore.specs.Texts.{node_counts}
 use Rattle.stab_node.specs.ByNode.{received_at, ended_at}
-use Rattle.stab_run.specs.LinkKinds.{LinkKind}
+use Rattle.stab_links.specs.LinkKinds.{LinkKind}
 
 -- by node in file order: what it received, how many items are acknowledged on the link into it, and
 -- why its worker made no further turn; and in file order of the children the kind of each link

@@ -4,24 +4,24 @@ ghost use Rattle.std.specs.List.{AllZip};
 ghost use Rattle.std.specs.Prelude.{◌≡◌, ◌∷◌, ◌<◌, ℕ, All, IfErr, IfOk, Some, length, map};
 ghost use Rattle.stab_job.specs.JobValues.{network};
 ghost use Rattle.stab_ends.specs.Accounts.{new_receiver, new_sender};
-ghost use Rattle.stab_run.specs.AnyLinks.{HasReceived, HasSent, IsOpenedBy, Receives, Sends};
-ghost use Rattle.stab_run.specs.AnyLinks.{received_by, sent_by};
+ghost use Rattle.stab_links.specs.AnyLinks.{HasReceived, HasSent, IsOpenedBy, Receives, Sends};
+ghost use Rattle.stab_links.specs.AnyLinks.{received_by, sent_by};
 ghost use Rattle.stab_node.specs.ByNode.{entry_into, received_at};
 ghost use Rattle.stab_node.specs.Work.{OffersUnlessRefused};
 ghost use Rattle.stab_run.specs.ByScript.{OffersAll};
 ghost use Rattle.stab_run.specs.LinkRuns.{IsRun};
 ghost use Rattle.stab_run.specs.RunFaults.{HaveAsked, IsWorkersReason};
-ghost use Rattle.stab_run.specs.Scripted.{plan};
+ghost use Rattle.stab_links.specs.Scripted.{plan};
 ghost use Rattle.stab_tree.specs.Links.{links_of};
 ghost use Rattle.stab_tree.specs.Nodes.{parent_at};
 
-use crate::any_link::{AnyLink, AnyOpening};
 use crate::run_fault::RunFault;
-use crate::scripted_recv::{ScriptedRecv, ScriptedRecvDone};
-use crate::scripted_send::{ScriptedSend, ScriptedSendDone};
 use stab_acts::Script;
 use stab_ends::{RecvSide, SendSide};
 use stab_job::Job;
+use stab_links::{
+    AnyLink, AnyOpening, ScriptedRecv, ScriptedRecvDone, ScriptedSend, ScriptedSendDone,
+};
 use stab_node::{Gate, Gathered, run_workers};
 use std::alloc::{AllocError, Global};
 use std::collections::VecDeque;

@@ -4,7 +4,7 @@ ghost use Rattle.std.specs.Prelude.{◌≡◌, [], ◌++◌, ◌<◌, length, st
 ghost use Rattle.stab_run.specs.Reports.{OnePerNode, ended_entry, node_report, lines_of};
 ghost use Rattle.stab_run.specs.Reports.{report_text};
 
-use crate::any_link::KeptLinks;
+use crate::kept_links::KeptLinks;
 use stab_core::push_items_line;
 use stab_frames::{Item, Sequence};
 use stab_node::Ended;
@@ -30,7 +30,7 @@ pub struct Report {
 
 impl Model for Report {
     ghost use Rattle.stab_run.specs.Reports.{Reported};
-    ghost use Rattle.stab_run.specs.AnyLinks.{kinds_of};
+    ghost use Rattle.stab_run.specs.Kept.{kinds_of};
 
     ghost Value = { Reported };
 

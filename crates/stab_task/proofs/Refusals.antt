@@ -11,7 +11,7 @@ use Rattle.stab_core.specs.Replay.{IsLawful}
 use Rattle.stab_job.specs.JobValues.{JobValue, network}
 use Rattle.stab_job.specs.Jobs.{job as whole_job}
 use Rattle.stab_run.specs.Runs.{IsFirstUnlawful}
-use Rattle.stab_run.specs.declared.links.Links.{Links}
+use Rattle.stab_links.specs.declared.links.Links.{Links}
 use Rattle.stab_run.specs.declared.run_fault.RunFault.{RunFault}
 use Rattle.stab_run.specs.declared.run_fault.RunFault.TheVariants as run
 use Rattle.stab_script.specs.declared.link_job.LinkJob.{LinkJob as OneLink}

@@ -6,7 +6,7 @@ use Rattle.stab_judge.specs.Reports.{OnePerNode}
 use Rattle.stab_run.specs.Reports.{Reported}
 use Rattle.stab_job.specs.JobValues.{JobValue, network}
 use Rattle.stab_run.specs.Runs.{IsReport}
-use Rattle.stab_run.specs.declared.links.Links.{Links}
+use Rattle.stab_links.specs.declared.links.Links.{Links}
 use Rattle.rignolda_acts.proofs.laws.runs_are_accepted.Goals as goal
 
 -- there is an entry for each node

@@ -1,6 +1,6 @@
 use Rattle.std.proofs.Common.{◌≡◌, ◌∙◌}
-use Rattle.stab_run.specs.AnyLinks.{name_of}
-use Rattle.stab_run.specs.Scripted.{ScriptedLink, ScriptedRecvEnd, ScriptedRecvFinished, ScriptedSendEnd, ScriptedSendFinished}
+use Rattle.stab_links.specs.AnyLinks.{name_of}
+use Rattle.stab_links.specs.Scripted.{ScriptedLink, ScriptedRecvEnd, ScriptedRecvFinished, ScriptedSendEnd, ScriptedSendFinished}
 use Rattle.stab_run.proofs.Paired.{paired_read, read_further}
 use Rattle.stab_run.proofs.ends.run_links.Goals as goal
 

@@ -1,7 +1,7 @@
 ghost use Rattle.std.specs.Prelude.{◌≡◌, IfOk, OnErr};
 ghost use Rattle.stab_ends.specs.Accounts.{IsOpenFor, after_poll_frame};
-ghost use Rattle.stab_run.specs.AnyEnds.{AnyLinkId, OfWordRecv, SameRecvSteps, any_recv_end};
-ghost use Rattle.stab_run.specs.AnyEnds.{any_recv_finished};
+ghost use Rattle.stab_links.specs.AnyEnds.{AnyLinkId, OfWordRecv, SameRecvSteps, any_recv_end};
+ghost use Rattle.stab_links.specs.AnyEnds.{any_recv_finished};
 ghost use Rattle.stab_word.specs.Calls.{PollFrameCall, SendAckCall};
 
 use stab_core::Effect;

@@ -1,8 +1,8 @@
 ghost use Rattle.std.specs.Prelude.{◌≡◌, true, false, IfOk, OnErr};
 ghost use Rattle.stab_ends.specs.Accounts.{MayOffer, Waits, after_offer, after_poll_ack};
 ghost use Rattle.stab_ends.specs.Accounts.{after_close};
-ghost use Rattle.stab_run.specs.AnyEnds.{AnyLinkId, MayRefuseOffer, OfWordSend, SameSendSteps};
-ghost use Rattle.stab_run.specs.AnyEnds.{any_send_end, any_send_finished};
+ghost use Rattle.stab_links.specs.AnyEnds.{AnyLinkId, MayRefuseOffer, OfWordSend, SameSendSteps};
+ghost use Rattle.stab_links.specs.AnyEnds.{any_send_end, any_send_finished};
 ghost use Rattle.stab_word.specs.Calls.{OfferCall, SendCall, PollAckCall, CloseCall};
 
 use stab_core::Effect;

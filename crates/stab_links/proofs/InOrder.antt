@@ -18,16 +18,16 @@ use Rattle.stab_word.specs.declared.view.SendStep.{SendStep}
 use Rattle.stab_word.specs.declared.view.SendStep.TheVariants as send_step
 use Rattle.stab_word.specs.declared.view.RecvStep.{RecvStep}
 use Rattle.stab_word.specs.declared.view.RecvStep.TheVariants as recv_step
-use Rattle.stab_run.specs.AnyEnds.{OfWordRecv, OfWordSend, SameRecvSteps, SameSendSteps}
-use Rattle.stab_run.specs.Scripted.{AnswersInOrder, IsLetThrough, IsNewRecv, IsNewSend, SendsInOrder, TakesInOrder, ack_stores, frame_stores, let_through, steps_received, steps_sent, stored_under}
-use Rattle.stab_run.specs.declared.any_send.AnySend.{AnySend}
-use Rattle.stab_run.specs.declared.any_send.AnySend.TheVariants as send
-use Rattle.stab_run.specs.declared.any_send.AnySendDone.{AnySendDone}
-use Rattle.stab_run.specs.declared.any_send.AnySendDone.TheVariants as send_done
-use Rattle.stab_run.specs.declared.any_recv.AnyRecv.{AnyRecv}
-use Rattle.stab_run.specs.declared.any_recv.AnyRecv.TheVariants as recv
-use Rattle.stab_run.specs.declared.any_recv.AnyRecvDone.{AnyRecvDone}
-use Rattle.stab_run.specs.declared.any_recv.AnyRecvDone.TheVariants as recv_done
+use Rattle.stab_links.specs.AnyEnds.{OfWordRecv, OfWordSend, SameRecvSteps, SameSendSteps}
+use Rattle.stab_links.specs.Scripted.{AnswersInOrder, IsLetThrough, IsNewRecv, IsNewSend, SendsInOrder, TakesInOrder, ack_stores, frame_stores, let_through, steps_received, steps_sent, stored_under}
+use Rattle.stab_links.specs.declared.any_send.AnySend.{AnySend}
+use Rattle.stab_links.specs.declared.any_send.AnySend.TheVariants as send
+use Rattle.stab_links.specs.declared.any_send.AnySendDone.{AnySendDone}
+use Rattle.stab_links.specs.declared.any_send.AnySendDone.TheVariants as send_done
+use Rattle.stab_links.specs.declared.any_recv.AnyRecv.{AnyRecv}
+use Rattle.stab_links.specs.declared.any_recv.AnyRecv.TheVariants as recv
+use Rattle.stab_links.specs.declared.any_recv.AnyRecvDone.{AnyRecvDone}
+use Rattle.stab_links.specs.declared.any_recv.AnyRecvDone.TheVariants as recv_done
 
 -- ---- acts
 

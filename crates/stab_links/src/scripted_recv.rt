@@ -2,9 +2,9 @@
 
 ghost use Rattle.std.specs.Prelude.{◌≡◌};
 ghost use Rattle.stab_acts.specs.Scripts.{receiver_half};
-ghost use Rattle.stab_run.specs.AnyEnds.{any_recv_end, any_recv_finished};
-ghost use Rattle.stab_run.specs.Scripted.{IsLetThrough, IsNewRecv, ScriptedLink, ack_stores};
-ghost use Rattle.stab_run.specs.Scripted.{steps_received};
+ghost use Rattle.stab_links.specs.AnyEnds.{any_recv_end, any_recv_finished};
+ghost use Rattle.stab_links.specs.Scripted.{IsLetThrough, IsNewRecv, ScriptedLink, ack_stores};
+ghost use Rattle.stab_links.specs.Scripted.{steps_received};
 
 use crate::any_recv::{AnyRecv, AnyRecvDone};
 use crate::plan::Plan;
@@ -16,7 +16,7 @@ use std::sync::Wait;
 
 /// An end of a link of either kind, in a run. It makes the calls of the end inside, but no more
 /// sends than the job has turns, as the sender's end of a run.
-pub(crate) struct ScriptedRecv<'a, 's, R> {
+pub struct ScriptedRecv<'a, 's, R> {
     end: AnyRecv<'a, R>,
     plan: Plan<'s>,
     sends: u32,
@@ -35,8 +35,8 @@ impl<'a, 's, R> Drop for ScriptedRecv<'a, 's, R> {
 impl<'a, 's, R> Model for ScriptedRecv<'a, 's, R> {
     ghost use Rattle.std.specs.Prelude.{◌≤◌};
     ghost use Rattle.stab_acts.specs.Scripts.{receiver_half};
-    ghost use Rattle.stab_run.specs.AnyEnds.{any_recv_end};
-    ghost use Rattle.stab_run.specs.Scripted.{AnswersInOrder, ScriptedRecvEnd};
+    ghost use Rattle.stab_links.specs.AnyEnds.{any_recv_end};
+    ghost use Rattle.stab_links.specs.Scripted.{AnswersInOrder, ScriptedRecvEnd};
 
     ghost Value = { ScriptedRecvEnd };
 
@@ -68,16 +68,16 @@ impl<'a, 's, R> ScriptedRecv<'a, 's, R> {
 
 /// What remains of the end once it is finished.
 #[derive(Drop)]
-pub(crate) struct ScriptedRecvDone<'s> {
+pub struct ScriptedRecvDone<'s> {
     done: AnyRecvDone,
     plan: Plan<'s>,
 }
 
 impl<'s> Model for ScriptedRecvDone<'s> {
     ghost use Rattle.stab_acts.specs.Scripts.{receiver_half};
-    ghost use Rattle.stab_run.specs.AnyEnds.{any_recv_finished};
-    ghost use Rattle.stab_run.specs.Scripted.{IsLetThrough, ScriptedRecvFinished};
-    ghost use Rattle.stab_run.specs.Scripted.{ack_stores, steps_received};
+    ghost use Rattle.stab_links.specs.AnyEnds.{any_recv_finished};
+    ghost use Rattle.stab_links.specs.Scripted.{IsLetThrough, ScriptedRecvFinished};
+    ghost use Rattle.stab_links.specs.Scripted.{ack_stores, steps_received};
 
     ghost Value = { ScriptedRecvFinished };
 

@@ -5,8 +5,8 @@
 use Rattle.std.specs.Prelude.{◌≡◌, ◌==◌, ◌≢◌, List, All, if◌then◌else◌}
 use Rattle.stab_frames.specs.Parameters.{Parameters}
 use Rattle.stab_core.specs.LinkSetup.{LinkSetup}
-use Rattle.stab_run.specs.declared.links.Links.{Links}
-use Rattle.stab_run.specs.declared.links.Links.TheVariants.{Locked, Words, Mixed}
+use Rattle.stab_links.specs.declared.links.Links.{Links}
+use Rattle.stab_links.specs.declared.links.Links.TheVariants.{Locked, Words, Mixed}
 
 -- a link is a state behind a lock, or it is two words
 pub data LinkKind : Type 0 where

@@ -1,16 +1,16 @@
-//! A link of either kind, and what a run does with one: it is made, split into its two ends, and
-//! settled with them once they are finished.
+//! A link of either kind. It is made, split into its two ends, and settled with them once they are
+//! finished.
 
 ghost use Rattle.std.specs.Prelude.{◌≡◌, [], ◌∷◌, if◌then◌else◌, IfErr, IfOk, OnOk};
 ghost use Rattle.stab_core.specs.LinkSetup.{setup};
 ghost use Rattle.stab_core.specs.Replay.{IsLawful};
 ghost use Rattle.stab_ends.specs.Accounts.{new_receiver, new_sender};
-ghost use Rattle.stab_run.specs.AnyLinks.{HasReceived, HasSent, IsFollowed, IsOneOf, IsOpenedBy};
-ghost use Rattle.stab_run.specs.AnyLinks.{IsScriptOf};
-ghost use Rattle.stab_run.specs.AnyLinks.{MayDiffer, Receives, Sends, given_to, kind_of};
-ghost use Rattle.stab_run.specs.LinkKinds.{HaveOnePlace, behind_lock, kind_for, two_words};
-ghost use Rattle.stab_run.specs.LinkRuns.{IsSettled};
-ghost use Rattle.stab_run.specs.Scripted.{plan};
+ghost use Rattle.stab_links.specs.AnyLinks.{HasReceived, HasSent, IsFollowed, IsOneOf, IsOpenedBy};
+ghost use Rattle.stab_links.specs.AnyLinks.{IsScriptOf, MayDiffer, Receives, Sends, given_to};
+ghost use Rattle.stab_links.specs.AnyLinks.{kind_of};
+ghost use Rattle.stab_links.specs.LinkKinds.{HaveOnePlace, behind_lock, kind_for, two_words};
+ghost use Rattle.stab_links.specs.Scripted.{plan};
+ghost use Rattle.stab_links.specs.Settled.{IsSettled};
 
 use crate::any_recv::{AnyRecv, AnyRecvDone};
 use crate::any_send::{AnySend, AnySendDone};
@@ -25,11 +25,10 @@ use stab_frames::Params;
 use stab_lock::{LockLink, SettleFault};
 use stab_word::{WordLink, WordOpening};
 use std::alloc::{AllocError, Global};
-use std::snapshot::Snapshot;
 
 /// A link of either kind.
 #[derive(Drop)]
-pub(crate) enum AnyLink {
+pub enum AnyLink {
     /// A link with a lock.
     Lock(LockLink),
     /// A link of two words.
@@ -38,21 +37,11 @@ pub(crate) enum AnyLink {
 
 /// What splits a link of either kind into its two ends.
 #[derive(Drop)]
-pub(crate) enum AnyOpening {
+pub enum AnyOpening {
     /// A link with a lock needs nothing.
     Lock,
     /// The opening of a link of two words.
     Word(WordOpening),
-}
-
-/// The links of a run before they were settled, in file order of the children, as its report keeps
-/// them. No link is kept: only contracts see of which kind each of them is.
-#[derive(Drop)]
-pub(crate) enum KeptLinks {
-    /// No run made the report.
-    None,
-    /// These links.
-    Kept(Snapshot<Vec<AnyLink>>),
 }
 
 /// Whether a link with these parameters is two words.
@@ -68,7 +57,7 @@ fn is_of_words(links: Links, params: Params) -> bool
 
 impl AnyLink {
     /// A link at a lawful start, and what splits it. A link with a lock gets a copy of the script.
-    pub(crate) fn make(
+    pub fn make(
         alloc: Global,
         links: Links,
         params: Params,
@@ -97,7 +86,7 @@ impl AnyLink {
 
     /// The two ends of the link, which have made no call, for so many turns. Those of a link of two
     /// words have each its half of a copy of the script.
-    pub(crate) fn split<'a, 's, R>(
+    pub fn split<'a, 's, R>(
         &'a self,
         alloc: Global,
         opening: AnyOpening,
@@ -132,9 +121,8 @@ impl AnyLink {
     }
 
     /// Settles a link with its two finished ends: one list of events explains both accounts, and
-    /// the ends followed the script. Which links the run has is for contracts
-    /// alone.
-    pub(crate) fn settle(
+    /// the ends followed the script. Which links the run has is for contracts alone.
+    pub fn settle(
         self,
         _links: Links,
         send: ScriptedSendDone<'_>,

@@ -10,14 +10,14 @@ use Rattle.stab_ends.specs.Accounts.{SenderAccount, ReceiverAccount}
 use Rattle.stab_acts.specs.Scripts.{ActsRemaining}
 use Rattle.stab_word.specs.Ends.{WordSendView, WordRecvView}
 use Rattle.stab_word.specs.Seats.{LinkId}
-use Rattle.stab_run.specs.declared.any_send.AnySend.{AnySend}
-use Rattle.stab_run.specs.declared.any_send.AnySend.TheVariants as send
-use Rattle.stab_run.specs.declared.any_send.AnySendDone.{AnySendDone}
-use Rattle.stab_run.specs.declared.any_send.AnySendDone.TheVariants as send_done
-use Rattle.stab_run.specs.declared.any_recv.AnyRecv.{AnyRecv}
-use Rattle.stab_run.specs.declared.any_recv.AnyRecv.TheVariants as recv
-use Rattle.stab_run.specs.declared.any_recv.AnyRecvDone.{AnyRecvDone}
-use Rattle.stab_run.specs.declared.any_recv.AnyRecvDone.TheVariants as recv_done
+use Rattle.stab_links.specs.declared.any_send.AnySend.{AnySend}
+use Rattle.stab_links.specs.declared.any_send.AnySend.TheVariants as send
+use Rattle.stab_links.specs.declared.any_send.AnySendDone.{AnySendDone}
+use Rattle.stab_links.specs.declared.any_send.AnySendDone.TheVariants as send_done
+use Rattle.stab_links.specs.declared.any_recv.AnyRecv.{AnyRecv}
+use Rattle.stab_links.specs.declared.any_recv.AnyRecv.TheVariants as recv
+use Rattle.stab_links.specs.declared.any_recv.AnyRecvDone.{AnyRecvDone}
+use Rattle.stab_links.specs.declared.any_recv.AnyRecvDone.TheVariants as recv_done
 
 -- a link: it has a lock, or it is this link of two words
 pub data AnyLinkId : Type 0 where
@@ -75,15 +75,15 @@ any_recv_finished (recv_done.Word done) =
     record { link = of_words done.link; account = done.received }
 
 -- over two words a call is this call of the end inside; over a lock this says nothing
-abbrev pub OfWordSend : {R : Type 0} → (WordSendView → WordSendView → Type 0) → AnySend R → AnySend R
-    → Type 0
+abbrev pub OfWordSend : {R : Type 0} → (WordSendView → WordSendView → Type 0)
+    → AnySend R → AnySend R → Type 0
 OfWordSend IsCall (send.Lock old) (send.Lock new) = Unit {0}
 OfWordSend IsCall (send.Lock old) (send.Word new) = ⊥
 OfWordSend IsCall (send.Word old) (send.Lock new) = ⊥
 OfWordSend IsCall (send.Word old) (send.Word new) = IsCall old new
 
-abbrev pub OfWordRecv : {R : Type 0} → (WordRecvView → WordRecvView → Type 0) → AnyRecv R → AnyRecv R
-    → Type 0
+abbrev pub OfWordRecv : {R : Type 0} → (WordRecvView → WordRecvView → Type 0)
+    → AnyRecv R → AnyRecv R → Type 0
 OfWordRecv IsCall (recv.Lock old) (recv.Lock new) = Unit {0}
 OfWordRecv IsCall (recv.Lock old) (recv.Word new) = ⊥
 OfWordRecv IsCall (recv.Word old) (recv.Lock new) = ⊥

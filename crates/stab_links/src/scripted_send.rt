@@ -2,9 +2,9 @@
 
 ghost use Rattle.std.specs.Prelude.{◌≡◌};
 ghost use Rattle.stab_acts.specs.Scripts.{sender_half};
-ghost use Rattle.stab_run.specs.AnyEnds.{MayRefuseOffer, any_send_end, any_send_finished};
-ghost use Rattle.stab_run.specs.Scripted.{IsLetThrough, IsNewSend, ScriptedLink, frame_stores};
-ghost use Rattle.stab_run.specs.Scripted.{steps_sent};
+ghost use Rattle.stab_links.specs.AnyEnds.{MayRefuseOffer, any_send_end, any_send_finished};
+ghost use Rattle.stab_links.specs.Scripted.{IsLetThrough, IsNewSend, ScriptedLink, frame_stores};
+ghost use Rattle.stab_links.specs.Scripted.{steps_sent};
 
 use crate::any_send::{AnySend, AnySendDone};
 use crate::plan::Plan;
@@ -18,7 +18,7 @@ use std::sync::Wait;
 /// An end of a link of either kind, in a run. It makes the calls of the end inside, but no more
 /// sends than the job has turns, so contracts see how many acts of the script it took at most. A
 /// worker makes one send a turn, so it never comes to one that is left out.
-pub(crate) struct ScriptedSend<'a, 's, R> {
+pub struct ScriptedSend<'a, 's, R> {
     end: AnySend<'a, R>,
     plan: Plan<'s>,
     sends: u32,
@@ -37,8 +37,8 @@ impl<'a, 's, R> Drop for ScriptedSend<'a, 's, R> {
 impl<'a, 's, R> Model for ScriptedSend<'a, 's, R> {
     ghost use Rattle.std.specs.Prelude.{◌≤◌};
     ghost use Rattle.stab_acts.specs.Scripts.{sender_half};
-    ghost use Rattle.stab_run.specs.AnyEnds.{any_send_end};
-    ghost use Rattle.stab_run.specs.Scripted.{ScriptedSendEnd, SendsInOrder};
+    ghost use Rattle.stab_links.specs.AnyEnds.{any_send_end};
+    ghost use Rattle.stab_links.specs.Scripted.{ScriptedSendEnd, SendsInOrder};
 
     ghost Value = { ScriptedSendEnd };
 
@@ -70,16 +70,16 @@ impl<'a, 's, R> ScriptedSend<'a, 's, R> {
 
 /// What remains of the end once it is finished.
 #[derive(Drop)]
-pub(crate) struct ScriptedSendDone<'s> {
+pub struct ScriptedSendDone<'s> {
     done: AnySendDone,
     plan: Plan<'s>,
 }
 
 impl<'s> Model for ScriptedSendDone<'s> {
     ghost use Rattle.stab_acts.specs.Scripts.{sender_half};
-    ghost use Rattle.stab_run.specs.AnyEnds.{any_send_finished};
-    ghost use Rattle.stab_run.specs.Scripted.{IsLetThrough, ScriptedSendFinished};
-    ghost use Rattle.stab_run.specs.Scripted.{frame_stores, steps_sent};
+    ghost use Rattle.stab_links.specs.AnyEnds.{any_send_finished};
+    ghost use Rattle.stab_links.specs.Scripted.{IsLetThrough, ScriptedSendFinished};
+    ghost use Rattle.stab_links.specs.Scripted.{frame_stores, steps_sent};
 
     ghost Value = { ScriptedSendFinished };
 

@@ -17,15 +17,15 @@ use Rattle.stab_word.specs.declared.view.SendStep.{SendStep}
 use Rattle.stab_word.specs.declared.view.SendStep.TheVariants as send_step
 use Rattle.stab_word.specs.declared.view.RecvStep.{RecvStep}
 use Rattle.stab_word.specs.declared.view.RecvStep.TheVariants as recv_step
-use Rattle.stab_run.specs.AnyEnds.{AnyLinkId}
-use Rattle.stab_run.specs.declared.any_send.AnySend.{AnySend}
-use Rattle.stab_run.specs.declared.any_send.AnySend.TheVariants as send
-use Rattle.stab_run.specs.declared.any_send.AnySendDone.{AnySendDone}
-use Rattle.stab_run.specs.declared.any_send.AnySendDone.TheVariants as send_done
-use Rattle.stab_run.specs.declared.any_recv.AnyRecv.{AnyRecv}
-use Rattle.stab_run.specs.declared.any_recv.AnyRecv.TheVariants as recv
-use Rattle.stab_run.specs.declared.any_recv.AnyRecvDone.{AnyRecvDone}
-use Rattle.stab_run.specs.declared.any_recv.AnyRecvDone.TheVariants as recv_done
+use Rattle.stab_links.specs.AnyEnds.{AnyLinkId}
+use Rattle.stab_links.specs.declared.any_send.AnySend.{AnySend}
+use Rattle.stab_links.specs.declared.any_send.AnySend.TheVariants as send
+use Rattle.stab_links.specs.declared.any_send.AnySendDone.{AnySendDone}
+use Rattle.stab_links.specs.declared.any_send.AnySendDone.TheVariants as send_done
+use Rattle.stab_links.specs.declared.any_recv.AnyRecv.{AnyRecv}
+use Rattle.stab_links.specs.declared.any_recv.AnyRecv.TheVariants as recv
+use Rattle.stab_links.specs.declared.any_recv.AnyRecvDone.{AnyRecvDone}
+use Rattle.stab_links.specs.declared.any_recv.AnyRecvDone.TheVariants as recv_done
 
 -- what both ends of a link follow: its script, and the turns of its job
 pub record LinkPlan : Type 0 where
@@ -134,8 +134,8 @@ steps_received (recv_done.Word done) = done.steps
 
 -- both finished ends of a link of two words followed what they have to follow: their steps,
 -- interleaved, explain their accounts, and each stored as often as the acts of its half let it
-pub record FollowPlans (link : LinkSetup) (send : ScriptedSendFinished) (recv : ScriptedRecvFinished)
-    : Type 0 where
+pub record FollowPlans (link : LinkSetup) (send : ScriptedSendFinished)
+    (recv : ScriptedRecvFinished) : Type 0 where
   pub explained : AnInterleavingExplains link send.steps send.account recv.steps recv.account
   pub frames : IsLetThrough (sender_half send.link.plan.script) send.link.plan.turns
       (frame_stores send.steps)

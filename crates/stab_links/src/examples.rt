@@ -3,7 +3,7 @@
 ghost use Rattle.std.specs.Prelude.{◌≡◌, [], ◌∷◌};
 ghost use Rattle.stab_acts.specs.Scripts.{acts, receiver_half, sender_half};
 ghost use Rattle.stab_acts.specs.declared.act.OutAct.{OutAct};
-ghost use Rattle.stab_run.specs.Scripted.{let_through};
+ghost use Rattle.stab_links.specs.Scripted.{let_through};
 
 /// The definitions of this crate on small values.
 pub fn worked_out()

@@ -1,24 +1,22 @@
 -- What contracts see of a link of either kind, and of what belongs to it: what it was given, what
 -- names it, its kind, and which ends are its own.
 -- Source: this project's own.
-use Rattle.std.specs.Prelude.{◌≡◌, List, [], map}
+use Rattle.std.specs.Prelude.{◌≡◌}
 use Rattle.stab_acts.specs.Scripts.{Acts}
 use Rattle.stab_core.specs.LinkSetup.{LinkSetup}
 use Rattle.stab_ends.specs.Accounts.{SenderAccount, ReceiverAccount}
 use Rattle.stab_lock.specs.Settling.{DifferFromReplay}
 use Rattle.stab_lock.specs.declared.settle.SettleFault.{SettleFault}
-use Rattle.stab_run.specs.AnyEnds.{AnyLinkId, locked, of_words}
-use Rattle.stab_run.specs.Scripted.{FollowPlans, ScriptedRecvEnd, ScriptedRecvFinished}
-use Rattle.stab_run.specs.Scripted.{ScriptedSendEnd, ScriptedSendFinished}
-use Rattle.stab_run.specs.LinkKinds.{IsLocked, LinkKind, behind_lock, kind_for, two_words}
-use Rattle.stab_run.specs.LinkRuns.{IsSettledByScript}
-use Rattle.stab_run.specs.declared.any_link.AnyLink.{AnyLink}
-use Rattle.stab_run.specs.declared.any_link.AnyLink.TheVariants.{Lock, Word}
-use Rattle.stab_run.specs.declared.any_link.AnyOpening.{AnyOpening}
-use Rattle.stab_run.specs.declared.any_link.AnyOpening.TheVariants as opening
-use Rattle.stab_run.specs.declared.any_link.KeptLinks.{KeptLinks}
-use Rattle.stab_run.specs.declared.any_link.KeptLinks.TheVariants.{None, Kept}
-use Rattle.stab_run.specs.declared.links.Links.{Links}
+use Rattle.stab_links.specs.AnyEnds.{AnyLinkId, locked, of_words}
+use Rattle.stab_links.specs.Scripted.{FollowPlans, ScriptedRecvEnd, ScriptedRecvFinished}
+use Rattle.stab_links.specs.Scripted.{ScriptedSendEnd, ScriptedSendFinished}
+use Rattle.stab_links.specs.LinkKinds.{IsLocked, LinkKind, behind_lock, kind_for, two_words}
+use Rattle.stab_links.specs.Settled.{IsSettledByScript}
+use Rattle.stab_links.specs.declared.any_link.AnyLink.{AnyLink}
+use Rattle.stab_links.specs.declared.any_link.AnyLink.TheVariants.{Lock, Word}
+use Rattle.stab_links.specs.declared.any_link.AnyOpening.{AnyOpening}
+use Rattle.stab_links.specs.declared.any_link.AnyOpening.TheVariants as opening
+use Rattle.stab_links.specs.declared.links.Links.{Links}
 
 -- its parameters and its start
 abbrev pub given_to : AnyLink → LinkSetup
@@ -84,8 +82,3 @@ IsFollowed (Word link) send recv = FollowPlans link.given send recv
 abbrev pub MayDiffer : Links → LinkSetup → SenderAccount → ReceiverAccount → SettleFault → Type 0
 MayDiffer links link send recv why =
     IsLocked links link × DifferFromReplay link.params link.start send recv why
-
--- the kind of each link that a report keeps, in file order of the children
-abbrev pub kinds_of : KeptLinks → List LinkKind
-kinds_of None = []
-kinds_of (Kept links) = map kind_of links.value.items

@@ -1,5 +1,5 @@
 ghost use Rattle.std.specs.Prelude.{◌≡◌};
-ghost use Rattle.stab_run.specs.Scripted.{plan};
+ghost use Rattle.stab_links.specs.Scripted.{plan};
 
 use stab_acts::Script;
 use std::marker::Model;
@@ -12,7 +12,7 @@ pub(crate) struct Plan<'s> {
 }
 
 impl<'s> Model for Plan<'s> {
-    ghost use Rattle.stab_run.specs.Scripted.{LinkPlan, plan};
+    ghost use Rattle.stab_links.specs.Scripted.{LinkPlan, plan};
 
     ghost Value = { LinkPlan };
 

@@ -1,0 +1,12 @@
+use stab_links::AnyLink;
+use std::snapshot::Snapshot;
+
+/// The links of a run before they were settled, in file order of the children, as its report keeps
+/// them. No link is kept: only contracts see of which kind each of them is.
+#[derive(Drop)]
+pub(crate) enum KeptLinks {
+    /// No run made the report.
+    None,
+    /// These links.
+    Kept(Snapshot<Vec<AnyLink>>),
+}
