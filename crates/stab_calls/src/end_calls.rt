@@ -21,9 +21,9 @@ pub enum EndCall {
 }
 
 /// Calls on a new link, which are made once where the link begins full, and more often where it
-/// begins empty. At the first call of each of the others, the history of a link grows; so it does at
-/// the second call of the first row, where a frame takes the place of the stray. By the rounds of
-/// the last row the lists of both ends grow twice.
+/// begins empty. At the first call of each of the others, the history of a link grows; so it does
+/// at the second call of the first row, where a frame takes the place of the stray. By the rounds
+/// of the last row the lists of both ends grow twice.
 pub const ROWS: [Row<'static, EndCall>; 6] = [
     (1, &[("offer", EndCall::Offer), ("send", EndCall::Send)]),
     (1, &[("poll_ack", EndCall::PollAck)]),

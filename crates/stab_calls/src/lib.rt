@@ -4,8 +4,8 @@
 //! [`make_calls`] makes them all, the lowest layer first, and prints what each answers. It prints
 //! the same where some of them are refused: a refused call leaves its object as it was, and answers
 //! the next time as if nothing had happened. Where it does not, a line says so. The program
-//! `stab_checks` makes these calls and those of the layers above, in the form of [`again`]. [`jobs`]
-//! has the jobs that both do.
+//! `stab_checks` makes these calls and those of the layers above, in the form of [`again`].
+//! [`jobs`] has the jobs that both do.
 #![tactic(auto)]
 
 pub mod again;

@@ -9,12 +9,12 @@ use stab_script::{Script, read_link_job, read_script, read_start};
 use stab_tree::read_tree;
 use std::alloc::{AllocError, Global};
 
-/// What is read: starts with all members, without lists, and of a wrong shape behind two good lists;
-/// scripts of letters, of none, drawn, and refused for their letters or their numbers; trees with
-/// their root in the middle, and with a cycle beside it; link jobs with the events of the worst
-/// start, and with a bad event; jobs with each member but `links`, without what may be absent, with
-/// a schedule that names no node, with a second link that is wider, with one that has too few
-/// labels, with an opening, and with one that is too long.
+/// What is read: starts with all members, without lists, and of a wrong shape behind two good
+/// lists; scripts of letters, of none, drawn, and refused for their letters or their numbers; trees
+/// with their root in the middle, and with a cycle beside it; link jobs with the events of the
+/// worst start, and with a bad event; jobs with each member but `links`, without what may be
+/// absent, with a schedule that names no node, with a second link that is wider, with one that has
+/// too few labels, with an opening, and with one that is too long.
 const TEXTS: [(&str, Reader, &[&str]); 5] = [
     (
         "read_start",
