@@ -197,6 +197,11 @@ impl Node {
         unsafe { calls::rignolda_receiver_close(&mut self.raw.above) }
     }
 
+    /// Whether there is room for one more item. While there is none, frames are better left unread.
+    pub fn has_room(&self) -> bool {
+        self.kept() < self.list.len() && self.raw.length < u64::MAX
+    }
+
     /// How many items the list ever had.
     pub fn length(&self) -> u64 {
         self.raw.length

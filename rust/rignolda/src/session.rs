@@ -52,7 +52,9 @@ pub struct Session<End> {
 }
 
 impl<End> Session<End> {
-    /// A session of an end that never had a connection.
+    /// A session of an end that never had a connection. An end that takes the place of an earlier one
+    /// of the same link goes into that one's session, by [`Session::renew`]: a session of its own
+    /// would give the numbers of connections again that may still be open.
     pub fn new(end: End) -> Session<End> {
         let mut raw = calls::Session::default();
         // SAFETY: the call writes this session alone.
@@ -267,6 +269,11 @@ impl Session<Node> {
     /// As [`Node::backlog`].
     pub fn backlog(&self, child: &Child) -> u64 {
         self.end.backlog(child)
+    }
+
+    /// As [`Node::has_room`].
+    pub fn has_room(&self) -> bool {
+        self.end.has_room()
     }
 
     /// As [`Node::length`].

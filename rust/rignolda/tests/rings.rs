@@ -56,6 +56,7 @@ fn children_are_offered_the_whole_list() {
             match draw.below(10) {
                 0..=3 => {
                     let item = draw.below(1 << 32) as u32;
+                    assert_eq!(node.has_room(), whole.len() - forgotten < room);
                     assert_eq!(node.publish(item), whole.len() - forgotten < room);
                     if whole.len() - forgotten < room {
                         whole.push(item);
