@@ -1,0 +1,2 @@
+pub mod ScenarioRuns
+pub mod ScenarioRows
