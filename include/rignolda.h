@@ -58,7 +58,12 @@
  *     the children of a node are at different items then, this is no one list, and the law holds of
  *     each path by itself, whatever the links beside it do: there the list of a node begins with
  *     the first item that its child on the path has not acknowledged.
- *   - a_tree_of_nodes_obeys_the_law_of_its_starts: the same with what each link really had under
+ *   - a_tree_of_whole_lists_obeys_the_tree_law: the same of each path by itself where the list of a
+ *     node is all that it ever had, and each child is at a place of it, wherever its siblings are.
+ *     So what a node forgets changes nothing; and a count of a path can begin where a child of it
+ *     is made anew, or at any other moment.
+ *   - a_child_made_anew_gets_the_list_from_its_place: see rignolda_child_init_at.
+ *   - a_tree_of_nodes_obeys_the_law_of_its_starts: the law of a whole tree with what each link really had under
  *     way when the count began: its frames in place of capacity, and its frames, its
  *     acknowledgements and one in place of 2 * capacity + 1.
  *   - calls_of_nodes_are_acts_of_the_tree: what the calls do makes up what these laws are about.

@@ -15,7 +15,7 @@ use Rattle.stab_line.specs.NodeTree.{NodeTree, list_of, list_above, parameters_i
 use Rattle.stab_line.specs.NodeTree.{publishes, polls, at_line}
 
 -- the entry that was put at a place
-put_here : {A : Type 0} (entries : ℕ → A) (place : ℕ) (entry : A) → put entries place entry place ≡ entry
+pub put_here : {A : Type 0} (entries : ℕ → A) (place : ℕ) (entry : A) → put entries place entry place ≡ entry
 put_here entries place entry = ap (λ same. if same then entry else entries place) (eq-eqb place place refl)
 
 -- an item taken at the end of a list after an opening
@@ -25,7 +25,7 @@ taken_past true opening items item = sym (append_assoc opening items (item ∷ [
 taken_past false opening items item = refl
 
 -- the line after an act that offers nothing
-line_after : (offers : Bool) (p : Parameters) (e : Edge) (act : LineAct) → offers ≡ false
+pub line_after : (offers : Bool) (p : Parameters) (e : Edge) (act : LineAct) → offers ≡ false
     → (if offers then e else record e { line = line_step p e.line act }).line ≡ line_step p e.line act
 line_after offers p e act no_offer =
     ap (λ b. (if b then e else record e { line = line_step p e.line act }).line) no_offer

@@ -14,3 +14,4 @@ pub mod RegisterLines
 pub mod MixedTrees
 pub mod StartTrees
 pub mod Places
+pub mod WholeLists

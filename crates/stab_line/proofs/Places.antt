@@ -16,7 +16,7 @@ use Rattle.stab_line.proofs.Calls.{counts_past, get_past}
 use Rattle.stab_line.proofs.Edges.{offers_prefix, edge_obeys, edge_obeys_start, child_obeys_law}
 
 -- the edge with these items before its list, which the child was not offered
-abbrev with_front : List ℕ → Edge → Edge
+abbrev pub with_front : List ℕ → Edge → Edge
 with_front front e = record { list = front ++ e.list; count = length front + e.count; line = e.line }
 
 polled_past : (p : Parameters) (front : List ℕ) (e : Edge) (next : Option ℕ)
@@ -35,7 +35,7 @@ acted_past : (p : Parameters) (front : List ℕ) (e : Edge) (act : LineAct) (off
 acted_past p front e act true = refl
 acted_past p front e act false = refl
 
-step_past : (p : Parameters) (front : List ℕ) (e : Edge) (act : EdgeAct)
+pub step_past : (p : Parameters) (front : List ℕ) (e : Edge) (act : EdgeAct)
     → edge_step p (with_front front e) act ≡ with_front front (edge_step p e act)
 step_past p front e (list_grows item) =
     ap (λ list. record { list = list; count = length front + e.count; line = e.line })

@@ -14,3 +14,4 @@ pub mod StartLaw
 pub mod Registers
 pub mod MixedTree
 pub mod StartTree
+pub mod WholeLists

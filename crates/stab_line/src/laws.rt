@@ -21,6 +21,7 @@ ghost use Rattle.stab_frames.specs.Parameters.{AreLawful, Parameters};
 ghost use Rattle.stab_frames.specs.declared.frame.Frame.{Frame};
 ghost use Rattle.stab_line.specs.StartLaw.{LinkLawOfStart};
 ghost use Rattle.stab_line.specs.StartTree.{TreeLawOfStarts};
+ghost use Rattle.stab_line.specs.WholeLists.{PathBeginsAt, whole_above, whole_run, whole_step};
 ghost use Rattle.stab_tree.specs.Nodes.{parent_at};
 ghost use Rattle.stab_treecore.specs.Network.{IsNetwork, Network};
 ghost use Rattle.stab_treecore.specs.NodeLaws.{TreeLawAtNode, TreeLawAtNodes};
@@ -185,9 +186,39 @@ pub fn a_tree_of_nodes_obeys_the_tree_law()
     stab_core::laws::every_replay_obeys_the_sharper_link_law();
 }
 
-/// The same with what each link really had under way when the count began, in place of the
-/// capacities: a link adds its frames to the strays, and its frames, its acknowledgements and one
-/// to the items that may be missing.
+/// The same where the list of a node is all that it ever had, and each child is at a place of it,
+/// wherever its siblings are: so the laws are about nodes that forget what their children were
+/// offered. A count of a path begins with what each node on it has from the place of its child on
+/// the path, be it a child that was just made anew or one that is under way. A poll is stated of
+/// whole lists; of a child that is left behind, it is the act on its line alone that sends a frame.
+pub fn a_tree_of_whole_lists_obeys_the_tree_law()
+    ensures along_each_path { (net : Network) (past : ℕ → List ℕ) (before : NodeTree)
+        (acts : List NodeAct) (node : ℕ)
+        → IsNetwork net → PathBeginsAt net past before node → node < length net.tree.parents
+        → let after = whole_run net past before acts in
+        after.published ≡ net.published
+        → TreeLawAtNode net (list_of net after) node }
+    ensures sharper_along_each_path { (net : Network) (past : ℕ → List ℕ) (before : NodeTree)
+        (acts : List NodeAct) (node : ℕ)
+        → IsNetwork net → PathBeginsAt net past before node → node < length net.tree.parents
+        → let after = whole_run net past before acts in
+        after.published ≡ net.published
+        → SharperTreeLawAtNode net (list_of net after) node }
+    ensures polled { (net : Network) (past : ℕ → List ℕ) (t : NodeTree) (child count : ℕ)
+        (after : SenderEnd) (sent : Option Frame)
+        → IsPolled (whole_above net past t child) (t.counts child) (t.lines child).sender count
+        after sent
+        → let polled = whole_step net past t (polls child) in
+        (polled.counts child ≡ count) × ((polled.lines child).sender ≡ after)
+        × (((whole_step net past polled (at_line child frame_sent)).lines child).frames
+        ≡ after_sending (parameters_into net child) (t.lines child).frames sent) }
+{
+    stab_core::laws::every_replay_obeys_the_sharper_link_law();
+}
+
+/// The law of a whole tree with what each link really had under way when the count began, in place
+/// of the capacities: a link adds its frames to the strays, and its frames, its acknowledgements
+/// and one to the items that may be missing.
 pub fn a_tree_of_nodes_obeys_the_law_of_its_starts()
     ensures { (net : Network) (before : NodeTree) (acts : List NodeAct)
         → IsNetwork net → TreeBegins net before

@@ -61,7 +61,7 @@
 //! |---|---|
 //! | `two_ends_on_a_line_are_a_link`, `two_ends_on_a_line_obey_the_link_law` | [`Sender`] and [`Receiver`] |
 //! | `a_tree_of_nodes_obeys_the_tree_law`, `calls_of_nodes_are_acts_of_the_tree` | [`Node`] and [`Child`] |
-//! | `a_child_made_anew_gets_the_list_from_its_place` | [`Node::child`] |
+//! | `a_tree_of_whole_lists_obeys_the_tree_law`, `a_child_made_anew_gets_the_list_from_its_place` | [`Node::forget`] and [`Node::child`] |
 //! | `connections_are_a_line`, `connections_obey_the_link_law`, `restarts_leave_connections_in_turn` | [`Session`] of a [`Sender`] and of a [`Receiver`] |
 //! | `a_tree_over_connections_obeys_the_tree_law`, `calls_of_sessions_are_acts_of_the_tree` | [`Session`] of a [`Child`] and of a [`Node`] |
 //! | `numbers_tell_the_newest_connection`, `numbers_may_mean_any_connections` | [`Connection`] |
