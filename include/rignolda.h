@@ -63,9 +63,9 @@
  *     So what a node forgets changes nothing; and a count of a path can begin where a child of it
  *     is made anew, or at any other moment.
  *   - a_child_made_anew_gets_the_list_from_its_place: see rignolda_child_init_at.
- *   - a_tree_of_nodes_obeys_the_law_of_its_starts: the law of a whole tree with what each link really had under
- *     way when the count began: its frames in place of capacity, and its frames, its
- *     acknowledgements and one in place of 2 * capacity + 1.
+ *   - a_tree_of_nodes_obeys_the_law_of_its_starts: the law of a whole tree with what each link
+ *     really had under way when the count began: its frames in place of capacity, and its frames,
+ *     its acknowledgements and one in place of 2 * capacity + 1.
  *   - calls_of_nodes_are_acts_of_the_tree: what the calls do makes up what these laws are about.
  *     Each call that steps an end, or says what to send, has a clause `act`, which says what step
  *     of the laws' own definitions it is.
