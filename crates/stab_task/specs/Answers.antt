@@ -2,10 +2,10 @@
 -- Example: For the bytes of the worst start `IsLinkAnswer` asks that `link_job` of them is a job,
 -- that its start is lawful, and that the text is that of the replay. That is the eight lines of the
 -- README. For a job of a tree `IsRunAnswer` asks that the text is that of some report of which all
--- holds that a run promises of its report (`IsReport`), with links of the kinds that the flag names;
--- with `--words` that includes that the capacity of each link is 1. By `IsRunReason` only a link
--- behind a lock may be refused for settling: so for the chain of the example a_wider_second_link
--- with `--mixed` the link into b may be, and that into a may not.
+-- holds that a run promises of its report (`IsReport`), with links of the kinds that the flag
+-- names; with `--words` that includes that the capacity of each link is 1. By `IsRunReason` only a
+-- link behind a lock may be refused for settling: so for the chain of the example
+-- a_wider_second_link with `--mixed` the link into b may be, and that into a may not.
 -- Source: this project's own.
 use Rattle.std.specs.Prelude.{◌≡◌, ◌≢◌, ◌⊎◌, ℕ, ◌<◌, Bool, List, [], ◌++◌, length, All}
 use Rattle.std.specs.Prelude.{if◌then◌else◌, Option, Ok, Err}
@@ -33,7 +33,8 @@ use Rattle.stab_treecore.specs.Texts.{schedule_text}
 use Rattle.stab_treecore.specs.TreeReplay.{initial_tree, tree_replay}
 use Rattle.stab_script.specs.LinkJobs.{link_job}
 use Rattle.stab_task.specs.declared.command.Task.{Task}
-use Rattle.stab_task.specs.declared.command.Task.TheVariants.{Link, Tree as WholeTreeTask, Run as RunTask}
+use Rattle.stab_task.specs.declared.command.Task.TheVariants.{Link, Tree as WholeTreeTask}
+use Rattle.stab_task.specs.declared.command.Task.TheVariants.{Run as RunTask}
 use Rattle.stab_task.specs.declared.fault.CliFault.{CliFault}
 use Rattle.stab_task.specs.declared.fault.CliFault.TheVariants.{CommandLine, Open, Read}
 use Rattle.stab_task.specs.declared.fault.CliFault.TheVariants.{TooLong, LinkJob, Job, Start}
@@ -145,8 +146,8 @@ IsFault task input Memory = Unit {0}
 abbrev pub IsTaskAnswer : Task → Option (List ℕ) → List ℕ → Type 0
 IsTaskAnswer task had text = (input : List ℕ) × IsWhole had input × IsAnswer task input text
 
--- why a task fails for a reader that had these bytes, where it tells them: they cannot be loaded, or
--- all of them are, and this is why they have no answer, or why it was not written
+-- why a task fails for a reader that had these bytes, where it tells them: they cannot be loaded,
+-- or all of them are, and this is why they have no answer, or why it was not written
 abbrev pub IsTaskFault : Task → Option (List ℕ) → CliFault → Type 0
 IsTaskFault task had fault =
     IsUnloaded had fault ⊎ ((input : List ℕ) × IsWhole had input × IsFault task input fault)

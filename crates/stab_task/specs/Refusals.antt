@@ -19,7 +19,8 @@ use Rattle.stab_task.specs.Answers.{IsFault}
 use Rattle.stab_task.specs.Loading.{most_bytes}
 use Rattle.stab_task.specs.declared.command.Task.{Task}
 use Rattle.stab_task.specs.declared.fault.CliFault.{CliFault}
-use Rattle.stab_task.specs.declared.fault.CliFault.TheVariants.{TooLong, LinkJob, Job, Start, Tree, Run}
+use Rattle.stab_task.specs.declared.fault.CliFault.TheVariants.{TooLong, LinkJob, Job, Start, Tree}
+use Rattle.stab_task.specs.declared.fault.CliFault.TheVariants.{Run}
 
 -- a start or an event of the schedule is refused, and not memory; a job that is read has as many
 -- starts as links

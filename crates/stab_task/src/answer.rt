@@ -80,7 +80,6 @@ fn text_of<T: Threads + Wait + Send + Sync, R: Read>(
     ensures whole_answer { IfOk result (λ text.
         IsTaskAnswer task (R.remaining reader.old) (string_bytes text)) }
     ensures whole_fault { IfErr result (IsTaskFault task (R.remaining reader.old)) }
-    ensures no_write { IfErr result (λ fault. fault ≢ CliFault.Write) }
     ensures opened { IfErr result (λ fault. fault ≢ CliFault.Open) }
     ensures named { IfErr result (λ fault. fault ≢ CliFault.CommandLine) }
 {
@@ -97,7 +96,6 @@ fn answer_bytes<T: Threads + Wait + Send + Sync>(
 ) -> Result<String, CliFault>
     ensures answer { IfOk result (λ text. IsAnswer task bytes.now (string_bytes text)) }
     ensures fault { IfErr result (IsFault task bytes.now) }
-    ensures no_write { IfErr result (λ fault. fault ≢ CliFault.Write) }
 {
     match task {
         Task::Link { trace } => answer_link(alloc, trace, bytes),
@@ -110,7 +108,6 @@ fn answer_bytes<T: Threads + Wait + Send + Sync>(
 fn answer_link(alloc: Global, with_trace: bool, bytes: &[u8]) -> Result<String, CliFault>
     ensures answer { IfOk result (λ text. IsLinkAnswer with_trace bytes.now (string_bytes text)) }
     ensures fault { IfErr result (IsFault (Task.Link with_trace) bytes.now) }
-    ensures no_write { IfErr result (λ fault. fault ≢ CliFault.Write) }
 {
     match read_link_job(alloc, bytes) {
         Ok(job) => job_answer(alloc, with_trace, &job),
@@ -167,7 +164,6 @@ fn replay_link(alloc: Global, job: &LinkJob) -> Result<Link, StartFault>
 fn answer_tree(alloc: Global, bytes: &[u8]) -> Result<String, CliFault>
     ensures answer { IfOk result (λ text. IsTreeAnswer bytes.now (string_bytes text)) }
     ensures fault { IfErr result (IsFault Task.Tree bytes.now) }
-    ensures no_write { IfErr result (λ fault. fault ≢ CliFault.Write) }
 {
     match read_job(alloc, bytes) {
         Ok(job) => schedule_answer(alloc, &job),
@@ -228,7 +224,6 @@ fn answer_run<T: Threads + Wait + Send + Sync>(
 ) -> Result<String, CliFault>
     ensures answer { IfOk result (λ text. IsRunAnswer links bytes.now (string_bytes text)) }
     ensures fault { IfErr result (IsFault (Task.Run links) bytes.now) }
-    ensures no_write { IfErr result (λ fault. fault ≢ CliFault.Write) }
 {
     match read_job(alloc, bytes) {
         Ok(job) => run_answer(rt, alloc, links, &job),

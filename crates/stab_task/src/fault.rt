@@ -50,8 +50,8 @@ impl CliFault {
     ghost use Rattle.stab_task.specs.Statuses.{status_of};
 
     /// The status that the program ends with: 1 for a file or job that is refused, 2 for a command
-    /// line that is refused, 3 for a start, a step, a run or a write that fails, and for memory that
-    /// is refused anywhere.
+    /// line that is refused, 3 for a start, a step, a run or a write that fails, and for memory
+    /// that is refused anywhere.
     pub fn status(&self) -> u8
         ensures { result ≡ status_of self.now }
     {
