@@ -127,7 +127,7 @@ fn push_unfinished(
 
 /// Adds the line of the items of a node.
 #[tactic(auto, unfolding(crate::specs::Verdicts::items_line))]
-pub(crate) fn push_items(text: &mut String, name: &str, items: &[Item]) -> Result<(), AllocError>
+pub fn push_items(text: &mut String, name: &str, items: &[Item]) -> Result<(), AllocError>
     ensures { OnOk result (string_bytes text.new
         ≡ string_bytes text.old ++ items_line name.now items.now) }
 {
@@ -146,7 +146,7 @@ fn push_entries(text: &mut String) -> Result<(), AllocError>
 
 /// Adds that the root has other items than the published ones.
 #[tactic(auto, unfolding(crate::specs::Verdicts::published_text))]
-fn push_published(
+pub fn push_published(
     text: &mut String,
     name: &str,
     published: &[Item],
@@ -163,7 +163,7 @@ fn push_published(
 
 /// Adds that there is a count at the root.
 #[tactic(auto, unfolding(crate::specs::Verdicts::root_count_text))]
-fn push_root_count(text: &mut String, name: &str) -> Result<(), AllocError>
+pub fn push_root_count(text: &mut String, name: &str) -> Result<(), AllocError>
     ensures { OnOk result (string_bytes text.new
         ≡ string_bytes text.old ++ root_count_text name.now) }
 {
@@ -173,7 +173,7 @@ fn push_root_count(text: &mut String, name: &str) -> Result<(), AllocError>
 
 /// Adds that there is no count at a node.
 #[tactic(auto, unfolding(crate::specs::Verdicts::no_count_text))]
-fn push_no_count(text: &mut String, name: &str) -> Result<(), AllocError>
+pub fn push_no_count(text: &mut String, name: &str) -> Result<(), AllocError>
     ensures { OnOk result (string_bytes text.new
         ≡ string_bytes text.old ++ no_count_text name.now) }
 {
@@ -214,7 +214,7 @@ pub(crate) fn push_own_lists(
 
 /// Adds that a parent ended with its upstream, and not all of its items are acknowledged.
 #[tactic(auto, unfolding(crate::specs::Verdicts::handed_on_text))]
-fn push_handed_on(
+pub fn push_handed_on(
     text: &mut String,
     name: &str,
     above: &str,

@@ -121,7 +121,7 @@ fn push_link_head(
 
 /// Adds the capacity of a link.
 #[tactic(auto, unfolding(crate::specs::Verdicts::capacity_words))]
-fn push_capacity(text: &mut String, capacity: u16) -> Result<(), AllocError>
+pub fn push_capacity(text: &mut String, capacity: u16) -> Result<(), AllocError>
     ensures { OnOk result
         (string_bytes text.new ≡ string_bytes text.old ++ capacity_words capacity) }
 {
@@ -130,7 +130,7 @@ fn push_capacity(text: &mut String, capacity: u16) -> Result<(), AllocError>
 
 /// Adds how many items are acknowledged on a link.
 #[tactic(auto, unfolding(crate::specs::Verdicts::acked_words))]
-fn push_acked(text: &mut String, acked: u64) -> Result<(), AllocError>
+pub fn push_acked(text: &mut String, acked: u64) -> Result<(), AllocError>
     ensures { OnOk result (string_bytes text.new ≡ string_bytes text.old ++ acked_words acked) }
 {
     write!(text, " and {acked} acknowledged items\n")

@@ -11,7 +11,7 @@ use stab_judge::{Judge, Report};
 use stab_tree::{NodeId, Tree};
 
 /// The name of a node.
-pub(crate) fn name_of<'a>(judge: &Judge<'_>, tree: &'a Tree, node: NodeId) -> &'a str
+pub fn name_of<'a>(judge: &Judge<'_>, tree: &'a Tree, node: NodeId) -> &'a str
     requires same_tree { judge.now.tree ≡ tree.now }
     requires known { node < length tree.now.parents }
     ensures { result.now ≡ name_at judge.now node }
@@ -20,7 +20,7 @@ pub(crate) fn name_of<'a>(judge: &Judge<'_>, tree: &'a Tree, node: NodeId) -> &'
 }
 
 /// The name of a node's parent; a root has none.
-pub(crate) fn name_above<'a>(judge: &Judge<'_>, tree: &'a Tree, node: NodeId) -> &'a str
+pub fn name_above<'a>(judge: &Judge<'_>, tree: &'a Tree, node: NodeId) -> &'a str
     requires same_tree { judge.now.tree ≡ tree.now }
     requires known { node < length tree.now.parents }
     ensures { result.now ≡ name_above judge.now node }
@@ -32,7 +32,7 @@ pub(crate) fn name_above<'a>(judge: &Judge<'_>, tree: &'a Tree, node: NodeId) ->
 }
 
 /// The list of a node.
-pub(crate) fn items_of<'a>(tree: &Tree, report: &'a Report, node: NodeId) -> &'a [Item]
+pub fn items_of<'a>(tree: &Tree, report: &'a Report, node: NodeId) -> &'a [Item]
     requires entries { OnePerNode tree.now.parents report.now }
     requires known { node < length tree.now.parents }
     ensures { result.now ≡ received_at report.now node }
@@ -41,7 +41,7 @@ pub(crate) fn items_of<'a>(tree: &Tree, report: &'a Report, node: NodeId) -> &'a
 }
 
 /// The list of a node's parent; a root has none.
-pub(crate) fn list_above<'a>(
+pub fn list_above<'a>(
     judge: &Judge<'_>,
     tree: &Tree,
     report: &'a Report,
@@ -68,7 +68,7 @@ pub(crate) fn opening_of<'a>(judge: &'a Judge<'_>, tree: &Tree, node: NodeId) ->
 }
 
 /// How many items are acknowledged on the link into a node, and 0 where there is no count.
-pub(crate) fn acked_of(tree: &Tree, report: &Report, node: NodeId) -> u64
+pub fn acked_of(tree: &Tree, report: &Report, node: NodeId) -> u64
     requires entries { OnePerNode tree.now.parents report.now }
     requires known { node < length tree.now.parents }
     ensures { result ≡ unwrap_or (acked_at report.now node) 0 }

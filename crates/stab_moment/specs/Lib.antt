@@ -1,0 +1,3 @@
+pub mod Backlogs
+pub mod ObeysSince
+pub mod VerdictTexts
