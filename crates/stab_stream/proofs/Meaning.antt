@@ -2,14 +2,13 @@
 use Rattle.std.proofs.Common.{◌≡◌, ℕ, ◌-◌, ◌<◌, ◌≤◌, List, ◌∷◌, length, Option, Some, None, IfSome, refl, ap, le-leb, arith}
 use Rattle.json.specs.Token.{Token}
 use Rattle.json.specs.Json.{after_end_array}
-use Rattle.serde_json.specs.Data.{Data, unsigned, number, string, array, no_items, item}
+use Rattle.serde_json.specs.Data.{unsigned, number, string, array, no_items, item}
 use Rattle.stab_core.specs.declared.event.Event.{Event}
-use Rattle.stab_frames.specs.declared.frame.Frame.{Frame}
 use Rattle.stab_json.specs.Values.{whole_to, capped}
 use Rattle.stab_script.specs.Events.{event, numbered_event}
 use Rattle.stab_script.specs.Starts.{frame}
 use Rattle.stab_stream.specs.Standing.{Stands, MeansWithin, Means}
-use Rattle.stab_stream.proofs.Standing.{a_text, a_number, a_pair}
+use Rattle.stab_stream.proofs.Standing.{a_text, a_pair}
 
 -- what holds of whatever there is
 pub of_what_is_there : {A : Type 0} {P Q : A → Type 0} (o : Option A) → ((x : A) → P x → Q x) → IfSome o P → IfSome o Q

@@ -1,4 +1,4 @@
-use Rattle.std.proofs.Common.{[], Some, sym, subst}
+use Rattle.std.proofs.Common.{[], Some, subst}
 use Rattle.json.specs.Lex.{tokens}
 use Rattle.serde_json.specs.Data.{object}
 use Rattle.stab_stream.specs.Standing.{Stands}

@@ -1,5 +1,4 @@
-use Rattle.std.proofs.Common.{◌≡◌, ℕ, ◌-◌, ◌<◌, ◌++◌, [], ◌∷◌, length, None, Some, refl, sym, ap, subst, ◌∙◌, arith, append-nil}
-use Rattle.json.specs.Json.{after_end_array}
+use Rattle.std.proofs.Common.{◌≡◌, ◌-◌, ◌<◌, [], length, sym, subst, arith, append-nil}
 use Rattle.stab_stream.specs.Standing.{MeansWithin, EntriesMean}
 use Rattle.stab_stream.proofs.Entries.{ReadBefore, read_one}
 use Rattle.stab_stream.proofs.Standing.{no_entries}

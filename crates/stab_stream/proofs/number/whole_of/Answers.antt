@@ -1,4 +1,4 @@
-use Rattle.std.proofs.Common.{◌≡◌, ◌<◌, ◌≤◌, ◌^◌, length, sym, ap, ◌∙◌, arith}
+use Rattle.std.proofs.Common.{◌<◌, ◌≤◌, ◌^◌, length, sym, ap, ◌∙◌, arith}
 use Rattle.serde_json.specs.Read.{number_of}
 use Rattle.stab_stream.proofs.Numbers.{all_read}
 use Rattle.stab_stream.proofs.number.whole_of.Goals as goal

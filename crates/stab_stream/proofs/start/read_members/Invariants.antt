@@ -1,7 +1,5 @@
 use Rattle.std.proofs.Common.{ℕ, ◌≤◌, length}
-use Rattle.json.specs.Token.{Token}
-use Rattle.serde_json.specs.Data.{Members, no_members}
-use Rattle.stab_stream.specs.Standing.{MembersMake}
+use Rattle.serde_json.specs.Data.{Members}
 use Rattle.stab_stream.specs.Members.{in_start, HasStart}
 use Rattle.stab_stream.proofs.Entries.{PutBefore}
 use Rattle.stab_stream.proofs.start.read_members.Given as goal
