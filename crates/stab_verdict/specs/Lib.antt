@@ -1,3 +1,4 @@
+pub mod Costs
 pub mod BoundsTexts
 pub mod LinkVerdicts
 pub mod Verdicts
