@@ -17,10 +17,20 @@ JOB = """\
 
 BOUNDS = """\
 r depth 0: no strays (C 0 + E 0), all published items in order
+r after its restart: beneath it at most 1 stray, and only some of the next 3 items can be missing
 a depth 1: at most 2 strays (C 1 + E 1), then published items in order; of those before its last \
 one only some of the first 3 (M) can be missing
+a has all but these after 8 reading rounds of its path: 7 for the published items, and 1 more
+a after a strike at the link into it: at most 1 stray, and only some of the next 3 items can be \
+missing; beneath it no more
+a after its restart: as much; beneath it, beside its new list, at most 2 strays, and only some of \
+the next 6 items can be missing
 b depth 2: at most 3 strays (C 2 + E 1), then published items in order; of those before its last \
 one only some of the first 6 (M) can be missing
+b has all but these after 11 reading rounds of its path: 7 for the published items, and 4 more
+b after a strike at the link into it: at most 1 stray, and only some of the next 3 items can be \
+missing
+b after its restart: as much
 """
 
 # A report of it: the strays, and of the published items those that cannot be missing.

@@ -1,4 +1,4 @@
-//! The command `bounds`: what the laws allow each node of a job.
+//! The command `bounds`: what the laws allow each node of a job, and what faults cost it.
 
 ghost use Rattle.std.specs.Prelude.{◌≡◌, ◌≢◌, ℕ, List, string_bytes, Err, IfErr, IfOk, IfSome, OnOk};
 ghost use Rattle.std.specs.Io.KnownBytes.{Appends, Keeps};
@@ -67,9 +67,9 @@ impl From<AllocError> for BoundsFault {
     }
 }
 
-/// Reads a job, and writes the bounds of its nodes: the sums of the law. Where there is no such
-/// job, the fault is that of `stab tree`, or says that it is a link job; and nothing is written
-/// unless it is `Write`.
+/// Reads a job, and writes the bounds of its nodes: the sums of the law, after how many reading
+/// rounds all has arrived, and what faults cost. Where there is no such job, the fault is that of
+/// `stab tree`, or says that it is a link job; and nothing is written unless it is `Write`.
 pub fn act_bounds<R: Read, W: Write>(
     alloc: Global,
     reader: &mut R,
