@@ -86,9 +86,9 @@ pub fn nodes_converge_for_good()
     stab_core::laws::link_law_from_any_state();
 }
 
-/// From the start of a network: so many reading rounds of a node's path, as `arrival_reading_rounds`
-/// says, bring it all that was published, but for some of the first items, whatever happens
-/// elsewhere.
+/// From the start of a network: so many reading rounds of a node's path as
+/// `arrival_reading_rounds` says bring it all that was published, but for some of the first items,
+/// whatever happens elsewhere.
 pub fn rounds_of_the_path_are_enough()
     ensures { (net : Network) (changes : List Change) (rounds node parent : ℕ)
         → IsNetwork net → parent_at net.tree.parents node ≡ Some parent
