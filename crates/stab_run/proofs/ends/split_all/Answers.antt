@@ -1,4 +1,5 @@
-use Rattle.std.proofs.Common.{◌≡◌, ◌<◌, ◌+◌, ◌∙◌, ap, refl, length, arith}
+use Rattle.std.proofs.Common.{◌≡◌, ◌<◌, ◌+◌, ◌∙◌, ap, refl, subst, length, map, take_all, arith}
+use Rattle.std.specs.List.{AllZip}
 use Rattle.std.proofs.lemmas.List.Elements.{All-push}
 use Rattle.stab_ends.specs.Accounts.{new_receiver, new_sender}
 use Rattle.stab_links.specs.AnyLinks.{IsOpenedBy, Receives, Sends}
@@ -53,3 +54,31 @@ links-preserved g c =
           c.in_ok-send.ensures.recv_account);
       openings = next.1;
     }
+
+pub returns-clause-senders : goal.returns-clause-senders
+returns-clause-senders g c =
+    subst (λ xs. AllZip (λ link end. Sends link end) xs c.links.sends.items)
+    (take_all c.links.place c.args.links.now (omega (arith, c.links-test.false))) c.links.invariant.senders
+
+pub returns-clause-receivers : goal.returns-clause-receivers
+returns-clause-receivers g c =
+    subst (λ xs. AllZip (λ link end. Receives link end) xs c.links.recvs.items)
+    (take_all c.links.place c.args.links.now (omega (arith, c.links-test.false))) c.links.invariant.receivers
+
+pub returns-clause-send_plans : goal.returns-clause-send_plans
+returns-clause-send_plans g c =
+    let scripts = c.args.scripts.now in
+    c.links.invariant.send_plans
+    ∙ ap (λ xs. map (plan c.args.turns) xs) (take_all c.links.place scripts (omega (arith, c.links-test.false, c.requires.scripts)))
+
+pub returns-clause-recv_plans : goal.returns-clause-recv_plans
+returns-clause-recv_plans g c =
+    let scripts = c.args.scripts.now in
+    c.links.invariant.recv_plans
+    ∙ ap (λ xs. map (plan c.args.turns) xs) (take_all c.links.place scripts (omega (arith, c.links-test.false, c.requires.scripts)))
+
+pub returns-clause-new_senders : goal.returns-clause-new_senders
+returns-clause-new_senders g c = c.links.invariant.new_senders
+
+pub returns-clause-new_receivers : goal.returns-clause-new_receivers
+returns-clause-new_receivers g c = c.links.invariant.new_receivers
