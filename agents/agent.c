@@ -56,7 +56,7 @@ enum {
     ACK_BYTES = 2,             /* a label */
     MOST_CHILDREN = 63,
     LONGEST_BACKLOG = 64,      /* an agent with this backlog for a child takes no frame */
-    PLACES = 1 << 10,          /* of the buffer, for what a child of the root still has to get */
+    PLACES = 1 << 10,          /* of the buffer: the root needs room for all that it publishes */
     MOST_SETTINGS = 256,
 };
 static const uint64_t FIRST_PAUSE = 1000000, LONGEST_PAUSE = 64000000;     /* nanoseconds */
