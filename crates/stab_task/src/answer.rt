@@ -22,7 +22,8 @@ use stab_node::Free;
 use stab_run::{
     Job, Links, Report, RunFault, read_job, report_text, run_locked, run_mixed, run_words,
 };
-use stab_script::{LinkJob, read_link_job};
+use stab_script::LinkJob;
+use stab_stream::read_link_job;
 use stab_treecore::{TreeStartFault, TreeState, run_schedule, schedule_text};
 use std::alloc::Global;
 use std::io::{self, Read, Write};
