@@ -275,4 +275,4 @@ def row(place, data, words):
 
 assert text_of(job_of(PLAIN.encode())) == (TEXT, ORIGINS)
 ROWS = [row(place, data, ["link"]) for place, data in enumerate(BYTES)]
-ROWS += [row(place, data, ["link", "--trace"]) for place, data in enumerate(BYTES) if place % 8 == 0]
+ROWS += [row(place, BYTES[place], ["link", "--trace"]) for place in range(0, len(BYTES), 8)]

@@ -25,7 +25,8 @@ abbrev pub Means : {X : Type 0} → (Data → Option X) → List Token → X →
 Means meaning ts x rest = (depth : ℕ) → 0 < depth → MeansWithin depth meaning ts x rest
 
 -- entries that mean xs, and the bracket that closes their list; `turns` bounds their number
-abbrev pub EntriesMean : {X : Type 0} → ℕ → (Data → Option X) → ℕ → List Token → List X → List Token → Type 0
+abbrev pub EntriesMean : {X : Type 0} → ℕ → (Data → Option X) → ℕ → List Token → List X
+    → List Token → Type 0
 EntriesMean depth meaning turns ts xs rest =
     (js : json.Items) × (items (value depth) turns ts ≡ Some (js, rest))
     × (ds : values.Items) × (of_items js ≡ Some ds) × (entries meaning ds ≡ Some xs)

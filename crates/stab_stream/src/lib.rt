@@ -1,10 +1,10 @@
 //! Link jobs read from their text as a stream of JSON tokens, without a tree of values.
 //!
 //! [`read_link_job`] has the contract of the function of that name in `stab_script`, clause by
-//! clause, which is the one fact that the layer above uses. A job in the plain form is a text of the
-//! members of a link job and nothing else, each as it has to be: it is read token by token, straight
-//! into its lists. Any other text is read by `stab_script`, through a value of `serde_json`, so each
-//! refusal and their order are its own.
+//! clause, which is the one fact that the layer above uses. A job in the plain form is a text of
+//! the members of a link job and nothing else, each as it has to be: it is read token by token,
+//! straight into its lists. Any other text is read by `stab_script`, through a value of
+//! `serde_json`, so each refusal and their order are its own.
 #![tactic(auto)]
 
 mod entry;

@@ -9,8 +9,8 @@ use json::{Reader, Token};
 /// The largest number that a digit more leaves within 64 bits.
 const MOST_BEFORE_A_DIGIT: u64 = 1_844_674_407_370_955_160;
 
-/// The whole number that the text of a JSON number is, where it is digits alone, and one of 64 bits;
-/// of the largest ten of these nothing is said.
+/// The whole number that the text of a JSON number is, where it is digits alone and one of 64 bits,
+/// but for the six largest of these.
 #[tactic(auto, using(crate::proofs::Numbers::digit_is))]
 fn whole_of(text: &str) -> Option<u64>
     ensures { IfSome result (λ n. number_of text.now ≡ Some (unsigned n)) }
