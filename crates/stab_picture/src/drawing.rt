@@ -1,5 +1,6 @@
 use crate::canvas::Canvas;
 use crate::ends::{ack, draw_row, frame, label};
+use crate::faults::{draw_anew, draw_list, draw_mark, draw_restarted, draw_vanished};
 use crate::ink::Ink;
 use crate::items::Items;
 use crate::panel::{Mark, Panel, Wait};
@@ -9,7 +10,7 @@ use crate::style::STYLE;
 use crate::words::{effect_word, push_event};
 use stab_core::Start;
 use stab_draw::Row;
-use stab_frames::Params;
+use stab_frames::{Item, Params};
 use std::alloc::{AllocError, Global};
 
 /// A picture that is being drawn.
@@ -18,6 +19,8 @@ pub(crate) struct Drawing {
     sheet: Sheet,
     canvas: Canvas,
     panels: Vec<Panel>,
+    /// How many rows are drawn.
+    rows: u64,
 }
 
 impl Drawing {
@@ -27,6 +30,7 @@ impl Drawing {
             sheet,
             canvas: Canvas::new(alloc),
             panels: Vec::new(alloc),
+            rows: 0,
         }
     }
 
@@ -43,33 +47,115 @@ impl Drawing {
         let left = self.sheet.panel(self.panels.len() as u64);
         let mut panel = Panel::new(alloc, left, name)?;
         draw_head(alloc, &mut self.canvas, self.sheet, &panel, ends, params)?;
-        draw_start(alloc, &mut self.canvas, self.sheet, &mut panel, start)?;
+        draw_start(
+            alloc,
+            &mut self.canvas,
+            self.sheet.start(),
+            &mut panel,
+            start,
+        )?;
         self.panels.push(panel)?;
         Ok(())
     }
 
-    /// Draws an event on the link at this place: its number from 1, and its row.
-    pub(crate) fn add_row(
+    /// The place of the last row.
+    fn last_row(&self) -> Point {
+        let above = self.rows.saturating_sub(1).saturating_mul(ROW);
+        self.sheet.first().down(above)
+    }
+
+    /// Begins so many rows, and answers the place of the last one.
+    fn next_rows(&mut self, count: u64) -> Point {
+        self.rows = self.rows.saturating_add(count);
+        self.last_row()
+    }
+
+    /// Draws an event on the link at this place in the next row: its number, and its row.
+    pub(crate) fn add_numbered(
         &mut self,
         alloc: Global,
         link: usize,
-        place: u64,
+        number: u64,
         row: &Row,
     ) -> Result<(), AllocError> {
+        let at = self.next_rows(1);
+        let is_banded = self.rows % 2 == 1;
         let Some(panel) = self.panels.get_mut(link) else {
             return Ok(());
         };
-        let down = place.saturating_sub(1).saturating_mul(ROW);
-        let at = self.sheet.first().down(down);
         draw_event(
             &mut self.canvas,
             self.sheet,
             panel.name.as_str(),
-            place,
+            (number, is_banded),
             row,
             at,
         )?;
         draw_row(alloc, panel, &mut self.canvas, row, at.y)
+    }
+
+    /// Writes words for all links in the next row.
+    pub(crate) fn add_mark(
+        &mut self,
+        number: u64,
+        name: &str,
+        text: &str,
+    ) -> Result<(), AllocError> {
+        let at = self.next_rows(1);
+        draw_mark(&mut self.canvas, self.sheet, number, name, at, text)
+    }
+
+    /// Writes a word and a list of items for a node in the next row.
+    pub(crate) fn add_list(
+        &mut self,
+        alloc: Global,
+        number: u64,
+        name: &str,
+        word: &str,
+        list: &[Item],
+    ) -> Result<(), AllocError> {
+        let at = self.next_rows(1);
+        draw_mark(&mut self.canvas, self.sheet, number, name, at, word)?;
+        draw_list(alloc, &mut self.canvas, self.sheet, at, list)
+    }
+
+    /// Draws that the link at this place is struck: what was queued vanishes, and what is there
+    /// then is drawn as a start is, in as many rows as its longer queue has entries.
+    pub(crate) fn add_strike(
+        &mut self,
+        alloc: Global,
+        link: usize,
+        number: u64,
+        name: &str,
+        start: &Start,
+    ) -> Result<(), AllocError> {
+        let entries = start.frames.len().max(start.acks.len()).max(1);
+        let first = self.next_rows(1);
+        let last = self.next_rows((entries as u64).saturating_sub(1));
+        draw_mark(&mut self.canvas, self.sheet, number, name, first, "strike")?;
+        let Some(panel) = self.panels.get_mut(link) else {
+            return Ok(());
+        };
+        draw_vanished(panel, &mut self.canvas, first.y)?;
+        draw_start(alloc, &mut self.canvas, last.y, panel, start)
+    }
+
+    /// Draws in the last row that the receiver of the link at this place begins anew.
+    pub(crate) fn restart_receiver(&mut self, link: usize) -> Result<(), AllocError> {
+        let at = self.last_row();
+        let Some(panel) = self.panels.get_mut(link) else {
+            return Ok(());
+        };
+        draw_restarted(panel, &mut self.canvas, at.y)
+    }
+
+    /// Draws in the last row that the sender of the link at this place begins anew.
+    pub(crate) fn restart_sender(&mut self, link: usize) -> Result<(), AllocError> {
+        let at = self.last_row();
+        let Some(panel) = self.panels.get_mut(link) else {
+            return Ok(());
+        };
+        draw_anew(panel, &mut self.canvas, at.y)
     }
 
     /// Draws how each link ends.
@@ -174,16 +260,17 @@ fn draw_head(
     words(&mut canvas.front, "soft mid", middle, text.as_str())
 }
 
-/// What is in a link at its start: the front of each queue next to the first event.
+/// What is in a link at its start, or after a strike: the front of each queue at this height, next
+/// to the event that comes then.
 fn draw_start(
     alloc: Global,
     canvas: &mut Canvas,
-    sheet: Sheet,
+    y: u64,
     panel: &mut Panel,
     start: &Start,
 ) -> Result<(), AllocError> {
-    let sender = panel.sender(sheet.start());
-    let receiver = panel.receiver(sheet.start());
+    let sender = panel.sender(y);
+    let receiver = panel.receiver(y);
     let out = &mut canvas.front;
     let mut at = receiver.left(76);
     for entry in start.frames.as_slice() {
@@ -217,16 +304,17 @@ fn stray(at: Point) -> Mark {
     }
 }
 
-/// The words of an event, before the links, over a band in every second row.
+/// The number and the words of an event, before the links, over a band where it has one.
 fn draw_event(
     canvas: &mut Canvas,
     sheet: Sheet,
     name: &str,
-    place: u64,
+    numbered: (u64, bool),
     row: &Row,
     at: Point,
 ) -> Result<(), AllocError> {
-    if place % 2 == 1 {
+    let (number, is_banded) = numbered;
+    if is_banded {
         let width = sheet.width().saturating_sub(24);
         rectangle(
             &mut canvas.bands,
@@ -238,7 +326,7 @@ fn draw_event(
         )?;
     }
     let out = &mut canvas.front;
-    counted(out, "soft end", at.right(44), "", place)?;
+    counted(out, "soft end", at.right(44), "", number)?;
     let after = at.right(sheet.name.saturating_mul(8));
     if sheet.name > 0 {
         words(out, "mono", at.right(54), name)?;
@@ -252,7 +340,11 @@ fn draw_event(
 /// The times in which the sender held an item, and what became of it.
 fn draw_waits(canvas: &mut Canvas, panel: &Panel, end: u64) -> Result<(), AllocError> {
     for wait in panel.waits.iter() {
-        let to = if wait.is_acked { wait.to } else { end };
+        let to = if wait.is_acked || wait.is_dropped {
+            wait.to
+        } else {
+            end
+        };
         let height = to.saturating_sub(wait.from);
         let corner = panel.sender(wait.from).left(5);
         rectangle(&mut canvas.back, class_of(wait), corner, 10, height, 3)?;

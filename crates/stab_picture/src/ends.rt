@@ -13,7 +13,7 @@ use std::alloc::{AllocError, Global};
 const NEAR: u64 = 54;
 
 /// How far words are from the line of an end.
-const BESIDE: u64 = 32;
+pub(crate) const BESIDE: u64 = 32;
 
 /// Draws what an event did to a link at this height.
 pub(crate) fn draw_row(
@@ -91,6 +91,7 @@ fn offer(
         from: y,
         to: y,
         is_acked: false,
+        is_dropped: false,
         is_delivered: false,
     })?;
     let at = panel.sender(y).left(BESIDE);
@@ -253,7 +254,12 @@ fn recv_ack(
 }
 
 /// The line on which a mark comes to its loss.
-fn lose(canvas: &mut Canvas, ink: Ink, mark: Mark, end: Point) -> Result<(), AllocError> {
+pub(crate) fn lose(
+    canvas: &mut Canvas,
+    ink: Ink,
+    mark: Mark,
+    end: Point,
+) -> Result<(), AllocError> {
     let x = (mark.at.x / 2).saturating_add(end.x / 2);
     let at = Point { x, y: end.y };
     line(&mut canvas.ways, ink.line(), mark.at, at)?;

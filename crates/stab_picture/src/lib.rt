@@ -9,13 +9,16 @@
 mod canvas;
 mod drawing;
 mod ends;
+mod faults;
 mod ink;
 mod items;
 mod panel;
 mod picture;
+mod scenario;
 mod shapes;
 mod sheet;
 mod style;
 mod words;
 
 pub use picture::{link_picture, schedule_picture};
+pub use scenario::scenario_picture;

@@ -23,6 +23,8 @@ pub(crate) struct Wait {
     pub(crate) from: u64,
     pub(crate) to: u64,
     pub(crate) is_acked: bool,
+    /// Whether the sender began anew, and holds it no more.
+    pub(crate) is_dropped: bool,
     pub(crate) is_delivered: bool,
 }
 

@@ -57,7 +57,7 @@ const ABOUT_TREE: &str = "The links of a tree are side by side, each with its tw
 lines. Each row is an event of the schedule, on the link into the node that it names.";
 
 /// How many rows a start needs.
-fn rows_of(start: &Start) -> u64 {
+pub(crate) fn rows_of(start: &Start) -> u64 {
     let frames = start.frames.len().max(start.acks.len());
     frames as u64
 }
@@ -85,15 +85,15 @@ fn draw_tree(
     starts: &[Start],
     rows: &[Row],
 ) -> Result<String, AllocError> {
-    let mut drawing = Drawing::new(alloc, sheet_of(tree, starts, rows));
+    let mut drawing = Drawing::new(alloc, sheet_of(tree, starts, rows.len() as u64));
     add_links(alloc, &mut drawing, params, tree, starts)?;
     add_rows(alloc, &mut drawing, Some(tree), rows)?;
     drawing.end(alloc)?;
     drawing.page(alloc, "The run of a schedule", ABOUT_TREE)
 }
 
-/// The sizes of the picture of a tree.
-fn sheet_of(tree: &Tree, starts: &[Start], rows: &[Row]) -> Sheet {
+/// The sizes of the picture of a tree with so many rows.
+pub(crate) fn sheet_of(tree: &Tree, starts: &[Start], rows: u64) -> Sheet {
     let mut start_rows = 1;
     for start in starts {
         start_rows = rows_of(start).max(start_rows);
@@ -106,13 +106,13 @@ fn sheet_of(tree: &Tree, starts: &[Start], rows: &[Row]) -> Sheet {
     Sheet {
         links: u64::from(tree.link_count()),
         start_rows,
-        rows: rows.len() as u64,
+        rows,
         name,
     }
 }
 
 /// Adds the links of a tree at their starts.
-fn add_links(
+pub(crate) fn add_links(
     alloc: Global,
     drawing: &mut Drawing,
     params: &[Params],
@@ -149,16 +149,16 @@ fn add_rows(
     tree: Option<&Tree>,
     rows: &[Row],
 ) -> Result<(), AllocError> {
-    let mut place = 0u64;
+    let mut number = 0u64;
     for row in rows {
-        place = place.saturating_add(1);
-        drawing.add_row(alloc, link_of(tree, row.child), place, row)?;
+        number = number.saturating_add(1);
+        drawing.add_numbered(alloc, link_of(tree, row.child), number, row)?;
     }
     Ok(())
 }
 
 /// The place of the link into a node among the links that are drawn.
-fn link_of(tree: Option<&Tree>, child: NodeId) -> usize {
+pub(crate) fn link_of(tree: Option<&Tree>, child: NodeId) -> usize {
     match tree {
         Some(tree) => usize::from(tree.link_place(child).unwrap_or(0)),
         None => 0,
