@@ -1,0 +1,241 @@
+//! The other end of the control socket: asks an agent, and makes text of what it says.
+use crate::control::{ChildStatus, Request, Response, Status};
+use crate::tree::{depths, Seen};
+use serde::Serialize;
+use std::fmt::Write as _;
+use std::io::{self, BufRead, BufReader, Write};
+use std::os::unix::net::UnixStream;
+use std::path::Path;
+use std::time::Duration;
+
+/// A connection to an agent. It may ask one thing after the other.
+pub struct Agent {
+    reader: BufReader<UnixStream>,
+}
+
+impl Agent {
+    pub fn connect(path: &Path) -> io::Result<Agent> {
+        let stream = UnixStream::connect(path)?;
+        stream.set_read_timeout(Some(Duration::from_secs(10)))?;
+        stream.set_write_timeout(Some(Duration::from_secs(10)))?;
+        Ok(Agent { reader: BufReader::new(stream) })
+    }
+
+    pub fn ask(&mut self, request: &Request) -> io::Result<Response> {
+        let mut line = serde_json::to_vec(request)?;
+        line.push(b'\n');
+        self.reader.get_mut().write_all(&line)?;
+        let mut answer = String::new();
+        if self.reader.read_line(&mut answer)? == 0 {
+            return Err(io::ErrorKind::UnexpectedEof.into());
+        }
+        Ok(serde_json::from_str(&answer)?)
+    }
+}
+
+/// Why an agent has not all up to a sequence number; nothing where it has.
+pub fn lacks(agent: &Seen, sequence: u64) -> Option<&'static str> {
+    match () {
+        () if !agent.connected => Some("is not connected"),
+        () if agent.failing > 0 => Some("has a file or a hook that failed"),
+        () if !agent.whole => Some("waits for a whole table"),
+        () if agent.applied < sequence => Some("has not applied it"),
+        () => None,
+    }
+}
+
+/// The bounds of an agent at a depth, where each link is over connections: its capacity is 1.
+#[derive(Debug, PartialEq, Serialize)]
+pub struct Bounds {
+    pub name: String,
+    pub depth: u64,
+    /// At most so many bodies that nobody published come first: those of the lines, and backlogs.
+    #[serde(rename = "C")]
+    pub c: u64,
+    #[serde(rename = "E")]
+    pub e: u64,
+    /// Only some of so many published ones can be missing: of M, and by the sharper bound of N.
+    #[serde(rename = "M")]
+    pub m: u64,
+    #[serde(rename = "N")]
+    pub n: u64,
+}
+
+/// The bounds of each agent of a list that begins with the root.
+pub fn bounds(list: &[Seen]) -> Vec<Bounds> {
+    let mut above: std::collections::BTreeMap<&str, u64> = Default::default();
+    let depths = depths(list);
+    list.iter()
+        .zip(depths)
+        .enumerate()
+        .map(|(at, (seen, depth))| {
+            let own = if at > 0 && seen.inner { seen.limit } else { 0 };
+            let e = above.get(seen.parent.as_str()).copied().unwrap_or(0) + own;
+            above.insert(&seen.name, e);
+            let depth = depth as u64;
+            let n = if depth == 0 { 0 } else { 2 * depth + 1 };
+            Bounds { name: seen.name.clone(), depth, c: depth, e, m: 3 * depth, n }
+        })
+        .collect()
+}
+
+/// How many harmless items a round needs for these agents: the sharper bound of the deepest, and
+/// two for one whose own memory of the numbers is wrong.
+pub fn harmless_needed(list: &[Seen]) -> u64 {
+    bounds(list).iter().map(|bounds| bounds.n).max().map_or(0, |most| most + 2)
+}
+
+/// What is wrong with the number of harmless items that the root is set up with, if something is.
+pub fn too_few_harmless(list: &[Seen]) -> Option<String> {
+    let (has, needs) = (list.first()?.harmless, harmless_needed(list));
+    (has < needs).then(|| {
+        format!(
+            "root.harmless is {has}, and a tree so deep needs {needs}: an agent that restarts \
+                 can need more than one round"
+        )
+    })
+}
+
+/// A table with a head, each column as wide as its widest word; numbers stand to the right.
+fn table(rows: &[Vec<String>]) -> String {
+    let columns = rows.iter().map(Vec::len).max().unwrap_or(0);
+    let column = |at: usize| rows.iter().filter_map(move |row| row.get(at));
+    let widths: Vec<usize> =
+        (0..columns).map(|at| column(at).map(String::len).max().unwrap_or(0)).collect();
+    let is_number = |word: &String| word.starts_with(|c: char| c.is_ascii_digit());
+    let right: Vec<bool> = (0..columns).map(|at| column(at).skip(1).all(is_number)).collect();
+    let mut text = String::new();
+    for row in rows {
+        let mut line = String::new();
+        for (at, word) in row.iter().enumerate() {
+            let (wide, between) = (widths[at], if at == 0 { "" } else { "  " });
+            let _ = match right[at] {
+                true => write!(line, "{between}{word:>wide$}"),
+                false => write!(line, "{between}{word:<wide$}"),
+            };
+        }
+        let _ = writeln!(text, "{}", line.trim_end());
+    }
+    text
+}
+
+fn words(line: &[&str]) -> Vec<String> {
+    line.iter().map(|word| word.to_string()).collect()
+}
+
+/// The tree, an agent a line, each under its parent.
+pub fn tree_text(list: &[Seen]) -> String {
+    let newest = list.first().map_or(0, |root| root.sequence);
+    let mut rows = vec![words(&["agent", "lag", "backlog", "strays", "garbage", "gaps", "state"])];
+    for (seen, depth) in list.iter().zip(depths(list)) {
+        let state = match () {
+            () if !seen.connected && seen.sequence == 0 => "never heard of".into(),
+            () if !seen.connected => format!("away for {}", age(seen.age)),
+            () if seen.failing > 0 => format!("{} failing", seen.failing),
+            () if !seen.whole => "waits for a whole table".into(),
+            () if seen.draining => "drains".into(),
+            () => "up".into(),
+        };
+        rows.push(vec![
+            format!("{}{}", "  ".repeat(depth), seen.name),
+            newest.saturating_sub(seen.applied).to_string(),
+            format!("{}/{}", seen.backlog, seen.limit),
+            seen.strays.to_string(),
+            seen.garbage.to_string(),
+            seen.gaps.to_string(),
+            state,
+        ]);
+    }
+    table(&rows)
+}
+
+/// A time in words.
+fn age(milliseconds: u64) -> String {
+    match milliseconds {
+        0..=9_999 => format!("{}.{} s", milliseconds / 1_000, milliseconds % 1_000 / 100),
+        10_000..=599_999 => format!("{} s", milliseconds / 1_000),
+        600_000..=35_999_999 => format!("{} min", milliseconds / 60_000),
+        _ => format!("{} h", milliseconds / 3_600_000),
+    }
+}
+
+/// An agent, a fact a line, and its children.
+pub fn status_text(status: &Status) -> String {
+    let mut text = String::new();
+    let mut fact = |name: &str, value: String| {
+        let _ = writeln!(text, "{name:<14} {value}");
+    };
+    fact("name", status.name.clone());
+    match &status.parent {
+        _ if status.is_root => fact("parent", "none: it is the root".into()),
+        Some(parent) => {
+            fact("parent", format!("{parent}, for {}", age(status.connected_since * 1_000)));
+        }
+        None => fact("parent", "not connected".into()),
+    }
+    fact("sequence", status.sequence.to_string());
+    fact("applied", status.applied.to_string());
+    match status.round {
+        0 => fact("last round", "none yet".into()),
+        _ => fact("last round", format!("{} ago", age(status.round_age))),
+    }
+    fact("complete", if status.whole { "yes" } else { "no: a round will bring it" }.into());
+    for (name, count) in [
+        ("settings", status.settings),
+        ("failing", status.failing),
+        ("hook failures", status.hook_failures),
+        ("received", status.received),
+        ("strays", status.strays),
+        ("garbage", status.garbage),
+        ("gaps", status.gaps),
+        ("old frames", status.old_frames),
+        ("reconnects", status.reconnects),
+        ("refused", status.refused),
+    ] {
+        fact(name, count.to_string());
+    }
+    if status.draining {
+        fact("draining", "yes".into());
+    }
+    if !status.children.is_empty() {
+        let head = ["child", "backlog", "item for", "reconnects", "ignored", "timeouts", "state"];
+        let rows: Vec<Vec<String>> =
+            std::iter::once(words(&head)).chain(status.children.iter().map(child_row)).collect();
+        let _ = write!(text, "\n{}", table(&rows));
+    }
+    text
+}
+
+fn child_row(child: &ChildStatus) -> Vec<String> {
+    let state = match (child.connected, child.left_behind) {
+        (true, false) => "up",
+        (true, true) => "begins anew",
+        (false, false) => "away",
+        (false, true) => "away, its backlog dropped",
+    };
+    vec![
+        child.name.clone(),
+        child.backlog.to_string(),
+        age(child.oldest),
+        child.reconnects.to_string(),
+        child.ignored.to_string(),
+        child.timeouts.to_string(),
+        state.into(),
+    ]
+}
+
+/// The bounds of each agent.
+pub fn bounds_text(list: &[Seen]) -> String {
+    let mut rows = vec![words(&["agent", "depth", "C", "E", "M", "N"])];
+    for agent in bounds(list) {
+        rows.push(vec![
+            agent.name,
+            agent.depth.to_string(),
+            agent.c.to_string(),
+            agent.e.to_string(),
+            agent.m.to_string(),
+            agent.n.to_string(),
+        ]);
+    }
+    table(&rows)
+}

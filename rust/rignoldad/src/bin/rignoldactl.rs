@@ -1,0 +1,276 @@
+//! Asks a running agent, over its control socket.
+#![forbid(unsafe_code)]
+use clap::{Parser, Subcommand};
+use rignoldad::ask::{self, Agent};
+use rignoldad::config::milliseconds;
+use rignoldad::control::{Request, Response, Status};
+use rignoldad::tree::Seen;
+use serde_json::json;
+use std::io::{Read, Write};
+use std::path::PathBuf;
+use std::process::ExitCode;
+use std::time::{Duration, Instant};
+
+/// How often a command that waits asks.
+const PAUSE: Duration = Duration::from_millis(50);
+const VALUE_BYTES: u64 = 1 << 20;
+
+/// Asks a running agent of rignoldad, over its control socket.
+///
+/// It ends with 0 where it was done, 1 where it was refused or its time was up, 2 where it was
+/// called wrongly, and 3 where no agent answers.
+#[derive(Parser)]
+#[command(name = "rignoldactl", version)]
+struct Arguments {
+    /// The agent's control socket.
+    #[arg(long, env = "RIGNOLDA_CONTROL", default_value = "/run/rignolda/control", global = true)]
+    socket: PathBuf,
+    /// Prints JSON.
+    #[arg(long, global = true)]
+    json: bool,
+    #[command(subcommand)]
+    command: Command,
+}
+
+#[derive(Subcommand)]
+enum Command {
+    /// At the root: makes a setting, and prints the sequence number of the change.
+    Publish {
+        key: String,
+        /// The value; `-` or nothing: it is read from the standard input.
+        value: Option<String>,
+    },
+    /// At the root: removes a setting, and prints the sequence number of the change.
+    Unset { key: String },
+    /// At the root: publishes a round now.
+    Round,
+    /// Shows this agent.
+    Status,
+    /// Shows this agent and all below it.
+    Tree,
+    /// Waits until all up to a sequence number is applied, its hooks included.
+    Wait {
+        /// Without it: the last one that this agent has, or has published.
+        sequence: Option<u64>,
+        /// Waits for every agent of the tree, and not for this one alone.
+        #[arg(long)]
+        everywhere: bool,
+        #[arg(long, default_value = "30s", value_parser = time)]
+        timeout: Duration,
+    },
+    /// At the root: publishes nothing more, and waits until all backlogs are empty.
+    Drain {
+        #[arg(long, default_value = "30s", value_parser = time)]
+        timeout: Duration,
+    },
+    /// At the root: ends `drain`.
+    Resume,
+    /// Adds or removes a child, until the agent ends or reads its configuration again.
+    Child {
+        #[command(subcommand)]
+        what: Child,
+    },
+    /// Shows the bounds of each agent, seen from the root.
+    Bounds,
+}
+
+#[derive(Subcommand)]
+enum Child {
+    Add { name: String },
+    Remove { name: String },
+}
+
+fn time(text: &str) -> Result<Duration, String> {
+    let error = || "a time is expected, as 500ms, 2s or 10m".to_string();
+    milliseconds(text).map(Duration::from_millis).ok_or_else(error)
+}
+
+/// Why a command was not done, and the status to end with.
+struct Failed(u8, String);
+
+impl From<std::io::Error> for Failed {
+    fn from(error: std::io::Error) -> Failed {
+        Failed(3, format!("the agent does not answer: {error}"))
+    }
+}
+
+fn main() -> ExitCode {
+    let arguments = Arguments::parse();
+    let done = run(&arguments).map(|text| {
+        // (a reader that went away is no fault of the command)
+        let _ = std::io::stdout().write_all(text.as_bytes());
+    });
+    match done {
+        Ok(()) => ExitCode::SUCCESS,
+        Err(Failed(status, error)) => {
+            if arguments.json {
+                println!("{}", json!({ "error": error }));
+            }
+            eprintln!("rignoldactl: {error}");
+            ExitCode::from(status)
+        }
+    }
+}
+
+/// Does a command: what to print.
+fn run(arguments: &Arguments) -> Result<String, Failed> {
+    let mut agent = Agent::connect(&arguments.socket)
+        .map_err(|error| Failed(3, format!("{}: {error}", arguments.socket.display())))?;
+    let request = match &arguments.command {
+        Command::Publish { key, value } => {
+            Request::Publish { key: key.clone(), value: value_of(value.as_deref())? }
+        }
+        Command::Unset { key } => Request::Unset { key: key.clone() },
+        Command::Round => Request::Round,
+        Command::Resume => Request::Resume,
+        Command::Child { what: Child::Add { name } } => Request::ChildAdd { name: name.clone() },
+        Command::Child { what: Child::Remove { name } } => {
+            Request::ChildRemove { name: name.clone() }
+        }
+        Command::Status => {
+            let status = status(&mut agent)?;
+            return Ok(if arguments.json { json(&status) } else { ask::status_text(&status) });
+        }
+        Command::Tree => return show_tree(&mut agent, arguments.json),
+        Command::Bounds => {
+            from_the_root(&mut agent)?;
+            let list = tree(&mut agent)?;
+            return Ok(match arguments.json {
+                true => json(&ask::bounds(&list)),
+                false => ask::bounds_text(&list),
+            });
+        }
+        Command::Wait { sequence, everywhere, timeout } => {
+            let sequence = match sequence {
+                Some(sequence) => *sequence,
+                None => status(&mut agent)?.sequence,
+            };
+            wait(&mut agent, sequence, *everywhere, *timeout)?;
+            return Ok(if arguments.json {
+                json(&json!({ "applied": sequence }))
+            } else {
+                "".into()
+            });
+        }
+        Command::Drain { timeout } => {
+            asked(&mut agent, &Request::Drain)?;
+            drained(&mut agent, *timeout)?;
+            return Ok(if arguments.json { json(&json!({ "drained": true })) } else { "".into() });
+        }
+    };
+    match asked(&mut agent, &request)? {
+        Response::Published(sequence) if arguments.json => {
+            Ok(json(&json!({ "sequence": sequence })))
+        }
+        Response::Published(sequence) => Ok(format!("{sequence}\n")),
+        _ if arguments.json => Ok(json(&json!({ "done": true }))),
+        _ => Ok(String::new()),
+    }
+}
+
+fn json(value: &impl serde::Serialize) -> String {
+    serde_json::to_string(value).expect("it is JSON") + "\n"
+}
+
+/// The value to publish.
+fn value_of(word: Option<&str>) -> Result<Vec<u8>, Failed> {
+    let mut value = Vec::new();
+    match word {
+        Some(word) if word != "-" => value.extend_from_slice(word.as_bytes()),
+        _ => {
+            let input = std::io::stdin().lock();
+            input
+                .take(VALUE_BYTES + 1)
+                .read_to_end(&mut value)
+                .map_err(|error| Failed(1, format!("the standard input: {error}")))?;
+        }
+    }
+    match value.len() as u64 > VALUE_BYTES {
+        true => Err(Failed(1, format!("a value has at most {VALUE_BYTES} bytes"))),
+        false => Ok(value),
+    }
+}
+
+fn asked(agent: &mut Agent, request: &Request) -> Result<Response, Failed> {
+    match agent.ask(request)? {
+        Response::Refused(why) => Err(Failed(1, why)),
+        response => Ok(response),
+    }
+}
+
+fn status(agent: &mut Agent) -> Result<Status, Failed> {
+    match asked(agent, &Request::Status)? {
+        Response::Status(status) => Ok(*status),
+        _ => Err(Failed(3, "the agent answers something else".into())),
+    }
+}
+
+fn tree(agent: &mut Agent) -> Result<Vec<Seen>, Failed> {
+    match asked(agent, &Request::Tree)? {
+        Response::Tree(list) => Ok(list),
+        _ => Err(Failed(3, "the agent answers something else".into())),
+    }
+}
+
+fn from_the_root(agent: &mut Agent) -> Result<(), Failed> {
+    match status(agent)?.is_root {
+        true => Ok(()),
+        false => Err(Failed(1, "ask the root: an agent does not know how deep it is".into())),
+    }
+}
+
+fn show_tree(agent: &mut Agent, json_is_asked: bool) -> Result<String, Failed> {
+    let is_root = status(agent)?.is_root;
+    let list = tree(agent)?;
+    if let Some(warning) = ask::too_few_harmless(&list).filter(|_| is_root) {
+        eprintln!("rignoldactl: {warning}");
+    }
+    Ok(if json_is_asked { json(&list) } else { ask::tree_text(&list) })
+}
+
+fn wait(
+    agent: &mut Agent,
+    sequence: u64,
+    everywhere: bool,
+    timeout: Duration,
+) -> Result<(), Failed> {
+    let until = Instant::now() + timeout;
+    loop {
+        let mut list = tree(agent)?;
+        if !everywhere {
+            list.truncate(1);
+        }
+        let lacking = list.iter().filter_map(|seen| Some((seen, ask::lacks(seen, sequence)?)));
+        let lacking: Vec<String> =
+            lacking.map(|(seen, why)| format!("{} {why}", seen.name)).collect();
+        if lacking.is_empty() && !list.is_empty() {
+            return Ok(());
+        }
+        if Instant::now() >= until {
+            return Err(Failed(1, format!("the time is up: {}", lacking.join(", "))));
+        }
+        std::thread::sleep(PAUSE);
+    }
+}
+
+/// Waits until each agent has what its parent has, and no backlog, and that twice in turn: for the
+/// lists of the agents come up one after the other.
+fn drained(agent: &mut Agent, timeout: Duration) -> Result<(), Failed> {
+    let until = Instant::now() + timeout;
+    let mut before = false;
+    loop {
+        let list = tree(agent)?;
+        let newest = list.first().map_or(0, |root| root.sequence);
+        let full = |seen: &&Seen| !seen.connected || seen.backlog > 0 || seen.sequence < newest;
+        let full: Vec<&str> = list.iter().filter(full).map(|seen| seen.name.as_str()).collect();
+        if full.is_empty() && before {
+            return Ok(());
+        }
+        before = full.is_empty();
+        if Instant::now() >= until {
+            let agents = full.join(", ");
+            return Err(Failed(1, format!("the time is up: not drained at {agents}")));
+        }
+        std::thread::sleep(PAUSE);
+    }
+}

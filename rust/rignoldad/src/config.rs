@@ -1,0 +1,524 @@
+//! The configuration of an agent: a TOML file, read whole and checked whole.
+//!
+//! Every fault is reported with its line and its key. Nothing here opens another file, except that
+//! [`Config::read`] reads the one that it is given.
+use std::collections::BTreeSet;
+use std::fmt;
+use std::net::{IpAddr, SocketAddr};
+use std::ops::RangeInclusive;
+use std::path::{Path, PathBuf};
+use std::time::Duration;
+use toml::value::{Table, Value};
+
+/// The longest name of an agent, in bytes.
+pub const NAME_BYTES: usize = 64;
+/// The longest key of a setting, in bytes.
+pub const KEY_BYTES: usize = 128;
+/// The longest configuration file, in bytes.
+const FILE_BYTES: u64 = 1 << 20;
+const CHILDREN: usize = 10_000;
+const ADDRESSES: usize = 64;
+
+/// What an agent is set up with.
+#[derive(Clone, Debug, PartialEq)]
+pub struct Config {
+    pub name: String,
+    pub listen: Vec<Address>,
+    pub children: Children,
+    /// Whom to connect to, in the order in which they are tried. Empty at the root alone.
+    pub parents: Vec<Parent>,
+    pub root: Option<Root>,
+    pub link: Link,
+    pub tls: Option<Tls>,
+    /// Whether plain TCP may leave this machine, where there is no `tls`.
+    pub insecure: bool,
+    pub apply: Option<Apply>,
+    pub control: Option<PathBuf>,
+    pub metrics: Option<SocketAddr>,
+}
+
+/// Which agents may connect as children.
+#[derive(Clone, Debug, PartialEq)]
+pub enum Children {
+    Named(Vec<String>),
+    /// Each one whose certificate holds; without TLS, each one that can connect.
+    Any,
+}
+
+/// A parent, and where it is: `NAME@ADDRESS`. Where there is a name, its hello has to carry it.
+#[derive(Clone, Debug, PartialEq)]
+pub struct Parent {
+    pub name: Option<String>,
+    pub address: Address,
+}
+
+/// Where an agent listens, or connects to.
+#[derive(Clone, Debug, PartialEq, Eq, Hash, PartialOrd, Ord)]
+pub enum Address {
+    /// `HOST:PORT`, with an address of IPv6 in brackets.
+    Tcp(String),
+    /// `unix:/PATH`.
+    Unix(PathBuf),
+}
+
+/// What the root alone has.
+#[derive(Clone, Debug, PartialEq)]
+pub struct Root {
+    /// A folder with a file for each setting: the truth.
+    pub settings: PathBuf,
+    pub round: Duration,
+    /// How many harmless items a round begins with.
+    pub harmless: u32,
+}
+
+#[derive(Clone, Debug, PartialEq)]
+pub struct Link {
+    /// How long the answer to a frame may take before the connection is left.
+    pub ack_timeout: Duration,
+    /// The room of the list: a child that is more items behind is left behind, and begins anew.
+    pub backlog: u64,
+    /// How long a child may be away, or not answer, before its backlog is dropped.
+    pub evict: Duration,
+}
+
+#[derive(Clone, Debug, PartialEq)]
+pub struct Tls {
+    pub certificate: PathBuf,
+    pub key: PathBuf,
+    pub authority: PathBuf,
+}
+
+#[derive(Clone, Debug, PartialEq)]
+pub struct Apply {
+    pub folder: PathBuf,
+    /// The permissions of a setting's file.
+    pub mode: u32,
+    pub hook: Option<PathBuf>,
+    pub hook_timeout: Duration,
+}
+
+/// What is wrong with a configuration, and where.
+#[derive(Clone, Debug, PartialEq)]
+pub struct Fault {
+    /// From 1; 0 where the fault is in no line.
+    pub line: usize,
+    pub key: String,
+    pub text: String,
+}
+
+impl fmt::Display for Fault {
+    fn fmt(&self, f: &mut fmt::Formatter<'_>) -> fmt::Result {
+        if self.line > 0 {
+            write!(f, "line {}: ", self.line)?;
+        }
+        if !self.key.is_empty() {
+            write!(f, "{}: ", self.key)?;
+        }
+        f.write_str(&self.text)
+    }
+}
+
+/// Whether this may be the name of an agent: letters, digits, `.`, `_` and `-`, and no dot or
+/// hyphen in front.
+pub fn is_name(text: &str) -> bool {
+    is_plain(text, NAME_BYTES)
+}
+
+/// Whether this may be the key of a setting, by the same rule. So a key is a file's name, and no
+/// file whose name begins with a dot is a setting.
+pub fn is_key(text: &str) -> bool {
+    is_plain(text, KEY_BYTES)
+}
+
+fn is_plain(text: &str, most: usize) -> bool {
+    (1..=most).contains(&text.len())
+        && !text.starts_with(['.', '-'])
+        && text.bytes().all(|b| b.is_ascii_alphanumeric() || b"._-".contains(&b))
+}
+
+impl Address {
+    /// The address that the text says, or what is wrong with it.
+    pub fn parse(text: &str) -> Result<Address, String> {
+        if let Some(path) = text.strip_prefix("unix:") {
+            // (a socket's path has room for 108 bytes, the last one being 0)
+            return match path.starts_with('/') && path.len() <= 107 {
+                true => Ok(Address::Unix(path.into())),
+                false => Err("after `unix:` comes an absolute path of at most 107 bytes".into()),
+            };
+        }
+        let (host, port) = text.rsplit_once(':').ok_or("HOST:PORT or unix:/PATH is expected")?;
+        if port.parse::<u16>().map_or(true, |port| port == 0) {
+            return Err(format!("the port is from 1 to 65535, not `{port}`"));
+        }
+        let good = match host.strip_prefix('[') {
+            Some(inner) => inner
+                .strip_suffix(']')
+                .is_some_and(|inner| inner.parse::<std::net::Ipv6Addr>().is_ok()),
+            None => {
+                let letter = |b: u8| b.is_ascii_alphanumeric() || b == b'.' || b == b'-';
+                (1..=253).contains(&host.len()) && host.bytes().all(letter)
+            }
+        };
+        match good {
+            true => Ok(Address::Tcp(text.into())),
+            false => Err(format!("`{host}` is no host (an address of IPv6 needs brackets)")),
+        }
+    }
+
+    /// Whether what goes there stays on this machine.
+    pub fn is_local(&self) -> bool {
+        let Address::Tcp(text) = self else { return true };
+        let host = text.rsplit_once(':').map_or("", |(host, _)| host);
+        let host = host.trim_start_matches('[').trim_end_matches(']');
+        host == "localhost" || host.parse::<IpAddr>().is_ok_and(|ip| ip.is_loopback())
+    }
+}
+
+impl fmt::Display for Address {
+    fn fmt(&self, f: &mut fmt::Formatter<'_>) -> fmt::Result {
+        match self {
+            Address::Tcp(text) => f.write_str(text),
+            Address::Unix(path) => write!(f, "unix:{}", path.display()),
+        }
+    }
+}
+
+impl Config {
+    /// Reads a file, and checks it.
+    pub fn read(path: &Path) -> Result<Config, Vec<Fault>> {
+        let fault = |text: String| vec![Fault { line: 0, key: String::new(), text }];
+        let file = std::fs::File::open(path).map_err(|e| fault(e.to_string()))?;
+        let mut text = String::new();
+        std::io::Read::read_to_string(&mut std::io::Read::take(file, FILE_BYTES + 1), &mut text)
+            .map_err(|e| fault(e.to_string()))?;
+        match text.len() as u64 > FILE_BYTES {
+            true => Err(fault(format!("the file has more than {FILE_BYTES} bytes"))),
+            false => Config::parse(&text),
+        }
+    }
+
+    /// Reads a text, and checks it: the configuration, or every fault that was found.
+    pub fn parse(text: &str) -> Result<Config, Vec<Fault>> {
+        let table: Table = toml::from_str(text).map_err(|e| {
+            let line = e.line_col().map_or(0, |(line, _)| line + 1);
+            let said = e.to_string();
+            let end = said.rfind(" at line ").unwrap_or(said.len());
+            vec![Fault { line, key: String::new(), text: said[..end].into() }]
+        })?;
+        let mut check = Check { text, table: &table, faults: Vec::new() };
+        check.unknown(&table, "");
+        let config = check.config();
+        check.faults.sort_by_key(|fault| fault.line);
+        match check.faults.is_empty() {
+            true => Ok(config),
+            false => Err(check.faults),
+        }
+    }
+
+    /// The keys of a new configuration that differ from this one and count from a start alone. All
+    /// others may change while the agent runs.
+    pub fn at_a_start_alone(&self, new: &Config) -> Vec<&'static str> {
+        let folder = |c: &Config| c.apply.as_ref().map(|a| a.folder.clone());
+        let settings = |c: &Config| c.root.as_ref().map(|r| r.settings.clone());
+        [
+            ("name", self.name != new.name),
+            ("listen", self.listen != new.listen),
+            ("root.settings", settings(self) != settings(new)),
+            ("link.backlog", self.link.backlog != new.link.backlog),
+            ("apply.folder", folder(self) != folder(new)),
+            ("control", self.control != new.control),
+            ("metrics", self.metrics != new.metrics),
+        ]
+        .into_iter()
+        .filter_map(|(key, differs)| differs.then_some(key))
+        .collect()
+    }
+}
+
+/// All keys that there are, those of a table behind its name.
+const KEYS: &str = "name listen children parents insecure control metrics \
+    root.settings root.round root.harmless link.ack_timeout link.backlog link.evict \
+    tls.certificate tls.key tls.authority apply.folder apply.mode apply.hook apply.hook_timeout";
+
+/// The checks of one text, and the faults that they found.
+struct Check<'a> {
+    text: &'a str,
+    table: &'a Table,
+    faults: Vec<Fault>,
+}
+
+impl<'a> Check<'a> {
+    /// Reports a key, at its line where it is written as is usual.
+    fn fault(&mut self, key: &str, text: impl Into<String>) {
+        let mut table = String::new();
+        let at = self.text.lines().position(|line| {
+            let line = line.trim();
+            if let Some((name, _)) = line.strip_prefix('[').and_then(|rest| rest.split_once(']')) {
+                table = format!("{}.", name.trim());
+                return name.trim() == key;
+            }
+            line.split_once('=').is_some_and(|(word, _)| format!("{table}{}", word.trim()) == key)
+        });
+        // (what is lacking in a table is reported where the table begins)
+        let line = match (at, key.split_once('.')) {
+            (Some(at), _) => at + 1,
+            (None, Some((table, _))) => {
+                let head = format!("[{table}]");
+                self.text.lines().position(|line| line.trim() == head).map_or(0, |at| at + 1)
+            }
+            (None, None) => 0,
+        };
+        self.faults.push(Fault { line, key: key.into(), text: text.into() });
+    }
+
+    fn unknown(&mut self, table: &Table, before: &str) {
+        for (key, value) in table {
+            let path = format!("{before}{key}");
+            let inside = format!("{path}.");
+            let is_table =
+                before.is_empty() && KEYS.split(' ').any(|known| known.starts_with(&inside));
+            match value {
+                Value::Table(table) if is_table => self.unknown(table, &inside),
+                _ if is_table => self.fault(&path, "it is a table"),
+                _ if KEYS.split(' ').any(|known| known == path) => (),
+                _ => self.fault(&path, "there is no such key"),
+            }
+        }
+    }
+
+    fn has(&self, table: &str) -> bool {
+        self.table.get(table).is_some_and(Value::is_table)
+    }
+
+    fn get(&self, key: &str) -> Option<&'a Value> {
+        match key.split_once('.') {
+            Some((table, key)) => self.table.get(table)?.get(key),
+            None => self.table.get(key),
+        }
+    }
+
+    fn text(&mut self, key: &str) -> Option<&'a str> {
+        let text = self.get(key)?.as_str();
+        if text.is_none() {
+            self.fault(key, "a text is expected");
+        }
+        text
+    }
+
+    /// A list of texts, or one text.
+    fn texts(&mut self, key: &str, most: usize) -> Vec<&'a str> {
+        let texts = match self.get(key) {
+            None => return Vec::new(),
+            Some(Value::String(text)) => Some(vec![text.as_str()]),
+            Some(Value::Array(all)) => all.iter().map(Value::as_str).collect(),
+            Some(_) => None,
+        };
+        match texts {
+            Some(texts) if texts.len() <= most => return texts,
+            Some(_) => self.fault(key, format!("there are more than {most}")),
+            None => self.fault(key, "a list of texts is expected"),
+        }
+        Vec::new()
+    }
+
+    fn path(&mut self, key: &str) -> Option<PathBuf> {
+        let path = PathBuf::from(self.text(key)?);
+        if !path.is_absolute() {
+            self.fault(key, "the path has to be absolute");
+        }
+        Some(path)
+    }
+
+    /// A path that has to be there.
+    fn needed(&mut self, key: &str) -> PathBuf {
+        if self.get(key).is_none() {
+            self.fault(key, "it is missing");
+        }
+        self.path(key).unwrap_or_default()
+    }
+
+    fn number(&mut self, key: &str, usual: u64, bounds: RangeInclusive<u64>) -> u64 {
+        let Some(value) = self.get(key) else { return usual };
+        match value.as_integer().and_then(|number| u64::try_from(number).ok()) {
+            Some(number) if bounds.contains(&number) => return number,
+            _ => self.fault(key, format!("a number of {} to {}", bounds.start(), bounds.end())),
+        }
+        usual
+    }
+
+    /// A time, with its bounds in milliseconds.
+    fn time(&mut self, key: &str, usual: u64, bounds: RangeInclusive<u64>) -> Duration {
+        let Some(text) = self.text(key) else { return Duration::from_millis(usual) };
+        match milliseconds(text) {
+            Some(time) if bounds.contains(&time) => return Duration::from_millis(time),
+            _ => {
+                let (least, most) = (bounds.start(), bounds.end() / 1_000);
+                self.fault(key, format!("a time of {least}ms to {most}s, as \"500ms\" or \"10m\""));
+            }
+        }
+        Duration::from_millis(usual)
+    }
+
+    fn name(&mut self, key: &str, name: &str) -> String {
+        if !is_name(name) {
+            let text = format!(
+                "a name is 1 to {NAME_BYTES} letters, digits, `.`, `_` or `-`, the first one no \
+                 dot or hyphen; not `{}`",
+                name.escape_debug()
+            );
+            self.fault(key, text);
+        }
+        name.into()
+    }
+
+    fn address(&mut self, key: &str, text: &str) -> Option<Address> {
+        let is_safe = self.has("tls") || self.insecure();
+        match Address::parse(text) {
+            Err(error) => self.fault(key, error),
+            Ok(address) if is_safe || address.is_local() => return Some(address),
+            Ok(_) => {
+                self.fault(key, format!("`{text}` is on the network: set [tls], or `insecure`"))
+            }
+        }
+        None
+    }
+
+    fn insecure(&self) -> bool {
+        self.get("insecure").and_then(Value::as_bool) == Some(true)
+    }
+
+    fn config(&mut self) -> Config {
+        if self.get("name").is_none() {
+            self.fault("name", "it is missing");
+        }
+        if self.get("insecure").is_some_and(|value| !value.is_bool()) {
+            self.fault("insecure", "true or false is expected");
+        }
+        let name = self.text("name").map_or(String::new(), |name| self.name("name", name));
+        let children = self.children(&name);
+        let parents = self.texts("parents", ADDRESSES);
+        let listen = self.texts("listen", ADDRESSES);
+        let config = Config {
+            listen: listen.iter().filter_map(|text| self.address("listen", text)).collect(),
+            parents: parents.iter().filter_map(|text| self.parent(&name, text)).collect(),
+            root: self.has("root").then(|| Root {
+                settings: self.needed("root.settings"),
+                round: self.time("root.round", 30_000, 100..=86_400_000),
+                harmless: self.number("root.harmless", 23, 0..=10_000) as u32,
+            }),
+            link: Link {
+                ack_timeout: self.time("link.ack_timeout", 2_000, 100..=600_000),
+                backlog: self.number("link.backlog", 1_024, 8..=65_536),
+                evict: self.time("link.evict", 60_000, 200..=86_400_000),
+            },
+            tls: self.has("tls").then(|| Tls {
+                certificate: self.needed("tls.certificate"),
+                key: self.needed("tls.key"),
+                authority: self.needed("tls.authority"),
+            }),
+            apply: self.has("apply").then(|| Apply {
+                folder: self.needed("apply.folder"),
+                mode: self.mode(),
+                hook: self.path("apply.hook"),
+                hook_timeout: self.time("apply.hook_timeout", 30_000, 100..=3_600_000),
+            }),
+            insecure: self.insecure(),
+            control: self.path("control"),
+            metrics: self.metrics(),
+            name,
+            children,
+        };
+        let no_child = config.children == Children::Named(Vec::new());
+        if !no_child && listen.is_empty() {
+            self.fault("children", "children connect to an address of `listen`");
+        }
+        if no_child && !listen.is_empty() {
+            self.fault("listen", "nobody may connect: there are no `children`");
+        }
+        if config.root.is_some() && !parents.is_empty() {
+            self.fault("root", "the root has no `parents`");
+        }
+        if config.root.is_none() && parents.is_empty() {
+            self.fault("parents", "an agent without [root] has a parent");
+        }
+        let least = config.root.as_ref().map_or(0, |root| 4 * (u64::from(root.harmless) + 2));
+        if config.link.backlog < least {
+            self.fault("link.backlog", format!("at this root it is at least {least}, four rounds"));
+        }
+        if let Some(apply) = &config.apply {
+            // (what no setting names is removed there)
+            let is_shallow = apply.folder.components().count() < 3;
+            if is_shallow || config.root.as_ref().is_some_and(|it| it.settings == apply.folder) {
+                self.fault("apply.folder", "it has to be a folder of the agent's own, as /a/b");
+            }
+        }
+        if config.link.evict <= config.link.ack_timeout {
+            self.fault("link.evict", "it has to be longer than `ack_timeout`");
+        }
+        config
+    }
+
+    fn children(&mut self, name: &str) -> Children {
+        if self.get("children").and_then(Value::as_str) == Some("any") {
+            return Children::Any;
+        }
+        let names = self.texts("children", CHILDREN);
+        let mut seen = BTreeSet::from([name]);
+        for name in &names {
+            self.name("children", name);
+            if !seen.insert(name) {
+                self.fault("children", format!("`{}` is there twice", name.escape_debug()));
+            }
+        }
+        Children::Named(names.into_iter().map(String::from).collect())
+    }
+
+    fn parent(&mut self, own: &str, text: &str) -> Option<Parent> {
+        let (name, address) = match text.split_once('@') {
+            Some((name, address)) => (Some(self.name("parents", name)), address),
+            None => (None, text),
+        };
+        if self.has("tls") && name.is_none() {
+            let text = "with [tls] it is NAME@ADDRESS: a child's certificate must not do for it";
+            self.fault("parents", text);
+        }
+        if name.as_deref() == Some(own) {
+            self.fault("parents", "the agent is no parent of its own");
+        }
+        Some(Parent { name, address: self.address("parents", address)? })
+    }
+
+    fn mode(&mut self) -> u32 {
+        let Some(text) = self.text("apply.mode") else { return 0o640 };
+        let mode = u32::from_str_radix(text, 8).unwrap_or(0);
+        if mode > 0o777 || mode & 0o400 == 0 {
+            self.fault("apply.mode", "it is octal, as \"0640\", to be read");
+        }
+        mode
+    }
+
+    fn metrics(&mut self) -> Option<SocketAddr> {
+        let address = self.text("metrics")?.parse::<SocketAddr>().ok();
+        match address {
+            None => self.fault("metrics", "ADDRESS:PORT is expected, in numbers"),
+            Some(address) if !self.insecure() && !address.ip().is_loopback() => {
+                self.fault("metrics", "anybody may read it: a loopback address, or `insecure`");
+            }
+            _ => (),
+        }
+        address
+    }
+}
+
+/// A whole number with `ms`, `s`, `m` or `h`.
+pub fn milliseconds(text: &str) -> Option<u64> {
+    let end = text.find(|c: char| !c.is_ascii_digit())?;
+    let unit = match &text[end..] {
+        "ms" => 1,
+        "s" => 1_000,
+        "m" => 60_000,
+        "h" => 3_600_000,
+        _ => return None,
+    };
+    text[..end].parse::<u64>().ok()?.checked_mul(unit)
+}

@@ -1,0 +1,215 @@
+//! What an operator asks a running agent over its Unix socket, and what the agent answers.
+//!
+//! A request is one line of JSON, and so is its answer; a connection may carry one after the other.
+//! Who may connect is decided by the permissions of the socket's file.
+use crate::serve::{Parsed, Served, Ticket};
+use crate::tree::Seen;
+use serde::{Deserialize, Serialize};
+use std::io;
+use std::os::unix::io::RawFd;
+use std::path::Path;
+use std::time::{Duration, Instant};
+
+/// The longest request: the hexadecimal digits of the longest value, and its key.
+const REQUEST_BYTES: usize = (2 << 20) + 4_096;
+/// How long a connection may be without a request.
+const IDLE: Duration = Duration::from_secs(30);
+
+#[derive(Clone, Debug, Deserialize, PartialEq, Serialize)]
+#[serde(tag = "do", rename_all = "kebab-case", deny_unknown_fields)]
+pub enum Request {
+    /// At the root: writes a setting's file, and publishes it.
+    Publish {
+        key: String,
+        #[serde(with = "hexadecimal")]
+        value: Vec<u8>,
+    },
+    /// At the root: removes a setting's file, and publishes that.
+    Unset {
+        key: String,
+    },
+    /// This agent.
+    Status,
+    /// This agent, and all that is known of the agents below it.
+    Tree,
+    /// At the root: publishes nothing more until `Resume`.
+    Drain,
+    Resume,
+    ChildAdd {
+        name: String,
+    },
+    ChildRemove {
+        name: String,
+    },
+    /// At the root: a round now.
+    Round,
+}
+
+#[derive(Clone, Debug, Deserialize, PartialEq, Serialize)]
+#[serde(rename_all = "kebab-case")]
+pub enum Response {
+    Done,
+    /// What was asked for is published with this sequence number.
+    Published(u64),
+    Status(Box<Status>),
+    /// The agent itself first, and each agent after its parent.
+    Tree(Vec<Seen>),
+    Refused(String),
+}
+
+/// An agent, as it is now. Counts are since its start.
+#[derive(Clone, Debug, Default, Deserialize, PartialEq, Serialize)]
+#[serde(default)]
+pub struct Status {
+    pub name: String,
+    pub is_root: bool,
+    /// The parent that it is connected to.
+    pub parent: Option<String>,
+    /// For how many seconds it has been connected to its parent.
+    pub connected_since: u64,
+    /// The sequence number of the last body that came, or was published.
+    pub sequence: u64,
+    /// That of the last body which was applied, its hooks included.
+    pub applied: u64,
+    /// That of the last whole table which was applied.
+    pub round: u64,
+    /// How many milliseconds ago that was.
+    pub round_age: u64,
+    /// Whether nothing is known to be missing: a whole table came, and no gap since.
+    pub whole: bool,
+    /// How many settings there are.
+    pub settings: u64,
+    pub draining: bool,
+    /// How many harmless items a round of this root begins with.
+    pub harmless: u64,
+    /// The limit of the backlog for each child.
+    pub limit: u64,
+    pub received: u64,
+    /// Bodies that were older than the last one, and not applied.
+    pub strays: u64,
+    /// Bodies that did not fit their items, or have no meaning.
+    pub garbage: u64,
+    pub gaps: u64,
+    pub old_frames: u64,
+    pub reconnects: u64,
+    /// Connections that were refused: a hello that was bad, late, or of an unknown name.
+    pub refused: u64,
+    pub hook_failures: u64,
+    /// Settings whose file or hook failed last.
+    pub failing: u64,
+    pub children: Vec<ChildStatus>,
+}
+
+/// A child, as its parent sees it.
+#[derive(Clone, Debug, Default, Deserialize, PartialEq, Serialize)]
+#[serde(default)]
+pub struct ChildStatus {
+    pub name: String,
+    pub connected: bool,
+    pub backlog: u64,
+    /// For how many milliseconds its sender has had its item; 0 where it has none.
+    pub oldest: u64,
+    /// Whether what it needs next was forgotten: it begins anew when it is back.
+    pub left_behind: bool,
+    pub reconnects: u64,
+    pub acknowledged: u64,
+    pub ignored: u64,
+    pub timeouts: u64,
+}
+
+impl Status {
+    /// What the agents above learn of this one.
+    pub fn seen(&self) -> Seen {
+        Seen {
+            name: self.name.clone(),
+            parent: self.parent.clone().unwrap_or_default(),
+            connected: true,
+            sequence: self.sequence,
+            applied: self.applied,
+            round: self.round,
+            whole: self.whole,
+            draining: self.draining,
+            backlog: self.children.iter().map(|child| child.backlog).max().unwrap_or(0),
+            limit: self.limit,
+            harmless: self.harmless,
+            inner: !self.children.is_empty(),
+            strays: self.strays,
+            garbage: self.garbage,
+            gaps: self.gaps,
+            failing: self.failing,
+            age: 0,
+        }
+    }
+}
+
+/// The control socket, driven by the agent's loop.
+pub struct Server(Served);
+
+impl Server {
+    /// Listens there. A socket's file that nobody listens at any more is replaced.
+    pub fn new(path: &Path) -> io::Result<Server> {
+        Ok(Server(Served::unix(path, REQUEST_BYTES, IDLE)?))
+    }
+
+    /// What the loop waits for.
+    pub fn descriptors(&self) -> Vec<(RawFd, bool)> {
+        self.0.descriptors()
+    }
+
+    /// When the loop has to come again, at the latest.
+    pub fn deadline(&self) -> Option<Instant> {
+        self.0.deadline()
+    }
+
+    /// Reads and writes what can be read and written now: the requests that came whole. Each ticket
+    /// is to be answered once.
+    pub fn ready(&mut self, now: Instant) -> Vec<(Ticket, Request)> {
+        let (mut good, mut bad) = (Vec::new(), Vec::new());
+        for (ticket, request) in self.0.ready(now, read) {
+            match request {
+                Ok(request) => good.push((ticket, request)),
+                Err(error) => bad.push((ticket, Response::Refused(error))),
+            }
+        }
+        for (ticket, response) in bad {
+            self.answer(ticket, &response);
+        }
+        good
+    }
+
+    /// Answers a request.
+    pub fn answer(&mut self, ticket: Ticket, response: &Response) {
+        let mut line = serde_json::to_vec(response).expect("a response is JSON");
+        line.push(b'\n');
+        self.0.answer(ticket, &line, false);
+    }
+}
+
+/// The first request of these bytes, if its line is whole.
+fn read(bytes: &[u8]) -> Parsed<Result<Request, String>> {
+    let Some(end) = bytes.iter().position(|b| *b == b'\n') else { return Parsed::More };
+    let request = serde_json::from_slice(&bytes[..end]).map_err(|e| e.to_string());
+    Parsed::Whole(request, end + 1)
+}
+
+/// Bytes as hexadecimal digits.
+mod hexadecimal {
+    use serde::{de::Error, Deserialize, Deserializer, Serializer};
+
+    pub fn serialize<S: Serializer>(bytes: &[u8], to: S) -> Result<S::Ok, S::Error> {
+        let digit = |half: u8| char::from(b"0123456789abcdef"[usize::from(half)]);
+        let digits: String = bytes.iter().flat_map(|b| [digit(b >> 4), digit(b & 15)]).collect();
+        to.serialize_str(&digits)
+    }
+
+    pub fn deserialize<'de, D: Deserializer<'de>>(from: D) -> Result<Vec<u8>, D::Error> {
+        let text = std::borrow::Cow::<str>::deserialize(from)?;
+        let digit = |b: u8| char::from(b).to_digit(16).map(|digit| digit as u8);
+        let pair = |pair: &[u8]| match pair {
+            [high, low] => Some(digit(*high)? << 4 | digit(*low)?),
+            _ => None,
+        };
+        let bytes: Option<Vec<u8>> = text.as_bytes().chunks(2).map(pair).collect();
+        bytes.ok_or_else(|| D::Error::custom("value: pairs of hexadecimal digits are expected"))
+    }
+}

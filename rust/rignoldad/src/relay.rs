@@ -1,0 +1,377 @@
+//! A node of the tree: the library's node, the bodies of its items, and its children.
+//!
+//! Each step of a link is a call of the library. What is done here beside it: the body of each item
+//! that the node keeps lies at the same place as the item; the node keeps all from the last whole
+//! table on, so that a child that begins anew is offered that table and what came since; and where
+//! there is no room, the child that is furthest behind is left behind.
+use crate::body::{Body, BODY_BYTES};
+use rignolda::{Child, Connection, Frame, Node, Params, Session};
+use std::collections::{BTreeMap, VecDeque};
+use std::sync::Arc;
+use std::time::{Duration, Instant};
+
+/// How many labels a sender counts through.
+const LABELS: u16 = 255;
+/// How many bytes of bodies are kept at most: room for a whole table, for as much that came since,
+/// and for the next table, twice over.
+const KEPT_BYTES: usize = 4 * BODY_BYTES;
+
+/// The root's node has no link above it, and it alone publishes.
+enum Above {
+    Root(Node),
+    Below(Session<Node>),
+}
+
+pub struct Relay {
+    params: Params,
+    above: Above,
+    room: u64,
+    /// Whether children may connect, so that the last whole table is kept for them.
+    keeps: bool,
+    /// The bodies of the items that the node keeps.
+    bodies: VecDeque<Arc<Body>>,
+    bytes: usize,
+    /// A child that is never sent to: its place is the last whole table.
+    table: Option<Child>,
+    children: BTreeMap<String, Link>,
+}
+
+/// The link to a child.
+pub struct Link {
+    session: Session<Child>,
+    connection: Option<Connection>,
+    /// The body of the item that the sender holds.
+    held: Option<Arc<Body>>,
+    /// The life of the child's process with which this link began; none where it never began.
+    life: Option<u64>,
+    left: bool,
+    /// Since when it is connected, or away.
+    pub since: Instant,
+    /// When its frame was sent.
+    pub sent: Option<Instant>,
+    pub connections: u64,
+    pub timeouts: u64,
+    /// What was counted in earlier counts of the link.
+    acknowledged: u64,
+    ignored: u64,
+}
+
+impl Link {
+    pub fn is_connected(&self) -> bool {
+        self.connection.is_some()
+    }
+
+    pub fn acknowledged(&self) -> u64 {
+        self.acknowledged + self.session.acknowledged()
+    }
+
+    pub fn ignored(&self) -> u64 {
+        self.ignored + self.session.ignored()
+    }
+}
+
+impl Relay {
+    /// A node with room for so many items, at the root or below it; whether it may have children.
+    pub fn new(is_root: bool, room: u64, keeps: bool) -> Relay {
+        // (the label is none of a sender's: so the first frame is fresh)
+        let node = Node::new(LABELS, room as usize);
+        let above = match is_root {
+            true => Above::Root(node),
+            false => Above::Below(Session::new(node)),
+        };
+        Relay {
+            params: Params::new(1, LABELS).expect("they are lawful"),
+            above,
+            room,
+            keeps,
+            bodies: VecDeque::new(),
+            bytes: 0,
+            table: None,
+            children: BTreeMap::new(),
+        }
+    }
+
+    fn node(&self) -> &Node {
+        match &self.above {
+            Above::Root(node) => node,
+            Above::Below(session) => session.end(),
+        }
+    }
+
+    /// How many items are kept, and how many bytes their bodies have.
+    pub fn kept(&self) -> (u64, usize) {
+        (self.bodies.len() as u64, self.bytes)
+    }
+
+    pub fn old_frames(&self) -> u64 {
+        self.node().old_frames()
+    }
+
+    // ---- The link above
+
+    /// The label that the receiver remembers.
+    pub fn label(&self) -> u16 {
+        match &self.above {
+            Above::Root(_) => LABELS,
+            Above::Below(session) => session.end().ack().unwrap_or(LABELS),
+        }
+    }
+
+    /// Begins a connection to the parent. The one that there was is left.
+    pub fn made(&mut self) -> Option<Connection> {
+        match &mut self.above {
+            Above::Root(_) => None,
+            Above::Below(session) => session.made(),
+        }
+    }
+
+    /// Leaves the connection to the parent.
+    pub fn ended(&mut self, connection: Connection) {
+        if let Above::Below(session) = &mut self.above {
+            session.ended(connection);
+        }
+    }
+
+    /// Takes a frame of the parent: whether it brought an item. Those that were left behind for it
+    /// are named.
+    pub fn on_frame(
+        &mut self,
+        connection: Connection,
+        label: u16,
+        body: &Arc<Body>,
+    ) -> (bool, Vec<String>) {
+        let left = self.make_room();
+        let frame = Frame { label, item: body.item };
+        let fresh = match &mut self.above {
+            Above::Root(_) => false,
+            Above::Below(session) => session.on_frame(connection, frame),
+        };
+        if fresh {
+            self.keep(body);
+        }
+        (fresh, left)
+    }
+
+    /// The label to acknowledge now.
+    pub fn ack(&mut self) -> Option<u16> {
+        match &mut self.above {
+            Above::Root(_) => None,
+            Above::Below(session) => session.ack(),
+        }
+    }
+
+    // ---- The list
+
+    /// At the root: puts a body at the end of the list. Those that were left behind are named.
+    pub fn publish(&mut self, body: &Arc<Body>) -> Vec<String> {
+        let left = self.make_room();
+        if let Above::Root(node) = &mut self.above {
+            if node.publish(body.item) {
+                self.keep(body);
+            }
+        }
+        left
+    }
+
+    /// The last item of the list is a whole table: what came before it is no longer kept for a
+    /// child that begins anew.
+    pub fn last_is_a_table(&mut self) {
+        self.table = self.keeps.then(|| self.node().child(self.params, 0, 1));
+        self.forget();
+    }
+
+    /// How many items there are from the last whole table on, or, without one, that are kept.
+    fn since_table(&self) -> u64 {
+        let kept = self.bodies.len() as u64;
+        self.table.as_ref().map_or(kept, |table| self.node().length() - table.offered())
+    }
+
+    /// Forgets what neither a child lacks nor a table has to be kept for.
+    fn forget(&mut self) {
+        let lacking = self.children.values().filter(|link| !link.left);
+        let lacking = lacking.map(|link| link.session.end()).chain(&self.table);
+        match &mut self.above {
+            Above::Root(node) => node.forget(lacking),
+            Above::Below(session) => session.forget(lacking),
+        }
+        let node = match &self.above {
+            Above::Root(node) => node,
+            Above::Below(session) => session.end(),
+        };
+        let kept = (node.length() - node.forgotten()) as usize;
+        let dropped = self.bodies.drain(..self.bodies.len() - kept);
+        self.bytes -= dropped.map(|body| body.bytes.len()).sum::<usize>();
+    }
+
+    fn keep(&mut self, body: &Arc<Body>) {
+        self.bytes += body.bytes.len();
+        self.bodies.push_back(body.clone());
+    }
+
+    /// Makes room for one item: whoever is furthest behind is left behind.
+    fn make_room(&mut self) -> Vec<String> {
+        let mut names = Vec::new();
+        self.forget();
+        while self.bodies.len() as u64 >= self.room || self.bytes > KEPT_BYTES {
+            let last = self.children.iter().filter(|(_, link)| !link.left);
+            let last = last.min_by_key(|(_, link)| link.session.offered());
+            match last.map(|(name, link)| (name.clone(), link.session.offered())) {
+                Some((name, offered))
+                    if self.table.as_ref().is_none_or(|table| offered <= table.offered()) =>
+                {
+                    self.leave_behind(&name);
+                    names.push(name);
+                }
+                _ => self.table = None,
+            }
+            self.forget();
+        }
+        names
+    }
+
+    // ---- The links below
+
+    pub fn children(&self) -> impl Iterator<Item = (&String, &Link)> {
+        self.children.iter()
+    }
+
+    pub fn child_mut(&mut self, name: &str) -> Option<&mut Link> {
+        self.children.get_mut(name)
+    }
+
+    /// A child that may connect. Until it does, it holds nothing back.
+    pub fn add(&mut self, name: &str, now: Instant) {
+        if !self.children.contains_key(name) {
+            let session = Session::new(self.node().child(self.params, 0, 0));
+            let link = Link {
+                session,
+                connection: None,
+                held: None,
+                life: None,
+                left: true,
+                since: now,
+                sent: None,
+                connections: 0,
+                timeouts: 0,
+                acknowledged: 0,
+                ignored: 0,
+            };
+            self.children.insert(name.into(), link);
+        }
+    }
+
+    pub fn remove(&mut self, name: &str) {
+        self.children.remove(name);
+        self.forget();
+    }
+
+    /// Accepts a connection of a child, which said this in its hello. The link goes on where it is
+    /// the same process, and was not left behind; else it begins anew at the last whole table. With
+    /// it comes whether it did.
+    pub fn accepted(
+        &mut self,
+        name: &str,
+        life: u64,
+        label: u16,
+        now: Instant,
+    ) -> Option<(Connection, bool)> {
+        let anew = self.children.get(name).is_none_or(|link| link.life != Some(life) || link.left);
+        let end = anew.then(|| {
+            // (the receiver takes the first frame of a sender with another label as fresh)
+            let other = if label < LABELS - 1 { label + 1 } else { 0 };
+            self.node().child(self.params, other, self.since_table())
+        });
+        let link = self.children.get_mut(name)?;
+        if let Some(end) = end {
+            // (numbers of connections go on, so that an old one is never taken for a new one)
+            let before = link.session.renew(end);
+            link.acknowledged += before.acknowledged();
+            link.ignored += before.ignored();
+            (link.held, link.life, link.left) = (None, Some(life), false);
+        }
+        (link.since, link.sent) = (now, None);
+        link.connections += 1;
+        link.connection = Some(link.session.accepted()?);
+        Some((link.connection?, anew))
+    }
+
+    /// Leaves a connection of a child.
+    pub fn child_ended(&mut self, name: &str, connection: Connection, now: Instant) {
+        let Some(link) = self.children.get_mut(name) else { return };
+        link.session.ended(connection);
+        if link.connection == Some(connection) {
+            (link.connection, link.sent, link.since) = (None, None, now);
+        }
+    }
+
+    /// The frame to write to a child now, and its body.
+    pub fn poll(&mut self, name: &str, now: Instant) -> Option<(u16, Arc<Body>)> {
+        let link = self.children.get_mut(name)?;
+        let before = link.session.offered();
+        let node = match &self.above {
+            Above::Root(node) => node,
+            Above::Below(session) => session.end(),
+        };
+        let frame = link.session.poll(node)?;
+        if link.session.offered() != before {
+            link.held = self.bodies.get((before - node.forgotten()) as usize).cloned();
+        }
+        link.sent = Some(now);
+        let body = link.held.clone()?;
+        debug_assert_eq!(body.item, frame.item);
+        Some((frame.label, body))
+    }
+
+    /// Takes an acknowledgement of a child.
+    pub fn on_ack(&mut self, name: &str, connection: Connection, label: u16) {
+        let Some(link) = self.children.get_mut(name) else { return };
+        if link.session.on_ack(connection, label) {
+            link.held = None;
+        }
+        link.sent = None;
+        self.forget();
+    }
+
+    /// Drops the backlog of a child: it begins anew when it connects again.
+    pub fn leave_behind(&mut self, name: &str) {
+        if let Some(link) = self.children.get_mut(name) {
+            (link.left, link.held) = (true, None);
+        }
+    }
+
+    /// Drops the backlog of each child that has been away for so long. They are named.
+    pub fn evict(&mut self, after: Duration, now: Instant) -> Vec<String> {
+        let away = |link: &Link| !link.left && !link.is_connected() && now >= link.since + after;
+        let away = self.children.iter().filter(|(_, link)| away(link));
+        let names: Vec<String> = away.map(|(name, _)| name.clone()).collect();
+        names.iter().for_each(|name| self.leave_behind(name));
+        if !names.is_empty() {
+            self.forget();
+        }
+        names
+    }
+
+    /// When [`Relay::evict`] may have something to do next.
+    pub fn evicts_at(&self, after: Duration) -> Option<Instant> {
+        let away = self.children.values().filter(|link| !link.left && !link.is_connected());
+        away.map(|link| link.since + after).min()
+    }
+
+    pub fn is_left_behind(&self, name: &str) -> bool {
+        self.children.get(name).is_some_and(|link| link.left)
+    }
+
+    /// How many items a child has not acknowledged.
+    pub fn backlog(&self, link: &Link) -> u64 {
+        if link.left {
+            return 0;
+        }
+        self.node().backlog(link.session.end())
+    }
+
+    /// The backlog of the child that is least behind, of those that are connected.
+    pub fn least_backlog(&self) -> Option<u64> {
+        let links = self.children.values().filter(|link| link.is_connected());
+        links.map(|link| self.backlog(link)).min()
+    }
+}

@@ -1,0 +1,130 @@
+//! What is known of the agents below: for watching alone. No step of a link depends on it.
+//!
+//! Each agent sends its list up now and then, itself first and each agent after its parent, and its
+//! parent puts it behind its own.
+use serde::{Deserialize, Serialize};
+use std::collections::{BTreeMap, BTreeSet};
+use std::time::Instant;
+
+/// The most bytes of a list that is sent up.
+pub const REPORT_BYTES: usize = 1 << 20;
+/// The most agents in one.
+const AGENTS: usize = 10_000;
+
+/// An agent, as an agent above it knows it.
+#[derive(Clone, Debug, Default, Deserialize, PartialEq, Serialize)]
+#[serde(default)]
+pub struct Seen {
+    pub name: String,
+    pub parent: String,
+    /// Whether its parent has a connection with it. Where not, the rest is as it was last.
+    pub connected: bool,
+    pub sequence: u64,
+    pub applied: u64,
+    pub round: u64,
+    pub whole: bool,
+    pub draining: bool,
+    /// The longest backlog for a child of it, and the limit of each.
+    pub backlog: u64,
+    pub limit: u64,
+    pub harmless: u64,
+    pub inner: bool,
+    pub strays: u64,
+    pub garbage: u64,
+    pub gaps: u64,
+    /// Settings whose file or hook failed last.
+    pub failing: u64,
+    /// How many milliseconds ago it said so.
+    pub age: u64,
+}
+
+/// The last list of each child.
+#[derive(Debug, Default)]
+pub struct Below(BTreeMap<String, (Instant, Vec<Seen>)>);
+
+impl Below {
+    /// Takes a list that this child sent. Whether it is one.
+    pub fn heard(&mut self, child: &str, bytes: &[u8], now: Instant) -> bool {
+        if bytes.len() > REPORT_BYTES {
+            return false;
+        }
+        let Ok(mut list) = serde_json::from_slice::<Vec<Seen>>(bytes) else { return false };
+        let names: BTreeSet<&str> = list.iter().map(|seen| seen.name.as_str()).collect();
+        let good = list.len() <= AGENTS
+            && names.len() == list.len()
+            && list.first().is_some_and(|first| first.name == child)
+            && list.iter().all(|seen| crate::config::is_name(&seen.name));
+        drop(names);
+        if !good || !each_after_its_parent(&list) {
+            return false;
+        }
+        list[0].parent.clear();
+        self.0.insert(child.into(), (now, list));
+        true
+    }
+
+    /// Forgets a child that was removed.
+    pub fn forget(&mut self, child: &str) {
+        self.0.remove(child);
+    }
+
+    /// The list of an agent with this status, itself first.
+    pub fn tree(&self, status: &crate::control::Status, now: Instant) -> Vec<Seen> {
+        let mut list = vec![status.seen()];
+        for child in &status.children {
+            let at = list.len();
+            match self.0.get(&child.name) {
+                Some((heard, below)) => {
+                    let age = now.saturating_duration_since(*heard).as_millis() as u64;
+                    list.extend(below.iter().cloned().map(|mut seen| {
+                        seen.age = seen.age.saturating_add(age);
+                        // (of who is below an agent that is away, nothing newer is known)
+                        seen.connected &= child.connected;
+                        seen
+                    }));
+                }
+                None => list.push(Seen { name: child.name.clone(), ..Seen::default() }),
+            }
+            list[at].parent = status.name.clone();
+            list[at].connected = child.connected;
+        }
+        list
+    }
+
+    /// The bytes to send to the parent: the list, cut where it would be too long.
+    pub fn report(&self, status: &crate::control::Status, now: Instant) -> Vec<u8> {
+        let mut list = self.tree(status, now);
+        list.truncate(AGENTS);
+        loop {
+            let bytes = serde_json::to_vec(&list).expect("a list is JSON");
+            if bytes.len() <= REPORT_BYTES {
+                return bytes;
+            }
+            list.truncate(list.len() / 2);
+        }
+    }
+}
+
+/// Whether the parent of each agent but the first is one before it.
+fn each_after_its_parent(list: &[Seen]) -> bool {
+    let mut before = BTreeSet::new();
+    list.iter().enumerate().all(|(at, seen)| {
+        let good = at == 0 || before.contains(seen.parent.as_str());
+        before.insert(seen.name.as_str());
+        good
+    })
+}
+
+/// How deep each agent of a list is, the first one being at 0.
+pub fn depths(list: &[Seen]) -> Vec<usize> {
+    let mut by_name: BTreeMap<&str, usize> = BTreeMap::new();
+    list.iter()
+        .enumerate()
+        .map(|(at, seen)| {
+            let parent = by_name.get(seen.parent.as_str()).copied();
+            let depth = if at == 0 { 0 } else { parent.map_or(1, |depth| depth + 1) };
+            by_name.insert(&seen.name, depth);
+            depth
+        })
+        .collect()
+}

@@ -1,0 +1,310 @@
+//! The files of settings and their hooks.
+use rignoldad::apply::{Applied, Applier, Outcome};
+use rignoldad::config::Apply;
+use std::collections::BTreeMap;
+use std::fs::{self, Permissions};
+use std::os::unix::fs::{symlink, PermissionsExt};
+use std::path::{Path, PathBuf};
+use std::sync::atomic::{AtomicU64, Ordering};
+use std::sync::Arc;
+use std::time::{Duration, Instant};
+
+/// A folder of one test, removed at its end.
+struct Place(PathBuf);
+
+impl Place {
+    fn new() -> Place {
+        static MADE: AtomicU64 = AtomicU64::new(0);
+        let number = MADE.fetch_add(1, Ordering::Relaxed);
+        let path = std::env::temp_dir().join(format!("rignoldad-{}-{number}", std::process::id()));
+        fs::create_dir_all(&path).unwrap();
+        Place(path)
+    }
+
+    fn folder(&self) -> PathBuf {
+        self.0.join("settings")
+    }
+
+    fn config(&self) -> Apply {
+        Apply {
+            folder: self.folder(),
+            mode: 0o640,
+            hook: None,
+            hook_timeout: Duration::from_secs(5),
+        }
+    }
+
+    /// A hook with these lines of shell.
+    fn with_hook(&self, lines: &str) -> Apply {
+        let path = self.0.join("hook");
+        fs::write(&path, format!("#!/bin/sh\ncd {}\n{lines}\n", self.0.display())).unwrap();
+        fs::set_permissions(&path, Permissions::from_mode(0o755)).unwrap();
+        Apply { hook: Some(path), ..self.config() }
+    }
+
+    fn calls(&self) -> Vec<String> {
+        let text = fs::read_to_string(self.0.join("calls")).unwrap_or_default();
+        text.lines().map(String::from).collect()
+    }
+
+    /// The settings' files.
+    fn files(&self) -> BTreeMap<String, String> {
+        let files = fs::read_dir(self.folder()).unwrap().map(|entry| entry.unwrap().path());
+        let name = |path: &Path| path.file_name().unwrap().to_str().unwrap().to_string();
+        files
+            .filter(|path| !name(path).starts_with('.'))
+            .map(|path| (name(&path), fs::read_to_string(&path).unwrap()))
+            .collect()
+    }
+}
+
+impl Drop for Place {
+    fn drop(&mut self) {
+        let _ = fs::remove_dir_all(&self.0);
+    }
+}
+
+const LOG: &str = "echo \"$1 $2 $(cat) $RIGNOLDA_SEQUENCE\" >>calls";
+
+fn start(config: &Apply) -> Applier {
+    Applier::new(config, Arc::new(|| ()))
+}
+
+fn until(what: impl Fn() -> bool) {
+    let end = Instant::now() + Duration::from_secs(10);
+    while !what() {
+        assert!(Instant::now() < end, "it did not come in ten seconds");
+        std::thread::sleep(Duration::from_millis(2));
+    }
+}
+
+/// Waits until all up to a number is applied: what was done.
+fn applied(applier: &mut Applier, sequence: u64) -> Vec<(String, u64, Outcome)> {
+    until(|| applier.applied(sequence) == sequence);
+    applier
+        .done()
+        .into_iter()
+        .map(|Applied { key, sequence, status }| (key, sequence, status))
+        .collect()
+}
+
+fn map<const N: usize>(entries: [(&str, &str); N]) -> BTreeMap<String, String> {
+    entries.into_iter().map(|(key, value)| (key.into(), value.into())).collect()
+}
+
+#[test]
+fn keeps_a_file_for_each_setting() {
+    let place = Place::new();
+    let mut applier = start(&place.config());
+    applier.set("a", b"1", 1);
+    applier.set("b", b"", 2);
+    applier.set("c", b"3", 3);
+    applier.unset("c", 4);
+    applier.unset("never", 5);
+    applied(&mut applier, 5);
+    assert_eq!(place.files(), map([("a", "1"), ("b", "")]));
+    let mode = fs::metadata(place.folder().join("a")).unwrap().permissions().mode();
+    assert_eq!(mode & 0o7777, 0o640);
+    assert_eq!(applier.failing(), 0);
+}
+
+#[test]
+fn writes_only_what_changed() {
+    let place = Place::new();
+    let mut applier = start(&place.config());
+    applier.set("a", b"1", 1);
+    assert_eq!(applied(&mut applier, 1), [("a".into(), 1, Outcome::Done)]);
+    let before = fs::metadata(place.folder().join("a")).unwrap().modified().unwrap();
+    applier.set("a", b"1", 2);
+    applier.table([("a", &b"1"[..])], 3);
+    assert_eq!(applied(&mut applier, 3), []);
+    assert_eq!(fs::metadata(place.folder().join("a")).unwrap().modified().unwrap(), before);
+}
+
+#[test]
+fn a_table_removes_what_it_does_not_name() {
+    let place = Place::new();
+    let mut applier = start(&place.config());
+    for key in ["a", "b", "c"] {
+        applier.set(key, b"1", 1);
+    }
+    applied(&mut applier, 1);
+    applier.table([("b", &b"2"[..]), ("d", b"4")], 2);
+    applied(&mut applier, 2);
+    assert_eq!(place.files(), map([("b", "2"), ("d", "4")]));
+    // (what comes after a table that waits is put on it)
+    applier.table([("x", &b"1"[..])], 3);
+    applier.set("y", b"2", 4);
+    applier.unset("x", 5);
+    applied(&mut applier, 5);
+    assert_eq!(place.files(), map([("y", "2")]));
+    applier.table([], 6);
+    applied(&mut applier, 6);
+    assert_eq!(place.files(), map([]));
+}
+
+#[test]
+fn a_table_mends_whatever_is_in_the_folder() {
+    let place = Place::new();
+    let mut applier = start(&place.config());
+    let table = [("a", &b"one"[..]), ("b", b"two"), ("c", b"three"), ("d", b""), ("e", b"five")];
+    applier.table(table, 1);
+    applied(&mut applier, 1);
+    let right = place.files();
+    let folder = place.folder();
+    let spoil: [&dyn Fn(); 5] = [
+        &|| {
+            fs::write(folder.join("a"), "xxx").unwrap();
+            fs::remove_file(folder.join("b")).unwrap();
+            fs::create_dir_all(folder.join("b/c/d")).unwrap();
+            fs::remove_file(folder.join("c")).unwrap();
+            fs::write(place.0.join("elsewhere"), "three").unwrap();
+            symlink(place.0.join("elsewhere"), folder.join("c")).unwrap();
+            fs::set_permissions(folder.join("e"), Permissions::from_mode(0o666)).unwrap();
+            fs::write(folder.join("unknown"), "1").unwrap();
+        },
+        &|| fs::remove_dir_all(&folder).unwrap(),
+        &|| {
+            fs::create_dir_all(folder.join(".new/x"))
+                .and_then(|()| fs::write(folder.join("a"), ""))
+                .unwrap()
+        },
+        &|| {
+            symlink("/nowhere", folder.join("unknown")).unwrap();
+            fs::write(folder.join("d"), [255; 5_000]).unwrap();
+        },
+        &|| {
+            let _ = fs::remove_dir_all(folder.join(".pending"));
+            fs::write(folder.join(".pending"), "garbage").unwrap();
+            fs::remove_file(folder.join("a")).unwrap();
+        },
+    ];
+    for (at, spoil) in spoil.iter().enumerate() {
+        spoil();
+        let sequence = at as u64 + 2;
+        applier.table(table, sequence);
+        applied(&mut applier, sequence);
+        assert_eq!(place.files(), right, "{at}");
+        assert_eq!(applier.failing(), 0, "{at}");
+        for key in right.keys() {
+            let is = fs::symlink_metadata(folder.join(key)).unwrap();
+            assert!(is.is_file() && is.permissions().mode() & 0o7777 == 0o640, "{at} {key}");
+        }
+    }
+    assert_eq!(fs::read_to_string(place.0.join("elsewhere")).unwrap(), "three");
+}
+
+#[test]
+fn a_key_never_leaves_the_folder() {
+    let place = Place::new();
+    let mut applier = start(&place.config());
+    fs::write(place.0.join("outside"), "mine").unwrap();
+    applier.set("../outside", b"theirs", 1);
+    applier.unset("../outside", 2);
+    applier.table([("/etc/x", &b"1"[..]), (".pending", b"1"), ("good", b"1")], 3);
+    applied(&mut applier, 3);
+    assert_eq!(fs::read_to_string(place.0.join("outside")).unwrap(), "mine");
+    assert_eq!(place.files(), map([("good", "1")]));
+}
+
+#[test]
+fn a_hook_gets_each_change_once() {
+    let place = Place::new();
+    let mut applier = start(&place.with_hook(LOG));
+    applier.set("a", b"1", 7);
+    applied(&mut applier, 7);
+    applier.set("a", b"1", 8);
+    applier.table([("a", &b"1"[..]), ("b", b"2")], 9);
+    applied(&mut applier, 9);
+    applier.unset("a", 10);
+    applied(&mut applier, 10);
+    assert_eq!(place.calls(), ["set a 1 7", "set b 2 9", "unset a  10"]);
+    assert_eq!(fs::read_dir(place.folder().join(".pending")).unwrap().count(), 0);
+}
+
+#[test]
+fn of_changes_that_wait_the_hook_gets_the_last() {
+    let place = Place::new();
+    let mut applier =
+        start(&place.with_hook(&format!("{LOG}\nwhile [ ! -e go ]; do sleep 0.01; done")));
+    applier.set("a", b"1", 1);
+    until(|| place.calls().len() == 1);
+    applier.set("b", b"0", 2);
+    for sequence in 3..=50 {
+        applier.set("b", sequence.to_string().as_bytes(), sequence);
+    }
+    // (the files are there already, and nothing is applied that an older change waits before)
+    until(|| place.files() == map([("a", "1"), ("b", "50")]));
+    assert_eq!(applier.applied(50), 0);
+    fs::write(place.0.join("go"), "").unwrap();
+    applied(&mut applier, 50);
+    assert_eq!(place.calls(), ["set a 1 1", "set b 50 50"]);
+}
+
+#[test]
+fn a_hook_that_fails_is_run_again_by_the_next_table() {
+    let place = Place::new();
+    let mut applier = start(&place.with_hook(&format!("{LOG}\n[ -e good ]")));
+    applier.set("a", b"1", 1);
+    let done = applied(&mut applier, 1);
+    assert!(matches!(&done[..], [(_, 1, Outcome::Hook(_))]), "{done:?}");
+    assert_eq!((applier.failing(), applier.hook_failures()), (1, 1));
+    fs::write(place.0.join("good"), "").unwrap();
+    applier.table([("a", &b"1"[..])], 2);
+    applied(&mut applier, 2);
+    assert_eq!(applier.failing(), 0);
+    applier.table([("a", &b"1"[..])], 3);
+    applied(&mut applier, 3);
+    assert_eq!(place.calls(), ["set a 1 1", "set a 1 2"]);
+}
+
+#[test]
+fn a_hook_that_was_due_is_run_after_a_crash() {
+    let place = Place::new();
+    let config = place.with_hook(&format!("{LOG}\n[ -e good ]"));
+    let mut applier = start(&config);
+    applier.set("a", b"1", 1);
+    applier.set("gone", b"1", 2);
+    applied(&mut applier, 2);
+    drop(applier);
+    fs::remove_file(place.folder().join("gone")).unwrap();
+    fs::write(place.0.join("good"), "").unwrap();
+    fs::remove_file(place.0.join("calls")).unwrap();
+    let mut applier = start(&config);
+    applier.table([("a", &b"1"[..])], 3);
+    applied(&mut applier, 3);
+    let mut calls = place.calls();
+    calls.sort();
+    assert_eq!(calls, ["set a 1 3", "unset gone  3"]);
+}
+
+#[test]
+fn a_hook_that_does_not_end_is_ended() {
+    let place = Place::new();
+    let hook = Apply {
+        hook_timeout: Duration::from_millis(200),
+        ..place.with_hook("[ $2 = b ] || sleep 1000 & wait")
+    };
+    let mut applier = start(&hook);
+    applier.set("a", &[7; 1 << 20], 1);
+    applier.set("b", b"", 2);
+    let done = applied(&mut applier, 2);
+    assert!(matches!(&done[0], (_, 1, Outcome::Hook(why)) if why == "its time was up"), "{done:?}");
+    assert!(matches!(&done[1], (_, 2, Outcome::Done)), "{done:?}");
+}
+
+#[test]
+fn a_file_that_cannot_be_written_is_failing_until_it_can() {
+    let place = Place::new();
+    fs::write(place.folder(), "in the way").unwrap();
+    let mut applier = start(&place.config());
+    applier.set("a", b"1", 1);
+    let done = applied(&mut applier, 1);
+    assert!(matches!(&done[..], [(_, 1, Outcome::File(_))]), "{done:?}");
+    assert_eq!(applier.failing(), 1);
+    fs::remove_file(place.folder()).unwrap();
+    applier.table([("a", &b"1"[..])], 2);
+    applied(&mut applier, 2);
+    assert_eq!(applier.failing(), 0);
+    assert_eq!(place.files(), map([("a", "1")]));
+}

@@ -1,0 +1,226 @@
+//! What a configuration means, and what is said of one that is wrong.
+use rignoldad::config::{is_key, milliseconds, Address, Children, Config};
+use std::time::Duration;
+
+const WHOLE: &str = r#"
+name = "rack3"
+listen = ["10.1.0.3:7464", "[fd00::3]:7464", "unix:/run/rignolda/link"]
+children = ["host31", "host32"]
+parents = ["hub@hub.example:7464", "hub2@10.1.0.2:7464"]
+control = "/run/rignolda/control"
+metrics = "127.0.0.1:9464"
+
+[link]
+ack_timeout = "500ms"
+backlog = 200
+evict = "10m"
+
+[tls]
+certificate = "/etc/rignolda/agent.crt"
+key = "/etc/rignolda/agent.key"
+authority = "/etc/rignolda/authority.crt"
+
+[apply]
+folder = "/var/lib/rignolda/settings"
+mode = "0600"
+hook = "/etc/rignolda/hook"
+hook_timeout = "1m"
+"#;
+
+#[test]
+fn reads_every_key() {
+    let config = Config::parse(WHOLE).unwrap();
+    assert_eq!(config.name, "rack3");
+    assert_eq!(config.listen[1], Address::Tcp("[fd00::3]:7464".into()));
+    assert_eq!(config.listen[2], Address::Unix("/run/rignolda/link".into()));
+    assert_eq!(config.children, Children::Named(vec!["host31".into(), "host32".into()]));
+    assert_eq!(config.parents[1].name.as_deref(), Some("hub2"));
+    assert_eq!(config.parents[1].address.to_string(), "10.1.0.2:7464");
+    assert_eq!(config.link.ack_timeout, Duration::from_millis(500));
+    assert_eq!(config.link.backlog, 200);
+    assert_eq!(config.link.evict, Duration::from_secs(600));
+    assert_eq!(config.tls.unwrap().authority.to_str(), Some("/etc/rignolda/authority.crt"));
+    let apply = config.apply.unwrap();
+    assert_eq!((apply.mode, apply.hook_timeout), (0o600, Duration::from_secs(60)));
+    assert_eq!(config.root, None);
+    assert!(!config.insecure);
+}
+
+#[test]
+fn says_each_fault_with_its_line_and_key() {
+    let long = format!("name = \"{}\"\n[root]\nsettings = \"/s\"", "a".repeat(65));
+    let cases: &[(&str, usize, &str, &str)] = &[
+        ("", 0, "name", "is missing"),
+        (&long, 1, "name", "1 to 64"),
+        ("name = \"-a\"\n[root]\nsettings = \"/s\"", 1, "name", "no dot or hyphen"),
+        ("name = \"a\"\nnmae = 1\n[root]\nsettings = \"/s\"", 2, "nmae", "no such key"),
+        ("name = \"a\"\n[root]\nsettings = \"/s\"\nrund = 1", 4, "root.rund", "no such key"),
+        ("name = \"a\"\n[root]\nround = \"1s\"", 2, "root.settings", "is missing"),
+        ("name = \"a\"\n[root]\nsettings = 3", 3, "root.settings", "a text"),
+        ("name = \"a\"\n[root]\nsettings = \"s\"", 3, "root.settings", "absolute"),
+        ("name = \"a\"\n[root]\nsettings = \"/s\"\nround = \"5\"", 4, "root.round", "a time"),
+        ("name = \"a\"\n[root]\nsettings = \"/s\"\nround = \"1ms\"", 4, "root.round", "100ms"),
+        ("name = \"a\"\n[root]\nsettings = \"/s\"\nharmless = -1", 4, "root.harmless", "0 to"),
+        ("name = \"a", 1, "", "unterminated"),
+        ("name = \"a\"", 0, "parents", "has a parent"),
+        (
+            "name = \"a\"\nparents = [\"127.0.0.1:1\"]\n[root]\nsettings = \"/s\"",
+            3,
+            "root",
+            "no `parents`",
+        ),
+        ("name = \"a\"\nparents = [\"b@10.0.0.1:1\"]", 2, "parents", "is on the network"),
+        ("name = \"a\"\nparents = [\"a@127.0.0.1:1\"]", 2, "parents", "of its own"),
+        ("name = \"a\"\nparents = [\"b@127.0.0.1:0\"]", 2, "parents", "from 1 to 65535"),
+        ("name = \"a\"\nparents = [\"b@::1:7464\"]", 2, "parents", "needs brackets"),
+        ("name = \"a\"\nparents = [\"b@unix:run\"]", 2, "parents", "absolute path"),
+        (
+            "name = \"a\"\nparents = [\"127.0.0.1:1\"]\n[tls]\ncertificate = \"/a\"\nkey = \"/b\"\n\
+             authority = \"/c\"",
+            2,
+            "parents",
+            "NAME@ADDRESS",
+        ),
+        (
+            "name = \"a\"\nparents = [\"127.0.0.1:1\"]\nlisten = \"0.0.0.0:2\"\nchildren = \"any\"",
+            3,
+            "listen",
+            "is on the network",
+        ),
+        (
+            "name = \"a\"\nparents = [\"127.0.0.1:1\"]\nlisten = \"127.0.0.1:2\"",
+            3,
+            "listen",
+            "no `children`",
+        ),
+        ("name = \"a\"\nparents = [\"[::1]:1\"]\nchildren = [\"b\"]", 3, "children", "`listen`"),
+        (
+            "name = \"a\"\nparents = [\"127.0.0.1:1\"]\nlisten = \"127.0.0.1:2\"\n\
+             children = [\"b\", \"b\"]",
+            4,
+            "children",
+            "twice",
+        ),
+        (
+            "name = \"a\"\nparents = [\"127.0.0.1:1\"]\nmetrics = \"10.0.0.1:1\"",
+            3,
+            "metrics",
+            "loopback",
+        ),
+        (
+            "name = \"a\"\nparents = [\"127.0.0.1:1\"]\n[link]\nbacklog = 0",
+            4,
+            "link.backlog",
+            "8 to 65536",
+        ),
+        (
+            "name = \"a\"\nparents = [\"127.0.0.1:1\"]\n[link]\nevict = \"1s\"",
+            4,
+            "link.evict",
+            "longer than",
+        ),
+        (
+            "name = \"a\"\n[root]\nsettings = \"/s\"\nharmless = 100\n[link]\nbacklog = 100",
+            6,
+            "link.backlog",
+            "at least 408",
+        ),
+        (
+            "name = \"a\"\nparents = [\"[::1]:1\"]\n[apply]\nfolder = \"/f/g\"\nmode = \"0240\"",
+            5,
+            "apply.mode",
+            "to be read",
+        ),
+    ];
+    let own = "of the agent's own";
+    let folders = [
+        ("name = \"a\"\nparents = [\"127.0.0.1:1\"]\n[apply]\nfolder = \"/etc\"", 4),
+        ("name = \"a\"\n[root]\nsettings = \"/s/t\"\n[apply]\nfolder = \"/s/t\"", 5),
+    ];
+    let folders = folders.map(|(text, line)| (text, line, "apply.folder", own));
+    for (text, line, key, said) in cases.iter().chain(&folders) {
+        let faults = Config::parse(text).expect_err(text);
+        let found =
+            faults.iter().any(|f| (f.line, &f.key[..]) == (*line, *key) && f.text.contains(said));
+        assert!(found, "{text}\n{line} {key} {said}\n{faults:?}");
+    }
+}
+
+#[test]
+fn says_all_faults_at_once_in_the_order_of_the_lines() {
+    let text = "name = \"-\"\nparents = [\"127.0.0.1:0\"]\ncontrol = \"c\"\n[link]\nbacklog = 1";
+    let lines: Vec<usize> = Config::parse(text).unwrap_err().iter().map(|f| f.line).collect();
+    assert_eq!(lines, [1, 2, 3, 5]);
+}
+
+#[test]
+fn plain_tcp_stays_on_the_machine_unless_it_is_asked_for() {
+    let text = |address: &str| format!("name = \"a\"\nparents = [\"{address}\"]\n");
+    for address in ["127.0.0.1:1", "127.9.9.9:1", "[::1]:1", "localhost:1", "unix:/a"] {
+        assert!(Config::parse(&text(address)).is_ok(), "{address}");
+    }
+    for address in ["0.0.0.0:1", "[::]:1", "hub:1", "localhost.example:1", "127.0.0.1.example:1"] {
+        assert!(Config::parse(&text(address)).is_err(), "{address}");
+        assert!(Config::parse(&(text(address) + "insecure = true")).is_ok(), "{address}");
+    }
+}
+
+#[test]
+fn keys_are_names_of_plain_files() {
+    for good in ["a", "nginx.conf", "A-1_b", &"k".repeat(128)] {
+        assert!(is_key(good), "{good}");
+    }
+    for bad in ["", ".", "..", ".new", "a/b", "-r", "a b", "a\n", "ä", "a\0", &"k".repeat(129)] {
+        assert!(!is_key(bad), "{bad:?}");
+    }
+}
+
+#[test]
+fn times_have_units() {
+    for (text, time) in
+        [("0ms", 0), ("250ms", 250), ("2s", 2_000), ("3m", 180_000), ("1h", 3_600_000)]
+    {
+        assert_eq!(milliseconds(text), Some(time));
+    }
+    for text in ["", "s", "5", "5 s", "-5s", "5.5s", "18446744073709551615h", "5d"] {
+        assert_eq!(milliseconds(text), None, "{text}");
+    }
+}
+
+#[test]
+fn knows_which_keys_need_a_start() {
+    let old = Config::parse(WHOLE).unwrap();
+    let hot =
+        WHOLE.replace("\"host32\"", "\"host33\"").replace("500ms", "1s").replace("hub2", "hub3");
+    assert!(old.at_a_start_alone(&Config::parse(&hot).unwrap()).is_empty());
+    let cold =
+        WHOLE.replace("rack3", "rack4").replace("/settings", "/other").replace("9464", "9465");
+    let cold = Config::parse(&cold).unwrap();
+    assert_eq!(old.at_a_start_alone(&cold), ["name", "apply.folder", "metrics"]);
+}
+
+/// Garbage, and the good text with some bytes of it changed: an answer, and no panic.
+#[test]
+fn drawn_bytes_do_no_harm() {
+    let mut state = 0x9e37_79b9_7f4a_7c15_u64;
+    let mut draw = move || {
+        state ^= state << 13;
+        state ^= state >> 7;
+        state ^= state << 17;
+        state
+    };
+    for _ in 0..3_000 {
+        let mut bytes = WHOLE.as_bytes().to_vec();
+        for _ in 0..1 + draw() % 8 {
+            let at = draw() as usize % bytes.len();
+            match draw() % 3 {
+                0 => bytes[at] = draw() as u8,
+                1 => bytes.insert(at, b"\"[]=.@\n0"[draw() as usize % 8]),
+                _ => drop(bytes.remove(at)),
+            }
+        }
+        if let Err(faults) = Config::parse(&String::from_utf8_lossy(&bytes)) {
+            assert!(!faults.is_empty());
+        }
+    }
+}

@@ -1,0 +1,403 @@
+//! Trees of nodes without sockets: connections that break, processes that begin anew, children that
+//! are away, and what every agent has at the end.
+use rignolda::Connection;
+use rignoldad::body::{Body, Meaning};
+use rignoldad::relay::Relay;
+use rignoldad::table::Table;
+use std::collections::{BTreeMap, VecDeque};
+use std::sync::Arc;
+use std::time::{Duration, Instant};
+
+struct Random(u64);
+
+impl Random {
+    fn below(&mut self, bound: usize) -> usize {
+        self.0 ^= self.0 << 13;
+        self.0 ^= self.0 >> 7;
+        self.0 ^= self.0 << 17;
+        (self.0 % bound as u64) as usize
+    }
+}
+
+type Settings = BTreeMap<String, Vec<u8>>;
+
+/// An agent without its shell.
+struct Agent {
+    parent: Option<usize>,
+    relay: Relay,
+    table: Table,
+    settings: Settings,
+    life: u64,
+    /// The sequence numbers that it applied in this life.
+    applied: Vec<u64>,
+    wire: Option<Wire>,
+}
+
+/// The connection of an agent to its parent.
+struct Wire {
+    below: Connection,
+    above: Connection,
+    down: VecDeque<(u16, Arc<Body>)>,
+    up: VecDeque<u16>,
+}
+
+struct Tree {
+    agents: Vec<Agent>,
+    now: Instant,
+    room: u64,
+    lives: u64,
+    sequence: u64,
+    since_table: u64,
+    truth: Settings,
+}
+
+impl Tree {
+    /// The agent `at` has the parent `(at - 1) / 2`.
+    fn new(count: usize, room: u64) -> Tree {
+        let mut tree = Tree {
+            agents: Vec::new(),
+            now: Instant::now(),
+            room,
+            lives: 0,
+            sequence: 0,
+            since_table: 0,
+            truth: Settings::new(),
+        };
+        for at in 0..count {
+            let agent = tree.begun(at, count);
+            tree.agents.push(agent);
+        }
+        tree
+    }
+
+    fn begun(&mut self, at: usize, count: usize) -> Agent {
+        self.lives += 1;
+        let mut relay = Relay::new(at == 0, self.room, 2 * at + 1 < count);
+        (2 * at + 1..2 * at + 3).filter(|it| *it < count).for_each(|it| {
+            relay.add(&it.to_string(), self.now);
+        });
+        Agent {
+            parent: (at > 0).then(|| (at - 1) / 2),
+            relay,
+            table: Table::default(),
+            settings: Settings::new(),
+            life: self.lives,
+            applied: Vec::new(),
+            wire: None,
+        }
+    }
+
+    fn restart(&mut self, at: usize) {
+        let count = self.agents.len();
+        for other in 0..count {
+            if other == at || self.agents[other].parent == Some(at) {
+                self.leave(other);
+            }
+        }
+        self.agents[at] = self.begun(at, count);
+        if at == 0 {
+            self.publish_table();
+        }
+    }
+
+    fn leave(&mut self, at: usize) {
+        let Some(wire) = self.agents[at].wire.take() else { return };
+        self.agents[at].relay.ended(wire.below);
+        let parent = self.agents[at].parent.unwrap();
+        self.agents[parent].relay.child_ended(&at.to_string(), wire.above, self.now);
+    }
+
+    fn connect(&mut self, at: usize) {
+        let Some(parent) = self.agents[at].parent else { return };
+        self.leave(at);
+        let below = self.agents[at].relay.made().unwrap();
+        let (life, label) = (self.agents[at].life, self.agents[at].relay.label());
+        let name = at.to_string();
+        let accepted = self.agents[parent].relay.accepted(&name, life, label, self.now);
+        let wire = Wire { below, above: accepted.unwrap().0, down: [].into(), up: [].into() };
+        self.agents[at].wire = Some(wire);
+    }
+
+    /// The parent writes to this child what it may.
+    fn poll(&mut self, at: usize) {
+        let Some(parent) = self.agents[at].parent else { return };
+        if self.agents[at].wire.is_none() {
+            return;
+        }
+        let frame = self.agents[parent].relay.poll(&at.to_string(), self.now);
+        let wire = self.agents[at].wire.as_mut().unwrap();
+        wire.down.extend(frame);
+        assert!(wire.down.len() + wire.up.len() <= 1, "one message is under way");
+    }
+
+    fn take_frame(&mut self, at: usize) {
+        let agent = &mut self.agents[at];
+        let Some(wire) = &mut agent.wire else { return };
+        let Some((label, body)) = wire.down.pop_front() else { return };
+        let below = wire.below;
+        let (fresh, left) = agent.relay.on_frame(below, label, &body);
+        if fresh && agent.deliver(&body) {
+            agent.relay.last_is_a_table();
+        }
+        let ack = agent.relay.ack();
+        agent.wire.iter_mut().for_each(|wire| wire.up.extend(ack));
+        assert!(agent.relay.kept().0 <= self.room);
+        left.iter().for_each(|it| self.leave(it.parse().unwrap()));
+    }
+
+    fn take_ack(&mut self, at: usize) {
+        let Some(parent) = self.agents[at].parent else { return };
+        let Some(wire) = &mut self.agents[at].wire else { return };
+        let Some(label) = wire.up.pop_front() else { return };
+        let above = wire.above;
+        self.agents[parent].relay.on_ack(&at.to_string(), above, label);
+    }
+
+    fn publish(&mut self, meaning: &Meaning<'_>) {
+        self.sequence += 1;
+        let body = Body::new(self.sequence, meaning);
+        let left = self.agents[0].relay.publish(&body);
+        left.iter().for_each(|it| self.leave(it.parse().unwrap()));
+        self.since_table += 1;
+        if self.agents[0].deliver(&body) {
+            self.agents[0].relay.last_is_a_table();
+            self.since_table = 0;
+        }
+    }
+
+    fn publish_table(&mut self) {
+        let truth = std::mem::take(&mut self.truth);
+        let entries = truth.iter().map(|(key, value)| (key.as_str(), Some(value.as_slice())));
+        self.publish(&Meaning::Table(entries.collect()));
+        self.truth = truth;
+    }
+
+    fn change(&mut self, key: &str, value: Option<Vec<u8>>) {
+        if self.since_table >= self.room / 2 {
+            self.publish_table();
+        }
+        self.publish(&Meaning::Changes(vec![(key, value.as_deref())]));
+        match value {
+            Some(value) => self.truth.insert(key.into(), value),
+            None => self.truth.remove(key),
+        };
+    }
+
+    /// Every message arrives, and every agent connects, until nothing is left to do.
+    fn settle(&mut self) {
+        for _ in 0..10_000 {
+            let mut idle = true;
+            for at in 1..self.agents.len() {
+                if self.agents[at].wire.is_none() {
+                    self.connect(at);
+                    idle = false;
+                }
+                self.poll(at);
+                idle &= self.agents[at].wire.as_ref().is_none_or(|it| it.down.is_empty());
+                self.take_frame(at);
+                self.take_ack(at);
+            }
+            if idle {
+                return;
+            }
+        }
+        panic!("it does not come to rest");
+    }
+
+    fn round(&mut self, harmless: usize) {
+        for _ in 0..harmless {
+            self.publish(&Meaning::Harmless);
+            self.settle();
+        }
+        self.publish_table();
+        self.settle();
+    }
+
+    fn all_are_right(&self) -> bool {
+        self.agents.iter().all(|agent| agent.settings == self.truth)
+    }
+}
+
+impl Agent {
+    fn deliver(&mut self, body: &Body) -> bool {
+        let Some((sequence, meaning)) = body.meaning() else { return false };
+        if !self.table.takes(sequence, &meaning) {
+            return false;
+        }
+        self.applied.push(sequence);
+        match meaning {
+            Meaning::Harmless => false,
+            Meaning::Changes(entries) => {
+                for (key, value) in entries {
+                    match value {
+                        Some(value) => self.settings.insert(key.into(), value.into()),
+                        None => self.settings.remove(key),
+                    };
+                }
+                false
+            }
+            Meaning::Table(entries) => {
+                let entries = entries.into_iter();
+                self.settings =
+                    entries.map(|(key, value)| (key.into(), value.unwrap().into())).collect();
+                true
+            }
+        }
+    }
+}
+
+fn drawn(seed: u64, restarts: bool, steps: usize) -> Tree {
+    let mut random = Random(seed * 2 + 1);
+    let mut tree = Tree::new(7, 16);
+    tree.publish_table();
+    for step in 0..steps {
+        let at = random.below(7);
+        match random.below(24) {
+            0 if restarts => tree.restart(at),
+            0 => tree.leave(at),
+            1 | 2 => tree.leave(at),
+            3..=5 => {
+                if tree.agents[at].wire.is_none() {
+                    tree.connect(at);
+                }
+            }
+            6 | 7 => {
+                let key = format!("key{}", random.below(5));
+                let value = (random.below(4) > 0).then(|| step.to_string().into_bytes());
+                tree.change(&key, value);
+            }
+            8..=12 => tree.poll(at),
+            13..=17 => tree.take_frame(at),
+            _ => tree.take_ack(at),
+        }
+    }
+    tree
+}
+
+#[test]
+fn without_restarts_each_agent_is_right_without_a_round() {
+    for seed in 1..300 {
+        let mut tree = drawn(seed, false, 3_000);
+        tree.settle();
+        assert!(tree.all_are_right(), "seed {seed}");
+        for agent in &tree.agents {
+            assert!(agent.applied.is_sorted_by(|a, b| a < b), "seed {seed}");
+        }
+    }
+}
+
+#[test]
+fn restarts_lose_nothing_either() {
+    // (a child begins anew at the last whole table, with a label that it does not remember)
+    for seed in 1..300 {
+        let mut tree = drawn(seed, true, 3_000);
+        tree.settle();
+        assert!(tree.all_are_right(), "seed {seed}");
+        for agent in &tree.agents {
+            assert!(agent.applied.is_sorted_by(|a, b| a < b), "seed {seed}");
+        }
+    }
+}
+
+#[test]
+fn two_rounds_mend_whatever_an_agent_remembers() {
+    for seed in 1..100 {
+        let mut random = Random(seed);
+        let mut tree = drawn(seed, true, 1_000);
+        let at = random.below(7);
+        tree.agents[at].table.sequence = [0, 1, u64::MAX / 2, u64::MAX][random.below(4)];
+        tree.agents[at].settings.insert("spoiled".into(), vec![1]);
+        tree.settle();
+        tree.round(7);
+        tree.round(7);
+        assert!(tree.all_are_right(), "seed {seed}");
+    }
+}
+
+#[test]
+fn a_child_that_is_away_stops_nobody() {
+    let mut tree = Tree::new(7, 16);
+    tree.publish_table();
+    tree.settle();
+    // (a leaf is gone; the other agents get a thousand changes)
+    tree.leave(6);
+    for at in 0..1_000u32 {
+        tree.change("key", Some(at.to_be_bytes().to_vec()));
+        for _ in 0..8 {
+            for at in 1..6 {
+                tree.poll(at);
+                tree.take_frame(at);
+                tree.take_ack(at);
+            }
+        }
+    }
+    for at in 0..6 {
+        assert_eq!(tree.agents[at].settings, tree.truth);
+        assert!(tree.agents[at].relay.kept().0 <= 16);
+    }
+    assert!(tree.agents[2].relay.is_left_behind("6"));
+    // (it is back, and has the present value after no more than what is kept)
+    let before = tree.agents[6].applied.len();
+    tree.settle();
+    assert!(tree.all_are_right());
+    assert!(tree.agents[6].applied.len() - before <= 16);
+}
+
+#[test]
+fn what_is_kept_for_one_that_is_away_has_a_bound() {
+    let mut tree = Tree::new(3, 1_024);
+    tree.publish_table();
+    tree.settle();
+    tree.leave(2);
+    for at in 0..80u8 {
+        tree.change("key", Some(vec![at; 1 << 20]));
+        if at % 3 == 0 {
+            tree.publish_table();
+        }
+        for _ in 0..3 {
+            tree.poll(1);
+            tree.take_frame(1);
+            tree.take_ack(1);
+        }
+        assert!(tree.agents[0].relay.kept().1 <= 66 << 20);
+    }
+    assert!(tree.agents[0].relay.is_left_behind("2"));
+    assert_eq!(tree.agents[1].settings, tree.truth);
+    tree.settle();
+    assert!(tree.all_are_right());
+}
+
+#[test]
+fn one_that_is_away_too_long_is_evicted() {
+    let mut tree = Tree::new(3, 16);
+    tree.publish_table();
+    tree.settle();
+    tree.leave(2);
+    let after = Duration::from_secs(60);
+    let relay = &mut tree.agents[0].relay;
+    assert_eq!(relay.evicts_at(after), Some(tree.now + after));
+    assert!(relay.evict(after, tree.now + after / 2).is_empty());
+    assert_eq!(relay.evict(after, tree.now + after), ["2"]);
+    assert_eq!(relay.evicts_at(after), None);
+    tree.settle();
+    assert!(tree.all_are_right());
+}
+
+#[test]
+fn what_comes_by_a_connection_that_was_left_changes_nothing() {
+    let mut tree = Tree::new(2, 16);
+    tree.publish_table();
+    tree.connect(1);
+    tree.poll(1);
+    // (the frame lies on the old connection when the agent makes a new one)
+    let old = tree.agents[1].wire.take().unwrap();
+    tree.agents[0].relay.child_ended("1", old.above, tree.now);
+    tree.connect(1);
+    let (label, body) = old.down[0].clone();
+    let (fresh, _) = tree.agents[1].relay.on_frame(old.below, label, &body);
+    assert!(!fresh);
+    tree.agents[0].relay.on_ack("1", old.above, label);
+    tree.settle();
+    assert!(tree.all_are_right());
+    assert_eq!(tree.agents[1].applied, [1]);
+}

@@ -1,0 +1,198 @@
+//! The root's folder, and what is published of it.
+use rignoldad::body::{Body, Meaning, VALUE_BYTES};
+use rignoldad::config;
+use rignoldad::root::Root;
+use std::collections::BTreeMap;
+use std::fs;
+use std::path::{Path, PathBuf};
+use std::time::{Duration, Instant};
+
+struct Folder(PathBuf);
+
+impl Folder {
+    fn new(name: &str) -> Folder {
+        let path =
+            std::env::temp_dir().join(format!("rignolda-root-{name}-{}", std::process::id()));
+        let _ = fs::remove_dir_all(&path);
+        fs::create_dir(&path).unwrap();
+        Folder(path)
+    }
+}
+
+impl Drop for Folder {
+    fn drop(&mut self) {
+        let _ = fs::remove_dir_all(&self.0);
+    }
+}
+
+const ROUND: Duration = Duration::from_secs(3_600);
+
+/// A root, whose first round is over where `settled`.
+fn root(settings: &Path, settled: bool) -> (Root, Instant) {
+    let now = Instant::now();
+    let config = config::Root { settings: settings.into(), round: ROUND, harmless: 3 };
+    let mut root = Root::new(&config, now);
+    if settled {
+        root.tick(now);
+        while root.next(100).is_some() {}
+    }
+    (root, now)
+}
+
+type Said = Vec<(String, Option<String>)>;
+
+/// What a body says: its kind, and its entries.
+fn said(body: &Body) -> (char, Said) {
+    let entries = match body.meaning().unwrap().1 {
+        Meaning::Harmless => Vec::new(),
+        Meaning::Changes(entries) | Meaning::Table(entries) => entries,
+    };
+    let text = |value: &[u8]| String::from_utf8(value.to_vec()).unwrap();
+    let entries = entries.into_iter().map(|(key, value)| (key.to_owned(), value.map(text)));
+    (body.bytes[0] as char, entries.collect())
+}
+
+fn next(root: &mut Root) -> Option<(char, Said)> {
+    root.next(100).map(|(body, _, _)| said(&body))
+}
+
+fn entry(key: &str, value: Option<&str>) -> (String, Option<String>) {
+    (key.into(), value.map(str::to_owned))
+}
+
+#[test]
+fn begins_with_the_whole_table_and_a_round() {
+    let folder = Folder::new("begins");
+    fs::write(folder.0.join("b"), "2").unwrap();
+    fs::write(folder.0.join("a"), "1").unwrap();
+    fs::write(folder.0.join(".hidden"), "3").unwrap();
+    fs::write(folder.0.join("no key"), "4").unwrap();
+    fs::create_dir(folder.0.join("folder")).unwrap();
+    let (mut root, now) = root(&folder.0, false);
+    root.tick(now);
+    let all = vec![entry("a", Some("1")), entry("b", Some("2"))];
+    assert_eq!(next(&mut root), Some(('T', all.clone())));
+    for _ in 0..3 {
+        assert_eq!(next(&mut root), Some(('H', vec![])));
+    }
+    assert_eq!(next(&mut root), Some(('T', all)));
+    assert_eq!(next(&mut root), None);
+    assert_eq!(root.deadline(), now + ROUND);
+    root.tick(now + ROUND);
+    assert_eq!(next(&mut root), Some(('H', vec![])));
+}
+
+#[test]
+fn of_changes_that_wait_the_last_value_is_published() {
+    let folder = Folder::new("merged");
+    fs::write(folder.0.join("gone"), "x").unwrap();
+    let (mut root, now) = root(&folder.0, true);
+    fs::write(folder.0.join("key"), "1").unwrap();
+    root.notified(now);
+    root.tick(root.deadline());
+    fs::write(folder.0.join("key"), "2").unwrap();
+    fs::remove_file(folder.0.join("gone")).unwrap();
+    root.notified(now);
+    root.tick(root.deadline());
+    let changes = vec![entry("gone", None), entry("key", Some("2"))];
+    assert_eq!(next(&mut root), Some(('C', changes)));
+    assert_eq!(next(&mut root), None);
+    // (what is written and is the same is no change)
+    fs::write(folder.0.join("key"), "2").unwrap();
+    root.notified(now);
+    root.tick(root.deadline());
+    assert_eq!(next(&mut root), None);
+}
+
+#[test]
+fn numbers_go_up_by_one() {
+    let folder = Folder::new("numbers");
+    let (mut root, _) = root(&folder.0, false);
+    let first = root.next(100).unwrap().0.meaning().unwrap().0;
+    root.change("a", Some(b"1")).unwrap();
+    let (body, is_table, keys) = root.next(100).unwrap();
+    assert_eq!((body.meaning().unwrap().0, is_table, keys), (first + 1, false, vec!["a".into()]));
+    // (a root that begins later goes on above)
+    let (mut later, _) = self::root(&folder.0, false);
+    assert!(later.next(100).unwrap().0.meaning().unwrap().0 > first);
+}
+
+#[test]
+fn a_table_comes_after_so_many_items_or_bytes() {
+    let folder = Folder::new("tables");
+    let (mut root, _) = root(&folder.0, true);
+    let mut kinds = String::new();
+    for at in 0..12 {
+        root.change("key", Some(at.to_string().as_bytes())).unwrap();
+        kinds.push(said(&root.next(5).unwrap().0).0);
+    }
+    assert_eq!(kinds, "CCCCCTCCCCCT");
+    let big = vec![b'x'; VALUE_BYTES];
+    kinds.clear();
+    for at in 0..6 {
+        root.change(&format!("big{at}"), Some(&big)).unwrap();
+        kinds.push(said(&root.next(100).unwrap().0).0);
+    }
+    assert_eq!(kinds, "CTCCTC", "as many bytes as the table has");
+}
+
+#[test]
+fn what_is_asked_for_is_in_the_folder() {
+    let folder = Folder::new("asked");
+    let (mut root, now) = root(&folder.0, true);
+    root.change("a", Some(b"1")).unwrap();
+    assert_eq!(fs::read(folder.0.join("a")).unwrap(), b"1");
+    assert_eq!(next(&mut root), Some(('C', vec![entry("a", Some("1"))])));
+    // (again: whoever asks is told a number)
+    root.change("a", Some(b"1")).unwrap();
+    assert_eq!(next(&mut root), Some(('C', vec![entry("a", Some("1"))])));
+    root.change("a", None).unwrap();
+    assert!(!folder.0.join("a").exists());
+    assert_eq!(next(&mut root), Some(('C', vec![entry("a", None)])));
+    root.notified(now);
+    root.tick(root.deadline());
+    assert_eq!(next(&mut root), None);
+    assert!(root.change("../a", Some(b"1")).is_err());
+    assert!(root.change("absent", None).is_err());
+    assert!(root.change("a", Some(&vec![0; VALUE_BYTES + 1])).is_err());
+    root.draining = true;
+    assert!(root.change("a", Some(b"1")).is_err() && !root.waits());
+}
+
+#[test]
+fn what_cannot_be_read_unsets_nothing() {
+    let folder = Folder::new("unread");
+    fs::write(folder.0.join("a"), "1").unwrap();
+    fs::write(folder.0.join("b"), "2").unwrap();
+    let (mut root, now) = root(&folder.0, true);
+    let big = vec![0; VALUE_BYTES + 1];
+    fs::write(folder.0.join("a"), big).unwrap();
+    root.notified(now);
+    root.tick(root.deadline());
+    assert_eq!(next(&mut root), None);
+    fs::rename(&folder.0, folder.0.with_extension("away")).unwrap();
+    root.notified(now);
+    root.tick(root.deadline());
+    assert_eq!((next(&mut root), root.settings()), (None, 2));
+    fs::rename(folder.0.with_extension("away"), &folder.0).unwrap();
+}
+
+#[test]
+fn a_file_may_hold_all_settings() {
+    let folder = Folder::new("file");
+    let (toml, json) = (folder.0.join("all.toml"), folder.0.join("all.json"));
+    fs::write(&toml, "a = \"text\"\nb = 7\n").unwrap();
+    fs::write(&json, r#"{"a": "text", "b": [1, 2]}"#).unwrap();
+    let all: BTreeMap<&Path, &str> = [(toml.as_path(), "7"), (json.as_path(), "[1,2]")].into();
+    for (path, value) in all {
+        let (mut root, now) = root(path, false);
+        let expected = vec![entry("a", Some("text")), entry("b", Some(value))];
+        assert_eq!(next(&mut root), Some(('T', expected)));
+        assert!(root.change("a", Some(b"1")).is_err(), "it is edited by hand");
+        // (what is no such file changes nothing)
+        fs::write(path, "{").unwrap();
+        root.notified(now);
+        root.tick(now + ROUND / 2);
+        assert_eq!(root.settings(), 2);
+    }
+}

@@ -1,0 +1,156 @@
+//! What is known of the agents below, and what is made of it.
+use rignoldad::ask::{bounds, harmless_needed, lacks, too_few_harmless, tree_text, Bounds};
+use rignoldad::control::{ChildStatus, Request, Response, Status};
+use rignoldad::tree::{depths, Below, Seen, REPORT_BYTES};
+use std::time::{Duration, Instant};
+
+fn status(name: &str, children: &[&str]) -> Status {
+    let child =
+        |name: &&str| ChildStatus { name: name.to_string(), connected: true, ..Default::default() };
+    Status {
+        name: name.into(),
+        limit: 10,
+        harmless: 23,
+        whole: true,
+        sequence: 5,
+        applied: 5,
+        children: children.iter().map(child).collect(),
+        ..Default::default()
+    }
+}
+
+/// The lists of a tree: the root, `a` with `b` and `c`, and `d` below `c`.
+fn tree(now: Instant) -> Vec<Seen> {
+    let (mut root, mut a, mut c) = (Below::default(), Below::default(), Below::default());
+    let none = Below::default();
+    assert!(c.heard("d", &none.report(&status("d", &[]), now), now));
+    assert!(a.heard("c", &c.report(&status("c", &["d"]), now), now));
+    assert!(a.heard("b", &none.report(&status("b", &[]), now), now));
+    assert!(root.heard("a", &a.report(&status("a", &["b", "c"]), now), now));
+    root.tree(&status("root", &["a"]), now + Duration::from_secs(3))
+}
+
+#[test]
+fn a_list_has_each_agent_after_its_parent() {
+    let list = tree(Instant::now());
+    let names: Vec<(&str, &str)> = list.iter().map(|s| (&s.name[..], &s.parent[..])).collect();
+    assert_eq!(names, [("root", ""), ("a", "root"), ("b", "a"), ("c", "a"), ("d", "c")]);
+    assert_eq!(depths(&list), [0, 1, 2, 2, 3]);
+    assert_eq!(list.iter().map(|s| s.age).collect::<Vec<_>>(), [0, 3_000, 3_000, 3_000, 3_000]);
+}
+
+#[test]
+fn who_is_below_an_agent_that_is_away_is_not_known() {
+    let now = Instant::now();
+    let (mut root, mut a) = (Below::default(), Below::default());
+    a.heard("b", &Below::default().report(&status("b", &[]), now), now);
+    root.heard("a", &a.report(&status("a", &["b"]), now), now);
+    let mut above = status("root", &["a", "new"]);
+    above.children[0].connected = false;
+    let list = root.tree(&above, now);
+    let connected: Vec<(&str, bool)> = list.iter().map(|s| (&s.name[..], s.connected)).collect();
+    assert_eq!(connected, [("root", true), ("a", false), ("b", false), ("new", true)]);
+    assert_eq!(lacks(&list[1], 5), Some("is not connected"));
+    assert_eq!(lacks(&list[3], 5), Some("waits for a whole table"));
+    root.forget("a");
+    assert_eq!(root.tree(&above, now).len(), 3);
+}
+
+#[test]
+fn the_bounds_are_the_sums_of_a_path() {
+    let list = tree(Instant::now());
+    let of = |name: &str, depth, c, e, m, n| Bounds { name: name.into(), depth, c, e, m, n };
+    // (each link has capacity 1: C = d, M = 3 d, N = 2 d + 1; each inner agent may hold ten)
+    let expected = [
+        of("root", 0, 0, 0, 0, 0),
+        of("a", 1, 1, 10, 3, 3),
+        of("b", 2, 2, 10, 6, 5),
+        of("c", 2, 2, 20, 6, 5),
+        of("d", 3, 3, 20, 9, 7),
+    ];
+    assert_eq!(bounds(&list), expected);
+    assert_eq!(harmless_needed(&list), 9);
+    assert_eq!(too_few_harmless(&list), None);
+    let mut few = list;
+    few[0].harmless = 8;
+    assert!(too_few_harmless(&few).unwrap().contains("needs 9"));
+}
+
+#[test]
+fn an_agent_lacks_what_it_has_not_applied() {
+    let mut agent = tree(Instant::now()).remove(4);
+    assert_eq!(lacks(&agent, 5), None);
+    assert_eq!(lacks(&agent, 6), Some("has not applied it"));
+    agent.whole = false;
+    assert_eq!(lacks(&agent, 5), Some("waits for a whole table"));
+    agent.failing = 1;
+    assert_eq!(lacks(&agent, 5), Some("has a file or a hook that failed"));
+}
+
+#[test]
+fn refuses_a_list_that_is_none() {
+    let now = Instant::now();
+    let seen = |name: &str, parent: &str| Seen {
+        name: name.into(),
+        parent: parent.into(),
+        ..Default::default()
+    };
+    let good = vec![seen("a", ""), seen("b", "a")];
+    let bad: [Vec<Seen>; 5] = [
+        vec![],
+        vec![seen("b", "")],
+        vec![seen("a", ""), seen("b", "c")],
+        vec![seen("a", ""), seen("b", "a"), seen("b", "a")],
+        vec![seen("a", ""), seen("../b\u{1b}[0m", "a")],
+    ];
+    let mut below = Below::default();
+    assert!(below.heard("a", &serde_json::to_vec(&good).unwrap(), now));
+    for list in bad {
+        assert!(!below.heard("a", &serde_json::to_vec(&list).unwrap(), now), "{list:?}");
+    }
+    assert!(!below.heard("a", &vec![b' '; REPORT_BYTES + 1], now));
+    assert_eq!(below.tree(&status("root", &["a"]), now).len(), 3, "the good one stays");
+    let mut state = 1_u64;
+    for _ in 0..2_000 {
+        let mut bytes = serde_json::to_vec(&good).unwrap();
+        for _ in 0..3 {
+            state = state.wrapping_mul(6_364_136_223_846_793_005).wrapping_add(1);
+            let at = (state >> 33) as usize % bytes.len();
+            bytes[at] = (state >> 24) as u8;
+        }
+        let _ = below.heard("a", &bytes, now);
+    }
+}
+
+#[test]
+fn a_report_is_never_too_long() {
+    let now = Instant::now();
+    let names: Vec<String> = (0..9_000).map(|at| format!("{at:064}")).collect();
+    let names: Vec<&str> = names.iter().map(String::as_str).collect();
+    let bytes = Below::default().report(&status("a", &names), now);
+    assert!(bytes.len() <= REPORT_BYTES);
+    assert!(Below::default().heard("a", &bytes, now));
+}
+
+#[test]
+fn the_tree_is_a_line_for_each_agent() {
+    let text = tree_text(&tree(Instant::now()));
+    let lines: Vec<&str> = text.lines().collect();
+    assert_eq!(lines.len(), 6);
+    assert!(lines[5].starts_with("      d"), "{text}");
+    assert!(lines.iter().skip(1).all(|line| line.ends_with("up")), "{text}");
+}
+
+#[test]
+fn requests_and_answers_are_json() {
+    let request = Request::Publish { key: "a".into(), value: vec![0, 255] };
+    let text = r#"{"do":"publish","key":"a","value":"00ff"}"#;
+    assert_eq!(serde_json::to_string(&request).unwrap(), text);
+    assert_eq!(serde_json::from_str::<Request>(text).unwrap(), request);
+    assert_eq!(serde_json::to_string(&Response::Published(7)).unwrap(), r#"{"published":7}"#);
+    for bad in
+        [r#"{"do":"publish","key":"a","value":"0"}"#, r#"{"do":"publish","key":"a","value":"zz"}"#]
+    {
+        assert!(serde_json::from_str::<Request>(bad).is_err());
+    }
+}
