@@ -4,6 +4,8 @@
 #   make install     into PREFIX, which is /usr/local; DESTDIR is put before it, for packages
 #   make uninstall   removes these files again
 #   make shared      builds out/librignolda.so alone
+#   make install-daemon, uninstall-daemon, deb
+#                    the same for the daemon, and a package of it for Debian
 #   make help        these lines
 #
 # LIBRARY names another archive, as LIBRARY=/path/librignolda.a. A program is then built by
@@ -19,7 +21,7 @@ VERSION := $(shell sed -nE '/^\#\# /{s/^\#\# ([0-9]+(\.[0-9]+){2}), .*$$/\1/p;q}
 BINARY := $(shell printf '%s\n' '$(VERSION)' | sed -E 's/^0\.([0-9]+)\..*/0.\1/;t;s/\..*//')
 TO = $(DESTDIR)$(PREFIX)
 
-ifeq ($(LIBRARY)$(filter help uninstall,$(MAKECMDGOALS)),)
+ifeq ($(LIBRARY)$(filter help uninstall %-daemon deb,$(MAKECMDGOALS)),)
 $(error there is no archive of the library: set LIBRARY)
 endif
 ifeq ($(VERSION),)
@@ -55,4 +57,10 @@ uninstall:
 	    '$(TO)/lib/librignolda.so.$(BINARY)' '$(TO)/lib/librignolda.so.$(VERSION)' \
 	    '$(TO)/lib/pkgconfig/rignolda.pc'
 
-.PHONY: help shared install uninstall out/librignolda.so
+install-daemon uninstall-daemon:
+	$(MAKE) -C rust/rignoldad/packaging $(@:-daemon=) PREFIX='$(PREFIX)' DESTDIR='$(DESTDIR)'
+
+deb:
+	$(MAKE) -C rust/rignoldad/packaging deb
+
+.PHONY: help shared install uninstall out/librignolda.so install-daemon uninstall-daemon deb

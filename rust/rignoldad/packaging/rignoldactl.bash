@@ -1,0 +1,26 @@
+# Completion of rignoldactl for bash.
+_rignoldactl() {
+    local word=${COMP_WORDS[COMP_CWORD]} before=${COMP_WORDS[COMP_CWORD - 1]} at command=
+    local commands='publish unset round status tree wait drain resume child bounds help'
+    for ((at = 1; at < COMP_CWORD; at++)); do
+        case ${COMP_WORDS[at]} in
+        --socket | --timeout) ((at++)) ;;
+        -*) ;;
+        *) command=${COMP_WORDS[at]}; break ;;
+        esac
+    done
+    local options='--socket --json --help'
+    case $before in
+    --socket) mapfile -t COMPREPLY < <(compgen -f -- "$word"); return ;;
+    --timeout) mapfile -t COMPREPLY < <(compgen -W '5s 30s 5m' -- "$word"); return ;;
+    esac
+    case $command in
+    '') options="$options --version $commands" ;;
+    wait) options="$options --everywhere --timeout" ;;
+    drain) options="$options --timeout" ;;
+    child) options="$options add remove" ;;
+    esac
+    mapfile -t COMPREPLY < <(compgen -W "$options" -- "$word")
+}
+complete -F _rignoldactl rignoldactl
+complete -o default -W '--check --help --version' rignoldad
