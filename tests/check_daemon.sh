@@ -1,0 +1,71 @@
+#!/usr/bin/env bash
+# The daemon: its tests, the linter, its trials in trees of processes, and its kept programs.
+#
+# Where it cannot be built here, the kept programs are tried, and a line says what to run. The last
+# line is 'N passed, M failed'.
+set -u
+unset CDPATH
+cd -- "$(dirname -- "$(dirname -- "$(readlink -f -- "${BASH_SOURCE[0]}")")")" || exit 1
+work=$(mktemp -d) || exit 1
+trap 'rm -rf -- "$work"' EXIT
+passed=0
+failed=0
+
+# Counts a case: its name, and a command, whose words are shown if it fails.
+holds() {
+    local name=$1
+    shift
+    if "$@" >"$work/said" 2>&1; then
+        passed=$((passed + 1))
+        printf 'well   %s\n' "$name"
+    else
+        failed=$((failed + 1))
+        printf 'FAILED %s\n' "$name"
+        tail -n 30 -- "$work/said" | sed 's/^/       /'
+    fi
+}
+
+# Adds the counts of a script whose last line has them.
+adds() {
+    "$@" | tee -- "$work/said"
+    if [[ $(tail -n 1 -- "$work/said") =~ ^([0-9]+)\ passed,\ ([0-9]+)\ failed$ ]]; then
+        passed=$((passed + BASH_REMATCH[1]))
+        failed=$((failed + BASH_REMATCH[2]))
+    else
+        failed=$((failed + 1))
+    fi
+}
+
+cargo_tests() {
+    (cd rust && cargo test --offline --locked --quiet -p rignoldad)
+}
+
+lints() {
+    (cd rust && cargo clippy --offline --locked --quiet -p rignoldad --all-targets -- -D warnings)
+}
+
+formatted() {
+    (cd rust && cargo fmt -p rignoldad --check)
+}
+
+short_enough() {
+    ! grep -nE '^.{101}' rust/rignoldad/{src,tests}/*.rs rust/rignoldad/src/bin/*.rs
+}
+
+tools/build_daemon --check >"$work/built" 2>&1
+status=$?
+cat -- "$work/built"
+if [ "$status" -eq 3 ]; then
+    printf 'the daemon is not built here, so its own tests do not run: its kept programs are tried\n'
+    holds 'the kept programs' tools/build_daemon --unpack "$work"
+    export RIGNOLDAD_BIN=$work
+else
+    holds 'the kept programs are those of the sources' [ "$status" -eq 0 ]
+    holds 'unit tests, and drawn bytes' cargo_tests
+    ! type -P cargo-clippy >/dev/null || holds 'the linter' lints
+    ! type -P cargo-fmt >/dev/null || holds 'the form' formatted
+    holds 'no line is longer than 100 characters' short_enough
+fi
+adds tests/daemon/check.py
+printf '%d passed, %d failed\n' "$passed" "$failed"
+[ "$failed" -eq 0 ]

@@ -1,0 +1,290 @@
+#!/usr/bin/env python3
+"""A long trial by hand: a tree of daemons, kills, stops, broken connections, and each count judged.
+
+    tests/daemon/long.py [--kills 50] [--nodes 15] [--seed 1] [--stops] [--relays] [--loss PERCENT]
+
+With --loss each agent has a network of its own (ip netns), and nft drops so many packets each way;
+that needs root. Each agent's log says what it received. Between two moments at which all processes
+were stopped at once, of each agent whose links were begun before the first one, this must hold: it
+received at most C + E bodies of before, and then published ones in their order, each once, and of
+those before its last one only some among the first M are missing. At the end, two rounds later,
+every agent has the settings of the root's folder.
+"""
+import argparse
+import atexit
+import os
+import pathlib
+import random
+import re
+import signal
+import subprocess
+import sys
+import threading
+import time
+
+from daemons import Tree, fan, until
+from relay import Relay
+
+LIMIT = 60
+
+
+class Network:
+    """Agents in networks of their own, on one bridge, whose packets are lost now and then."""
+
+    def __init__(self, tree, percent):
+        self.made = []
+        self.run("ip", "link", "add", "rgn-br", "type", "bridge")
+        atexit.register(self.close)
+        self.run("ip", "link", "set", "rgn-br", "up")
+        limit = round(percent * 10_000)
+        for at, agent in enumerate(tree):
+            name, address = f"rgn{at}", f"10.99.{at // 250}.{at % 250 + 1}"
+            self.run("ip", "netns", "add", name)
+            self.made.append(name)
+            self.run("ip", "link", "add", f"rgnv{at}", "type", "veth", "peer", "name", "eth0",
+                     "netns", name)
+            self.run("ip", "link", "set", f"rgnv{at}", "master", "rgn-br", "up")
+            for words in (("addr", "add", f"{address}/16", "dev", "eth0"),
+                          ("link", "set", "eth0", "up"), ("link", "set", "lo", "up")):
+                self.run("ip", "-n", name, *words)
+            rules = ("add table inet lossy; "
+                     "add chain inet lossy out { type filter hook output priority 0 ; }; "
+                     'add rule inet lossy out oifname "eth0" '
+                     f"numgen random mod 1000000 < {limit} drop")
+            self.run("ip", "netns", "exec", name, "nft", rules)
+            agent.address, agent.prefix = address, ["ip", "netns", "exec", name]
+            agent.top["insecure"] = True
+        for agent in tree:
+            if agent.parent:
+                above = agent.parent
+                agent.top["parents"] = [f"{above.name}@{above.address}:{above.port}"]
+            if agent.children:
+                agent.top["listen"] = f"{agent.address}:{agent.port}"
+
+    def run(self, *words):
+        subprocess.run(words, check=True, capture_output=True)
+
+    def close(self):
+        for name in self.made:
+            subprocess.run(["ip", "netns", "del", name], capture_output=True)
+        subprocess.run(["ip", "link", "del", "rgn-br"], capture_output=True)
+
+
+def stopped(process):
+    state = pathlib.Path(f"/proc/{process.pid}/stat").read_text().rsplit(") ", 1)[1][0]
+    return state in "TZ"
+
+
+class Trial:
+    def __init__(self, tree, draw):
+        self.tree, self.draw = tree, draw
+        self.lock = threading.Lock()
+        self.done = threading.Event()
+        self.cuts = []          # (lines of each log, agents that were killed then)
+        self.changes = 0
+
+    def publish(self):
+        """Changes the root's folder, all the time."""
+        while not self.done.is_set():
+            key = self.draw.randrange(30)
+            self.tree.write(f"key{key}", f"{self.changes} {'x' * (self.changes * 7919 % 3000)}")
+            self.changes += 1
+            time.sleep(0.004)
+
+    def stop_all(self):
+        living = [agent for agent in self.tree if agent.alive()]
+        for agent in living:
+            agent.signal(signal.SIGSTOP)
+        for agent in living:
+            until(lambda: stopped(agent.process), 5, 0.0005)
+        return living
+
+    def cut(self, victims=()):
+        """A moment at which all are stopped: how long each log is. Victims end there."""
+        living = self.stop_all()
+        self.cuts.append(({agent.name: len(agent.text().splitlines()) for agent in self.tree},
+                          {victim.name for victim in victims}))
+        for victim in victims:
+            victim.kill()
+        for agent in living:
+            if agent not in victims:
+                agent.signal(signal.SIGCONT)
+
+    def connected(self):
+        def all_up():
+            for agent in self.tree:
+                try:
+                    status = agent.status()
+                except RuntimeError:
+                    return False
+                if not all(child["connected"] for child in status["children"]):
+                    return False
+            return True
+        return until(all_up, 30, 0.05)
+
+    # ---- Judging
+
+    def judge(self):
+        logs = {agent.name: agent.text().splitlines() for agent in self.tree}
+        wrong, judged, strays, missing, left_out = [], 0, 0, 0, 0
+        for at, ((start, _), (end, _)) in enumerate(zip(self.cuts, self.cuts[1:])):
+            part = {name: log[start[name]:end[name]] for name, log in logs.items()}
+            root = logs["root"]
+            begun = max([place for place, line in enumerate(root[:end["root"]])
+                         if line.startswith("start ")], default=0)
+            published = numbers(root[begun:end["root"]], "published")
+            if begun >= start["root"]:
+                left_out += len(self.tree.agents) - 1
+                continue
+            for agent in self.tree:
+                if agent is self.tree.root:
+                    continue
+                path = [agent]
+                while path[0].parent is not self.tree.root:
+                    path.insert(0, path[0].parent)
+                if any(began_anew(part, step) for step in path):
+                    left_out += 1
+                    continue
+                first = first_offered(root[begun:start["root"]], logs[path[0].name], path[0].name,
+                                      start[path[0].name])
+                new = [number for number in published if number is not None and number >= first]
+                place = {number: at for at, number in enumerate(new)}
+                got = numbers(part[agent.name], "received")
+                inner = [step for step in path if step.children]
+                fault, front, gaps = judge_one(got, place, len(path), LIMIT * len(inner))
+                judged, strays, missing = judged + 1, strays + front, missing + gaps
+                if fault:
+                    wrong.append((at, agent.name, fault))
+        return wrong, judged, strays, missing, left_out
+
+
+def first_offered(root, log, name, start):
+    """The number with which the root's list begins for its child, in a count that begins there: the
+    last one that the child had, or, where the link began anew and nothing came by it yet, the
+    first one that comes."""
+    before = [number for number in numbers(log[:start], "received") if number is not None]
+    after = [number for number in numbers(log[start:], "received") if number is not None]
+    anew = max([at for at, line in enumerate(root)
+                if line.startswith(f"connected {name}, a new count")], default=0)
+    published = numbers(root[:anew], "published")
+    if before and (not published or before[-1] > published[-1]):
+        return before[-1]
+    return after[0] if after else 0
+
+
+def numbers(lines, fact):
+    """The numbers of the bodies in some lines; None where one was garbage."""
+    found = []
+    for line in lines:
+        match = re.match(rf"{fact} (\d+)$", line)
+        if match:
+            found.append(int(match[1]))
+        elif line.startswith("garbage item"):
+            found.append(None)
+    return found
+
+
+def began_anew(part, agent):
+    """Whether the link to an agent began anew in these parts of the logs."""
+    name = re.escape(agent.name)
+    above, own = part[agent.parent.name], part[agent.name]
+    return (any(re.match(rf"(connected {name}, a new count|(left-behind|evicted) {name}\b)", line)
+                for line in above)
+            or any(re.match(r"start |connected the parent.*a new count", line) for line in own))
+
+
+def judge_one(got, place, depth, backlogs):
+    """What is wrong with what an agent received; its strays; how many are missing."""
+    # (a number that is published may also have lain in a backlog: then it is a stray)
+    front = len(got)
+    after = len(place)
+    while front > 0 and place.get(got[front - 1], after) < after:
+        front -= 1
+        after = place[got[front]]
+    places = [place[number] for number in got[front:]]
+    lost = sorted(set(range(places[-1])) - set(places)) if places else []
+    # (the list begins with the body that the first agent of the path had last, or the next one)
+    lost = [at for at in lost if at > 0]
+    if front > depth + backlogs:
+        return f"{front} strays", front, 0
+    late = [at for at in lost if at > 3 * depth]
+    return (f"{late[:4]} are missing" if late else None), front, len(lost)
+
+
+def main():
+    words = argparse.ArgumentParser(description=__doc__.splitlines()[0])
+    words.add_argument("--kills", type=int, default=50)
+    words.add_argument("--nodes", type=int, default=15)
+    words.add_argument("--seed", type=int, default=1)
+    words.add_argument("--stops", action="store_true")
+    words.add_argument("--relays", action="store_true")
+    words.add_argument("--loss", type=float, default=0)
+    chosen = words.parse_args()
+    draw = random.Random(chosen.seed)
+
+    def before(tree):
+        for agent in tree:
+            agent.tables["link"] = {"ack_timeout": "500ms", "evict": "30s", "backlog": LIMIT}
+        tree.root.tables["root"]["harmless"] = 11
+        if chosen.loss:
+            Network(tree, chosen.loss)
+        if chosen.relays:
+            for at, agent in enumerate(tree):
+                if agent.parent and at % 2:
+                    relay = Relay(agent.parent.port, cuts=(0.05, 1.5), delay=0.002 * (at % 5),
+                                  seed=at)
+                    agent.top["parents"] = [f"{agent.parent.name}@127.0.0.1:{relay.port}"]
+
+    with Tree(fan(chosen.nodes), before=before) as tree:
+        trial = Trial(tree, draw)
+        tree.start()
+        if not trial.connected():
+            print("the tree is not ready")
+            return 1
+        publisher = threading.Thread(target=trial.publish)
+        publisher.start()
+        for turn in range(chosen.kills):
+            trial.cut()
+            end = time.monotonic() + draw.uniform(0.3, 1.0)
+            while time.monotonic() < end:
+                if chosen.stops:
+                    frozen = draw.sample(list(tree), 2)
+                    for agent in frozen:
+                        agent.signal(signal.SIGSTOP)
+                    time.sleep(draw.uniform(0.05, 0.7))
+                    for agent in frozen:
+                        agent.signal(signal.SIGCONT)
+                time.sleep(0.1)
+            victims = list(tree) if draw.random() < 0.06 else \
+                draw.sample(list(tree), draw.choice([1, 1, 1, 2, 3]))
+            trial.cut(victims)
+            time.sleep(draw.choice([0, 0, 0.05, 0.3]))
+            for victim in victims:
+                victim.start()
+            if not trial.connected():
+                print(f"after kill {turn} not all are connected again")
+                trial.done.set()
+                return 1
+        trial.cut()
+        trial.done.set()
+        publisher.join()
+        begun = time.monotonic()
+        good = tree.right(5 if not chosen.loss else 20)
+        took = time.monotonic() - begun
+        time.sleep(0.5)
+        trial.cut()
+        wrong, judged, strays, missing, left_out = trial.judge()
+        gaps = sum(agent.status()["gaps"] for agent in tree)
+        panics = [agent.name for agent in tree if agent.said("panicked")]
+        print(f"{chosen.kills} kills of {chosen.nodes}, {trial.changes} changes: {judged} counts "
+              f"of agents judged, {left_out} left out since a link began anew in them")
+        print(f"strays {strays}, missing among the first M {missing}, gaps counted since starts "
+              f"{gaps}, outside the bounds {len(wrong)} {wrong[:5]}")
+        print(f"settings right at all: {good}, after {took:.1f} s {tree.wrong()}; "
+              f"panics: {panics}")
+        return 0 if good and not wrong and not panics else 1
+
+
+if __name__ == "__main__":
+    os.chdir(pathlib.Path(__file__).resolve().parent)
+    sys.exit(main())

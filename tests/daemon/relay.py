@@ -1,0 +1,72 @@
+"""A relay between a child and its parent, one connection for one, that can lose and delay."""
+import random
+import select
+import socket
+import threading
+import time
+
+
+class Relay:
+    """Passes bytes on. With `cuts` it closes each connection after a drawn while, and what is under
+    way is lost, often in the middle of a message; with `delay` bytes come so many seconds late."""
+
+    def __init__(self, port, cuts=None, delay=0.0, seed=1):
+        self.to, self.cuts, self.delay = port, cuts, delay
+        self.draw = random.Random(seed)
+        self.listener = socket.create_server(("127.0.0.1", 0))
+        self.port = self.listener.getsockname()[1]
+        self.open = True
+        self.connections = 0
+        self.pairs = []
+        threading.Thread(target=self.accept, daemon=True).start()
+
+    def accept(self):
+        while self.open:
+            try:
+                near, _ = self.listener.accept()
+            except OSError:
+                return
+            threading.Thread(target=self.serve, args=(near,), daemon=True).start()
+
+    def serve(self, near):
+        try:
+            far = socket.create_connection(("127.0.0.1", self.to), timeout=5)
+        except OSError:
+            near.close()
+            return
+        self.connections += 1
+        self.pairs.append((near, far))
+        end = time.monotonic() + self.draw.uniform(*self.cuts) if self.cuts else None
+        waiting = []        # (when, to, bytes)
+        try:
+            while self.open:
+                now = time.monotonic()
+                if end and now >= end:
+                    break
+                while waiting and waiting[0][0] <= now:
+                    _, to, piece = waiting.pop(0)
+                    # (of the last piece only a part gets through, if the connection ends now)
+                    to.sendall(piece)
+                times = [at - now for at in ([end] if end else []) + [w[0] for w in waiting[:1]]]
+                ready = select.select([near, far], [], [], max(0.0, min(times + [0.2])))[0]
+                for sock in ready:
+                    piece = sock.recv(1 << 16)
+                    if not piece:
+                        return
+                    other = far if sock is near else near
+                    if self.cuts and self.draw.random() < 0.05:
+                        other.sendall(piece[:self.draw.randrange(len(piece))])
+                        return
+                    waiting.append((time.monotonic() + self.delay, other, piece))
+        except OSError:
+            pass
+        finally:
+            near.close()
+            far.close()
+
+    def close(self):
+        self.open = False
+        self.listener.close()
+        for pair in self.pairs:
+            for sock in pair:
+                sock.close()
