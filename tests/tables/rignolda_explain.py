@@ -143,6 +143,70 @@ stab tree: step: no such link
 """),
 ]
 
+# Members that `stab` ignores, and that other commands read.
+BESIDE = [
+    ('"items"', '"steps":{},"items"', """\
+steps: an object; the steps are a list of steps
+stab tree: accepted
+"""),
+    ('"items"', '"steps":[["site-a","offer"],["site-a","ofer"],5],"items"', """\
+steps[1][1]: "ofer" is no event; did you mean "offer"?
+steps[2]: 5; a step is an act as in a schedule, or ["publish", items], ["restart", node, items], \
+["strike", node, start], ["rounds", count] or ["reading_rounds", count]
+stab tree: accepted
+"""),
+    ('"items"', '"steps":[["sitea","offer"],["hub","offer"],["rack_1","lose_ack"]],"items"', """\
+steps[0][0]: "sitea" is no node; did you mean "site-a"?
+steps[1][0]: "hub" is the root, and no link leads into it
+steps[2]: a loss is written with its place, a whole number from 0 to 65535
+stab tree: accepted
+"""),
+    ('"items"', '"steps":[["sell",[1,-1]],["round",2],["rounds",65536]],"items"', """\
+steps[0][0]: the text "sell"; the word before a list of items is "publish"
+steps[0][1][1]: a number that is not a whole one; an item is a whole number from 0 to 4294967295
+steps[1][0]: the text "round"; the word before a number is "rounds" or "reading_rounds"
+steps[2][1]: 65536; how many rounds there are is a whole number from 0 to 65535
+stab tree: accepted
+"""),
+    ('"items"', '"steps":[["restart","rack1",[]],["start","hub",[2]],["restart",1,[]]],"items"', """\
+steps[0][1]: "rack1" is no node; did you mean "rack_1"?
+steps[1][0]: the text "start"; the word before a node and a list of items is "restart"
+steps[2][1]: 1; a node is named by a text
+stab tree: accepted
+"""),
+    ('"items"', '"steps":[["strike","hub",{"send":0,"recv":1}],["strike","rack_1",{"send":0}],'
+     '["strike","rack_1",{"send":0,"recv":1,"frames":[[1,2],[3,4]],"acks":[1,2]}],'
+     '["strike","rack_1",{"send":0,"recv":1,"frame":[]}]],"items"', """\
+steps[0][1]: "hub" is the root, and no link leads into it
+steps[1][2]: a start has "send" and "recv", whole numbers from 0 to 65535
+steps[2][2]: 2 frames, and the capacity is 1
+steps[2][2]: 2 acknowledgements, and the capacity is 1
+steps[3].frame: ignored, since a start has no such member; did you mean "frames"?
+stab tree: accepted
+"""),
+    ('"items"', '"step":[],"items"', """\
+step: ignored, since a job has no such member; did you mean "steps"?
+stab tree: accepted
+"""),
+    ('"items"', '"backlogs":[[],[7,"8"],[]],"items"', """\
+backlogs[1][1]: the text "8"; an item is a whole number from 0 to 4294967295
+stab tree: accepted
+"""),
+    ('"items"', '"backlogs":[[],7],"items"', """\
+backlogs[1]: 7; a backlog is a list of items, which the parent of its node had for the node
+backlogs: 2 lists for 3 nodes; there is one for each node, in their order
+stab tree: accepted
+"""),
+    ('"items"', '"backlogs":[[1],[],[]],"items"', """\
+backlogs[0] (node hub): no node is above the root, so its backlog is empty
+stab tree: accepted
+"""),
+    ('"items"', '"backlogs":null,"items"', """\
+backlogs: null; the backlogs are a list of lists of items, one for each node
+stab tree: accepted
+"""),
+]
+
 SHAPES = [
     ('"capacity"', '"capcity"', """\
 capacity: missing; a capacity is a whole number from 1 to 64
@@ -246,6 +310,7 @@ TABLES = [
     ("says which entry has no link or node", JOB, ENTRIES),
     ("says which number is out of range", JOB, NUMBERS),
     ("says which step is wrong", JOB, STEPS),
+    ("says what other commands refuse", JOB, BESIDE),
     ("says where a shape is wrong", JOB, SHAPES),
     ("says where a script is wrong", JOB, SCRIPTS),
     ("says what is wrong with a link job", LINK_JOB, LINK_JOBS),
@@ -282,6 +347,11 @@ COUNTED = [
 ROWS = [
     Row("finds nothing in a whole job", ["explain"], JOB, out="stab tree: accepted\n"),
     Row("finds nothing in a whole link job", ["explain"], LINK_JOB, out="stab link: accepted\n"),
+    Row("knows the members of other commands", ["explain"],
+        replaced(JOB, '"items"', '"steps":[["site-a","offer"],["rack_1","lose_ack",0],["publish",[3]],'
+                 '["strike","rack_1",{"frames":[[1,2]],"send":0,"recv":1}],["restart","hub",[4]],'
+                 '["rounds",2],["reading_rounds",0]],"backlogs":[[],[7],[]],"items"'),
+        out="stab tree: accepted\n"),
     Row("explains a file", ["explain", "job"], files={"job": JOB}, out="stab tree: accepted\n"),
 ]
 ROWS += [

@@ -1,5 +1,6 @@
 //! What is wrong with a job of a tree.
 
+use crate::backlogs::look_at_backlogs;
 use crate::links::{
     look_at_count, look_at_link_params, look_at_lists_of_links, look_at_members_of_links,
     look_at_starts,
@@ -7,6 +8,7 @@ use crate::links::{
 use crate::openings::{look_at_opening_lists, look_at_openings};
 use crate::schedule::{look_at_root_steps, look_at_schedule};
 use crate::scripts::look_at_made_scripts;
+use crate::steps::look_at_steps;
 use serde_json::Value;
 use stab_findings::{
     Known, Notes, Piece, Place, count_of, list_of, list_or_absent, look_at_items, look_at_members,
@@ -47,7 +49,7 @@ const FIRST_MEMBERS: Known = Known {
     what: "a job",
     names: &[
         "version", "capacity", "labels", "tree", "items", "links", "starts", "scripts", "turns",
-        "schedule",
+        "schedule", "steps", "backlogs",
     ],
     idle: &["h", "openings"],
     reason: "without \"version\": 2",
@@ -58,7 +60,7 @@ const SECOND_MEMBERS: Known = Known {
     what: "a job",
     names: &[
         "version", "capacity", "labels", "tree", "items", "links", "starts", "scripts", "turns",
-        "schedule", "h", "openings",
+        "schedule", "steps", "backlogs", "h", "openings",
     ],
     idle: &[],
     reason: "",
@@ -165,7 +167,9 @@ fn look_over_tree(
         look_at_openings(notes, value, tree)?;
     }
     look_at_starts(notes, value, tree)?;
-    look_at_root_steps(notes, value.get("schedule"), tree)
+    look_at_root_steps(notes, value.get("schedule"), tree)?;
+    look_at_steps(notes, value, tree)?;
+    look_at_backlogs(notes, value.get("backlogs"), tree)
 }
 
 /// Looks at how many items and steps there are.

@@ -10,6 +10,7 @@
 //! first finding is of that fault. The places, and all findings after the first, are tested.
 #![tactic(auto)]
 
+mod backlogs;
 mod explained;
 mod job;
 mod links;
@@ -17,6 +18,7 @@ mod openings;
 mod reader;
 mod schedule;
 mod scripts;
+mod steps;
 mod text;
 
 pub use explained::explain;

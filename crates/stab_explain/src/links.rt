@@ -148,7 +148,7 @@ pub(crate) fn look_at_link_params(
 }
 
 /// The capacity of the link at a place: its own, or the job's.
-fn capacity_at(value: &Value, place: usize) -> Option<u16> {
+pub(crate) fn capacity_at(value: &Value, place: usize) -> Option<u16> {
     match value.get("links") {
         Some(Value::Array(links)) => match links.get(place) {
             Some(Value::Object(_)) => u16_member(&links[place], "capacity"),

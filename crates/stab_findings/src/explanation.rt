@@ -13,6 +13,8 @@ pub enum Matter {
     Start(StartFault),
     /// The job is read, and a step of its schedule names the root, which has no link into it.
     Step,
+    /// A part of a member that `stab` ignores, and that a command of `rignolda` refuses.
+    Command,
     /// A member that no reader looks at.
     Ignored,
 }

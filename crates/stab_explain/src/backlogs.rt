@@ -1,0 +1,75 @@
+//! What is wrong with the backlogs of a moment, which no reader of `stab` looks at.
+
+use crate::steps::{add_found, look_at_list};
+use serde_json::Value;
+use stab_findings::{Matter, Notes, Piece, Place};
+use stab_tree::Tree;
+use std::alloc::AllocError;
+
+/// What the backlogs are.
+const BACKLOGS: &str = "the backlogs are a list of lists of items, one for each node";
+
+/// What a backlog is.
+const BACKLOG: &str = "a backlog is a list of items, which the parent of its node had for the node";
+
+/// Looks at the backlogs of a job, where it has some.
+pub(crate) fn look_at_backlogs(
+    notes: &mut Notes,
+    backlogs: Option<&Value>,
+    tree: &Tree,
+) -> Result<(), AllocError> {
+    match backlogs {
+        None => Ok(()),
+        Some(Value::Array(lists)) => look_at_all(notes, lists.as_slice(), tree),
+        Some(value) => add_found(notes, Place::member("backlogs"), value, BACKLOGS),
+    }
+}
+
+/// Looks at each backlog, and how many there are.
+fn look_at_all(notes: &mut Notes, lists: &[Value], tree: &Tree) -> Result<(), AllocError> {
+    for (i, list) in lists.iter().enumerate() {
+        if notes.is_done() {
+            break;
+        }
+        look_at_one(notes, Place::member("backlogs").entry(i), list)?;
+    }
+    if lists.len() != usize::from(tree.len()) {
+        return notes.add(
+            Matter::Command,
+            &Place::member("backlogs"),
+            &[
+                Piece::Number(lists.len() as u64),
+                Piece::Words(" lists for "),
+                Piece::Number(u64::from(tree.len())),
+                Piece::Words(" nodes; there is one for each node, in their order"),
+            ],
+        );
+    }
+    look_at_root(notes, lists, tree)
+}
+
+/// Looks whether a backlog is a list of items.
+fn look_at_one(notes: &mut Notes, place: Place<'_>, list: &Value) -> Result<(), AllocError> {
+    match list {
+        Value::Array(items) => look_at_list(notes, place, items.as_slice()),
+        _ => add_found(notes, place, list, BACKLOG),
+    }
+}
+
+/// Looks whether the root has a backlog.
+fn look_at_root(notes: &mut Notes, lists: &[Value], tree: &Tree) -> Result<(), AllocError> {
+    let root = tree.root();
+    let Some(Value::Array(items)) = lists.get(root.index()) else {
+        return Ok(());
+    };
+    if items.is_empty() {
+        return Ok(());
+    }
+    notes.add(
+        Matter::Command,
+        &Place::member("backlogs")
+            .entry(root.index())
+            .of_node(tree.name(root)),
+        &[Piece::Words("no node is above the root, so its backlog is empty")],
+    )
+}
