@@ -8,7 +8,7 @@ complete -c rignolda -n '__fish_seen_subcommand_from bounds' -F
 complete -c rignolda -n __fish_use_subcommand -a check -d 'Says whether a report of a job obeys the laws, or which part of it is broken'
 complete -c rignolda -n '__fish_seen_subcommand_from check' -l help -d 'Print help'
 complete -c rignolda -n '__fish_seen_subcommand_from check' -F
-complete -c rignolda -n __fish_use_subcommand -a draw -d 'Draws the run of a link job or of a tree'\''s schedule, a line for each event'
+complete -c rignolda -n __fish_use_subcommand -a draw -d 'Draws the run of a link job, a schedule or a scenario, a line for each event'
 complete -c rignolda -n '__fish_seen_subcommand_from draw' -l svg -d 'Draw a picture instead, as one file of SVG'
 complete -c rignolda -n '__fish_seen_subcommand_from draw' -l help -d 'Print help'
 complete -c rignolda -n '__fish_seen_subcommand_from draw' -F

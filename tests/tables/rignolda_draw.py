@@ -1,6 +1,15 @@
-"""The runs that `rignolda draw` draws, as text and as pictures."""
+"""The runs that `rignolda draw` draws, as text and as pictures.
 
+The runs of the example scenarios are those of tests/faults/drawn.py, and one is worked out by hand."""
+
+import json
+import sys
+
+from tables.program import TOP
 from tables.rows import Like, Row
+
+sys.path.insert(0, str(TOP / "tests/faults"))
+from drawn import drawn_text
 
 PROGRAM = "rignolda"
 
@@ -58,6 +67,53 @@ TREE_PARTS = [
     ">stray 99</text>",
 ]
 
+# A scenario: 8 is published, then the link into a is struck, which leaves the item that r holds; a
+# round brings it; and a restarts, after which b is offered 50.
+SCENARIO = """\
+{"capacity": 1, "labels": 4,
+    "tree": [{"name": "r"}, {"name": "a", "parent": "r"}, {"name": "b", "parent": "a"}],
+    "items": [7],
+    "steps": [["a", "offer"], ["publish", [8, 9]],
+        ["strike", "a", {"frames": [[2, 99]], "send": 1, "recv": 0}], ["rounds", 1],
+        ["restart", "a", [50]], ["b", "offer"], ["b", "lose_ack", 0]]}"""
+
+SCENARIO_RUN = """\
+step  link      event               effect  label holds acked frames      acks    remembers delivers
+0     a         start               -       0     -     0     -           -       65535     -
+0     b         start               -       0     -     0     -           -       65535     -
+1     a         ["offer",7]         Held    0     7     0     -           -       65535     -
+2     r         publish             items: 8 9
+3     a         strike              -       1     7     0     2=99        -       0         -
+4     -         round 1 of 1
+4     a         ["offer",8]         Nothing 1     7     0     2=99        -       0         -
+4     a         "send_frame"        Lost    1     7     0     2=99        -       0         -
+4     a         "recv_frame"        Fresh   1     7     0     -           -       2         99
+4     a         "send_ack"          Sent    1     7     0     -           2       2         -
+4     a         "recv_ack"          Ignored 1     7     0     -           -       2         -
+4     b         ["offer",99]        Held    0     99    0     -           -       65535     -
+4     b         "send_frame"        Sent    0     99    0     0=99        -       65535     -
+4     b         "recv_frame"        Fresh   0     99    0     -           -       0         99
+4     b         "send_ack"          Sent    0     99    0     -           0       0         -
+4     b         "recv_ack"          Acked   1     -     1     -           -       0         -
+5     a         restart             items: 50
+5     b         anew                -       1     -     0     -           -       0         -
+6     b         ["offer",50]        Held    1     50    0     -           -       0         -
+7     b         ["lose_ack",0]      Nothing 1     50    0     -           -       0         -
+"""
+
+# What a picture of it has.
+SCENARIO_PARTS = [
+    "<title>The run of a scenario</title>",
+    ">publish</text>",
+    ">strike</text>",
+    ">round 1 of 1</text>",
+    ">restart</text>",
+    ">restarts</text>",
+    ">begins anew</text>",
+    ">stray 99</text>",
+    ">queue full</text>",
+]
+
 # What no picture may have.
 NEVER = ["<script", "href", "@import", "url(h"]
 
@@ -70,4 +126,24 @@ ROWS = [
         out=Like(parts=TREE_PARTS, without=NEVER)),
     Row("draws the picture of a file", ["draw", "job", "--svg"], files={"job": JOB},
         out=Like(parts=PARTS, without=NEVER)),
+]
+EXAMPLES = TOP / "examples/scenarios"
+ROWS += [
+    Row("draws a scenario", ["draw"], SCENARIO, out=SCENARIO_RUN),
+    Row("draws the picture of a scenario", ["draw", "--svg"], SCENARIO,
+        out=Like(parts=SCENARIO_PARTS, without=NEVER)),
+    Row("draws no steps that are no list", ["draw"], SCENARIO.replace('"steps": [', '"steps": 5, "s": ['),
+        status=1, err="rignolda: scenario: no list of steps\n"),
+    Row("draws no scenario with a step that is none", ["draw", "--svg"],
+        SCENARIO.replace('["b", "offer"]', '["r", "offer"]'), status=1,
+        err="rignolda: scenario: step 6: no link into the root\n"),
+    Row("draws no scenario that cannot begin", ["draw"],
+        SCENARIO.replace('"items": [7]', '"items": [7], "starts": [{"frames": [[0, 1], [0, 2]], '
+                         '"send": 0, "recv": 0}, {"send": 0, "recv": 0}]'),
+        status=3, err="rignolda: start: too many frames\n"),
+]
+ROWS += [
+    Row(f"draws the example {file.stem}", ["draw"], file.read_text(),
+        out=drawn_text(json.loads(file.read_text())))
+    for file in sorted(EXAMPLES.glob("*.json"))
 ]

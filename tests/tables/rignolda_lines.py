@@ -12,7 +12,7 @@ Usage: rignolda <COMMAND>
 Commands:
   bounds    Says what the laws allow each node of a job: strays, and missing items
   check     Says whether a report of a job obeys the laws, or which part of it is broken
-  draw      Draws the run of a link job or of a tree's schedule, a line for each event
+  draw      Draws the run of a link job, a schedule or a scenario, a line for each event
   explain   Says what is wrong with a link job or a job of a tree, and where
   random    Prints a job of a tree with random garbage in it, the same for the same options
   scenario  Says what a scenario of acts, rounds and faults makes of a tree

@@ -37,7 +37,7 @@ no_write (fault.Run (change.Strike refusal)) is = (let never : steps_refused (fa
 no_write (fault.Run (change.Restart refusal)) is = (let never : steps_refused (fault.Run (change.Restart refusal)) ≡ Job task.Write = is in cc)
 no_write (fault.Run change.Memory) is = (let never : steps_refused (fault.Run change.Memory) ≡ Job task.Write = is in cc)
 
-by_load : (input : List ℕ) (why : LoadFault) → IsLoadFault (Some input) why → IsUntold input (Job (fault_of_load why))
+pub by_load : (input : List ℕ) (why : LoadFault) → IsLoadFault (Some input) why → IsUntold input (Job (fault_of_load why))
 by_load input load.Read because = inl tt
 by_load input load.TooLong because = inl because
 by_load input load.Memory because = inl tt

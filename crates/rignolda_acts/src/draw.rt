@@ -2,28 +2,36 @@ ghost use Rattle.std.specs.Prelude.{◌≡◌, ◌≢◌, ℕ, List, false, Some
 ghost use Rattle.std.specs.Prelude.{All, IfErr, IfOk, IfSome, OnOk};
 ghost use Rattle.std.specs.Io.KnownBytes.{Appends, Keeps};
 ghost use Rattle.serde_json.specs.View.{view};
-ghost use Rattle.rignolda_acts.specs.Drawn.{IsDrawn, IsDrawnAs, IsDrawnLink, IsDrawnTree};
-ghost use Rattle.rignolda_acts.specs.Drawn.{IsUndrawn, task_of};
+ghost use Rattle.rignolda_acts.specs.Drawn.{IsDrawn, IsDrawnAs, IsDrawnBy, IsDrawnJob, IsDrawnLink};
+ghost use Rattle.rignolda_acts.specs.Drawn.{IsDrawnScenario, IsDrawnTree, IsUndrawn, IsUndrawnBy};
+ghost use Rattle.rignolda_acts.specs.Drawn.{IsUndrawnJob, has_steps, task_of};
+ghost use Rattle.rignolda_acts.specs.Told.{IsUntold};
 ghost use Rattle.stab_core.specs.Link.{IsReason};
 ghost use Rattle.stab_core.specs.Replay.{IsLawful};
 ghost use Rattle.stab_draw.specs.Runs.{run_text};
 ghost use Rattle.stab_draw.specs.Schedules.{schedule_run_text};
+ghost use Rattle.stab_draw_scenario.specs.ScenarioRuns.{scenario_run_text};
 ghost use Rattle.stab_explain.specs.Kinds.{chosen};
 ghost use Rattle.stab_job.specs.JobValues.{network};
 ghost use Rattle.stab_json.specs.Values.{value_of};
+ghost use Rattle.stab_scenario.specs.Counts.{IsUnrun};
+ghost use Rattle.stab_scenario.specs.Scenarios.{scenario};
 ghost use Rattle.stab_task.specs.Answers.{IsFault};
 ghost use Rattle.stab_task.specs.declared.command.Task.TheVariants.{Link, Tree};
 ghost use Rattle.stab_treecore.specs.Network.{IsNetwork};
 ghost use Rattle.stab_treecore.specs.Refusals.{IsScheduleReason, NamesLink};
 
 use crate::answer::write_text;
+use crate::scenario::StepsFault;
 use serde_json::Value;
 use stab_core::StartFault;
 use stab_draw::{run_text, schedule_run_text};
+use stab_draw_scenario::scenario_run_text;
 use stab_findings::Kind;
 use stab_job::{Job, read_job};
 use stab_json::read_value;
-use stab_picture::{link_picture, schedule_picture};
+use stab_picture::{link_picture, scenario_picture, schedule_picture};
+use stab_scenario::{Scenario, ScenarioFault, read_scenario};
 use stab_script::{LinkJob, read_link_job};
 use stab_task::{CliFault, load};
 use stab_treecore::TreeStartFault;
@@ -31,21 +39,22 @@ use std::alloc::{AllocError, Global};
 use std::io::{Read, Write};
 
 /// Reads a job, and writes its run step by step, as text or as a picture: that of the link of a
-/// link job, and that of the schedule of a job of a tree. Where there is none, the fault is that of
-/// `stab link` or of `stab tree`, and nothing is written unless it is `Write`.
+/// link job, that of the schedule of a job of a tree, and that of the steps of such a job where it
+/// has some. Where there is none, the fault is that of `stab link`, of `stab tree`, or of
+/// [`act_scenario`](crate::act_scenario), and nothing is written unless it is `Write`.
 pub fn act_draw<R: Read, W: Write>(
     alloc: Global,
     is_picture: bool,
     reader: &mut R,
     writer: &mut W,
-) -> Result<(), CliFault>
+) -> Result<(), StepsFault>
     ensures written { OnOk result (IfSome (R.remaining reader.old) (λ input.
         (text : List ℕ) × IsDrawn is_picture input text
         × Appends (W.contents writer.old) (W.contents writer.new) text)) }
-    ensures fault { IfErr result (λ fault. fault ≢ CliFault.Write
+    ensures fault { IfErr result (λ fault. fault ≢ StepsFault.Job CliFault.Write
         → IfSome (R.remaining reader.old) (λ input. IsUndrawn input fault)) }
-    ensures nothing { IfErr result (λ fault.
-        fault ≢ CliFault.Write → Keeps (W.contents writer.old) (W.contents writer.new)) }
+    ensures nothing { IfErr result (λ fault. fault ≢ StepsFault.Job CliFault.Write
+        → Keeps (W.contents writer.old) (W.contents writer.new)) }
 {
     let text = draw_input(alloc, is_picture, reader)?;
     write_text(writer, &text)?;
@@ -53,22 +62,107 @@ pub fn act_draw<R: Read, W: Write>(
 }
 
 /// The run of the job that the reader gives.
-fn draw_input<R: Read>(alloc: Global, is_picture: bool, reader: &mut R) -> Result<String, CliFault>
+#[tactic(auto, using(crate::proofs::Drawn::unloaded))]
+fn draw_input<R: Read>(
+    alloc: Global,
+    is_picture: bool,
+    reader: &mut R,
+) -> Result<String, StepsFault>
     ensures drawn { IfOk result (λ text.
         IfSome (R.remaining reader.old) (λ input. IsDrawn is_picture input (string_bytes text))) }
     ensures fault { IfErr result (λ fault.
         IfSome (R.remaining reader.old) (λ input. IsUndrawn input fault)) }
-    ensures no_write { IfErr result (λ fault. fault ≢ CliFault.Write) }
+    ensures no_write { IfErr result (λ fault. fault ≢ StepsFault.Job CliFault.Write) }
 {
     let bytes = load(alloc, reader)?;
     let text = draw_bytes(alloc, is_picture, &bytes)?;
     Ok(text)
 }
 
-/// The run of the job that these bytes are.
-fn draw_bytes(alloc: Global, is_picture: bool, bytes: &[u8]) -> Result<String, CliFault>
+/// The run of the job that these bytes are, or of its steps.
+#[tactic(auto, using(crate::proofs::Drawn::memory_is_refused))]
+fn draw_bytes(alloc: Global, is_picture: bool, bytes: &[u8]) -> Result<String, StepsFault>
     ensures drawn { IfOk result (λ text. IsDrawn is_picture bytes.now (string_bytes text)) }
     ensures fault { IfErr result (IsUndrawn bytes.now) }
+    ensures no_write { IfErr result (λ fault. fault ≢ StepsFault.Job CliFault.Write) }
+{
+    let is_scenario = bytes_have_steps(alloc, bytes)?;
+    let text = draw_by(alloc, is_scenario, is_picture, bytes)?;
+    Ok(text)
+}
+
+/// Whether these bytes are an object with the members `tree` and `steps`.
+fn bytes_have_steps(alloc: Global, bytes: &[u8]) -> Result<bool, CliFault>
+    ensures has { IfOk result (λ has. has ≡ has_steps (value_of bytes.now)) }
+    ensures memory { IfErr result (λ fault. fault ≡ CliFault.Memory) }
+{
+    let value = read_value(alloc, bytes)?;
+    Ok(has_steps(value.as_ref()))
+}
+
+/// Whether there is a value, and it is an object with the members `tree` and `steps`.
+fn has_steps(value: Option<&Value>) -> bool
+    ensures { result ≡ has_steps (option_map (λ lent. view lent.now) value.entry) }
+{
+    match value {
+        Some(value) if value.get("tree").is_some() => value.get("steps").is_some(),
+        _ => false,
+    }
+}
+
+/// The run of bytes that have steps, or of others.
+fn draw_by(
+    alloc: Global,
+    is_scenario: bool,
+    is_picture: bool,
+    bytes: &[u8],
+) -> Result<String, StepsFault>
+    ensures drawn { IfOk result (λ text.
+        IsDrawnBy is_scenario is_picture bytes.now (string_bytes text)) }
+    ensures fault { IfErr result (IsUndrawnBy is_scenario bytes.now) }
+    ensures no_write { IfErr result (λ fault. fault ≢ StepsFault.Job CliFault.Write) }
+{
+    if is_scenario {
+        draw_scenario(alloc, is_picture, bytes)
+    } else {
+        let text = draw_job(alloc, is_picture, bytes)?;
+        Ok(text)
+    }
+}
+
+/// The run of the scenario that these bytes are.
+#[tactic(auto, using(crate::proofs::Told::unread, crate::proofs::Told::unrun, crate::proofs::Told::no_write))]
+fn draw_scenario(alloc: Global, is_picture: bool, bytes: &[u8]) -> Result<String, StepsFault>
+    ensures drawn { IfOk result (λ text. IsDrawnScenario is_picture bytes.now (string_bytes text)) }
+    ensures fault { IfErr result (λ fault. IsUntold bytes.now fault) }
+    ensures no_write { IfErr result (λ fault. fault ≢ StepsFault.Job CliFault.Write) }
+{
+    let scenario = read_scenario(alloc, bytes)?;
+    let text = scenario_run(alloc, is_picture, &scenario)?;
+    Ok(text)
+}
+
+/// The run of a scenario that was read.
+fn scenario_run(
+    alloc: Global,
+    is_picture: bool,
+    scenario: &Scenario,
+) -> Result<String, ScenarioFault>
+    ensures text { IfOk result (λ text.
+        is_picture ≡ false → string_bytes text ≡ scenario_run_text scenario.now) }
+    ensures refused { IfErr result (IsUnrun scenario.now.job scenario.now.steps) }
+{
+    if is_picture {
+        scenario_picture(alloc, scenario)
+    } else {
+        scenario_run_text(alloc, scenario)
+    }
+}
+
+/// The run of the job that these bytes are, whether or not it has steps.
+fn draw_job(alloc: Global, is_picture: bool, bytes: &[u8]) -> Result<String, CliFault>
+    ensures drawn { IfOk result (λ text. IsDrawnJob is_picture bytes.now (string_bytes text)) }
+    ensures fault { IfErr result (IsUndrawnJob bytes.now) }
     ensures no_write { IfErr result (λ fault. fault ≢ CliFault.Write) }
 {
     let kind = kind_of_bytes(alloc, bytes)?;

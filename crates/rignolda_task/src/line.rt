@@ -74,7 +74,7 @@ const LINES: &[Line] = &[
     },
     Line {
         name: "draw",
-        about: "Draws the run of a link job or of a tree's schedule, a line for each event",
+        about: "Draws the run of a link job, a schedule or a scenario, a line for each event",
         arguments: &[
             Argument {
                 id: "svg",

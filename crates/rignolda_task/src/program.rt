@@ -2,10 +2,10 @@ use crate::bounds::bounds_of;
 use crate::check::check_of;
 use crate::command::{Request, parse};
 use crate::hint::hint_of;
-use crate::scenario::scenario_of;
+use crate::scenario::{scenario_of, status_of_steps};
 use clap::Error;
 use clap::error::ErrorKind;
-use rignolda_acts::{RandomWriteFault, act_draw, act_explain, act_random, act_worst};
+use rignolda_acts::{RandomWriteFault, StepsFault, act_draw, act_explain, act_random, act_worst};
 use stab_task::{CliFault, words};
 use std::rt::{Env, Files};
 use std::{fs, io};
@@ -68,7 +68,7 @@ fn done<R: Files + Input + Print + Eprint + AllocGlobal>(
             let acted = act_random(rt.alloc(), options, &mut io::writer(rt));
             status_random(rt, acted)
         }
-        Request::Draw { svg, file } => status_of(rt, draw(rt, *svg, file, is_typed)),
+        Request::Draw { svg, file } => status_of_steps(rt, draw(rt, *svg, file, is_typed)),
         Request::Explain { file: Some(path) } => status_found(rt, explain_file(rt, path)),
         Request::Explain { file: None } => {
             say_that_it_reads(rt, is_typed);
@@ -122,14 +122,14 @@ fn draw<R: Files + Input + Print + Eprint + AllocGlobal>(
     svg: bool,
     file: &Option<String>,
     is_typed: bool,
-) -> Result<(), CliFault> {
+) -> Result<(), StepsFault> {
     let Some(path) = file else {
         say_that_it_reads(rt, is_typed);
         return act_draw(rt.alloc(), svg, &mut rt.reader(), &mut io::writer(rt));
     };
     match fs::open(rt, path) {
         Ok(mut file) => act_draw(rt.alloc(), svg, &mut file, &mut io::writer(rt)),
-        Err(error) => Err(unopened(&error)),
+        Err(error) => Err(StepsFault::Job(unopened(&error))),
     }
 }
 

@@ -13,7 +13,12 @@ pub(crate) fn scenario_of<R: Files + Input + Print + Eprint + AllocGlobal>(
     file: &Option<String>,
     is_typed: bool,
 ) -> u8 {
-    match told(rt, file, is_typed) {
+    status_of_steps(rt, told(rt, file, is_typed))
+}
+
+/// The status of what was done with a scenario, or with a job that may be one; a fault is printed.
+pub(crate) fn status_of_steps<R: Eprint>(rt: &R, acted: Result<(), StepsFault>) -> u8 {
+    match acted {
         Ok(()) => 0,
         Err(fault) => {
             let hint = hint_after(fault);
