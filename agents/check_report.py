@@ -2,7 +2,9 @@
 """Checks the report of a run against its job: `check_report.py JOB REPORT`.
 
 These are the five points of docs/FORMATS.md, "What holds of every report". The job has to be one
-that `stab tree` accepts. Prints `obeys`, or the first point that is broken, and ends with 0 or 1.
+that `stab tree` accepts. Where it has backlogs, the report counts from a moment, at which each of
+them is what the parent of its node had for the node. Prints `obeys`, or the first point that is
+broken, and ends with 0 or 1.
 """
 import json
 import re
@@ -57,8 +59,9 @@ def depth_of(name, parents):
 def fault(job, report):
     """What is wrong with a report, or nothing."""
     parents = {node["name"]: node.get("parent") for node in job["tree"]}
+    backlogs = dict(zip(parents, job.get("backlogs", [[] for _ in parents])))
     openings = [[] for _ in parents]
-    if job.get("version", 1) == 2:
+    if job.get("version", 1) == 2 and "backlogs" not in job:
         openings = job.get("openings", openings)
     links = [name for name in parents if parents[name] is not None]
     starts = dict(zip(links, job.get("starts", [{}] * len(links))))
@@ -95,10 +98,10 @@ def fault(job, report):
             return f"{name}: does not begin with its opening"
         capacity = (own[name] or job)["capacity"]
         frames = [item for _, item in starts[name].get("frames", [])]
-        if not obeys_link_law(items[parent], items[name][len(opening):], acked[name], capacity,
-                              frames):
+        above = backlogs[name] + items[parent]
+        if not obeys_link_law(above, items[name][len(opening):], acked[name], capacity, frames):
             return f"{name}: the link law is broken"
-        if ended[parent] == "upstream" and acked[name] != len(items[parent]):
+        if ended[parent] == "upstream" and acked[name] != len(above):
             return f"{name}: not all of {parent} is acknowledged, which ended upstream"
     return None
 
@@ -118,24 +121,31 @@ def obeys_tree_law(strays, missing, published, received):
 
 
 def tree_fault(job, report):
-    """Which node does not obey the tree law, or nothing. Every opening counts with its own length.
-    The report has a form that `fault` accepts."""
+    """Which node does not obey the tree law, or nothing. Every opening counts with its own length,
+    and so does what an inner node had for the next one on the path; what the root had for its child
+    counts as published. The report has a form that `fault` accepts."""
     parents = {node["name"]: node.get("parent") for node in job["tree"]}
     links = [name for name in parents if parents[name] is not None]
     own = dict(zip(links, job.get("links", [None] * len(links))))
+    backlogs = dict(zip(parents, job.get("backlogs", [[] for _ in parents])))
     openings = [[] for _ in parents]
-    if job.get("version", 1) == 2:
+    if job.get("version", 1) == 2 and "backlogs" not in job:
         openings = job.get("openings", openings)
     openings = dict(zip(parents, openings))
     for name, line in zip(parents, report.split("\n")[1::2]):
         strays = missing = 0
+        published = job["items"]
         above = name
         while parents[above] is not None:
             capacity = (own[above] or job)["capacity"]
             strays, missing = strays + capacity + len(openings[above]), missing + 2 * capacity + 1
+            if parents[parents[above]] is None:
+                published = backlogs[above] + published
+            else:
+                strays += len(backlogs[above])
             above = parents[above]
         received = [int(word) for word in line.split()[1:]]
-        if not obeys_tree_law(strays, missing, job["items"], received):
+        if not obeys_tree_law(strays, missing, published, received):
             return (f"{name}: the tree law is broken, with at most {strays} strays, and none "
                     f"missing but among the first {missing}")
     return None

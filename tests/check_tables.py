@@ -20,7 +20,8 @@ from pathlib import Path
 sys.dont_write_bytecode = True
 
 from tables import rignolda_bounds, rignolda_check, rignolda_draw, rignolda_explain
-from tables import rignolda_files, rignolda_jobs, rignolda_lines, rignolda_scenario
+from tables import rignolda_files, rignolda_jobs, rignolda_lines, rignolda_moment
+from tables import rignolda_scenario
 from tables import stab_jobs, stab_limits, stab_lines, stab_links, stab_openings, stab_parts
 from tables import stab_plain, stab_trees
 from tables.program import program
@@ -28,7 +29,7 @@ from tables.rows import Printed, Repeated
 
 TABLES = [
     rignolda_lines, rignolda_explain, rignolda_bounds, rignolda_check, rignolda_draw, rignolda_files,
-    rignolda_jobs, rignolda_scenario,
+    rignolda_jobs, rignolda_moment, rignolda_scenario,
     stab_lines, stab_jobs, stab_trees, stab_parts, stab_plain, stab_links, stab_openings,
     stab_limits,
 ]

@@ -1,11 +1,18 @@
 -- A report that is checked against its job, or the text of a link against its link job. Which of
--- both it is, is seen by the bytes of the job.
+-- both it is, is seen by the bytes of the job. Where a job of a tree has a member `backlogs`, the
+-- report counts from a moment: the starts of the links are what was queued in them then, and each
+-- backlog is what the parent of its node had for the node.
 -- Example: The bytes of a job, and the text of the report of a run of it: the report that the text
 -- is obeys, and the answer is `obeys` and a newline. With one item swapped with the next one in the
--- text, the answer names the node that has them. The bytes of the worst start of capacity 1, and its
--- eight lines: the link obeys. With 98 in the place of its stray 99, the link law is broken.
+-- text, the answer names the node that has them. The bytes of the worst start of capacity 1, and
+-- its eight lines: the link obeys. With 98 in the place of its stray 99, the link law is broken.
+-- The job of the chain r, a, b with the backlogs `[[], [], [7]]`, and a report by which b received
+-- 7: it obeys, though nobody has published 7 since that moment.
 -- Source: this project's own.
-use Rattle.std.specs.Prelude.{◌≡◌, ◌≢◌, ◌↔◌, ℕ, Bool, List, Option, None, IsTrue}
+use Rattle.std.specs.Prelude.{◌≡◌, ◌≢◌, ◌↔◌, ℕ, Bool, List, Option, Some, None, IsTrue, Ok, Err}
+use Rattle.std.specs.Prelude.{codes, option_and_then}
+use Rattle.serde_json.specs.Data.{Data}
+use Rattle.serde_json.specs.Find.{get}
 use Rattle.stab_core.specs.LinkState.{LinkState}
 use Rattle.stab_core.specs.Texts.{link_text}
 use Rattle.stab_explain.specs.Kinds.{chosen}
@@ -14,6 +21,9 @@ use Rattle.stab_findings.specs.declared.refusal.Kind.TheVariants as kind
 use Rattle.stab_job.specs.JobValues.{JobValue, network}
 use Rattle.stab_json.specs.Values.{value_of}
 use Rattle.stab_judge.specs.Obeys.{Obeys}
+use Rattle.stab_moment.specs.Backlogs.{backlogs}
+use Rattle.stab_moment.specs.ObeysSince.{ObeysSince}
+use Rattle.stab_moment.specs.VerdictTexts.{SaysSince}
 use Rattle.stab_judge.specs.Reports.{OnePerNode, ReportValue}
 use Rattle.stab_reports.specs.Texts.{IsTextOf}
 use Rattle.stab_script.specs.declared.link_job.LinkJob.{LinkJob}
@@ -26,7 +36,8 @@ use Rattle.stab_verdict.specs.Verdicts.{SaysVerdict}
 use Rattle.rignolda_acts.specs.Begun.{IsBegun, IsBegunLink}
 use Rattle.rignolda_acts.specs.Drawn.{task_of}
 use Rattle.rignolda_acts.specs.declared.fault.CheckFault.{CheckFault}
-use Rattle.rignolda_acts.specs.declared.fault.CheckFault.TheVariants.{Job, Unloaded, Line, LinkLine}
+use Rattle.rignolda_acts.specs.declared.fault.CheckFault.TheVariants.{Job, Backlogs, Unloaded, Line}
+use Rattle.rignolda_acts.specs.declared.fault.CheckFault.TheVariants.{LinkLine}
 
 -- This text is that of a report of this job. It is answered that it obeys exactly if it obeys the
 -- laws of the job's network, and the answer says so, or which part is broken.
@@ -37,6 +48,27 @@ pub record IsJudged (its_job : JobValue) (text : List ℕ) (obeys : Bool) (answe
   pub entries : OnePerNode its_job.tree.parents report
   pub exactly : IsTrue obeys ↔ Obeys (network its_job) report
   pub says : SaysVerdict (network its_job) report obeys answer
+
+-- This text is that of a report of this job, which counts from a moment with these backlogs. It is
+-- answered that it obeys exactly if it obeys the laws since the moment, and the answer says so, or
+-- which part is broken.
+pub record IsJudgedSince (its_job : JobValue) (lists : List (List ℕ)) (text : List ℕ) (obeys : Bool)
+    (answer : List ℕ) : Type 0 where
+  pub report : ReportValue
+  pub its_text : IsTextOf its_job.tree text report
+  pub entries : OnePerNode its_job.tree.parents report
+  pub exactly : IsTrue obeys ↔ ObeysSince (network its_job) lists report
+  pub says : SaysSince (network its_job) lists report obeys answer
+
+-- the backlogs of a value, where it has some
+abbrev pub given_backlogs : Option Data → Option Data
+given_backlogs d = option_and_then (get (codes "backlogs")) d
+
+-- the report is judged by the backlogs that are given, or as that of a whole run
+abbrev pub IsJudgedBy : Option Data → JobValue → List ℕ → Bool → List ℕ → Type 0
+IsJudgedBy None its_job text obeys answer = IsJudged its_job text obeys answer
+IsJudgedBy (Some given) its_job text obeys answer = (lists : List (List ℕ))
+    × (backlogs its_job.tree given ≡ Ok lists) × IsJudgedSince its_job lists text obeys answer
 
 -- This text is that of a link in some state. It is answered that it obeys exactly if a link of this
 -- job may be in this state, and the answer says so, or which part is broken.
@@ -51,7 +83,7 @@ pub record IsJudgedLink (its_job : LinkJob) (text : List ℕ) (obeys : Bool) (an
 pub record IsCheckedTree (input text : List ℕ) (obeys : Bool) (answer : List ℕ) : Type 0 where
   pub its_job : JobValue
   pub begun : IsBegun input its_job
-  pub judged : IsJudged its_job text obeys answer
+  pub judged : IsJudgedBy (given_backlogs (value_of input)) its_job text obeys answer
 
 -- these bytes are a link job, and this text is that of a link, which is judged so
 pub record IsCheckedLink (input text : List ℕ) (obeys : Bool) (answer : List ℕ) : Type 0 where
@@ -74,11 +106,16 @@ IsChecked input text obeys answer =
 abbrev pub IsUnloadedReport : Option (List ℕ) → CliFault → Type 0
 IsUnloadedReport had fault = (fault ≢ Memory) × IsUnloaded had fault
 
--- why there is no verdict on bytes of this kind: the job is refused, as `stab` does it, or the text
--- is not loaded, or it is not read as that of a report of the job, or of a link
+-- why there is no verdict on bytes of this kind: the job is refused, as `stab` does it, or its
+-- backlogs are; or the text is not loaded, or it is not read as that of a report of the job, or of
+-- a link
 abbrev pub IsUncheckedAs : Kind → List ℕ → CheckFault → Type 0
 IsUncheckedAs its_kind input (Job fault) = IsFault (task_of its_kind) input fault
 IsUncheckedAs its_kind input (Unloaded fault) = Unit {0}
+IsUncheckedAs its_kind input (Backlogs refusal) =
+    (its_kind ≡ kind.Job) × (its_job : JobValue) × IsBegun input its_job
+    × (given : Data) × (given_backlogs (value_of input) ≡ Some given)
+    × (backlogs its_job.tree given ≡ Err refusal)
 IsUncheckedAs its_kind input (Line line) =
     (its_kind ≡ kind.Job) × ((its_job : JobValue) × IsBegun input its_job)
 IsUncheckedAs its_kind input (LinkLine line) =

@@ -10,14 +10,16 @@ use Rattle.stab_task.specs.Statuses.{status_of}
 use Rattle.rignolda_acts.specs.declared.bounds.BoundsFault.{BoundsFault}
 use Rattle.rignolda_acts.specs.declared.bounds.BoundsFault.TheVariants as bounds
 use Rattle.rignolda_acts.specs.declared.fault.CheckFault.{CheckFault}
-use Rattle.rignolda_acts.specs.declared.fault.CheckFault.TheVariants.{Job, Unloaded, Line, LinkLine}
+use Rattle.rignolda_acts.specs.declared.fault.CheckFault.TheVariants.{Job, Backlogs, Unloaded, Line}
+use Rattle.rignolda_acts.specs.declared.fault.CheckFault.TheVariants.{LinkLine}
 use Rattle.rignolda_acts.specs.declared.random.RandomWriteFault.{RandomWriteFault}
 use Rattle.rignolda_acts.specs.declared.random.RandomWriteFault.TheVariants.{Draw, Write}
 
--- the status that `stab` has for this fault of the job or of a file, and 1 for a text that is no
--- report
+-- the status that `stab` has for this fault of the job or of a file, and 1 for backlogs that are
+-- refused and for a text that is no report
 abbrev pub check_status : CheckFault → ℕ
 check_status (Job fault) = status_of fault
+check_status (Backlogs refusal) = 1
 check_status (Unloaded fault) = status_of fault
 check_status (Line line) = 1
 check_status (LinkLine line) = 1

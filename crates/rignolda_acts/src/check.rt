@@ -1,19 +1,28 @@
 //! The command `check`: whether a report, or the text of a link, obeys the laws of its job.
 
 ghost use Rattle.std.specs.Prelude.{◌≡◌, ◌≢◌, ℕ, List, string_bytes, Err, IfErr, IfOk, IfSome};
+ghost use Rattle.std.specs.Prelude.{Some, Ok, length, option_map};
+ghost use Rattle.serde_json.specs.View.{view};
+ghost use Rattle.stab_json.specs.Values.{value_of};
 ghost use Rattle.std.specs.Io.KnownBytes.{Appends, Keeps};
 ghost use Rattle.rignolda_acts.specs.Begun.{IsBegun, IsBegunLink};
 ghost use Rattle.rignolda_acts.specs.Checked.{IsChecked, IsCheckedAs, IsCheckedLink};
-ghost use Rattle.rignolda_acts.specs.Checked.{IsCheckedTree, IsJudged, IsJudgedLink};
+ghost use Rattle.rignolda_acts.specs.Checked.{IsCheckedTree, IsJudged, IsJudgedBy, IsJudgedLink};
+ghost use Rattle.rignolda_acts.specs.Checked.{IsJudgedSince, given_backlogs};
 ghost use Rattle.rignolda_acts.specs.Checked.{IsUnchecked, IsUncheckedAs, IsUncheckedLink};
 ghost use Rattle.rignolda_acts.specs.Checked.{IsUncheckedTree, IsUnloadedReport};
+ghost use Rattle.stab_moment.specs.Backlogs.{backlogs};
 
 use crate::answer::write_text;
 use crate::draw::kind_of_bytes;
 use crate::fault::{CheckFault, unread, unread_link};
 use crate::job::{begun_job, begun_link_job};
+use serde_json::Value;
 use stab_findings::Kind;
+use stab_frames::{Item, Sequence};
 use stab_job::Job;
+use stab_json::read_value;
+use stab_moment::{BacklogFault, read_backlogs, verdict_since};
 use stab_reports::read_text;
 use stab_script::LinkJob;
 use stab_task::{CliFault, load};
@@ -144,7 +153,103 @@ fn check_tree(alloc: Global, bytes: &[u8], text: &[u8]) -> Result<(String, bool)
     ensures no_write { IfErr result (λ fault. fault ≢ CheckFault.Job CliFault.Write) }
 {
     let job = begun_job(alloc, bytes)?;
-    let said = check_text(alloc, &job, text)?;
+    let said = check_job(alloc, &job, bytes, text)?;
+    Ok(said)
+}
+
+/// What is said of the report that this text is, of the job that these bytes are: by the backlogs
+/// that they have, or as of a whole run.
+fn check_job(
+    alloc: Global,
+    job: &Job,
+    bytes: &[u8],
+    text: &[u8],
+) -> Result<(String, bool), CheckFault>
+    requires begun { IsBegun bytes.now job.now }
+    ensures checked { IfOk result (λ said. IsJudgedBy (given_backlogs (value_of bytes.now)) job.now
+        text.now said.1 (string_bytes said.0)) }
+    ensures fault { IfErr result (IsUncheckedTree bytes.now) }
+    ensures loaded { (fault : CliFault) → result ≢ Err (CheckFault.Unloaded fault) }
+    ensures no_write { IfErr result (λ fault. fault ≢ CheckFault.Job CliFault.Write) }
+{
+    let value = read_value(alloc, bytes)?;
+    match backlogs_given(value.as_ref()) {
+        None => check_text(alloc, job, text),
+        Some(given) => check_since(alloc, job, bytes, given, text),
+    }
+}
+
+/// The backlogs of a value, where it has some.
+fn backlogs_given<'v>(value: Option<&'v Value>) -> Option<&'v Value>
+    ensures { option_map (λ given. view given.now) result
+        ≡ given_backlogs (option_map (λ lent. view lent.now) value.entry) }
+{
+    value?.get("backlogs")
+}
+
+/// What is said of the report that this text is, by the backlogs that this value means.
+fn check_since(
+    alloc: Global,
+    job: &Job,
+    bytes: &[u8],
+    given: &Value,
+    text: &[u8],
+) -> Result<(String, bool), CheckFault>
+    requires begun { IsBegun bytes.now job.now }
+    requires given { given_backlogs (value_of bytes.now) ≡ Some (view given.now) }
+    ensures checked { IfOk result (λ said. IsJudgedBy (Some (view given.now)) job.now
+        text.now said.1 (string_bytes said.0)) }
+    ensures fault { IfErr result (IsUncheckedTree bytes.now) }
+    ensures loaded { (fault : CliFault) → result ≢ Err (CheckFault.Unloaded fault) }
+    ensures no_write { IfErr result (λ fault. fault ≢ CheckFault.Job CliFault.Write) }
+{
+    let lists = backlogs_of(alloc, job, bytes, given)?;
+    let said = check_text_since(alloc, job, lists.as_slice(), text)?;
+    Ok(said)
+}
+
+/// The backlogs of the job that these bytes are, which this value means.
+fn backlogs_of(
+    alloc: Global,
+    job: &Job,
+    bytes: &[u8],
+    given: &Value,
+) -> Result<Sequence<Sequence<Item>>, CheckFault>
+    requires begun { IsBegun bytes.now job.now }
+    requires given { given_backlogs (value_of bytes.now) ≡ Some (view given.now) }
+    ensures read { IfOk result (λ lists. backlogs job.now.tree (view given.now) ≡ Ok lists) }
+    ensures per_node { IfOk result (λ lists. length lists ≡ length job.now.tree.parents) }
+    ensures fault { IfErr result (IsUncheckedTree bytes.now) }
+    ensures loaded { (fault : CliFault) → result ≢ Err (CheckFault.Unloaded fault) }
+    ensures no_write { IfErr result (λ fault. fault ≢ CheckFault.Job CliFault.Write) }
+{
+    match read_backlogs(alloc, job.tree(), given) {
+        Ok(lists) => Ok(lists),
+        Err(BacklogFault::Memory) => Err(CheckFault::Job(CliFault::Memory)),
+        Err(fault) => Err(CheckFault::Backlogs(fault)),
+    }
+}
+
+/// What is said of the report that this text is, by these backlogs.
+fn check_text_since(
+    alloc: Global,
+    job: &Job,
+    lists: &[Sequence<Item>],
+    text: &[u8],
+) -> Result<(String, bool), CheckFault>
+    requires per_node { length lists.now ≡ length job.now.tree.parents }
+    ensures checked { IfOk result (λ said. IsJudgedSince job.now lists.now
+        text.now said.1 (string_bytes said.0)) }
+    ensures fault { IfErr result (λ fault. (input : List ℕ) → IsBegun input job.now
+        → IsUncheckedTree input fault) }
+    ensures loaded { (fault : CliFault) → result ≢ Err (CheckFault.Unloaded fault) }
+    ensures no_write { IfErr result (λ fault. fault ≢ CheckFault.Job CliFault.Write) }
+{
+    let report = match read_text(alloc, job.tree(), text) {
+        Ok(report) => report,
+        Err(fault) => return Err(unread(fault)),
+    };
+    let said = verdict_since(alloc, job, lists, &report)?;
     Ok(said)
 }
 

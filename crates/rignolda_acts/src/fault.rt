@@ -4,12 +4,13 @@ ghost use Rattle.rignolda_acts.specs.Checked.{IsUncheckedLink, IsUncheckedTree};
 ghost use Rattle.stab_job.specs.JobValues.{JobValue};
 ghost use Rattle.stab_script.specs.declared.link_job.LinkJob.{LinkJob};
 
+use stab_moment::BacklogFault;
 use stab_reports::ReportFault;
 use stab_task::CliFault;
 use std::alloc::AllocError;
 use thiserror::Error;
 
-/// The status where a text is no report.
+/// The status where backlogs are refused, or a text is no report.
 const NO_REPORT: u8 = 1;
 
 /// Why a report has no verdict. The program prints the prefix `rignolda: ` and then this text.
@@ -18,6 +19,9 @@ pub enum CheckFault {
     /// The job is refused, or the output, or memory wherever that was.
     #[error("{0}")]
     Job(CliFault),
+    /// The backlogs of the job are refused.
+    #[error("{0}")]
+    Backlogs(BacklogFault),
     /// The file of the report cannot be opened or read, or is too long.
     #[error("report {0}")]
     Unloaded(CliFault),
@@ -34,13 +38,13 @@ impl CheckFault {
     ghost use Rattle.rignolda_acts.specs.Statuses.{check_status};
 
     /// The status that the program ends with: that of `stab` for a fault of the job or of a file,
-    /// and 1 for a text that is no report.
+    /// and 1 for backlogs that are refused and for a text that is no report.
     pub fn status(&self) -> u8
         ensures { result ≡ check_status self.now }
     {
         match self {
             CheckFault::Job(fault) | CheckFault::Unloaded(fault) => fault.status(),
-            CheckFault::Line(_) | CheckFault::LinkLine(_) => NO_REPORT,
+            CheckFault::Backlogs(_) | CheckFault::Line(_) | CheckFault::LinkLine(_) => NO_REPORT,
         }
     }
 }

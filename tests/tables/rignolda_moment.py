@@ -1,0 +1,108 @@
+"""What `rignolda check` says of reports that count from a moment.
+
+There is a job of a chain of three nodes with backlogs, and a report that obeys, each with one part
+replaced. All is worked out by hand."""
+
+from tables.rows import replaced
+from tables.rignolda_check import checked
+
+PROGRAM = "rignolda"
+
+# The chain r, a, b. At the moment r had 8 for a, and a had 7 for b; a stray was queued at b.
+JOB = """\
+{"capacity":1,"labels":4,
+"tree":[{"name":"r"},{"name":"a","parent":"r"},{"name":"b","parent":"a"}],
+"items":[20,21,22,23,24],"backlogs":[[],[8],[7]],
+"starts":[{"send":0,"recv":1},{"frames":[[2,99]],"send":0,"recv":1}]}"""
+
+# What each node received since: a misses three of 8, 20, 21, 22, 23, 24, and b three of 7, 22, 23, 24
+# after its stray.
+REPORT = """\
+r depth 0 received 5 acked - ended upstream
+items: 20 21 22 23 24
+a depth 1 received 3 acked 6 ended upstream
+items: 22 23 24
+b depth 2 received 2 acked 4 ended upstream
+items: 99 24
+"""
+
+REPORTS = [
+    ("", "", 0, "obeys\n"),
+    ("received 2 acked 4 ended upstream\nitems: 99", "received 3 acked 4 ended upstream\nitems: 99 7",
+     0, "obeys\n"),
+    ("received 3 acked 6 ended upstream\nitems:", "received 5 acked 6 ended upstream\nitems: 8 20",
+     0, "obeys\n"),
+    ("acked 4 ended upstream", "acked 3 ended turns", 1,
+     "b: a ended upstream with 4 items, and 3 of them are acknowledged\n"),
+    ("acked 6 ended upstream\nitems: 22 23 24\nb depth 2 received 2 acked 4",
+     "acked 6 ended turns\nitems: 22 23 24\nb depth 2 received 2 acked 3", 0, "obeys\n"),
+    ("items: 20 21", "items: 21 20", 1, """\
+r: its items are not the published ones
+published: 20 21 22 23 24
+items of r: 21 20 22 23 24
+"""),
+    ("acked -", "acked 7", 1,
+     "r: it has a count of acknowledged items, and no link leads into the root\n"),
+    ("acked 6", "acked -", 1, "a: it has no count of acknowledged items\n"),
+    ("acked 6", "acked 5", 1, "a: r ended upstream with 6 items, and 5 of them are acknowledged\n"),
+    ("items: 22 23 24", "items: 23 22 24", 1, """\
+a: what it received since is not what the link law allows
+the link from r has capacity 1 and 6 acknowledged items
+frames:
+backlog: 8
+items of r: 20 21 22 23 24
+items of a: 23 22 24
+"""),
+    ("received 2 acked 4 ended upstream\nitems: 99", "received 3 acked 4 ended upstream\nitems: 7 99",
+     1, """\
+b: what it received since is not what the link law allows
+the link from a has capacity 1 and 4 acknowledged items
+frames: 99
+backlog: 7
+items of a: 22 23 24
+items of b: 7 99 24
+"""),
+    ("items: 99 24", "items: 99 024", 1,
+     "not a report: line 6 is not as a report of this tree has it"),
+]
+
+# Without backlogs the same report is one of a whole run, in which no more is acknowledged than the
+# root has.
+JOBS = [
+    (',"backlogs":[[],[8],[7]]', "", 1, """\
+a: what it has after its opening is not what the link law allows
+the link from r has capacity 1 and 6 acknowledged items
+frames:
+items of r: 20 21 22 23 24
+opening:
+items of a: 22 23 24
+"""),
+    ("[[],[8],[7]]", "[[],[8],[]]", 1, """\
+b: what it received since is not what the link law allows
+the link from a has capacity 1 and 4 acknowledged items
+frames: 99
+backlog:
+items of a: 22 23 24
+items of b: 99 24
+"""),
+    ("[[],[8],[7]]", "[[],[8]]", 1, "backlogs: wrong number of backlogs"),
+    ("[[],[8],[7]]", "[[],[8],[7],[]]", 1, "backlogs: wrong number of backlogs"),
+    ("[[],[8],[7]]", "[[1],[8],[7]]", 1, "backlogs: backlog at the root"),
+    ("[[],[8],[7]]", "[[],[8],7]", 1, "backlogs: wrong shape"),
+    ("[[],[8],[7]]", "[[],[8],[-7]]", 1, "backlogs: wrong shape"),
+    ("[[],[8],[7]]", "[[1],7]", 1, "backlogs: wrong shape"),
+    ("[[],[8],[7]]", "null", 1, "backlogs: wrong shape"),
+    ('"labels":4', '"labels":3', 1, "job: too few labels"),
+    ("[[2,99]]", "[[2,99],[2,97]]", 3, "start: too many frames"),
+]
+
+ROWS = [
+    checked(f"checks a report of a moment: {instead or part or 'as it is'}", JOB,
+            replaced(REPORT, part, instead) if part else REPORT, status, said)
+    for part, instead, status, said in REPORTS
+]
+ROWS += [
+    checked(f"checks by the job of a moment: {instead or part}", replaced(JOB, part, instead),
+            REPORT, status, said)
+    for part, instead, status, said in JOBS
+]
