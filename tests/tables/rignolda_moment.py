@@ -30,8 +30,20 @@ REPORTS = [
     ("", "", 0, "obeys\n"),
     ("received 2 acked 4 ended upstream\nitems: 99", "received 3 acked 4 ended upstream\nitems: 99 7",
      0, "obeys\n"),
+    ("received 3 acked 6 ended upstream\nitems: 22 23 24\n"
+     "b depth 2 received 2 acked 4 ended upstream\nitems: 99 24",
+     "received 5 acked 6 ended upstream\nitems: 8 20 22 23 24\n"
+     "b depth 2 received 4 acked 6 ended upstream\nitems: 99 22 23 24", 0, "obeys\n"),
+    # (of the 6 items that a has for b then, no more than 5 are offered where 4 are acknowledged)
     ("received 3 acked 6 ended upstream\nitems:", "received 5 acked 6 ended upstream\nitems: 8 20",
-     0, "obeys\n"),
+     1, """\
+b: what it received since is not what the link law allows
+the link from a has capacity 1 and 4 acknowledged items
+frames: 99
+backlog: 7
+items of a: 8 20 22 23 24
+items of b: 99 24
+"""),
     ("acked 4 ended upstream", "acked 3 ended turns", 1,
      "b: a ended upstream with 4 items, and 3 of them are acknowledged\n"),
     ("acked 6 ended upstream\nitems: 22 23 24\nb depth 2 received 2 acked 4",
