@@ -1,0 +1,147 @@
+#!/usr/bin/env python3
+"""Gives random scenarios to `rignolda`, and compares what it prints with independent programs.
+
+    tests/check_scenarios.py [COUNT [SEED]]     200 scenarios by default, the same each time
+
+Of each scenario `rignolda scenario` has to print what tests/faults/scenario.py prints, `rignolda draw`
+what tests/faults/drawn.py prints, its picture has to have the rows of that text in their order, and
+`rignolda explain` has to find nothing. Then one value of a step is spoiled: where `rignolda scenario`
+refuses a step, the first thing that `explain` finds has to be at that step, and else nothing.
+
+The program is the one of check_tables.py. The last line is 'N passed, M failed'.
+"""
+
+import json
+import random
+import subprocess
+import sys
+import tempfile
+import xml.etree.ElementTree
+from concurrent.futures import ThreadPoolExecutor
+from pathlib import Path
+
+# (nothing is to be left beside the sources)
+sys.dont_write_bytecode = True
+
+TOP = Path(__file__).resolve().parent.parent
+sys.path.insert(0, str(TOP / "tests/faults"))
+
+from drawn import drawn_text
+from scenario import random_job, text_of
+from tables.program import program
+
+VALUES = [None, True, -1, 0, 1, 70000, 0.5, "", "x", "offer", "publish", "lose_frame", [], [0], [[0]],
+          {}, {"send": 0, "recv": 1}, {"send": 0, "recv": 1, "acks": [1, 1, 1, 1]}]
+
+
+def run(file, words, job):
+    """The status of a command that reads this job, and what it prints."""
+    done = subprocess.run([file, *words], input=json.dumps(job).encode(), capture_output=True,
+                          timeout=60)
+    return done.returncode, done.stdout.decode(), done.stderr.decode()
+
+
+def rows_of_text(text):
+    """Of each line behind the start its step and its words, as a picture has them."""
+    rows = []
+    for line in text.splitlines()[1:]:
+        words = line.split()
+        if words[0] == "0" or words[2] == "anew":
+            continue
+        if words[1] == "-":
+            rows.append((words[0], "", " ".join(words[2:])))
+            continue
+        event = words[2] if words[2] in ("publish", "strike", "restart") else json.loads(words[2])
+        event = event if isinstance(event, str) else " ".join(map(str, event))
+        rows.append((words[0], words[1], event))
+    return rows
+
+
+def rows_of_picture(svg, names):
+    """The same rows of a picture, from the columns before its links."""
+    texts = [element for element in xml.etree.ElementTree.fromstring(svg).iter()
+             if element.tag.endswith("}text")]
+    at_words = 54 + 8 * (max(map(len, names)) + 1)
+    column = {x: [element.text or "" for element in texts if element.get("x") == str(x)]
+              for x in (44, 54, at_words)}
+    return list(zip(column[44], column[54], column[at_words]))
+
+
+def spoiled(draw, job):
+    """A scenario with another value in one of its steps, or None where it has no step."""
+    if not job["steps"]:
+        return None
+    job = json.loads(json.dumps(job))
+    place = draw.randrange(len(job["steps"]))
+    step = job["steps"][place]
+    way = draw.random()
+    if way < 0.1:
+        job["steps"][place] = draw.choice(VALUES)
+    elif way < 0.2:
+        step.append(draw.choice(VALUES))
+    elif way < 0.3:
+        step.pop()
+    elif isinstance(step[-1], dict) and way < 0.6:
+        step[-1][draw.choice(["send", "recv", "frames", "acks"])] = draw.choice(VALUES)
+    else:
+        step[draw.randrange(len(step))] = draw.choice(VALUES)
+    return job
+
+
+def fault_of_spoiled(file, draw, job):
+    """Whether `explain` and `scenario` disagree on a scenario that is spoiled, or None."""
+    job = spoiled(draw, job)
+    if job is None:
+        return None
+    status, _, err = run(file, ["scenario"], job)
+    _, said, _ = run(file, ["explain"], job)
+    lines = said.splitlines()
+    if lines[-1] != "stab tree: accepted":
+        return f"explain ends with {lines[-1]!r} for {json.dumps(job)}"
+    found = [line for line in lines[:-1] if ": ignored" not in line]
+    if status == 0:
+        return f"explain finds {found} in {json.dumps(job)}" if found else None
+    number = err.removeprefix("rignolda: scenario: step ").split(":")[0]
+    wanted = f"steps[{int(number) - 1}]" if number.isdigit() else None
+    if wanted is None or not found or not found[0].startswith(wanted):
+        return f"scenario says {err!r}, and explain {found} of {json.dumps(job)}"
+    return None
+
+
+def fault_of(file, seed):
+    """What is wrong with what is printed of a random scenario, or None."""
+    draw = random.Random(seed)
+    job = random_job(draw)
+    wanted = drawn_text(job)
+    for words, text in ((["scenario"], text_of(job)), (["draw"], wanted),
+                        (["explain"], "stab tree: accepted\n")):
+        seen = run(file, words, job)
+        if seen != (0, text, ""):
+            return f"{words[0]} prints {seen}, and not {text!r}, of {json.dumps(job)}"
+    status, svg, _ = run(file, ["draw", "--svg"], job)
+    names = [node["name"] for node in job["tree"]]
+    if status != 0 or rows_of_picture(svg, names) != rows_of_text(wanted):
+        return f"the picture has other rows, of {json.dumps(job)}"
+    return fault_of_spoiled(file, draw, job)
+
+
+def main():
+    count = int(sys.argv[1]) if len(sys.argv) > 1 else 200
+    first = int(sys.argv[2]) if len(sys.argv) > 2 else 49000
+    with tempfile.TemporaryDirectory() as room:
+        file = program("rignolda", room)
+        if file is None:
+            print("scenarios: no rignolda was built of these sources: run ./release.sh, or ./gate")
+            print("0 passed, 1 failed")
+            sys.exit(1)
+        with ThreadPoolExecutor(4) as pool:
+            faults = list(pool.map(lambda seed: fault_of(file, seed), range(first, first + count)))
+    for seed, fault in enumerate(faults, first):
+        if fault:
+            print(f"OTHER  scenario {seed}\n       {fault[:2000]}")
+    failed = sum(fault is not None for fault in faults)
+    print(f"{count - failed} passed, {failed} failed")
+    sys.exit(0 if failed == 0 else 1)
+
+
+main()
