@@ -126,17 +126,17 @@ def counts():
 
 
 def counts_from_faults():
-    """The path of b counts from the fault, with 9 published since and 8 as the backlog of a for b.
-    That of c counts from the start, with all that was published."""
+    """The path of b counts from the fault: nothing is published since, r has 9 for a then, and a
+    has 8 for b. That of c counts from the start, with all that was published."""
     paths = counts()
     if sorted(paths) != ["b", "c"]:
         return False
     job, report = paths["b"]
     start = {"frames": [[2, 66]], "acks": [], "send": 1, "recv": 9}
-    return job["items"] == [9] and job["openings"] == [[], [8], []] and job["h"] == 1 \
+    return job["items"] == [] and job["backlogs"] == [[], [9], [8]] and "openings" not in job \
         and job["starts"] == [{"frames": [], "acks": [], "send": 2, "recv": 1}, start] \
-        and report == ("r depth 0 received 1 acked - ended upstream\nitems: 9\n"
-                       "a depth 1 received 2 acked 1 ended upstream\nitems: 8 9\n"
+        and report == ("r depth 0 received 0 acked - ended upstream\nitems:\n"
+                       "a depth 1 received 1 acked 1 ended upstream\nitems: 9\n"
                        "b depth 2 received 3 acked 2 ended upstream\nitems: 66 8 9\n") \
         and paths["c"][0]["items"] == [7, 8, 9] \
         and paths["c"][1].endswith("c depth 2 received 3 acked 3 ended upstream\nitems: 7 8 9\n")
