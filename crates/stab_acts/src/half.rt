@@ -9,12 +9,23 @@ use std::marker::Model;
 /// A contract sees exactly those, so a caller that is refused between
 /// [`peek_out`](HalfScript::peek_out) and [`next_out`](HalfScript::next_out) has the script as it
 /// was. No call takes memory.
-#[derive(Debug, Drop)]
+#[derive(Debug)]
 pub struct HalfScript {
     outs: Sequence<OutAct>,
     outs_taken: usize,
     ins: Sequence<InAct>,
     ins_taken: usize,
+}
+
+impl Drop for HalfScript {
+    fn drop(self) {
+        let HalfScript {
+            outs: _,
+            outs_taken: _,
+            ins: _,
+            ins_taken: _,
+        } = self;
+    }
 }
 
 impl Model for HalfScript {

@@ -14,12 +14,23 @@ pub(crate) const MAX_ACTS: u32 = 100_000;
 /// What a link is to lose and to repeat: a list of acts for each of frames going out, frames coming
 /// in, acknowledgements going out and acknowledgements coming in. Past its end a list passes or
 /// takes.
-#[derive(Debug, Drop)]
+#[derive(Debug)]
 pub struct Script {
     frames_out: Sequence<OutAct>,
     frames_in: Sequence<InAct>,
     acks_out: Sequence<OutAct>,
     acks_in: Sequence<InAct>,
+}
+
+impl Drop for Script {
+    fn drop(self) {
+        let Script {
+            frames_out: _,
+            frames_in: _,
+            acks_out: _,
+            acks_in: _,
+        } = self;
+    }
 }
 
 impl Model for Script {
@@ -125,9 +136,15 @@ impl Script {
         ensures sender { result.0 ≡ sender_half self }
         ensures receiver { result.1 ≡ receiver_half self }
     {
+        let Script {
+            frames_out,
+            frames_in,
+            acks_out,
+            acks_in,
+        } = self;
         (
-            HalfScript::new(self.frames_out, self.acks_in),
-            HalfScript::new(self.acks_out, self.frames_in),
+            HalfScript::new(frames_out, acks_in),
+            HalfScript::new(acks_out, frames_in),
         )
     }
 }

@@ -21,7 +21,7 @@ use std::marker::Model;
 ///
 /// The two queues have their room from the beginning, so only an event that makes a list grow takes
 /// memory.
-#[derive(Debug, Drop)]
+#[derive(Debug)]
 pub struct Link {
     params: Params,
     frames: FrameQueue<Frame>,
@@ -32,6 +32,22 @@ pub struct Link {
     acked: u64,
     delivered: Vec<Item>,
     closed: bool,
+}
+
+impl Drop for Link {
+    fn drop(self) {
+        let Link {
+            params: _,
+            frames: _,
+            acks: _,
+            sender: _,
+            receiver: _,
+            offered: _,
+            acked: _,
+            delivered: _,
+            closed: _,
+        } = self;
+    }
 }
 
 impl Model for Link {

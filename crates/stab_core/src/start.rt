@@ -21,7 +21,7 @@ pub enum StartFault {
 
 /// What a link is before its first event: any frames, acknowledgements and labels, whatever put
 /// them there.
-#[derive(Debug, Drop)]
+#[derive(Debug)]
 pub struct Start {
     /// The frames on their way to the receiver, the front first.
     pub frames: Sequence<Frame>,
@@ -31,6 +31,17 @@ pub struct Start {
     pub send_label: Label,
     /// The label that the receiver remembers.
     pub recv_label: Label,
+}
+
+impl Drop for Start {
+    fn drop(self) {
+        let Start {
+            frames: _,
+            acks: _,
+            send_label: _,
+            recv_label: _,
+        } = self;
+    }
 }
 
 impl From<AllocError> for StartFault {

@@ -7,7 +7,7 @@ use std::marker::Model;
 
 /// What a sender's end did by its own calls: plain data, which contracts see as its lists and
 /// numbers.
-#[derive(Debug, Drop)]
+#[derive(Debug)]
 pub struct SendAccount {
     /// The items that the end took, in their order.
     pub offered: Vec<Item>,
@@ -15,6 +15,16 @@ pub struct SendAccount {
     pub acked: u64,
     /// Whether the end closed the link.
     pub closed: bool,
+}
+
+impl Drop for SendAccount {
+    fn drop(self) {
+        let SendAccount {
+            offered: _,
+            acked: _,
+            closed: _,
+        } = self;
+    }
 }
 
 impl Model for SendAccount {
@@ -55,12 +65,18 @@ impl SendAccount {
 
 /// What a receiver's end did by its own calls: plain data, which contracts see as its list and its
 /// mark.
-#[derive(Debug, Drop)]
+#[derive(Debug)]
 pub struct RecvAccount {
     /// The items that the end delivered, in their order.
     pub delivered: Vec<Item>,
     /// Whether the end was shown the close.
     pub closed: bool,
+}
+
+impl Drop for RecvAccount {
+    fn drop(self) {
+        let RecvAccount { delivered: _, closed: _ } = self;
+    }
 }
 
 impl Model for RecvAccount {

@@ -21,10 +21,16 @@ struct Run {
 ///
 /// The last run is kept as it is, since it may still grow. The runs before it are packed: 8 bytes
 /// for each while its count is at most 65,535.
-#[derive(Debug, Drop)]
+#[derive(Debug)]
 pub struct History {
     packed: PackedRuns,
     last: Option<Run>,
+}
+
+impl Drop for History {
+    fn drop(self) {
+        let History { packed: _, last: _ } = self;
+    }
 }
 
 impl Model for History {

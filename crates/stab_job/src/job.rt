@@ -11,7 +11,7 @@ use std::marker::Model;
 /// order of their children, the openings of its nodes, the items that the root publishes, the
 /// number of turns, and a schedule. The parameters are lawful, the openings fit the tree, there are
 /// at most 10,000 items and 1 to 1,000,000 turns. No method takes memory.
-#[derive(Debug, Drop)]
+#[derive(Debug)]
 pub struct Job {
     params: Sequence<Params>,
     tree: Tree,
@@ -21,6 +21,21 @@ pub struct Job {
     turns: u32,
     schedule: Sequence<TreeEvent>,
     openings: Openings,
+}
+
+impl Drop for Job {
+    fn drop(self) {
+        let Job {
+            params: _,
+            tree: _,
+            items: _,
+            starts: _,
+            scripts: _,
+            turns: _,
+            schedule: _,
+            openings: _,
+        } = self;
+    }
 }
 
 impl Model for Job {

@@ -7,7 +7,7 @@ use std::marker::Model;
 
 /// What somebody says of each node of a tree, in file order: a report of `stab run`, or of other
 /// agents. The text of `stab tree` says as much, with no node that ended.
-#[derive(Debug, Drop)]
+#[derive(Debug)]
 pub struct Report {
     /// The items of each node, in the order in which it received them: the root's are those that it
     /// published, and every other node's begin with its opening.
@@ -17,6 +17,16 @@ pub struct Report {
     /// Whether each node ended with its upstream: it was shown the close of the link into it, or is
     /// the root, and every item of its list is acknowledged on every link to its children.
     pub ended_upstream: Vec<bool>,
+}
+
+impl Drop for Report {
+    fn drop(self) {
+        let Report {
+            received: _,
+            acked: _,
+            ended_upstream: _,
+        } = self;
+    }
 }
 
 impl Model for Report {

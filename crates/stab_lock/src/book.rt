@@ -20,12 +20,23 @@ use std::marker::Model;
 ///
 /// A history has at most 18,446,744,073,709,551,615 events. Where an event, or one of two that are
 /// noted together, would pass that, the call answers `AllocError` and changes nothing.
-#[derive(Debug, Drop)]
+#[derive(Debug)]
 pub struct LinkBook {
     params: Params,
     start: Start,
     history: History,
     link: Link,
+}
+
+impl Drop for LinkBook {
+    fn drop(self) {
+        let LinkBook {
+            params: _,
+            start: _,
+            history: _,
+            link: _,
+        } = self;
+    }
 }
 
 impl Model for LinkBook {

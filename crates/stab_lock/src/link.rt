@@ -29,13 +29,24 @@ use std::sync::Mutex;
 ///
 /// It keeps a copy of these beside the lock, since of a value behind a lock only what its type says
 /// is known.
-#[derive(Drop)]
 pub struct LockLink {
     params: Params,
     start: Start,
     script: Script,
     alloc: Global,
     book: Mutex<SharedBook>,
+}
+
+impl Drop for LockLink {
+    fn drop(self) {
+        let LockLink {
+            params: _,
+            start: _,
+            script: _,
+            alloc: _,
+            book: _,
+        } = self;
+    }
 }
 
 impl Model for LockLink {
@@ -94,7 +105,13 @@ impl LockLink {
 
     /// The book that the lock kept. It takes no memory.
     pub fn into_book(self) -> LinkBook {
-        let LockLink { book, .. } = self;
+        let LockLink {
+            params: _,
+            start: _,
+            script: _,
+            alloc: _,
+            book,
+        } = self;
         book.into_inner().into_book()
     }
 

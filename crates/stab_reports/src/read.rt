@@ -80,16 +80,9 @@ fn unended(alloc: Global, tree: &Tree, report: Report) -> Result<Report, AllocEr
     ensures received { IfOk result (λ same. same.received ≡ report.received) }
     ensures acked { IfOk result (λ same. same.acked ≡ report.acked) }
 {
-    let Report {
-        received,
-        acked,
-        ..
-    } = report;
-    Ok(Report {
-        received,
-        acked,
-        ended_upstream: vec![in alloc; false; usize::from(tree.len())]?,
-    })
+    let mut unended = report;
+    unended.ended_upstream = vec![in alloc; false; usize::from(tree.len())]?;
+    Ok(unended)
 }
 
 /// The report that the counts and items of a text make, whatever else is in it.

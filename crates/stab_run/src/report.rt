@@ -15,7 +15,6 @@ use std::marker::Model;
 
 /// What a run of workers answers, by node in file order. Contracts also see of which kind each link
 /// was.
-#[derive(Drop)]
 #[derive_where(Debug)]
 pub struct Report {
     /// The items of each node, in the order in which it received them.
@@ -26,6 +25,17 @@ pub struct Report {
     pub ended: Vec<Ended>,
     #[derive_where(skip)]
     pub(crate) links: KeptLinks,
+}
+
+impl Drop for Report {
+    fn drop(self) {
+        let Report {
+            received: _,
+            acked: _,
+            ended: _,
+            links: _,
+        } = self;
+    }
 }
 
 impl Model for Report {

@@ -15,12 +15,18 @@ use stab_tree::Tree;
 use std::alloc::Global;
 
 /// A job of a tree, and the steps that happen to it.
-#[derive(Debug, Drop)]
+#[derive(Debug)]
 pub struct Scenario {
     /// The job, whose schedule and scripts no step looks at.
     pub job: Job,
     /// The steps, in their order.
     pub steps: Sequence<Step>,
+}
+
+impl Drop for Scenario {
+    fn drop(self) {
+        let Scenario { job: _, steps: _ } = self;
+    }
 }
 
 /// The scenario that these bytes mean, or the first check that they fail; memory may be refused

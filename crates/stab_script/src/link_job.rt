@@ -66,11 +66,21 @@ impl From<ParamsFault> for LinkJobFault {
 }
 
 /// What a link is to go through: its parameters, what is in it at the start, and its events.
-#[derive(Debug, Drop)]
+#[derive(Debug)]
 pub struct LinkJob {
     pub params: Params,
     pub start: Start,
     pub events: Sequence<Event>,
+}
+
+impl Drop for LinkJob {
+    fn drop(self) {
+        let LinkJob {
+            params: _,
+            start: _,
+            events: _,
+        } = self;
+    }
 }
 
 /// The link job that these bytes mean, or the first check that they fail; memory may be refused

@@ -18,10 +18,16 @@ const MOST_HOLD: u16 = 64;
 /// `hold` items, in file order. An agent that restarts may have such items in its hands, and hands
 /// them on to its children before anything else. The root begins with what it publishes, and a leaf
 /// hands nothing on, so only the openings of the nodes between them have items.
-#[derive(Debug, Drop)]
+#[derive(Debug)]
 pub struct Openings {
     hold: u16,
     lists: Vec<Sequence<Item>>,
+}
+
+impl Drop for Openings {
+    fn drop(self) {
+        let Openings { hold: _, lists: _ } = self;
+    }
 }
 
 impl Model for Openings {

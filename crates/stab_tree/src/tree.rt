@@ -5,12 +5,23 @@ use crate::node::NodeId;
 use std::marker::Model;
 
 /// The nodes of a tree, in file order. None of its calls takes memory.
-#[derive(Debug, Drop)]
+#[derive(Debug)]
 pub struct Tree {
     names: Vec<String>,
     parents: Vec<Option<NodeId>>,
     depths: Vec<u16>,
     root: NodeId,
+}
+
+impl Drop for Tree {
+    fn drop(self) {
+        let Tree {
+            names: _,
+            parents: _,
+            depths: _,
+            root: _,
+        } = self;
+    }
 }
 
 impl Model for Tree {

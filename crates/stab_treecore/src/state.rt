@@ -30,7 +30,7 @@ use std::marker::Model;
 /// All links of a tree, with the items that its root publishes and those that its inner nodes begin
 /// with. Contracts see the published items, and of each node its opening, its parent and the link
 /// into it.
-#[derive(Debug, Drop)]
+#[derive(Debug)]
 pub struct TreeState {
     published: Vec<Item>,
     /// What each node began with that nobody published.
@@ -39,6 +39,18 @@ pub struct TreeState {
     links: Vec<Option<Link>>,
     /// What each node with a link received: its opening, and then what its link delivered.
     received: Vec<Vec<Item>>,
+}
+
+impl Drop for TreeState {
+    fn drop(self) {
+        let TreeState {
+            published: _,
+            openings: _,
+            parents: _,
+            links: _,
+            received: _,
+        } = self;
+    }
 }
 
 impl Model for TreeState {

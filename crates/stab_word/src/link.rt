@@ -25,9 +25,14 @@ const ONE_PLACE: u16 = 1;
 
 /// A link of two words, for two ends that load and store them from any two threads. Contracts see
 /// what names it: the table of its words, and the parameters and the start that it was given.
-#[derive(Drop)]
 pub struct WordLink {
     table: WordTable,
+}
+
+impl Drop for WordLink {
+    fn drop(self) {
+        let WordLink { table: _ } = self;
+    }
 }
 
 impl Model for WordLink {
