@@ -1,10 +1,10 @@
 -- The job of a tree that some bytes are, whose links can begin, and the text of its bounds; and the
 -- link job that some bytes are, whose link can begin.
 -- Example: The bytes of a job whose first start has two frames under the capacity 1 are a job that
--- cannot begin, and the fault is the one of `stab tree`. A link job of capacity 1 whose start has two
--- frames cannot begin either, and the fault is the one of `stab link`. The bytes of the worst start
--- have the shape of a link job, so they have no bounds for being that.
--- Source: this project's own.
+-- cannot begin, and the fault is the one of `stab tree`. A link job of capacity 1 whose start has
+-- two frames cannot begin either, and the fault is the one of `stab link`. The bytes of the worst
+-- start have the shape of a link job, so they have no bounds for being that. Source: this project's
+-- own.
 use Rattle.std.specs.Prelude.{◌≡◌, ◌≢◌, ℕ, List, Ok, Err}
 use Rattle.stab_core.specs.Replay.{IsLawful}
 use Rattle.stab_job.specs.JobValues.{JobValue, network}
@@ -32,7 +32,8 @@ pub record IsBegunLink (input : List ℕ) (its_job : LinkJob) : Type 0 where
   pub read : link_job input ≡ Ok its_job
   pub lawful : IsLawful its_job.params its_job.start
 
--- why these bytes are no job of a tree that can begin: what keeps a job from its answer by `stab tree`
+-- why these bytes are no job of a tree that can begin: what keeps a job from its answer by `stab
+-- tree`
 abbrev pub IsUnbegun : List ℕ → CliFault → Type 0
 IsUnbegun input fault = IsFault Tree input fault
 

@@ -1,6 +1,7 @@
 //! The command `bounds`: what the laws allow each node of a job, and what faults cost it.
 
-ghost use Rattle.std.specs.Prelude.{◌≡◌, ◌≢◌, ℕ, List, string_bytes, Err, IfErr, IfOk, IfSome, OnOk};
+ghost use Rattle.std.specs.Prelude.{◌≡◌, ◌≢◌, ℕ, List, string_bytes, Err, IfErr, IfOk, IfSome};
+ghost use Rattle.std.specs.Prelude.{OnOk};
 ghost use Rattle.std.specs.Io.KnownBytes.{Appends, Keeps};
 ghost use Rattle.rignolda_acts.specs.Begun.{AreBounds, HasNoBounds};
 ghost use Rattle.stab_job.specs.Jobs.{job};

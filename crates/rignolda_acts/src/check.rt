@@ -30,10 +30,10 @@ use stab_verdict::{link_verdict, read_link_report, verdict};
 use std::alloc::Global;
 use std::io::{Read, Write};
 
-/// Reads a job and then a report, and writes whether the report obeys the laws of the network of the
-/// job, or which part of it is broken first. Of a link job it does the same of the text of a link.
-/// It answers true exactly where the report, or the link, obeys. Where there is no verdict, nothing
-/// is written unless the fault is `Write`.
+/// Reads a job and then a report, and writes whether the report obeys the laws of the network of
+/// the job, or which part of it is broken first. Of a link job it does the same of the text of a
+/// link. It answers true exactly where the report, or the link, obeys. Where there is no verdict,
+/// nothing is written unless the fault is `Write`.
 pub fn act_check<J: Read, R: Read, W: Write>(
     alloc: Global,
     job: &mut J,

@@ -32,7 +32,8 @@ impl StepsFault {
     ghost use Rattle.std.specs.Prelude.{◌≡◌};
     ghost use Rattle.rignolda_acts.specs.Told.{steps_status};
 
-    /// The status that the program ends with: that of `stab tree`, and 1 for steps that are refused.
+    /// The status that the program ends with: that of `stab tree`, and 1 for steps that are
+    /// refused.
     pub fn status(&self) -> u8
         ensures { result ≡ steps_status self.now }
     {

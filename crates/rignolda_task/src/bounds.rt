@@ -6,8 +6,8 @@ use rignolda_acts::{BoundsFault, act_bounds};
 use std::rt::Files;
 use std::{fs, io};
 
-/// Writes the bounds of the job in a file, or of that on the standard input, and gives the status. A
-/// fault is printed.
+/// Writes the bounds of the job in a file, or of that on the standard input, and gives the status.
+/// A fault is printed.
 pub(crate) fn bounds_of<R: Files + Input + Print + Eprint + AllocGlobal>(
     rt: &R,
     file: &Option<String>,

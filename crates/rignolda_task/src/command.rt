@@ -34,8 +34,8 @@ pub enum Request {
     Bounds {
         file: Option<String>,
     },
-    /// Print what the steps of a scenario come to at each node; it is read from standard input where no
-    /// file is named.
+    /// Print what the steps of a scenario come to at each node; it is read from standard input
+    /// where no file is named.
     Scenario {
         file: Option<String>,
     },

@@ -20,8 +20,8 @@ const REFUSED: u8 = 2;
 /// or a file is refused, an explanation has a finding or a report does not obey, 2 where the
 /// command line is refused, and 3 where a start, memory or a write is.
 ///
-/// A fault is one line on the standard error. Where a job is to be typed at a terminal, a line there
-/// says so first.
+/// A fault is one line on the standard error. Where a job is to be typed at a terminal, a line
+/// there says so first.
 pub fn run<R: Env + Files + Input + Print + Eprint + AllocGlobal>(rt: &R, is_typed: bool) -> u8 {
     let words = match words(rt, rt.alloc()) {
         Ok(words) => words,

@@ -25,8 +25,8 @@ ghost use Rattle.stab_treecore.specs.WholeTree.{WholeTree, received};
 /// Every node comes back. From any state of a tree, such as the one that the last fault on the
 /// node's path left, let anything happen that is no fault on the path; and let there then be
 /// `rounds_since` reading rounds of the path, in which nothing is published and no link of the path
-/// is closed. Then the node has converged, counted from the first state. Faults elsewhere may happen
-/// at any time.
+/// is closed. Then the node has converged, counted from the first state. Faults elsewhere may
+/// happen at any time.
 pub fn nodes_converge()
     ensures { (tree : Nodes) (s : WholeTree) (before after : List Change) (rounds node : ℕ)
         → IsState tree s → node < length s.parents → Spare s.parents node (before ++ after)

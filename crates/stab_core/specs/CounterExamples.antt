@@ -147,8 +147,9 @@ worst_events c item =
 abbrev pub too_few_labels : ℕ → Parameters
 too_few_labels c = record { capacity = c; labels = 2 * c }
 
--- The sender begins with 2c, which is none of its labels, and goes on with 0. The labels 2c and then
--- 0 to 2c - 1 come to it in the order in which it waits for them. The strays count up from this one.
+-- The sender begins with 2c, which is none of its labels, and goes on with 0. The labels 2c and
+-- then 0 to 2c - 1 come to it in the order in which it waits for them. The strays count up from
+-- this one.
 abbrev pub too_few_labels_start : ℕ → ℕ → Start
 too_few_labels_start c stray =
     record {

@@ -60,7 +60,8 @@ pub fn worked_out()
     // The act of an offer is the event that offers the item, and no event where there is none.
     ensures acts { (event_of LinkAct.Offer (Some 7) ≡ Some (Event.Offer 7))
         × (event_of LinkAct.Offer None ≡ None) × (event_of LinkAct.Close None ≡ Some Event.Close) }
-    // 13 is picked at place 3. Two equal items are picked at two places, and not at one place twice.
+    // 13 is picked at place 3. Two equal items are picked at two places, and not at one place
+    // twice.
     ensures picked { Picks (10 ∷ 11 ∷ 12 ∷ 13 ∷ []) (3 ∷ []) (13 ∷ []) }
     ensures equal_items { Picks (7 ∷ 7 ∷ []) (0 ∷ 1 ∷ []) (7 ∷ 7 ∷ []) }
     ensures not_twice { ¬ Picks (7 ∷ 7 ∷ []) (0 ∷ 0 ∷ []) (7 ∷ 7 ∷ []) }

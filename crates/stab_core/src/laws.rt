@@ -72,8 +72,9 @@ pub fn every_replay_obeys_the_link_law()
         LinkLaw p.capacity (start_items start) s.offered s.acked s.delivered }
 {}
 
-/// The sharper link law: of the acknowledged items only some among the first `c + 1` can be missing,
-/// and among one more for each stray that was delivered. So who has seen no stray misses less.
+/// The sharper link law: of the acknowledged items only some among the first `c + 1` can be
+/// missing, and among one more for each stray that was delivered. So who has seen no stray misses
+/// less.
 pub fn every_replay_obeys_the_sharper_link_law()
     ensures { (p : Parameters) (start : Start) (events : List Event)
         → AreLawful p → IsLawful p start → let s = replay p (initial start) events in

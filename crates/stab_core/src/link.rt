@@ -114,8 +114,8 @@ impl Link {
         }
     }
 
-    /// A fault strikes the link: its queues and labels become these, whatever they were. An item that
-    /// the sender holds stays, and so do the lists. It takes no memory.
+    /// A fault strikes the link: its queues and labels become these, whatever they were. An item
+    /// that the sender holds stays, and so do the lists. It takes no memory.
     ///
     /// A start with too many frames is refused, then one with too many acknowledgements.
     pub fn strike(&mut self, start: &Start) -> Result<(), StartFault>
@@ -150,8 +150,8 @@ impl Link {
         self.acked = 0;
     }
 
-    /// The receiver begins anew, with the label that it remembers: it delivered nothing. It takes no
-    /// memory.
+    /// The receiver begins anew, with the label that it remembers: it delivered nothing. It takes
+    /// no memory.
     pub fn begin_receiver_anew(&mut self)
         ensures { self.new ≡ link_at self.old.params (receiver_anew self.old.state) }
     {

@@ -1,8 +1,8 @@
 -- Drawn runs: the text of a link job's run, the names of its columns, the link at its start, and a
 -- line for each event with the link after it.
--- Example: The run of the worst start of capacity 1 has the line of `["offer",10]` third: its effect
--- is `Held`, the sender's label is 0, it holds 10, nothing is acknowledged, the frame 2=99 and the
--- acknowledgement 0 are queued, the receiver remembers 1, and nothing was delivered.
+-- Example: The run of the worst start of capacity 1 has the line of `["offer",10]` third: its
+-- effect is `Held`, the sender's label is 0, it holds 10, nothing is acknowledged, the frame 2=99
+-- and the acknowledgement 0 are queued, the receiver remembers 1, and nothing was delivered.
 -- Source: this project's own.
 use Rattle.std.specs.Prelude.{ℕ, List, [], ◌∷◌, ◌++◌, Option, None, codes, decimal, slice_get}
 use Rattle.stab_frames.specs.Parameters.{Parameters}
@@ -16,7 +16,8 @@ use Rattle.stab_draw.specs.Words.{item_word, queue_word}
 
 -- the names of the columns
 unfoldable pub head : List ℕ
-head = codes "event               effect  label holds acked frames      acks    remembers delivers\n"
+head =
+    codes "event               effect  label holds acked frames      acks    remembers delivers\n"
 
 -- the rest of a line: the link, and the item that was delivered in this step
 unfoldable pub state_cells : LinkState → Option ℕ → List ℕ

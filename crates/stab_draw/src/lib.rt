@@ -3,8 +3,8 @@
 //!
 //! A scenario is drawn with the same pieces, one line or row at a time: the functions `push_..`.
 //!
-//! Contracts see a text as its bytes. The layer above uses one fact: the line or the row of an event
-//! shows the step of that event from the state that the line or row before it shows.
+//! Contracts see a text as its bytes. The layer above uses one fact: the line or the row of an
+//! event shows the step of that event from the state that the line or row before it shows.
 #![tactic(auto)]
 
 mod cells;

@@ -1,5 +1,5 @@
--- The rows of a scenario: one for each act of its steps, those of its rounds as well, from the state
--- that the changes before it left. Publishing and faults have no row; they change that state.
+-- The rows of a scenario: one for each act of its steps, those of its rounds as well, from the
+-- state that the changes before it left. Publishing and faults have no row; they change that state.
 -- Source: this project's own.
 use Rattle.std.specs.Prelude.{List, [], ◌∷◌, ◌++◌, option_to_list}
 use Rattle.stab_draw.specs.Rows.{step_row}

@@ -3,10 +3,10 @@
 -- strike shows its link after it; a restart the list of its node, and then each link whose sender
 -- begins anew; what is published is at the root; and each round of all links has a line of its own
 -- before its acts.
--- Example: In the chain r, a, b let step 3 publish 20 and 21, and step 4 strike the link into b with
--- the frame 2=99. Then the line `3 r publish items: 20 21` comes before a line that begins with
--- `4 b strike`, where the frame 2=99 is queued and the item that the sender held is still held.
--- Source: this project's own.
+-- Example: In the chain r, a, b let step 3 publish 20 and 21, and step 4 strike the link into b
+-- with the frame 2=99. Then the line `3 r publish items: 20 21` comes before a line that begins
+-- with `4 b strike`, where the frame 2=99 is queued and the item that the sender held is still
+-- held. Source: this project's own.
 use Rattle.std.specs.Prelude.{ℕ, zero, suc, List, [], ◌∷◌, ◌++◌, length, codes, decimal, None}
 use Rattle.std.specs.Prelude.{if◌then◌else◌}
 use Rattle.std.specs.List.{flat_map, range_with_len}

@@ -5,7 +5,8 @@ ghost use Rattle.stab_draw.specs.Schedules.{link_start_line};
 ghost use Rattle.stab_draw_scenario.specs.ScenarioRuns.{after_rounds, begin_line, begin_lines};
 ghost use Rattle.stab_draw_scenario.specs.ScenarioRuns.{change_lines, rounds_lines};
 ghost use Rattle.stab_draw_scenario.specs.ScenarioRuns.{lines_after, lines_in};
-ghost use Rattle.stab_draw_scenario.specs.ScenarioRuns.{scenario_head, scenario_run_text, step_cell};
+ghost use Rattle.stab_draw_scenario.specs.ScenarioRuns.{scenario_head, scenario_run_text};
+ghost use Rattle.stab_draw_scenario.specs.ScenarioRuns.{step_cell};
 ghost use Rattle.stab_faults.specs.Changes.{change_step, changes_replay};
 ghost use Rattle.stab_scenario.specs.Counts.{IsUnrun};
 ghost use Rattle.stab_scenario.specs.Played.{changes_in, reading_round_of};
@@ -67,7 +68,7 @@ fn drawn(alloc: Global, scenario: &Scenario) -> Result<String, ChangeFault>
 }
 
 /// The run of these steps from this state.
-#[tactic(auto, unfolding(crate::specs::ScenarioRuns::scenario_head, stab_draw::specs::Schedules::tree_head, stab_draw::specs::Runs::head,))]
+#[tactic(auto, unfolding(crate::specs::ScenarioRuns::scenario_head, stab_draw::specs::Schedules::tree_head, stab_draw::specs::Runs::head))]
 fn text_from(
     alloc: Global,
     tree: &Tree,

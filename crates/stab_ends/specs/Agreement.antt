@@ -7,12 +7,14 @@ use Rattle.stab_core.specs.LinkState.{LinkState}
 use Rattle.stab_ends.specs.Accounts.{SenderAccount, ReceiverAccount}
 
 -- the sender's closed is the link's, and the receiver's is set only where the link is closed
-pub record ClosesAgree (s : LinkState) (sender : SenderAccount) (receiver : ReceiverAccount) : Type 0 where
+pub record ClosesAgree (s : LinkState) (sender : SenderAccount) (receiver : ReceiverAccount)
+    : Type 0 where
   pub by_sender : sender.closed ≡ s.closed
   pub by_receiver : receiver.closed ≡ true → s.closed ≡ true
 
 -- both accounts are what this state says
-pub record Agree (s : LinkState) (sender : SenderAccount) (receiver : ReceiverAccount) : Type 0 where
+pub record Agree (s : LinkState) (sender : SenderAccount) (receiver : ReceiverAccount)
+    : Type 0 where
   pub offered : sender.offered ≡ s.offered
   pub acked : sender.acked ≡ s.acked
   pub delivered : receiver.delivered ≡ s.delivered

@@ -1,5 +1,6 @@
 ghost use Rattle.std.specs.Prelude.{◌≡◌, ◌↔◌, ◌+◌, length, IsTrue, [], false};
-ghost use Rattle.stab_ends.specs.Accounts.{SenderAccount, ReceiverAccount, new_sender, new_receiver};
+ghost use Rattle.stab_ends.specs.Accounts.{SenderAccount, ReceiverAccount, new_sender};
+ghost use Rattle.stab_ends.specs.Accounts.{new_receiver};
 
 use stab_frames::Item;
 use std::alloc::Global;
@@ -75,7 +76,10 @@ pub struct RecvAccount {
 
 impl Drop for RecvAccount {
     fn drop(self) {
-        let RecvAccount { delivered: _, closed: _ } = self;
+        let RecvAccount {
+            delivered: _,
+            closed: _,
+        } = self;
     }
 }
 

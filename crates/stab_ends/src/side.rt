@@ -2,7 +2,8 @@
 //! exactly as its answer says, and keeps which link the end belongs to.
 
 ghost use Rattle.std.specs.Prelude.{◌≡◌, true, false, IfOk};
-ghost use Rattle.stab_ends.specs.Accounts.{SenderAccount, ReceiverAccount, MayOffer, Waits, IsOpenFor};
+ghost use Rattle.stab_ends.specs.Accounts.{SenderAccount, ReceiverAccount, MayOffer, Waits};
+ghost use Rattle.stab_ends.specs.Accounts.{IsOpenFor};
 ghost use Rattle.stab_ends.specs.Accounts.{after_offer, after_poll_ack, after_close};
 ghost use Rattle.stab_ends.specs.Accounts.{after_poll_frame};
 

@@ -1,7 +1,8 @@
 ghost use Rattle.std.specs.Prelude.{◌≡◌, ◌+◌, ◌-◌, ◌<◌, ◌≤◌, [], ◌∷◌, ◌++◌, length, slice_get};
 ghost use Rattle.std.specs.Prelude.{slice_index, ◌%◌, ◌==◌, if◌then◌else◌, vec_len, vec_capacity};
 ghost use Rattle.std.specs.Prelude.{OnOk, OnErr};
-ghost use Rattle.stab_history.specs.EntriesInside.{expand, event_in, exponent, times, AreRuns, MayFollow};
+ghost use Rattle.stab_history.specs.EntriesInside.{expand, event_in, exponent, times, AreRuns};
+ghost use Rattle.stab_history.specs.EntriesInside.{MayFollow};
 ghost use Rattle.stab_history.specs.History.{most_events};
 
 use crate::entry::Entry;

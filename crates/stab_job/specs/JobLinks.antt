@@ -1,7 +1,8 @@
 -- What a job says of its links: a start and a script for each, or nothing, which means clean starts
 -- and empty scripts.
 -- Source: this project's profile.
-use Rattle.std.specs.Prelude.{ℕ, List, [], ◌∷◌, length, replicate, Bool, false, not, ◌==◌, Option, Some, None, Result, Ok}
+use Rattle.std.specs.Prelude.{ℕ, List, [], ◌∷◌, length, replicate, Bool, false, not, ◌==◌, Option}
+use Rattle.std.specs.Prelude.{Some, None, Result, Ok}
 use Rattle.stab_core.specs.declared.start.Start.{Start}
 use Rattle.stab_core.specs.Replay.{clean_start}
 use Rattle.stab_json.specs.Checks.{◌>>=◌}

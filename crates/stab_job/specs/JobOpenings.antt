@@ -8,7 +8,8 @@
 -- items at a are `OpeningTooLong`. With `"links": []` beside `"h": 65` the links are checked first,
 -- so `LinkCount`.
 -- Source: this project's profile.
-use Rattle.std.specs.Prelude.{ℕ, codes, List, [], length, replicate, ◌==◌, if◌then◌else◌, Option, Some, None}
+use Rattle.std.specs.Prelude.{ℕ, codes, List, [], length, replicate, ◌==◌, if◌then◌else◌, Option}
+use Rattle.std.specs.Prelude.{Some, None}
 use Rattle.std.specs.Prelude.{Result, Ok, option_map}
 use Rattle.serde_json.specs.Data.{Data}
 use Rattle.serde_json.specs.Find.{get}

@@ -8,7 +8,8 @@
 -- has the first three, `job_of_members` the next two, `job_on_tree` those that follow once there is
 -- a tree, `job_of_scripts` the one after the scripts, `schedule` the two after that, `link_params`
 -- the next two, and `openings_of` those of the openings.
-use Rattle.std.specs.Prelude.{ℕ, codes, ◌≡◌, List, length, ◌||◌, Bool, false, nat_lt, option_map, Result, Ok}
+use Rattle.std.specs.Prelude.{ℕ, codes, ◌≡◌, List, length, ◌||◌, Bool, false, nat_lt, option_map}
+use Rattle.std.specs.Prelude.{Result, Ok}
 use Rattle.serde_json.specs.Data.{Items}
 use Rattle.serde_json.specs.Find.{get}
 use Rattle.stab_frames.specs.Parameters.{Parameters, fault_of}

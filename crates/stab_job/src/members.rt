@@ -1,4 +1,5 @@
-ghost use Rattle.std.specs.Prelude.{◌≡◌, ◌≢◌, codes, true, IfOk, IfErr, MatchResult, Ok, Some, None, option_map, option_and_then};
+ghost use Rattle.std.specs.Prelude.{◌≡◌, ◌≢◌, codes, true, IfOk, IfErr, MatchResult, Ok, Some};
+ghost use Rattle.std.specs.Prelude.{None, option_map, option_and_then};
 ghost use Rattle.serde_json.specs.Find.{get};
 ghost use Rattle.serde_json.specs.View.{view, items_view};
 ghost use Rattle.stab_json.specs.Values.{item_number, list_of};
@@ -113,8 +114,10 @@ struct LinkLists {
 #[tactic(auto, using(crate::proofs::Needed::starts_needed, crate::proofs::Needed::scripts_needed, crate::proofs::Needed::links_needed))]
 fn read_link_lists(alloc: Global, value: &Value) -> Result<LinkLists, JobFault>
     ensures lists { MatchResult result
-        (λ lists. (if_there (list_of start) (get (codes "starts") (view value.now)) ≡ Some lists.starts)
-        × (if_there (list_of script_entry) (get (codes "scripts") (view value.now)) ≡ Some lists.scripts)
+        (λ lists.
+        (if_there (list_of start) (get (codes "starts") (view value.now)) ≡ Some lists.starts)
+        × (if_there (list_of script_entry) (get (codes "scripts") (view value.now))
+        ≡ Some lists.scripts)
         × (if_there (list_of link_entry) (get (codes "links") (view value.now)) ≡ Some lists.links))
         (λ fault. fault ≢ JobFault.Memory → (fault ≡ JobFault.Shape)
         × ((version : Version) → members version (view value.now) ≡ None)) }

@@ -1,4 +1,5 @@
-ghost use Rattle.std.specs.Prelude.{◌≡◌, ◌≢◌, IfErr, true, MatchResult, Ok, Err, option_map, option_and_then};
+ghost use Rattle.std.specs.Prelude.{◌≡◌, ◌≢◌, IfErr, true, MatchResult, Ok, Err, option_map};
+ghost use Rattle.std.specs.Prelude.{option_and_then};
 ghost use Rattle.serde_json.specs.View.{view, items_view};
 ghost use Rattle.serde_json.specs.Find.{as_str};
 ghost use Rattle.stab_script.specs.Events.{plain_act, loss_act};
@@ -45,7 +46,9 @@ fn plain_of(word: &Value) -> Option<LinkAct>
 
 /// The loss that a value names, of what is at a place.
 fn loss_of(word: &Value, place: &Value) -> Option<LinkAct>
-    ensures { result ≡ option_and_then (λ its_word. loss_act its_word (view place.now)) (as_str (view word.now)) }
+    ensures { result
+        ≡ option_and_then (λ its_word. loss_act its_word (view place.now))
+        (as_str (view word.now)) }
 {
     loss_act(word.as_str()?, place)
 }

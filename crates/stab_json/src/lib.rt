@@ -1,5 +1,5 @@
-//! The small parts of a job's JSON: whole numbers, labels, items, pairs, and lists that are read all
-//! or not at all.
+//! The small parts of a job's JSON: whole numbers, labels, items, pairs, and lists that are read
+//! all or not at all.
 //!
 //! Each reader's contract goes from the JSON value that `serde_json` reads to its meaning, by a
 //! definition of `specs/Values.antt` that is `None` where the value has no such meaning. What an

@@ -1,11 +1,11 @@
 -- Which reports obey the laws of a network, and which part of a report is broken.
 -- Example: The root r published 10, 11, 12, 13, 14. One link of capacity 1 leads into a, whose
 -- start has one frame, with the item 99. A report says that r has these items, that a received 99,
--- 13 with 3 acknowledged, and that nobody ended with its upstream. It obeys: 10, 11, 12, 13 may have
--- been offered, 99 is a stray, and only items among the first 3 are missing. Had a received 99 alone
--- with 4 acknowledged, `LinkLaw` would be broken at a, since 13 is acknowledged and missing. Had r
--- ended with its upstream, `HandedOn` would be broken at a, since 3 is not 5.
--- Source: this project's own.
+-- 13 with 3 acknowledged, and that nobody ended with its upstream. It obeys: 10, 11, 12, 13 may
+-- have been offered, 99 is a stray, and only items among the first 3 are missing. Had a received 99
+-- alone with 4 acknowledged, `LinkLaw` would be broken at a, since 13 is acknowledged and missing.
+-- Had r ended with its upstream, `HandedOn` would be broken at a, since 3 is not 5. Source: this
+-- project's own.
 use Rattle.std.specs.Prelude.{◌≡◌, ◌⊎◌, ℕ, suc, ◌<◌, true, List, ◌++◌, length, Some, None}
 use Rattle.std.specs.Prelude.{IsSome, MatchOption}
 use Rattle.stab_tree.specs.Nodes.{parent_at, root_of}

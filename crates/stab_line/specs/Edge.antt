@@ -55,8 +55,8 @@ new_edge list frames acks sender receiver =
       line = new_count frames acks sender receiver;
     }
 
--- A new count of an edge whose child begins at this place of the list, which may have grown for long
--- by then. An item that the sender holds is the one at the place, and counts as offered.
+-- A new count of an edge whose child begins at this place of the list, which may have grown for
+-- long by then. An item that the sender holds is the one at the place, and counts as offered.
 abbrev pub edge_at : ℕ → List ℕ → List Frame → List ℕ → SenderEnd → ReceiverEnd → Edge
 edge_at place list frames acks sender receiver =
     record {

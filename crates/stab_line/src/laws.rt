@@ -79,8 +79,8 @@ pub fn a_child_obeys_the_tree_law()
 {}
 
 /// A child that is made anew at a place of its node's list gets the list from there on, whatever
-/// was before, is on the line and happens later: what it is offered is a prefix of that, at most `c`
-/// strays are delivered and then offered items in their order, each at most once, and of the
+/// was before, is on the line and happens later: what it is offered is a prefix of that, at most
+/// `c` strays are delivered and then offered items in their order, each at most once, and of the
 /// acknowledged ones only some among the first `2c + 1` can be missing. By what really was under
 /// way when it was made, these are fewer. And it obeys the tree law where the list of its node does
 /// from that place on.
@@ -158,8 +158,8 @@ pub fn calls_of_nodes_are_acts_of_the_tree()
 /// inner nodes. Before its last published item only some among the first M are missing, the sum of
 /// `2c + 1`. Where the children of a node are at different items of its list when the count begins,
 /// the law holds of each path by itself: there a list begins with the first item that the child on
-/// the path has not acknowledged, and nothing is asked of the links beside the path. The sharper law
-/// holds as well: at most `c + 1` for each link of the path are missing, and `2c + 1` for one.
+/// the path has not acknowledged, and nothing is asked of the links beside the path. The sharper
+/// law holds as well: at most `c + 1` for each link of the path are missing, and `2c + 1` for one.
 pub fn a_tree_of_nodes_obeys_the_tree_law()
     ensures at_every_node { (net : Network) (before : NodeTree) (acts : List NodeAct)
         → IsNetwork net → TreeBegins net before

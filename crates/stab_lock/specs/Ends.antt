@@ -1,6 +1,5 @@
--- What an end of a locked link shows: its account. The acts that it has still to take are behind the
--- lock.
--- Source: this project's own.
+-- What an end of a locked link shows: its account. The acts that it has still to take are behind
+-- the lock. Source: this project's own.
 use Rattle.stab_ends.specs.Accounts.{SenderAccount, ReceiverAccount}
 use Rattle.stab_lock.specs.declared.send.LockSend.{LockSend}
 use Rattle.stab_lock.specs.declared.recv.LockRecv.{LockRecv}

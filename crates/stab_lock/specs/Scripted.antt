@@ -76,6 +76,7 @@ pub record IsReached (s : Shared) : Type 0 where
 
 -- some calls of the two ends, each under the next act of its half of this script, noted these
 -- events
-pub record IsNotedUnder (p : Parameters) (start : Start) (script : Acts) (events : List Event) : Type 0 where
+pub record IsNotedUnder (p : Parameters) (start : Start) (script : Acts) (events : List Event)
+    : Type 0 where
   pub calls : List Call
   pub noted : events ≡ (after_calls calls (before_calls p start script)).book.history

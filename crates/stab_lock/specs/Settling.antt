@@ -27,7 +27,8 @@ FirstDiffer s sender receiver ClosedDiffer =
 -- this is the first thing in which the accounts differ from a replay from this start. OfferedDiffer
 -- is also the answer where the lock kept the book of other parameters or of another start, so there
 -- nothing is said.
-abbrev pub DifferFromReplay : Parameters → Start → SenderAccount → ReceiverAccount → SettleFault → Type 0
+abbrev pub DifferFromReplay : Parameters → Start → SenderAccount → ReceiverAccount → SettleFault
+    → Type 0
 DifferFromReplay p start sender receiver OfferedDiffer = Unit {0}
 DifferFromReplay p start sender receiver AckedDiffer =
     (events : List Event)

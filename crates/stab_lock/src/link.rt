@@ -116,9 +116,9 @@ impl LockLink {
     }
 
     /// Compares the accounts of both ends with the book, and hands both back where they agree. Then
-    /// one list of events explains both, and is by the script: some calls of the ends noted it, each
-    /// under the next act of its half. Where they do not agree, it answers the first thing in which
-    /// they differ from the book.
+    /// one list of events explains both, and is by the script: some calls of the ends noted it,
+    /// each under the next act of its half. Where they do not agree, it answers the first thing in
+    /// which they differ from the book.
     pub fn settle(self, send: SendAccount, recv: RecvAccount) -> Result<Settled, SettleFault>
         ensures send { IfOk result (λ settled. settled.send ≡ send) }
         ensures recv { IfOk result (λ settled. settled.recv ≡ recv) }

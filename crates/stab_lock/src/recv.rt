@@ -1,6 +1,7 @@
 ghost use Rattle.std.specs.Prelude.{◌≡◌, true, IfOk, OnErr};
 ghost use Rattle.stab_lock.specs.Ends.{recv_end};
-ghost use Rattle.stab_ends.specs.Accounts.{ReceiverAccount, IsOpenFor, new_receiver, after_poll_frame};
+ghost use Rattle.stab_ends.specs.Accounts.{ReceiverAccount, IsOpenFor, new_receiver};
+ghost use Rattle.stab_ends.specs.Accounts.{after_poll_frame};
 
 use crate::link::LockLink;
 use stab_core::Effect;

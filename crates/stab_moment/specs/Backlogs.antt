@@ -1,9 +1,10 @@
 -- Backlogs: what the parent of each node had for it at a moment, one list of items for each node in
 -- file order; that of the root is empty.
--- Example: For the chain r, a, b the value `[[], [8], [7]]` says that r had 8 for a, and a had 7 for
--- b. With two lists it is refused as a wrong number, and `[[1], [], []]` for the root's.
+-- Example: For the chain r, a, b the value `[[], [8], [7]]` says that r had 8 for a, and a had 7
+-- for b. With two lists it is refused as a wrong number, and `[[1], [], []]` for the root's.
 -- Source: this project's own.
-use Rattle.std.specs.Prelude.{ℕ, ◌==◌, length, List, [], slice_index_or, if◌then◌else◌, Result, Ok, Err}
+use Rattle.std.specs.Prelude.{ℕ, ◌==◌, length, List, [], slice_index_or, if◌then◌else◌, Result, Ok}
+use Rattle.std.specs.Prelude.{Err}
 use Rattle.serde_json.specs.Data.{Data}
 use Rattle.stab_json.specs.Checks.{◌>>=◌, ◌or◌}
 use Rattle.stab_json.specs.Values.{item_number, list_of}

@@ -4,7 +4,8 @@
 -- received 7, 8 with 2 acknowledged. It obeys: 7 and 8 are what a had for b and received since. Had
 -- b received 9, the link law would be broken there.
 -- Source: this project's own.
-use Rattle.std.specs.Prelude.{◌≡◌, ◌<◌, ℕ, true, List, ◌++◌, length, Some, IsSome, None, MatchOption}
+use Rattle.std.specs.Prelude.{◌≡◌, ◌<◌, ℕ, true, List, ◌++◌, length, Some, IsSome, None}
+use Rattle.std.specs.Prelude.{MatchOption}
 use Rattle.stab_faults.specs.Moment.{Moment, LawSince}
 use Rattle.stab_judge.specs.Judged.{LinkLawBelow}
 use Rattle.stab_judge.specs.Obeys.{RootObeys}

@@ -7,7 +7,8 @@ use Rattle.stab_tree.specs.Nodes.{root_of}
 use Rattle.stab_treecore.specs.Network.{Network}
 use Rattle.stab_treecore.specs.NodeLaws.{capacity_into, garbage_into}
 use Rattle.stab_verdict.specs.BoundsTexts.{name_at}
-use Rattle.stab_verdict.specs.Verdicts.{acked_words, capacity_words, handed_on_text, items_line, list_above, name_above}
+use Rattle.stab_verdict.specs.Verdicts.{acked_words, capacity_words, handed_on_text, items_line}
+use Rattle.stab_verdict.specs.Verdicts.{list_above, name_above}
 use Rattle.stab_verdict.specs.Verdicts.{no_count_text, published_text, root_count_text}
 use Rattle.stab_moment.specs.Backlogs.{backlog_at}
 use Rattle.stab_moment.specs.ObeysSince.{IsBrokenSince, IsFirstSince}

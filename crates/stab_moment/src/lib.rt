@@ -2,9 +2,9 @@
 //!
 //! The job says what was there at that moment: the starts of its links are what was queued in them,
 //! and its member `backlogs` has for each node what the node's parent had for it. The report says
-//! what each node received since. [`read_backlogs`] reads that member, and [`verdict_since`] answers
-//! true exactly where the report obeys, and names what is broken first. The layer above uses one
-//! fact more: where a report obeys, each node obeys the tree law since the moment
+//! what each node received since. [`read_backlogs`] reads that member, and [`verdict_since`]
+//! answers true exactly where the report obeys, and names what is broken first. The layer above
+//! uses one fact more: where a report obeys, each node obeys the tree law since the moment
 //! ([`laws::reports_that_obey_since`]).
 #![tactic(auto)]
 

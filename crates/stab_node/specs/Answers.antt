@@ -15,8 +15,8 @@ pub record NodeEnds (L M : Type 0) : Type 0 where
   pub down_links : List M
 
 -- ends, by what their account and their link are
-abbrev pub node_ends : {U D L M : Type 0} → (U → ReceiverAccount) → (U → L) → (D → SenderAccount) → (D → M)
-    → Option U → List D → NodeEnds L M
+abbrev pub node_ends : {U D L M : Type 0} → (U → ReceiverAccount) → (U → L)
+    → (D → SenderAccount) → (D → M) → Option U → List D → NodeEnds L M
 node_ends received link_above sent link_below up downs = record {
   up = option_map received up;
   up_link = option_map link_above up;
@@ -26,7 +26,8 @@ node_ends received link_above sent link_below up downs = record {
 
 -- what a worker left that was not refused
 pub record HasWorked {L M : Type 0} (has_passed : ℕ → Type 0) (may_refuse : M → Type 0) (turns : ℕ)
-    (first : List ℕ) (before after : NodeEnds L M) (received : List ℕ) (ended : Ended) : Type 0 where
+    (first : List ℕ) (before after : NodeEnds L M) (received : List ℕ) (ended : Ended)
+    : Type 0 where
   pub work : AreNew before.up before.downs
       → IsWork first received after.up after.downs ended
   pub offers : AreNew before.up before.downs

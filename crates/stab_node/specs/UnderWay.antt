@@ -40,8 +40,8 @@ abbrev pub but_for_the_close : SenderAccount → SenderAccount
 but_for_the_close s = record s { closed = false }
 
 -- what holds once no further turn is made, and before the lower ends are closed
-pub record HasEnded (initial received : List ℕ) (up : Option ReceiverAccount) (downs : List SenderAccount)
-    (ended : Ended) : Type 0 where
+pub record HasEnded (initial received : List ℕ) (up : Option ReceiverAccount)
+    (downs : List SenderAccount) (ended : Ended) : Type 0 where
   pub received_is : received ≡ received_by up initial
   pub lower : All (OffersPrefix received) downs
   pub handed_on : ended ≡ Upstream → IsHandedOn received up downs

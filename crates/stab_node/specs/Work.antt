@@ -6,7 +6,8 @@
 -- 7, 8 is not served: 7, 8 is no prefix of 7, 7, 8. Had the node begun with 50, 51, it would have
 -- received 50, 51, 7, 7, 8, and the lower end would have offered 50 first.
 -- Source: this project's profile.
-use Rattle.std.specs.Prelude.{◌≡◌, ◌⊎◌, ℕ, ◌+◌, true, List, ◌++◌, length, All, Option, Some, None, IfSome}
+use Rattle.std.specs.Prelude.{◌≡◌, ◌⊎◌, ℕ, ◌+◌, true, List, ◌++◌, length, All, Option, Some, None}
+use Rattle.std.specs.Prelude.{IfSome}
 use Rattle.stab_ends.specs.Accounts.{SenderAccount, ReceiverAccount, new_sender, new_receiver}
 use Rattle.stab_node.specs.declared.account.Ended.{Ended}
 use Rattle.stab_node.specs.declared.account.Ended.TheVariants.{Upstream}
@@ -49,8 +50,8 @@ pub record IsHandedOn (received : List ℕ) (up : Option ReceiverAccount) (downs
   pub lower : All (HasAll received) downs
 
 -- a worker's answer, by what its node began with and the accounts of its finished ends
-pub record IsWork (initial received : List ℕ) (up : Option ReceiverAccount) (downs : List SenderAccount)
-    (ended : Ended) : Type 0 where
+pub record IsWork (initial received : List ℕ) (up : Option ReceiverAccount)
+    (downs : List SenderAccount) (ended : Ended) : Type 0 where
   pub received_is : received ≡ received_by up initial
   pub served : All (IsServed received) downs
   pub handed_on : ended ≡ Upstream → IsHandedOn received up downs

@@ -1,4 +1,5 @@
-ghost use Rattle.std.specs.Prelude.{◌≡◌, [], ◌∷◌, ◌++◌, IfOk, OnOk, filter_map, map, option_to_list};
+ghost use Rattle.std.specs.Prelude.{◌≡◌, [], ◌∷◌, ◌++◌, IfOk, OnOk, filter_map, map};
+ghost use Rattle.std.specs.Prelude.{option_to_list};
 
 use crate::account::{Ended, NodeAccount};
 use stab_frames::{Item, Sequence};

@@ -57,8 +57,10 @@ where
     ensures received { IfOk result (λ g. length g.received.items ≡ length tree.now.parents) }
     ensures ended { IfOk result (λ g. length g.ended.items ≡ length tree.now.parents) }
     // The finished ends are of the links of those that were given, in the order of the links.
-    ensures sender_links { IfOk result (λ g. map D.done_link g.sends.items ≡ map D.link sends.items) }
-    ensures receiver_links { IfOk result (λ g. map U.done_link g.recvs.items ≡ map U.link recvs.items) }
+    ensures sender_links { IfOk result (λ g.
+        map D.done_link g.sends.items ≡ map D.link sends.items) }
+    ensures receiver_links { IfOk result (λ g.
+        map U.done_link g.recvs.items ≡ map U.link recvs.items) }
     // The root received the published items, and each other node its opening, followed by what the
     // finished receiver's end of the link into it delivered.
     ensures root { IfOk result (λ g.

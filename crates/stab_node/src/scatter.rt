@@ -22,8 +22,8 @@ fn take_into<T: Drop>(tree: &Tree, node: NodeId, left: &mut Queue<T>) -> Option<
     }
 }
 
-/// The ends of the next node: of the upper ends that of the link into it, and the first of the lists
-/// of lower ends.
+/// The ends of the next node: of the upper ends that of the link into it, and the first of the
+/// lists of lower ends.
 fn next_worker<U: Drop, D: Drop>(
     tree: &Tree,
     node: u16,

@@ -1,6 +1,7 @@
 ghost use Rattle.std.specs.List.{AllZip};
 ghost use Rattle.std.specs.Thread.{IsSend, IsSync};
-ghost use Rattle.std.specs.Prelude.{◌≡◌, ◌≤◌, ◌<◌, ◌+◌, [], ◌∷◌, All, Err, IfErr, IfOk, MatchResult};
+ghost use Rattle.std.specs.Prelude.{◌≡◌, ◌≤◌, ◌<◌, ◌+◌, [], ◌∷◌, All, Err, IfErr, IfOk};
+ghost use Rattle.std.specs.Prelude.{MatchResult};
 ghost use Rattle.std.specs.Prelude.{length, map, ℕ};
 ghost use Rattle.std.specs.VecDeque.{deque_capacity, deque_len};
 ghost use Rattle.stab_node.specs.Turns.{IsRefused};
@@ -47,7 +48,8 @@ impl<'e, U: RecvSide, D: SendSide, G: Gate> Promise<
     ghost use Rattle.stab_node.specs.Answers.{HasWorked, node_ends};
 
     ghost kept_by = { λ p r. MatchResult r
-        (λ a. HasWorked (G.has_passed p.gate.now p.ends.value.node) D.may_refuse_offer p.turns p.first.now
+        (λ a. HasWorked (G.has_passed p.gate.now p.ends.value.node) D.may_refuse_offer
+        p.turns p.first.now
         (node_ends U.received U.link D.sent D.link p.ends.value.up p.ends.value.downs.items)
         (node_ends U.done_received U.done_link D.done_sent D.done_link a.up a.downs.items)
         a.received.items a.ended)
@@ -57,8 +59,8 @@ impl<'e, U: RecvSide, D: SendSide, G: Gate> Promise<
 }
 
 /// Starts a worker for each of these, in their order, waits for all, and answers their accounts. An
-/// error is the first node whose worker could not be started, after which none is, or else the first
-/// one whose worker gave up. The list that is given has room for the accounts.
+/// error is the first node whose worker could not be started, after which none is, or else the
+/// first one whose worker gave up. The list that is given has room for the accounts.
 pub(crate) fn run_each<'e, R: Threads + Wait + Sync, P: Sync, U, D, G>(
     rt: &'e R,
     pass: &'e P,
@@ -148,8 +150,8 @@ where
                 move || -> Answer<U, D>
                     requires turns { 1 ≤ turns }
                     ensures work { MatchResult result
-                        (λ a. HasWorked (G.has_passed gate.entry.now ends.node) D.may_refuse_offer turns
-                        first.entry.now
+                        (λ a. HasWorked (G.has_passed gate.entry.now ends.node) D.may_refuse_offer
+                        turns first.entry.now
                         (node_ends U.received U.link D.sent D.link ends.up ends.downs.items)
                         (node_ends U.done_received U.done_link D.done_sent D.done_link
                         a.up a.downs.items)

@@ -3,7 +3,8 @@
 -- (`laws::every_tree_state_is_that_of_the_schedule`). No node has an opening.
 -- Source: this project's own.
 use Rattle.std.specs.Prelude.{ℕ, ◌≤◌, List, [], ◌∷◌, length, map, replicate, slice_get}
-use Rattle.std.specs.Prelude.{slice_index_or, slice_set, Option, Some, None, option_map, option_and_then}
+use Rattle.std.specs.Prelude.{slice_index_or, slice_set, Option, Some, None, option_map}
+use Rattle.std.specs.Prelude.{option_and_then}
 use Rattle.std.specs.Option.{option_map_or}
 use Rattle.stab_core.specs.declared.event.Event.{Event}
 use Rattle.stab_core.specs.declared.event.Effect.{Effect}

@@ -23,8 +23,8 @@ page_link_view l =
       origins = l.origins.items;
     })
 
--- a queue fits its array, there is a label, there is an origin for each queued frame and for each delivered item, and all offered items but
--- at most the last are acknowledged
+-- a queue fits its array, there is a label, there is an origin for each queued frame and for each
+-- delivered item, and all offered items but at most the last are acknowledged
 pub record IsSound (l : Inside) : Type 0 where
   pub small_capacity : l.capacity ≤ 64
   pub some_label : 1 ≤ l.labels

@@ -71,8 +71,8 @@ report t had =
     single_numbers t ++ length_numbers t had ++ queue_numbers t ++ item_numbers t
     ++ map effect_number had
 
--- a queue has room for 1 to 64 entries, there are 2 to 1000 labels, the start fits, and there are no
--- more events and no less room for numbers than these
+-- a queue has room for 1 to 64 entries, there are 2 to 1000 labels, the start fits, and there are
+-- no more events and no less room for numbers than these
 abbrev pub is_accepted : ℕ → ℕ → Start → List Event → ℕ → Bool
 is_accepted capacity labels start events room =
     nat_le 1 capacity && nat_le capacity 64 && nat_le 2 labels && nat_le labels 1000
@@ -84,5 +84,6 @@ abbrev pub answer : ℕ → ℕ → Start → List Event → ℕ → List ℕ
 answer capacity labels start events room =
     let p : Parameters = parameters capacity labels in
     if is_accepted capacity labels start events room
-    then report (traced_replay p (traced_initial start) events) (effects p (traced_initial start) events)
+    then report (traced_replay p (traced_initial start) events)
+    (effects p (traced_initial start) events)
     else []

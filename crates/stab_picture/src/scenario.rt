@@ -16,8 +16,8 @@ use std::alloc::{AllocError, Global};
 
 /// What the picture of a scenario shows, for those who do not see it.
 const ABOUT: &str = "The links of a tree are side by side, each with its two ends as vertical \
-lines. Each row is an act on the link into the node that it names, a round of all links, items that \
-the root publishes, or a fault. The number before a row is that of its step.";
+lines. Each row is an act on the link into the node that it names, a round of all links, items \
+that the root publishes, or a fault. The number before a row is that of its step.";
 
 /// The run of a scenario as a picture, with its links side by side in the file order of their
 /// children. Its acts are the rows of the scenario. It refuses what `scenario_text` refuses.

@@ -1,8 +1,8 @@
 -- Random jobs: what a drawn text is, whatever the words of the generator were.
--- Example: By 5 nodes, 3 items, capacity 2, 9 labels, loss 10, repeat 20 and 100 steps a text is one
--- if it is read as a job whose tree has 5 nodes and so 4 links, whose root publishes 3 items, each of
--- whose links has a capacity of 1 or 2, 9 labels, a start that fits it and a script that drops 10 of a
--- thousand messages and keeps 20, and whose schedule has 100 steps, each on a link.
+-- Example: By 5 nodes, 3 items, capacity 2, 9 labels, loss 10, repeat 20 and 100 steps a text is
+-- one if it is read as a job whose tree has 5 nodes and so 4 links, whose root publishes 3 items,
+-- each of whose links has a capacity of 1 or 2, 9 labels, a start that fits it and a script that
+-- drops 10 of a thousand messages and keeps 20, and whose schedule has 100 steps, each on a link.
 -- Source: this project's own.
 use Rattle.std.specs.Prelude.{◌≡◌, ◌≤◌, ℕ, codes, List, length, All, IfSome, Option, Some, Ok}
 use Rattle.serde_json.specs.Find.{get}

@@ -12,7 +12,8 @@ use Rattle.stab_core.specs.LinkState.{LinkState}
 use Rattle.stab_core.specs.Step.{step, effect}
 use Rattle.stab_rounds.specs.Receipts.{frames_by}
 
--- the answers that the receiver owes after an event: one after a frame that it takes, and none after an answer
+-- the answers that the receiver owes after an event: one after a frame that it takes, and none
+-- after an answer
 abbrev pub owed_after : Parameters → ℕ → LinkState → Event → ℕ
 owed_after p owed s (RecvFrame false) = max owed (frames_by p s (RecvFrame false))
 owed_after p owed s SendAck = 0
@@ -28,7 +29,8 @@ MayCome owed e = Unit {0}
 -- the same of all these events
 abbrev pub AnswersOnce : Parameters → ℕ → LinkState → List Event → Type 0
 AnswersOnce p owed s [] = Unit {0}
-AnswersOnce p owed s (e ∷ events) = MayCome owed e × AnswersOnce p (owed_after p owed s e) (step p s e) events
+AnswersOnce p owed s (e ∷ events) =
+    MayCome owed e × AnswersOnce p (owed_after p owed s e) (step p s e) events
 
 -- one for an acknowledgement that is ignored
 abbrev pub is_ignored : Effect → ℕ

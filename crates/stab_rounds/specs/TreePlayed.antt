@@ -1,9 +1,10 @@
--- A schedule that is made of rounds and nothing else: in each, every link has its own round, in file
--- order.
--- Source: this project's own.
-use Rattle.std.specs.Prelude.{ℕ, zero, suc, ◌+◌, List, [], ◌∷◌, ◌++◌, Option, Some, None, false, replicate}
+-- A schedule that is made of rounds and nothing else: in each, every link has its own round, in
+-- file order. Source: this project's own.
+use Rattle.std.specs.Prelude.{ℕ, zero, suc, ◌+◌, List, [], ◌∷◌, ◌++◌, Option, Some, None, false}
+use Rattle.std.specs.Prelude.{replicate}
 use Rattle.stab_core.specs.declared.act.LinkAct.{LinkAct}
-use Rattle.stab_core.specs.declared.act.LinkAct.TheVariants.{Offer, SendFrame, RecvFrame, SendAck, RecvAck}
+use Rattle.stab_core.specs.declared.act.LinkAct.TheVariants.{Offer, SendFrame, RecvFrame, SendAck}
+use Rattle.stab_core.specs.declared.act.LinkAct.TheVariants.{RecvAck}
 use Rattle.stab_treecore.specs.declared.event.TreeEvent.{TreeEvent}
 
 -- an act on the link into this node

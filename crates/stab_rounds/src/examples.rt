@@ -48,9 +48,10 @@ pub fn worked_out()
     ensures chain { let parents = None ∷ Some 0 ∷ Some 1 ∷ [] in
         (acts_on 2 (play parents 1) ≡ LinkAct.Offer ∷ LinkAct.SendFrame ∷ LinkAct.RecvFrame false
         ∷ LinkAct.SendAck ∷ LinkAct.RecvAck false ∷ [])
-        × (acts_on 1 (act_on 2 LinkAct.Offer ∷ act_on 1 LinkAct.SendAck ∷ []) ≡ LinkAct.SendAck ∷ []) }
-    // Three items in that chain, with capacity 1 and a hold of 2 at the inner node: below the root 4
-    // reading rounds or 3 * 4 rounds are enough. The inner node can have 3 items and 3 strays, so
+        × (acts_on 1 (act_on 2 LinkAct.Offer ∷ act_on 1 LinkAct.SendAck ∷ [])
+        ≡ LinkAct.SendAck ∷ []) }
+    // Three items in that chain, with capacity 1 and a hold of 2 at the inner node: below the root
+    // 4 reading rounds or 3 * 4 rounds are enough. The inner node can have 3 items and 3 strays, so
     // below it 8 reading rounds, or 3 * 7 + 1 rounds.
     ensures enough { let own : LinkSetup = record { params = fewest_labels_of 1; start = clean_start } in
         let net : Network = record {

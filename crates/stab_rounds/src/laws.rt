@@ -24,8 +24,8 @@ ghost use Rattle.stab_treecore.specs.TreeReplay.{initial_tree, tree_replay};
 ghost use Rattle.stab_treecore.specs.WholeTree.{received};
 ghost use Rattle.stab_treecore.specs.declared.event.TreeEvent.{TreeEvent};
 
-/// From any state, with any labels in its queues, each `2c + 1` rounds acknowledge an item, whatever
-/// happens between the events of a round, but for a close.
+/// From any state, with any labels in its queues, each `2c + 1` rounds acknowledge an item,
+/// whatever happens between the events of a round, but for a close.
 pub fn rounds_bring_acknowledgements()
     ensures { (p : Parameters) (s : LinkState) (events : List Event) (items : ℕ)
         → 1 ≤ p.capacity → IsWithin p s
@@ -35,20 +35,22 @@ pub fn rounds_bring_acknowledgements()
 {}
 
 /// So from a lawful start an item that is not among the first `2c + 1` is delivered after `2c + 1`
-/// rounds for it and as many for each item before it: the link law with these items among its places.
+/// rounds for it and as many for each item before it: the link law with these items among its
+/// places.
 pub fn rounds_bring_items()
     ensures { (p : Parameters) (start : Start) (events : List Event)
         → AreLawful p → IsLawful p start → let s = replay p (initial start) events in
         s.closed ≡ false
-        → (places : List ℕ) × HalfLawAt p.capacity (start_items start) s.offered s.acked s.delivered places
+        → (places : List ℕ)
+        × HalfLawAt p.capacity (start_items start) s.offered s.acked s.delivered places
         × ((item : ℕ) → 2 * p.capacity + 1 ≤ item
         → (2 * p.capacity + 1) * (item + 1) ≤ rounds_of events → Contains places item) }
 {
     stab_core::laws::every_replay_obeys_the_link_law();
 }
 
-/// While an item waits: once `c + 1` frames were received and after them `c + 1` acknowledgements, it
-/// is acknowledged, whatever else happened, and whatever was lost.
+/// While an item waits: once `c + 1` frames were received and after them `c + 1` acknowledgements,
+/// it is acknowledged, whatever else happened, and whatever was lost.
 pub fn receipts_bring_an_acknowledgement()
     ensures { (p : Parameters) (s : LinkState) (first second : List Event)
         → IsWithin p s → length s.offered ≡ s.acked + 1
@@ -58,8 +60,8 @@ pub fn receipts_bring_an_acknowledgement()
 {}
 
 /// What a sender alone can notice. On a line that repeats nothing, and whose receiver answers each
-/// frame that it takes at most once and sends nothing else, at most `2c` acknowledgements are ignored
-/// while one item waits.
+/// frame that it takes at most once and sends nothing else, at most `2c` acknowledgements are
+/// ignored while one item waits.
 pub fn few_acknowledgements_are_ignored()
     ensures { (p : Parameters) (s : LinkState) (events : List Event)
         → IsWithin p s → length s.offered ≡ s.acked + 1 → AnswersOnce p 0 s events
@@ -75,8 +77,8 @@ pub fn reading_rounds_bring_acknowledgements()
         → s.acked + reading_rounds p.capacity events ≤ (replay p s events).acked }
 {}
 
-/// One round fewer is not enough: from a lawful start these `2c` rounds acknowledge nothing, so `2c +
-/// 1` is the least.
+/// One round fewer is not enough: from a lawful start these `2c` rounds acknowledge nothing, so `2c
+/// + 1` is the least.
 pub fn fewer_rounds_are_not_enough()
     ensures lawful { (p : Parameters) → IsLawful p (slow_start p.capacity) }
     ensures rounds { (item count : ℕ) → rounds_of (slow_rounds item count) ≡ count }
@@ -85,8 +87,8 @@ pub fn fewer_rounds_are_not_enough()
         ≡ 0 }
 {}
 
-/// Arrival in a tree. Whatever was in the links and nodes at the start, and whatever else happens but
-/// a close: after so many rounds of all links, everything is handed on, for good.
+/// Arrival in a tree. Whatever was in the links and nodes at the start, and whatever else happens
+/// but a close: after so many rounds of all links, everything is handed on, for good.
 pub fn everything_arrives()
     // All that the parent has is acknowledged, and no frame is on its way to the child.
     ensures handed_on { (net : Network) (events : List TreeEvent) (capacity rounds child parent : ℕ)
@@ -106,7 +108,8 @@ pub fn everything_arrives()
         → CompleteLaw (most_strays net child) (most_missing net child) (path_garbage net child)
         net.published (received t child) }
     // And whatever comes then, this stays so, and the child receives nothing more.
-    ensures for_good { (net : Network) (events more : List TreeEvent) (capacity rounds child parent : ℕ)
+    ensures for_good { (net : Network) (events more : List TreeEvent)
+        (capacity rounds child parent : ℕ)
         → IsNetwork net → All (λ link. link.params.capacity ≤ capacity) net.links
         → let t = tree_replay (initial_tree net) events in
         IsOpen t → TreeRounds net.tree.parents rounds events
@@ -150,7 +153,8 @@ pub fn everything_arrives_where_all_is_read()
     stab_core::laws::every_replay_obeys_the_link_law();
 }
 
-/// The same of a schedule that is made of so many rounds and nothing else, of which nothing is asked.
+/// The same of a schedule that is made of so many rounds and nothing else, of which nothing is
+/// asked.
 pub fn rounds_bring_everything()
     ensures handed_on { (net : Network) (capacity rounds child parent : ℕ)
         → IsNetwork net → All (λ link. link.params.capacity ≤ capacity) net.links

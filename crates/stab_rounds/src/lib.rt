@@ -1,8 +1,8 @@
 //! Arrival: how many rounds, of a link or of all links of a tree, bring what was offered.
 //!
 //! A round is defined in `specs/Rounds.antt`, a reading round in `specs/ReadingRounds.antt`. The
-//! facts that a reader wants are in [`laws`]: from any state `2c + 1` rounds acknowledge an item, and
-//! one reading round does; and after so many of all links, [`laws::everything_arrives`].
+//! facts that a reader wants are in [`laws`]: from any state `2c + 1` rounds acknowledge an item,
+//! and one reading round does; and after so many of all links, [`laws::everything_arrives`].
 #![tactic(auto)]
 
 pub mod examples;

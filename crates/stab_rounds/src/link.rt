@@ -1,4 +1,5 @@
-ghost use Rattle.std.specs.Prelude.{◌≡◌, ℕ, ◌+◌, ◌*◌, ◌≤◌, ◌++◌, false, IfOk, drop, replicate, length};
+ghost use Rattle.std.specs.Prelude.{◌≡◌, ℕ, ◌+◌, ◌*◌, ◌≤◌, ◌++◌, false, IfOk, drop, replicate};
+ghost use Rattle.std.specs.Prelude.{length};
 ghost use Rattle.stab_core.specs.Link.{link_at};
 ghost use Rattle.stab_core.specs.Replay.{replay};
 ghost use Rattle.stab_core.specs.declared.event.Event.{Event};
@@ -20,9 +21,9 @@ fn apply_times(link: &mut Link, event: Event, times: u16) -> Result<(), AllocErr
     Ok(())
 }
 
-/// One round of a link: this item is offered, which an idle sender takes, a frame is sent and taken,
-/// an acknowledgement is sent and taken. Where memory is refused, the events before were applied, and
-/// the others were not.
+/// One round of a link: this item is offered, which an idle sender takes, a frame is sent and
+/// taken, an acknowledgement is sent and taken. Where memory is refused, the events before were
+/// applied, and the others were not.
 pub fn apply_round(link: &mut Link, item: Item) -> Result<(), AllocError>
     ensures { IfOk result (λ _. link.new ≡ link_at link.old.params
         (replay link.old.params link.old.state (round_with item))) }
@@ -35,12 +36,13 @@ pub fn apply_round(link: &mut Link, item: Item) -> Result<(), AllocError>
     Ok(())
 }
 
-/// Offers this item and makes `2c + 1` rounds, which acknowledge an item from any state of the link:
-/// this one, if the sender was idle. Where memory is refused, the events before were applied.
+/// Offers this item and makes `2c + 1` rounds, which acknowledge an item from any state of the
+/// link: this one, if the sender was idle. Where memory is refused, the events before were applied.
 pub fn pass_on(link: &mut Link, params: Params, item: Item) -> Result<(), AllocError>
     requires own { link.old.params ≡ params }
     ensures replay { IfOk result (λ _. link.new ≡ link_at link.old.params
-        (replay link.old.params link.old.state (rounds_with item (2 * link.old.params.capacity + 1)))) }
+        (replay link.old.params link.old.state
+        (rounds_with item (2 * link.old.params.capacity + 1)))) }
     ensures acked { IfOk result (λ _. link.new.state.closed ≡ false
         → link.old.state.acked + 1 ≤ link.new.state.acked) }
 {
@@ -61,7 +63,8 @@ pub fn pass_on(link: &mut Link, params: Params, item: Item) -> Result<(), AllocE
 pub fn apply_reading_round(link: &mut Link, params: Params, item: Item) -> Result<(), AllocError>
     requires own { link.old.params ≡ params }
     ensures replay { IfOk result (λ _. link.new ≡ link_at link.old.params
-        (replay link.old.params link.old.state (reading_round_with link.old.params.capacity item))) }
+        (replay link.old.params link.old.state
+        (reading_round_with link.old.params.capacity item))) }
     ensures acked { IfOk result (λ _. link.new.state.closed ≡ false
         → link.old.state.acked + 1 ≤ link.new.state.acked) }
 {

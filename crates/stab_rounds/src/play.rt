@@ -92,9 +92,10 @@ fn apply_rounds(
     Ok(())
 }
 
-/// The whole tree after so many rounds of every link, from the starts of its links. Where the rounds
-/// are enough, every node has all that its parent has, and misses nothing but among the first items.
-/// It is refused where the tree cannot begin, and else for memory alone; then no state is handed out.
+/// The whole tree after so many rounds of every link, from the starts of its links. Where the
+/// rounds are enough, every node has all that its parent has, and misses nothing but among the
+/// first items. It is refused where the tree cannot begin, and else for memory alone; then no state
+/// is handed out.
 pub fn run_rounds(
     alloc: Global,
     params: &[Params],

@@ -1,4 +1,5 @@
-ghost use Rattle.std.specs.Prelude.{◌≡◌, ℕ, ◌≤◌, ◌++◌, [], ◌∷◌, length, replicate, Some, All, IfOk, IfErr};
+ghost use Rattle.std.specs.Prelude.{◌≡◌, ℕ, ◌≤◌, ◌++◌, [], ◌∷◌, length, replicate, Some, All, IfOk};
+ghost use Rattle.std.specs.Prelude.{IfErr};
 ghost use Rattle.stab_rounds.specs.Refused.{IsRoundsReason};
 ghost use Rattle.stab_frames.specs.Parameters.{Parameters};
 ghost use Rattle.stab_rounds.specs.TreePlayed.{act_on, play_reads, reading_round_from};
@@ -74,7 +75,8 @@ pub fn reading_round_of_all(
     tree: &Tree,
     capacity: u16,
 ) -> Result<Vec<TreeEvent>, AllocError>
-    ensures { IfOk result (λ events. events.items ≡ reading_round_from capacity 0 tree.now.parents) }
+    ensures { IfOk result (λ events.
+        events.items ≡ reading_round_from capacity 0 tree.now.parents) }
 {
     let mut events = Vec::new(alloc);
     'nodes: for node in 0..tree.len() {
@@ -109,8 +111,9 @@ pub fn apply_reading_rounds(
 
 /// The whole tree after so many reading rounds of every link, from the starts of its links; each
 /// takes so many messages before it sends. Where the rounds are enough, and no link has a larger
-/// capacity, every node has all that its parent has, and misses nothing but among the first items. It
-/// is refused where the tree cannot begin, and else for memory alone; then no state is handed out.
+/// capacity, every node has all that its parent has, and misses nothing but among the first items.
+/// It is refused where the tree cannot begin, and else for memory alone; then no state is handed
+/// out.
 pub fn run_reading_rounds(
     alloc: Global,
     params: &[Params],

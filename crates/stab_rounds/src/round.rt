@@ -3,8 +3,8 @@ ghost use Rattle.stab_rounds.specs.Rounds.{act_of, awaited_after, completed_by, 
 
 use stab_core::{Event, LinkAct};
 
-/// What a round of a link waits for. It is an offer, a frame that is sent, a frame that is taken, an
-/// acknowledgement that is sent, and one that is taken, in this order.
+/// What a round of a link waits for. It is an offer, a frame that is sent, a frame that is taken,
+/// an acknowledgement that is sent, and one that is taken, in this order.
 #[derive(Clone, Copy, Debug, PartialEq, Eq)]
 pub enum Awaited {
     Offer,

@@ -44,7 +44,8 @@ abbrev pub SettledBefore : List (Option ℕ) → List LinkSetup → List SenderA
 SettledBefore parents links sends recvs node =
     (earlier : ℕ) (link : LinkSetup) (send : SenderAccount) (recv : ReceiverAccount)
     → earlier < node → entry_into parents links earlier ≡ Some link
-    → entry_into parents sends earlier ≡ Some send → entry_into parents recvs earlier ≡ Some recv → IsSettled link send recv
+    → entry_into parents sends earlier ≡ Some send → entry_into parents recvs earlier ≡ Some recv
+    → IsSettled link send recv
 
 -- The link into this child is the first in file order that is not settled with its two accounts:
 -- this holds of it, of both accounts and of this reason.

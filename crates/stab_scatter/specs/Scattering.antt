@@ -2,7 +2,8 @@
 -- Example: Nodes a, r, b, c with the parents 1, nothing, 0, 1: the links are those into 0, 2 and 3.
 -- Of 10, 20, 30, one per link, `by_parent` is 20 at a, then 10, 30 at r, and nothing at b and c.
 -- Source: this project's profile.
-use Rattle.std.specs.Prelude.{ℕ, ◌==◌, List, [], ◌∷◌, length, map, Option, Some, None, if◌then◌else◌}
+use Rattle.std.specs.Prelude.{ℕ, ◌==◌, List, [], ◌∷◌, length, map, Option, Some, None}
+use Rattle.std.specs.Prelude.{if◌then◌else◌}
 use Rattle.std.specs.List.{range_with_len}
 use Rattle.stab_tree.specs.Links.{links_of}
 

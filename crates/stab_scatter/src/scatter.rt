@@ -33,7 +33,8 @@ pub fn scatter_by_parent<T: Drop>(
     tree: &Tree,
     entries: Vec<T>,
 ) -> Result<Vec<Queue<T>>, AllocError>
-    ensures { IfOk result (λ scattered. scattered.items ≡ by_parent tree.now.parents entries.items) }
+    ensures { IfOk result (λ scattered.
+        scattered.items ≡ by_parent tree.now.parents entries.items) }
 {
     let mut scattered = empty_rows(alloc, usize::from(tree.len()))?;
     let mut left = Queue::from_vec(entries);

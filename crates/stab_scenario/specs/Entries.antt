@@ -6,7 +6,8 @@
 -- value, whatever the nodes are called. A step of a wrong shape that names no node is refused for
 -- its shape.
 -- Source: this project's profile.
-use Rattle.std.specs.Prelude.{ℕ, codes, nat_lt, length, List, slice_get, Bool, false, not, if◌then◌else◌}
+use Rattle.std.specs.Prelude.{ℕ, codes, nat_lt, length, List, slice_get, Bool, false, not}
+use Rattle.std.specs.Prelude.{if◌then◌else◌}
 use Rattle.std.specs.Prelude.{Option, Some, None, option_and_then, Result, Ok, Err, ⊤}
 use Rattle.std.specs.Option.{option_map_or}
 use Rattle.std.specs.Str.{bytes_eq}
@@ -120,7 +121,8 @@ abbrev pub step_of_parts : Nodes → List Parameters → Option (Data × Data ×
     → Result Step StepFault
 step_of_parts t params None = Err fault.Shape
 step_of_parts t params (Some (first, second, None)) = step_of_two t first second
-step_of_parts t params (Some (first, second, Some third)) = step_of_three t params first second third
+step_of_parts t params (Some (first, second, Some third)) =
+    step_of_three t params first second third
 
 -- the step of a list of values
 abbrev pub step_of_items : Nodes → List Parameters → Items → Result Step StepFault

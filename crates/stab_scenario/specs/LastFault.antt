@@ -1,8 +1,9 @@
 -- The last fault that hits a node, by the number of its step.
--- Example: In the chain r, a, b let step 3 be a strike at the link into a, and step 5 the restart of
--- b. The last fault of a is step 3, that of b is step 5, and that of r is 0: none hits it.
+-- Example: In the chain r, a, b let step 3 be a strike at the link into a, and step 5 the restart
+-- of b. The last fault of a is step 3, that of b is step 5, and that of r is 0: none hits it.
 -- Source: this project's own.
-use Rattle.std.specs.Prelude.{ℕ, zero, suc, ◌+◌, ◌==◌, List, [], ◌∷◌, Bool, true, false, if◌then◌else◌, Option}
+use Rattle.std.specs.Prelude.{ℕ, zero, suc, ◌+◌, ◌==◌, List, [], ◌∷◌, Bool, true, false}
+use Rattle.std.specs.Prelude.{if◌then◌else◌, Option}
 use Rattle.std.specs.Option.{option_map_or}
 use Rattle.stab_tree.specs.Nodes.{parent_at}
 use Rattle.stab_tree.specs.Steps.{depth_of}

@@ -2,8 +2,10 @@
 -- Example: In the chain r, a, b one round is five acts on the link into a and then five on the link
 -- into b. One reading round of links of capacity 1 is seven acts on each.
 -- Source: this project's own.
-use Rattle.std.specs.Prelude.{ℕ, zero, suc, ◌<◌, length, List, [], ◌∷◌, ◌++◌, map, replicate, false, Option}
-use Rattle.stab_core.specs.declared.act.LinkAct.TheVariants.{Offer, SendFrame, RecvFrame, SendAck, RecvAck}
+use Rattle.std.specs.Prelude.{ℕ, zero, suc, ◌<◌, length, List, [], ◌∷◌, ◌++◌, map, replicate, false}
+use Rattle.std.specs.Prelude.{Option}
+use Rattle.stab_core.specs.declared.act.LinkAct.TheVariants.{Offer, SendFrame, RecvFrame, SendAck}
+use Rattle.stab_core.specs.declared.act.LinkAct.TheVariants.{RecvAck}
 use Rattle.stab_frames.specs.Parameters.{Parameters}
 use Rattle.stab_rounds.specs.TreePlayed.{act_on, play, round_from}
 use Rattle.stab_tree.specs.Links.{links_of}

@@ -12,7 +12,8 @@ use Rattle.stab_treecore.specs.declared.fault.TreeStepFault.TheVariants as step_
 use Rattle.stab_scenario.specs.declared.fault.ListFault.{ListFault}
 use Rattle.stab_scenario.specs.declared.fault.ListFault.TheVariants as list
 use Rattle.stab_scenario.specs.declared.fault.ScenarioFault.{ScenarioFault}
-use Rattle.stab_scenario.specs.declared.fault.ScenarioFault.TheVariants.{Job, Run, TooManyEvents, Memory}
+use Rattle.stab_scenario.specs.declared.fault.ScenarioFault.TheVariants.{Job, Run, TooManyEvents}
+use Rattle.stab_scenario.specs.declared.fault.ScenarioFault.TheVariants.{Memory}
 
 abbrev pub job_refused : JobFault → ScenarioFault
 job_refused job_fault.Memory = Memory

@@ -1,11 +1,10 @@
--- Scenarios: what bytes mean as a scenario, or the first check, in the stated order, that they fail:
--- those of the job, that there is a list of steps, each step in its order, and how many changes
--- they are.
--- Example: Bytes that are no job are refused for that, whatever their steps are. In the chain r, a,
--- b the steps `["r", "offer"]` and `["x", "offer"]` are refused at step 1, since no link leads into
--- r; that no node is called x is not looked at.
--- Source: this project's profile.
-use Rattle.std.specs.Prelude.{ℕ, suc, codes, nat_lt, length, List, [], ◌∷◌, Option, option_and_then, Result, Ok, Err}
+-- Scenarios: what bytes mean as a scenario, or the first check, in the stated order, that they
+-- fail: those of the job, that there is a list of steps, each step in its order, and how many
+-- changes they are. Example: Bytes that are no job are refused for that, whatever their steps are.
+-- In the chain r, a, b the steps `["r", "offer"]` and `["x", "offer"]` are refused at step 1, since
+-- no link leads into r; that no node is called x is not looked at. Source: this project's profile.
+use Rattle.std.specs.Prelude.{ℕ, suc, codes, nat_lt, length, List, [], ◌∷◌, Option, option_and_then}
+use Rattle.std.specs.Prelude.{Result, Ok, Err}
 use Rattle.serde_json.specs.Data.{Data, Items, no_items, item}
 use Rattle.serde_json.specs.Find.{as_array, get}
 use Rattle.stab_frames.specs.Parameters.{Parameters}

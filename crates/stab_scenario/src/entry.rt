@@ -1,12 +1,14 @@
 //! What one value of a list of steps means.
 
-ghost use Rattle.std.specs.Prelude.{◌≡◌, ◌≢◌, MatchResult, Ok, Err, Some, None, option_and_then, option_map};
+ghost use Rattle.std.specs.Prelude.{◌≡◌, ◌≢◌, MatchResult, Ok, Err, Some, None, option_and_then};
+ghost use Rattle.std.specs.Prelude.{option_map};
 ghost use Rattle.serde_json.specs.View.{view, items_view};
 ghost use Rattle.serde_json.specs.Find.{as_str};
 ghost use Rattle.stab_json.specs.Values.{entries, item_number};
 ghost use Rattle.stab_script.specs.Events.{plain_act, loss_act};
 ghost use Rattle.stab_script.specs.Starts.{start};
-ghost use Rattle.stab_scenario.specs.Entries.{act_step, is_word, link_named, node_named, publish_step};
+ghost use Rattle.stab_scenario.specs.Entries.{act_step, is_word, link_named, node_named};
+ghost use Rattle.stab_scenario.specs.Entries.{publish_step};
 ghost use Rattle.stab_scenario.specs.Entries.{restart_step, rounds_step, step_of, step_of_items};
 ghost use Rattle.stab_scenario.specs.Entries.{step_of_three, step_of_two, strike_step, start_fits};
 ghost use Rattle.stab_scenario.specs.Entries.{two_or_three};
@@ -74,7 +76,9 @@ fn plain_of(word: &Value) -> Option<LinkAct>
 
 /// The loss that a value names, of what is at a place.
 fn loss_of(word: &Value, place: &Value) -> Option<LinkAct>
-    ensures { result ≡ option_and_then (λ its_word. loss_act its_word (view place.now)) (as_str (view word.now)) }
+    ensures { result
+        ≡ option_and_then (λ its_word. loss_act its_word (view place.now))
+        (as_str (view word.now)) }
 {
     loss_act(word.as_str()?, place)
 }

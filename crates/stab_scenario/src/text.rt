@@ -1,6 +1,7 @@
 //! The lines of a scenario.
 
-ghost use Rattle.std.specs.Prelude.{◌≡◌, ◌<◌, ◌≤◌, ◌++◌, ℕ, [], slice_index_or, take, length, string_bytes, IfErr, IfOk, OnOk};
+ghost use Rattle.std.specs.Prelude.{◌≡◌, ◌<◌, ◌≤◌, ◌++◌, ℕ, [], slice_index_or, take, length};
+ghost use Rattle.std.specs.Prelude.{string_bytes, IfErr, IfOk, OnOk};
 ghost use Rattle.stab_faults.specs.Moment.{missing_since, published_since, strays_since};
 ghost use Rattle.stab_faults.specs.Since.{capacity_at, gained, moment};
 ghost use Rattle.stab_job.specs.JobValues.{network};
@@ -8,7 +9,8 @@ ghost use Rattle.stab_tree.specs.Steps.{depth_of};
 ghost use Rattle.stab_treecore.specs.NodeLaws.{capacity_into};
 ghost use Rattle.stab_scenario.specs.Counts.{Counted, IsUnrun, counted, state_after};
 ghost use Rattle.stab_scenario.specs.LastFault.{last_fault};
-ghost use Rattle.stab_scenario.specs.Texts.{bounds_words, lines_of, node_text, root_text, scenario_text};
+ghost use Rattle.stab_scenario.specs.Texts.{bounds_words, lines_of, node_text, root_text};
+ghost use Rattle.stab_scenario.specs.Texts.{scenario_text};
 
 use crate::changes::changes_of;
 use crate::count::{gained_since, old_backlogs, published_since};

@@ -7,7 +7,8 @@ use Rattle.std.specs.Prelude.{ℕ, codes, true, false, List, if◌then◌else◌
 use Rattle.std.specs.Prelude.{Option, Some, None, option_map}
 use Rattle.std.specs.Str.{bytes_eq}
 use Rattle.stab_core.specs.declared.act.LinkAct.{LinkAct}
-use Rattle.stab_core.specs.declared.act.LinkAct.TheVariants.{Offer, SendFrame, RecvFrame, SendAck, RecvAck, LoseFrame, LoseAck, Close}
+use Rattle.stab_core.specs.declared.act.LinkAct.TheVariants.{Offer, SendFrame, RecvFrame, SendAck}
+use Rattle.stab_core.specs.declared.act.LinkAct.TheVariants.{RecvAck, LoseFrame, LoseAck, Close}
 use Rattle.stab_core.specs.declared.event.Event.{Event}
 use Rattle.stab_core.specs.LinkActs.{event_of}
 use Rattle.serde_json.specs.Data.{Data, null, boolean, number, string, array, object}

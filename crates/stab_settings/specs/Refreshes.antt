@@ -1,10 +1,9 @@
--- A refresh: a stretch of the published list that sets each of the keys in use. It may be one item that
--- has the whole table, or the table item by item, with changes in between.
--- Example: The published list sets key 1, sets key 2, is harmless for three items, sets key 2 and
--- then key 1. Its items from 5 up to 7 are a refresh of the keys 1 and 2, as are the first two; the
--- items from 5 up to 6 are none, since they do not set key 1. A node whose last published item is
--- at place 6 has come to 7, and one without published items has come to 0.
--- Source: this project's own.
+-- A refresh: a stretch of the published list that sets each of the keys in use. It may be one item
+-- that has the whole table, or the table item by item, with changes in between. Example: The
+-- published list sets key 1, sets key 2, is harmless for three items, sets key 2 and then key 1.
+-- Its items from 5 up to 7 are a refresh of the keys 1 and 2, as are the first two; the items from
+-- 5 up to 6 are none, since they do not set key 1. A node whose last published item is at place 6
+-- has come to 7, and one without published items has come to 0. Source: this project's own.
 use Rattle.std.specs.Prelude.{◌≡◌, ℕ, ◌+◌, ◌≤◌, ◌<◌, List, length, fold, slice_index, Contains}
 use Rattle.stab_settings.specs.Tables.{Reading, Setting, Table}
 

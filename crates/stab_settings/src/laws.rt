@@ -9,9 +9,9 @@ ghost use Rattle.stab_settings.specs.Refreshes.{IsRefresh, SameBeside, reached};
 ghost use Rattle.stab_settings.specs.Tables.{Reading, Table, apply_items};
 ghost use Rattle.stab_treecore.specs.TreeLaw.{CompleteLaw, HalfTreeLawAt, TreeLaw};
 
-/// Refreshed tables are the publisher's: once a node's list goes beyond a refresh that was published
-/// after the first items that may be missing, the node's table has the same beside every key in use
-/// as the root's had when the last item that the node has was published.
+/// Refreshed tables are the publisher's: once a node's list goes beyond a refresh that was
+/// published after the first items that may be missing, the node's table has the same beside every
+/// key in use as the root's had when the last item that the node has was published.
 pub fn refreshed_tables_are_the_publishers()
     ensures { (reading : Reading) (most_strays most_missing : ℕ)
         (garbage published received : List ℕ)

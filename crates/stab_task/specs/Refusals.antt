@@ -14,6 +14,8 @@ use Rattle.stab_run.specs.declared.run_fault.RunFault.TheVariants as run
 use Rattle.stab_script.specs.declared.link_job.LinkJobFault.TheVariants.{Memory as out_of_memory}
 use Rattle.stab_treecore.specs.declared.fault.TreeStartFault.{TreeStartFault}
 use Rattle.stab_treecore.specs.declared.fault.TreeStartFault.TheVariants as tree
+use Rattle.stab_treecore.specs.declared.fault.TreeStepFault.TheVariants.{}
+use Rattle.stab_treecore.specs.declared.fault.TreeStepFault.TheVariants.{}
 use Rattle.stab_treecore.specs.declared.fault.TreeStepFault.TheVariants.{Memory as no_memory_at_step}
 use Rattle.stab_task.specs.Answers.{IsFault}
 use Rattle.stab_task.specs.Loading.{most_bytes}

@@ -1,6 +1,7 @@
 -- A link is named by its child; links are in the file order of their children
 -- (this project's profile).
-use Rattle.std.specs.Prelude.{◌≡◌, ℕ, suc, ◌+◌, ◌<◌, ◌==◌, List, [], ◌∷◌, length, slice_get, Option, Some, None}
+use Rattle.std.specs.Prelude.{◌≡◌, ℕ, suc, ◌+◌, ◌<◌, ◌==◌, List, [], ◌∷◌, length, slice_get, Option}
+use Rattle.std.specs.Prelude.{Some, None}
 use Rattle.std.specs.List.{position}
 use Rattle.stab_tree.specs.Nodes.{parent_at}
 

@@ -1,6 +1,7 @@
 -- The parents that entries name, and what the checks of them ask: how many nodes have none, and
 -- whether each node has a depth (this project's profile).
-use Rattle.std.specs.Prelude.{ℕ, List, [], ◌∷◌, length, Bool, Option, Some, None, is_some, is_none, option_map}
+use Rattle.std.specs.Prelude.{ℕ, List, [], ◌∷◌, length, Bool, Option, Some, None, is_some, is_none}
+use Rattle.std.specs.Prelude.{option_map}
 use Rattle.std.specs.List.{list_all, count_by, range_with_len}
 use Rattle.std.specs.Option.{option_map_or}
 use Rattle.stab_json.specs.Values.{◌>>=◌}

@@ -2,12 +2,15 @@
 -- made over the whole list before the next (this project's profile).
 -- Example: Two nodes that are both called r: 2 is at most 64, both names are lawful, and one name
 -- occurs twice, so `SameName`; no parent is looked at.
-use Rattle.std.specs.Prelude.{◌≡◌, ℕ, List, length, not, true, false, ◌==◌, nat_lt, Option, Some, Result, Ok}
+use Rattle.std.specs.Prelude.{◌≡◌, ℕ, List, length, not, true, false, ◌==◌, nat_lt, Option, Some}
+use Rattle.std.specs.Prelude.{Result, Ok}
 use Rattle.std.specs.List.{list_all}
 use Rattle.serde_json.specs.Data.{Data}
 use Rattle.stab_json.specs.Checks.{◌>>=◌, ◌>>◌, ◌or◌, ◌when◌}
 use Rattle.stab_tree.specs.declared.fault.TreeFault.{TreeFault}
-use Rattle.stab_tree.specs.declared.fault.TreeFault.TheVariants.{Shape, TooManyNodes, BadName, SameName, UnknownParent, NoRoot, TwoRoots, Cycle}
+use Rattle.stab_tree.specs.declared.fault.TreeFault.TheVariants.{Shape, TooManyNodes, BadName}
+use Rattle.stab_tree.specs.declared.fault.TreeFault.TheVariants.{SameName, UnknownParent, NoRoot}
+use Rattle.stab_tree.specs.declared.fault.TreeFault.TheVariants.{TwoRoots, Cycle}
 use Rattle.stab_tree.specs.Entry.{Entry, entries_of, names_of}
 use Rattle.stab_tree.specs.Name.{is_name, has_same_name}
 use Rattle.stab_tree.specs.Nodes.{Nodes, most_nodes}
@@ -33,6 +36,7 @@ pub record AreNamed (entries : List Entry) : Type 0 where
   pub own : has_same_name (names_of entries) ≡ false
 
 -- the parents that these entries name among these names, where one alone has none
-pub record AreParents (names : List (List ℕ)) (entries : List Entry) (parents : List (Option ℕ)) : Type 0 where
+pub record AreParents (names : List (List ℕ)) (entries : List Entry) (parents : List (Option ℕ))
+    : Type 0 where
   pub found : parents_of names entries ≡ Some parents
   pub one_root : root_count parents ≡ 1

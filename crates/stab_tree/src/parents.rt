@@ -1,4 +1,5 @@
-ghost use Rattle.std.specs.Prelude.{◌≡◌, ◌<◌, ◌≤◌, ℕ, Some, IfOk, IfSome, is_some, is_none, length, map, option_map, position, string_bytes};
+ghost use Rattle.std.specs.Prelude.{◌≡◌, ◌<◌, ◌≤◌, ℕ, Some, IfOk, IfSome, is_some, is_none, length};
+ghost use Rattle.std.specs.Prelude.{map, option_map, position, string_bytes};
 ghost use Rattle.stab_tree.specs.Nodes.{most_nodes, parent_at, root_of};
 ghost use Rattle.stab_tree.specs.Parents.{parent_of, parents_of, root_count, have_depths};
 ghost use Rattle.stab_tree.specs.Steps.{depth_at};

@@ -1,4 +1,5 @@
-ghost use Rattle.std.specs.Prelude.{◌≡◌, ◌≢◌, ◌↔◌, ◌+◌, ◌<◌, ◌≤◌, Some, IsSome, IsNone, IfSome, IfNone, All, length, map, string_bytes, slice_get};
+ghost use Rattle.std.specs.Prelude.{◌≡◌, ◌≢◌, ◌↔◌, ◌+◌, ◌<◌, ◌≤◌, Some, IsSome, IsNone, IfSome};
+ghost use Rattle.std.specs.Prelude.{IfNone, All, length, map, string_bytes, slice_get};
 
 use crate::names;
 use crate::node::NodeId;

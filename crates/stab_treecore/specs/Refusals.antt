@@ -92,7 +92,8 @@ IsScheduleReason params starts net events (Step fault) =
     × All CanBegin net.links
     × IsStepReason (initial_tree net) events fault
 
--- why a fault cannot strike a link: there is none, or what is to be in it does not fit; never memory
+-- why a fault cannot strike a link: there is none, or what is to be in it does not fit; never
+-- memory
 abbrev pub IsStrikeReasonOf : Option LinkValue → Start → StrikeFault → Type 0
 IsStrikeReasonOf link start NoLinkStruck = IsNone link
 IsStrikeReasonOf None start (StrikeRefused fault) = ⊥

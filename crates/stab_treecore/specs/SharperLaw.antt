@@ -1,13 +1,12 @@
 -- The sharper tree law: how many of the first published items may be missing at a node depends on
 -- how many strays it has received. Each link adds `c + 1`, and each stray in the node's list one
--- more: who has seen no stray misses less. And whatever strays there were, the bound is smaller than
--- the sum of `2c + 1`: each link adds `c + 1` but one, which adds `2c + 1`.
--- Example: Two links of capacity 1, as in the example two_links_under_one_schedule. Node b received
--- the stray 98, so of the items before its last one only the first 2 + 2 + 1 = 5 can be missing: 10
--- to 14 are. Its other bound is (1 + 1) + (2 * 1 + 1) = 5 too, and the sum of 2c + 1 is 6. With
--- links of capacity 64 and 64 of them the other bound is 63 * 65 + 129 = 4224, where that sum is
--- 8256.
--- Source: this project's own.
+-- more: who has seen no stray misses less. And whatever strays there were, the bound is smaller
+-- than the sum of `2c + 1`: each link adds `c + 1` but one, which adds `2c + 1`. Example: Two links
+-- of capacity 1, as in the example two_links_under_one_schedule. Node b received the stray 98, so
+-- of the items before its last one only the first 2 + 2 + 1 = 5 can be missing: 10 to 14 are. Its
+-- other bound is (1 + 1) + (2 * 1 + 1) = 5 too, and the sum of 2c + 1 is 6. With links of capacity
+-- 64 and 64 of them the other bound is 63 * 65 + 129 = 4224, where that sum is 8256. Source: this
+-- project's own.
 use Rattle.std.specs.Prelude.{ℕ, zero, suc, ◌+◌, ◌*◌, ◌<◌, List, length}
 use Rattle.std.specs.Prelude.{Option, max}
 use Rattle.std.specs.Option.{option_map_or}

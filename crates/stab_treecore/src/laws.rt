@@ -3,7 +3,8 @@
 //! body; its contract is the law.
 
 ghost use mathlib.Core.List.{IsPrefix};
-ghost use Rattle.std.specs.Prelude.{◌≡◌, ℕ, ◌+◌, ◌*◌, ◌<◌, ◌≤◌, List, [], ◌++◌, length, Some, All, max};
+ghost use Rattle.std.specs.Prelude.{◌≡◌, ℕ, ◌+◌, ◌*◌, ◌<◌, ◌≤◌, List, [], ◌++◌, length, Some, All};
+ghost use Rattle.std.specs.Prelude.{max};
 ghost use Rattle.stab_core.specs.declared.start.Start.{Start};
 ghost use Rattle.stab_core.specs.LinkLaw.{HalfLaw, LinkLaw, SharperLinkLaw};
 ghost use Rattle.stab_core.specs.Replay.{IsLawful, start_items};
@@ -203,8 +204,8 @@ pub fn every_schedule_obeys_the_sharper_tree_law()
     stab_core::laws::every_replay_obeys_the_sharper_link_law();
 }
 
-/// The sharper bounds are no larger than M, the sum of `2c + 1`: without strays it is less by C, the
-/// sum of `c`.
+/// The sharper bounds are no larger than M, the sum of `2c + 1`: without strays it is less by C,
+/// the sum of `c`.
 pub fn sharper_bounds_are_smaller()
     ensures without_strays { (net : Network) (node : ℕ)
         → missing_without_strays net node + strays_bound net node ≡ most_missing net node }

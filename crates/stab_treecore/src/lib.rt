@@ -1,11 +1,11 @@
 //! All links of a tree under one schedule: the tree law at every node.
 //!
-//! A node has its opening, which is what an inner node begins with ([`Openings`]), and then what the
-//! link into it delivered; the root has the published items. Contracts see a [`TreeState`] as the
-//! published items and, of each node, its opening, its parent and the link into it; each call is a
-//! step of the definitions in `specs/`, which know no vector, clock or thread. The layer above uses
-//! one fact: what [`run_schedule`] answers is the replay of the schedule from the starts and the
-//! openings, and the tree law holds of it at every node. The laws alone, for whatever runs the
+//! A node has its opening, which is what an inner node begins with ([`Openings`]), and then what
+//! the link into it delivered; the root has the published items. Contracts see a [`TreeState`] as
+//! the published items and, of each node, its opening, its parent and the link into it; each call
+//! is a step of the definitions in `specs/`, which know no vector, clock or thread. The layer above
+//! uses one fact: what [`run_schedule`] answers is the replay of the schedule from the starts and
+//! the openings, and the tree law holds of it at every node. The laws alone, for whatever runs the
 //! links, are in [`laws`].
 #![tactic(auto)]
 

@@ -1,6 +1,7 @@
 ghost use Rattle.std.specs.Prelude.{◌≡◌, ◌↔◌, ◌<◌, length, is_some, option_copied, option_map, All};
 ghost use Rattle.std.specs.Prelude.{if◌then◌else◌};
-ghost use Rattle.std.specs.Prelude.{ℕ, List, ◌++◌, Some, IsSome, IsNone, IfOk, IfErr, OnOk, OnErr, IsErrOf};
+ghost use Rattle.std.specs.Prelude.{ℕ, List, ◌++◌, Some, IsSome, IsNone, IfOk, IfErr, OnOk, OnErr};
+ghost use Rattle.std.specs.Prelude.{IsErrOf};
 ghost use Rattle.std.specs.Option.{option_map_or};
 ghost use Rattle.stab_core.specs.Link.{Grows, LinkValue, Steps};
 ghost use Rattle.stab_core.specs.LinkSetup.{CanBegin, setups};
@@ -143,8 +144,8 @@ impl TreeState {
         self.published.extend_from_slice(items)
     }
 
-    /// A fault strikes the link into a node: its queues and labels become these. It takes no memory;
-    /// where it is refused, the whole tree is as it was.
+    /// A fault strikes the link into a node: its queues and labels become these. It takes no
+    /// memory; where it is refused, the whole tree is as it was.
     pub fn strike(&mut self, child: NodeId, start: &Start) -> Result<(), StrikeFault>
         ensures struck { OnOk result (self.new ≡ struck_tree self.old child start.now) }
         ensures named { OnOk result (IsSome (link_into self.old child)) }
@@ -161,8 +162,8 @@ impl TreeState {
     }
 
     /// A node restarts: its list becomes this one, and its senders hold nothing and begin with the
-    /// first item of it; at the root it is what is published. Where it is refused, the whole tree is
-    /// as it was.
+    /// first item of it; at the root it is what is published. Where it is refused, the whole tree
+    /// is as it was.
     pub fn restart(
         &mut self,
         alloc: Global,

@@ -1,14 +1,14 @@
 //! What a judge says, as text: the bounds of the nodes of a job, and the verdict of a report, or of
 //! one link.
 //!
-//! The layer above uses three facts. [`bounds_text`] has the sums of the law for each node, after how
-//! many reading rounds all has arrived there, and what faults cost.
-//! [`verdict`] answers true exactly where the report obeys the laws of the job's network, and its
-//! text names the first part that is broken where it does not. [`link_verdict`] answers true
-//! exactly where the offered items of a link are picked from those of its job and the link law
-//! holds, and its text names the first of both that is broken; [`read_link_report`] reads exactly
-//! the texts of links, as `stab link` prints them. The functions `push_..` and those of one node are
-//! the pieces of which another judge makes its texts.
+//! The layer above uses three facts. [`bounds_text`] has the sums of the law for each node, after
+//! how many reading rounds all has arrived there, and what faults cost. [`verdict`] answers true
+//! exactly where the report obeys the laws of the job's network, and its text names the first part
+//! that is broken where it does not. [`link_verdict`] answers true exactly where the offered items
+//! of a link are picked from those of its job and the link law holds, and its text names the first
+//! of both that is broken; [`read_link_report`] reads exactly the texts of links, as `stab link`
+//! prints them. The functions `push_..` and those of one node are the pieces of which another judge
+//! makes its texts.
 #![tactic(auto)]
 
 mod bounds;

@@ -78,7 +78,8 @@ AllFit p s [] = Unit {0}
 AllFit p s (step ∷ steps) = FitsState s step × AllFit p (replay p s (events_of step)) steps
 
 -- an interleaving of these steps of the sender and of the receiver leads to this state
-pub record Interleaved (g : LinkSetup) (sent : List SendStep) (received : List RecvStep) (s : LinkState)
+pub record Interleaved (g : LinkSetup) (sent : List SendStep) (received : List RecvStep)
+    (s : LinkState)
     : Type 0 where
   pub steps : List LinkStep
   pub by_sender : sender_steps steps ≡ sent
@@ -87,7 +88,8 @@ pub record Interleaved (g : LinkSetup) (sent : List SendStep) (received : List R
   pub leads : s ≡ replay g.params (initial g.start) (all_events steps)
 
 -- an interleaving of these steps leads to a state with which the accounts of both ends agree
-abbrev pub AnInterleavingExplains : LinkSetup → List SendStep → SenderAccount → List RecvStep → ReceiverAccount
+abbrev pub AnInterleavingExplains : LinkSetup → List SendStep → SenderAccount → List RecvStep
+    → ReceiverAccount
     → Type 0
 AnInterleavingExplains g sent sender received receiver =
     (s : LinkState) × Interleaved g sent received s × Agree s sender receiver

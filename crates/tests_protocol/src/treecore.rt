@@ -1,5 +1,5 @@
-//! A tree under one schedule, where no example shows it: how starts, openings and steps are refused,
-//! and what openings and steps answer.
+//! A tree under one schedule, where no example shows it: how starts, openings and steps are
+//! refused, and what openings and steps answer.
 
 ghost use Rattle.std.specs.Prelude.{◌≡◌, IfOk, length};
 ghost use Rattle.stab_tree.specs.NodeOpenings.{FitTree};

@@ -27,8 +27,8 @@ pub(crate) enum Order {
     Together,
     /// A node begins once each node before it is done, the root first.
     RootFirst,
-    /// Turn by turn, the root first: a node's turn begins once each node before it asks for its next
-    /// one, and each node after it for its own.
+    /// Turn by turn, the root first: a node's turn begins once each node before it asks for its
+    /// next one, and each node after it for its own.
     InTurns,
 }
 

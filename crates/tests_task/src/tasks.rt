@@ -1,4 +1,5 @@
-//! What the tests of tasks share: jobs, the text that each task writes for them, and how a task ends.
+//! What the tests of tasks share: jobs, the text that each task writes for them, and how a task
+//! ends.
 
 use stab_job::JobFault;
 use stab_script::LinkJobFault;
