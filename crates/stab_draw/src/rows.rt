@@ -1,3 +1,4 @@
+ghost use Rattle.std.specs.Prelude.{◌↔◌, IsErrOf};
 ghost use Rattle.std.specs.Prelude.{◌≡◌, ◌++◌, [], ◌∷◌, Some, All, option_map, option_to_list};
 ghost use Rattle.std.specs.Prelude.{slice_get, IfErr, IfOk, OnOk};
 ghost use Rattle.stab_core.specs.Link.{IsReason, link_at};
@@ -6,7 +7,7 @@ ghost use Rattle.stab_core.specs.Step.{effect, step};
 ghost use Rattle.stab_treecore.specs.Network.{IsNetwork, network_of};
 ghost use Rattle.stab_tree.specs.NodeOpenings.{FitTree};
 ghost use Rattle.stab_treecore.specs.Refusals.{IsScheduleReason, IsStartReason, NamesLink};
-ghost use Rattle.stab_treecore.specs.Refusals.{OnePerLink};
+ghost use Rattle.stab_treecore.specs.Refusals.{NamesNoLink, OnePerLink};
 ghost use Rattle.stab_treecore.specs.TreeReplay.{initial_tree};
 ghost use Rattle.stab_treecore.specs.TreeStep.{tree_step};
 ghost use Rattle.stab_treecore.specs.WholeTree.{link_into};
@@ -151,6 +152,8 @@ pub fn push_step_row(
     ensures row { OnOk result (rows.new.items
         ≡ rows.old.items ++ option_to_list (step_row state.old event)) }
     ensures steps { OnOk result (state.new ≡ tree_step state.old event) }
+    ensures no_such_link { IsErrOf result TreeStepFault.NoSuchLink
+        ↔ NamesNoLink state.old.parents event }
 {
     let child = event.child;
     let its_event = event_on(tree, state, &event);

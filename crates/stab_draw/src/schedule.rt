@@ -1,7 +1,9 @@
+ghost use Rattle.std.specs.Prelude.{◌↔◌, IsErrOf};
 ghost use Rattle.std.specs.Prelude.{◌≡◌, ◌++◌, ◌<◌, All, length, string_bytes, IfErr, IfOk, OnOk};
 ghost use Rattle.stab_treecore.specs.Network.{IsNetwork, network_of};
 ghost use Rattle.stab_tree.specs.NodeOpenings.{FitTree};
 ghost use Rattle.stab_treecore.specs.Refusals.{IsScheduleReason, IsStartReason, NamesLink};
+ghost use Rattle.stab_treecore.specs.Refusals.{NamesNoLink};
 ghost use Rattle.stab_treecore.specs.TreeStep.{event_on, next_item, tree_effect, tree_step};
 ghost use Rattle.stab_treecore.specs.WholeTree.{link_into};
 ghost use Rattle.stab_draw.specs.Schedules.{link_line, link_start_line, node_start_line};
@@ -151,6 +153,8 @@ pub fn push_step_line(
     ensures line { OnOk result (string_bytes text.new
         ≡ string_bytes text.old ++ step_line tree.now state.old event) }
     ensures steps { OnOk result (state.new ≡ tree_step state.old event) }
+    ensures no_such_link { IsErrOf result TreeStepFault.NoSuchLink
+        ↔ NamesNoLink state.old.parents event }
 {
     let child = event.child;
     let its_event = event_on(tree, state, &event);
