@@ -218,10 +218,10 @@ impl Agent {
         });
         let poller = Arc::new(Poller::new().map_err(|e| format!("poll: {e}"))?);
         let wakes = poller.clone();
-        let applier = config
-            .apply
-            .as_ref()
-            .map(|apply| Applier::new(apply, Arc::new(move || drop(wakes.notify()))));
+        let applier = config.apply.as_ref().map(|apply| {
+            Applier::new(apply, Arc::new(move || drop(wakes.notify())))
+                .map_err(|e| format!("apply: its threads cannot be started: {e}"))
+        });
         let mut relay =
             Relay::new(config.root.is_some(), config.link.backlog, !listeners.is_empty());
         if let Children::Named(names) = &config.children {
@@ -253,7 +253,7 @@ impl Agent {
             relay,
             table: Table::default(),
             root: config.root.as_ref().map(|root| Root::new(root, now)),
-            applier,
+            applier: applier.transpose()?,
             below: Below::default(),
             control: control.transpose()?,
             metrics: metrics.transpose()?,

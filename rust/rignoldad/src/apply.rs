@@ -99,7 +99,8 @@ struct State {
 }
 
 impl Applier {
-    pub fn new(config: &Apply, wake: Wake) -> Applier {
+    /// Starts the threads. Where one cannot be started, the other one ends, and nothing was done.
+    pub fn new(config: &Apply, wake: Wake) -> io::Result<Applier> {
         let folder = config.folder.clone();
         let due = names(&folder.join(PENDING)).into_iter().filter(|name| is_key(name)).collect();
         let state = State {
@@ -118,12 +119,13 @@ impl Applier {
         };
         let changed = Condvar::new();
         let shared = Arc::new(Shared { folder, state: Mutex::new(state), changed, wake });
+        let applier = Applier { shared };
         for (name, work) in [("files", keep_files as fn(&Shared)), ("hooks", run_hooks)] {
-            let shared = shared.clone();
+            let shared = applier.shared.clone();
             let thread = thread::Builder::new().name(name.into()).stack_size(STACK_BYTES);
-            thread.spawn(move || work(&shared)).expect("a thread can be started");
+            thread.spawn(move || work(&shared))?;
         }
-        Applier { shared }
+        Ok(applier)
     }
 
     /// Takes a new hook, mode and timeout. The folder stays.
@@ -381,11 +383,11 @@ fn run_hooks(shared: &Shared) {
             return;
         }
         let oldest = state.hooks.iter().min_by_key(|(_, change)| change.first);
-        let Some(key) = oldest.map(|(key, _)| key.clone()) else {
+        let oldest = oldest.map(|(key, _)| key.clone());
+        let Some((key, change)) = oldest.and_then(|key| state.hooks.remove_entry(&key)) else {
             state = shared.wait(state);
             continue;
         };
-        let change = state.hooks.remove(&key).expect("it was found");
         state.running = Some(change.first);
         let config = state.config.clone();
         drop(state);

@@ -179,7 +179,7 @@ impl Server {
 
     /// Answers a request.
     pub fn answer(&mut self, ticket: Ticket, response: &Response) {
-        let mut line = serde_json::to_vec(response).expect("a response is JSON");
+        let mut line = serde_json::to_vec(response).expect("texts, numbers and lists are JSON");
         line.push(b'\n');
         self.0.answer(ticket, &line, false);
     }

@@ -80,7 +80,7 @@ impl Relay {
             false => Above::Below(Session::new(node)),
         };
         Relay {
-            params: Params::new(1, LABELS).expect("they are lawful"),
+            params: Params::new(1, LABELS).expect("capacity 1 may have 4 to 1000 labels"),
             above,
             room,
             keeps,

@@ -96,7 +96,7 @@ impl Below {
         let mut list = self.tree(status, now);
         list.truncate(AGENTS);
         loop {
-            let bytes = serde_json::to_vec(&list).expect("a list is JSON");
+            let bytes = serde_json::to_vec(&list).expect("texts, numbers and lists are JSON");
             if bytes.len() <= REPORT_BYTES {
                 return bytes;
             }

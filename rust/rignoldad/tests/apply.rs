@@ -67,7 +67,7 @@ impl Drop for Place {
 const LOG: &str = "echo \"$1 $2 $(cat) $RIGNOLDA_SEQUENCE\" >>calls";
 
 fn start(config: &Apply) -> Applier {
-    Applier::new(config, Arc::new(|| ()))
+    Applier::new(config, Arc::new(|| ())).unwrap()
 }
 
 fn until(what: impl Fn() -> bool) {

@@ -169,7 +169,7 @@ fn run(arguments: &Arguments) -> Result<String, Failed> {
 }
 
 fn json(value: &impl serde::Serialize) -> String {
-    serde_json::to_string(value).expect("it is JSON") + "\n"
+    serde_json::to_string(value).expect("texts, numbers and lists are JSON") + "\n"
 }
 
 /// The value to publish.
