@@ -70,14 +70,25 @@
 //!
 //! Not proved: this crate itself, which hands each call to the C library's. All its types are
 //! [`Send`] and [`Sync`]: what a call may change it has for itself, and it keeps nothing elsewhere.
-#![no_std]
+//!
+//! # Agents over a network
+//!
+//! With the feature `net`, which is on unless it is turned off, there is what an agent needs beside
+//! these calls: [`net`](crate::net) are its connections, byte for byte and without sockets, and
+//! [`settings`](crate::settings) are keys and values that travel so. These two need the standard
+//! library, and are tested and not proved.
+#![cfg_attr(not(feature = "net"), no_std)]
 #![warn(missing_docs)]
 
 extern crate alloc;
 
 mod calls;
+#[cfg(feature = "net")]
+pub mod net;
 mod node;
 mod session;
+#[cfg(feature = "net")]
+pub mod settings;
 pub mod word;
 
 pub use node::{Child, Node};

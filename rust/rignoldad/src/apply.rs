@@ -6,6 +6,7 @@
 //! at the next round, and after a crash. Nothing in the folder has to be right: what is wrong or
 //! lacking is made anew by the next round.
 use crate::config::{is_key, Apply};
+use rignolda::settings::Meaning;
 use std::collections::{BTreeMap, BTreeSet};
 use std::fs::{self, File, OpenOptions, Permissions};
 use std::io::{self, Read, Seek, Write};
@@ -133,22 +134,27 @@ impl Applier {
         self.shared.lock().config = config.clone();
     }
 
-    /// Makes a setting's file.
-    pub fn set(&mut self, key: &str, value: &[u8], sequence: u64) {
-        self.change(key, Some(Value(Arc::new(value.into()), 0..value.len())), sequence);
+    /// Makes the files what this body says.
+    pub fn take(&mut self, meaning: Meaning<'_>, sequence: u64) {
+        match meaning {
+            Meaning::Changes(entries) => {
+                entries.iter().for_each(|(key, value)| self.change(key, *value, sequence));
+            }
+            Meaning::Table(entries) => {
+                let entries = entries.into_iter();
+                self.table(entries.filter_map(|(key, value)| Some((key, value?))), sequence);
+            }
+            Meaning::Harmless => (),
+        }
     }
 
-    /// Removes a setting's file.
-    pub fn unset(&mut self, key: &str, sequence: u64) {
-        self.change(key, None, sequence);
-    }
-
-    fn change(&mut self, key: &str, value: Option<Value>, sequence: u64) {
+    /// Makes a setting's file; without a value, removes it.
+    pub fn change(&mut self, key: &str, value: Option<&[u8]>, sequence: u64) {
         if !is_key(key) {
             return;
         }
-        let mut state = self.shared.lock();
-        put(&mut state.files, key, value, sequence, sequence);
+        let value = value.map(|value| Value(Arc::new(value.into()), 0..value.len()));
+        put(&mut self.shared.lock().files, key, value, sequence, sequence);
         self.shared.changed.notify_all();
     }
 

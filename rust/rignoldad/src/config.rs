@@ -2,7 +2,9 @@
 //!
 //! Every fault is reported with its line and its key. Nothing here opens another file, except that
 //! [`Config::read`] reads the one that it is given.
-use std::collections::BTreeSet;
+pub use rignolda::net::{is_name, Children, Parent, Setup, NAME_BYTES};
+pub use rignolda::settings::is_key;
+use std::collections::BTreeMap;
 use std::fmt;
 use std::net::{IpAddr, SocketAddr};
 use std::ops::RangeInclusive;
@@ -10,10 +12,6 @@ use std::path::{Path, PathBuf};
 use std::time::Duration;
 use toml::value::{Table, Value};
 
-/// The longest name of an agent, in bytes.
-pub const NAME_BYTES: usize = 64;
-/// The longest key of a setting, in bytes.
-pub const KEY_BYTES: usize = 128;
 /// The longest configuration file, in bytes.
 const FILE_BYTES: u64 = 1 << 20;
 const CHILDREN: usize = 10_000;
@@ -24,9 +22,8 @@ const ADDRESSES: usize = 64;
 pub struct Config {
     pub name: String,
     pub listen: Vec<Address>,
-    pub children: Children,
-    /// Whom to connect to, in the order in which they are tried. Empty at the root alone.
-    pub parents: Vec<Parent>,
+    pub children: Children<Address>,
+    pub parents: Vec<Parent<Address>>,
     pub root: Option<Root>,
     pub link: Link,
     pub tls: Option<Tls>,
@@ -35,21 +32,6 @@ pub struct Config {
     pub apply: Option<Apply>,
     pub control: Option<PathBuf>,
     pub metrics: Option<SocketAddr>,
-}
-
-/// Which agents may connect as children.
-#[derive(Clone, Debug, PartialEq)]
-pub enum Children {
-    Named(Vec<String>),
-    /// Each one whose certificate holds; without TLS, each one that can connect.
-    Any,
-}
-
-/// A parent, and where it is: `NAME@ADDRESS`. Where there is a name, its hello has to carry it.
-#[derive(Clone, Debug, PartialEq)]
-pub struct Parent {
-    pub name: Option<String>,
-    pub address: Address,
 }
 
 /// Where an agent listens, or connects to.
@@ -116,24 +98,6 @@ impl fmt::Display for Fault {
         }
         f.write_str(&self.text)
     }
-}
-
-/// Whether this may be the name of an agent: letters, digits, `.`, `_` and `-`, and no dot or
-/// hyphen in front.
-pub fn is_name(text: &str) -> bool {
-    is_plain(text, NAME_BYTES)
-}
-
-/// Whether this may be the key of a setting, by the same rule. So a key is a file's name, and no
-/// file whose name begins with a dot is a setting.
-pub fn is_key(text: &str) -> bool {
-    is_plain(text, KEY_BYTES)
-}
-
-fn is_plain(text: &str, most: usize) -> bool {
-    (1..=most).contains(&text.len())
-        && !text.starts_with(['.', '-'])
-        && text.bytes().all(|b| b.is_ascii_alphanumeric() || b"._-".contains(&b))
 }
 
 impl Address {
@@ -232,6 +196,31 @@ impl Config {
         .into_iter()
         .filter_map(|(key, differs)| differs.then_some(key))
         .collect()
+    }
+
+    /// Takes a new configuration, but for these keys.
+    pub fn take(&mut self, new: Config) {
+        let old = std::mem::replace(self, new);
+        self.link.backlog = old.link.backlog;
+        (self.name, self.listen) = (old.name, old.listen);
+        (self.control, self.metrics) = (old.control, old.metrics);
+        if let (Some(new), Some(old)) = (&mut self.root, old.root) {
+            new.settings = old.settings;
+        }
+        if let (Some(new), Some(old)) = (&mut self.apply, old.apply) {
+            new.folder = old.folder;
+        }
+    }
+
+    /// Whom the agent may have connections with.
+    pub fn setup(&self) -> Setup<Address> {
+        Setup {
+            name: self.name.clone(),
+            parents: self.parents.clone(),
+            children: self.children.clone(),
+            ack_timeout: self.link.ack_timeout,
+            evict: self.link.evict,
+        }
     }
 }
 
@@ -428,11 +417,18 @@ impl<'a> Check<'a> {
             name,
             children,
         };
-        let no_child = config.children == Children::Named(Vec::new());
-        if !no_child && listen.is_empty() {
+        let comes = match &config.children {
+            Children::Named(names) => names.values().any(Option::is_none),
+            Children::Any => true,
+        };
+        let parent_comes = config.parents.iter().any(|parent| parent.address.is_none());
+        if comes && listen.is_empty() {
             self.fault("children", "children connect to an address of `listen`");
         }
-        if no_child && !listen.is_empty() {
+        if parent_comes && listen.is_empty() {
+            self.fault("parents", "a parent without ADDRESS connects to an address of `listen`");
+        }
+        if !comes && !parent_comes && !listen.is_empty() {
             self.fault("listen", "nobody may connect: there are no `children`");
         }
         if config.root.is_some() && !parents.is_empty() {
@@ -458,26 +454,32 @@ impl<'a> Check<'a> {
         config
     }
 
-    fn children(&mut self, name: &str) -> Children {
+    fn children(&mut self, own: &str) -> Children<Address> {
         if self.get("children").and_then(Value::as_str) == Some("any") {
             return Children::Any;
         }
-        let names = self.texts("children", CHILDREN);
-        let mut seen = BTreeSet::from([name]);
-        for name in &names {
-            self.name("children", name);
-            if !seen.insert(name) {
+        let mut children = BTreeMap::new();
+        for text in self.texts("children", CHILDREN) {
+            let (name, address) = match text.split_once('@') {
+                Some((name, address)) => (name, self.address("children", address)),
+                None => (text, None),
+            };
+            let name = self.name("children", name);
+            if name == own || children.insert(name.clone(), address).is_some() {
                 self.fault("children", format!("`{}` is there twice", name.escape_debug()));
             }
         }
-        Children::Named(names.into_iter().map(String::from).collect())
+        Children::Named(children)
     }
 
-    fn parent(&mut self, own: &str, text: &str) -> Option<Parent> {
+    fn parent(&mut self, own: &str, text: &str) -> Option<Parent<Address>> {
+        // (no name has a colon, and each address has one)
         let (name, address) = match text.split_once('@') {
-            Some((name, address)) => (Some(self.name("parents", name)), address),
-            None => (None, text),
+            Some((name, address)) => (Some(name), Some(address)),
+            None if text.contains(':') => (None, Some(text)),
+            None => (Some(text), None),
         };
+        let name = name.map(|name| self.name("parents", name));
         if self.has("tls") && name.is_none() {
             let text = "with [tls] it is NAME@ADDRESS: a child's certificate must not do for it";
             self.fault("parents", text);
@@ -485,7 +487,11 @@ impl<'a> Check<'a> {
         if name.as_deref() == Some(own) {
             self.fault("parents", "the agent is no parent of its own");
         }
-        Some(Parent { name, address: self.address("parents", address)? })
+        let address = match address {
+            Some(address) => Some(self.address("parents", address)?),
+            None => None,
+        };
+        Some(Parent { name, address })
     }
 
     fn mode(&mut self) -> u32 {

@@ -172,9 +172,9 @@ impl AsRawFd for Line {
     }
 }
 
-impl Line {
-    /// Whether the other end may be called so: by TLS, whether its certificate has this name.
-    pub fn may_be(&self, name: &str) -> bool {
+impl rignolda::net::Line for Line {
+    /// By TLS, whether its certificate has this name.
+    fn may_be(&self, name: &str) -> bool {
         match self {
             Line::Tls(secure) => secure
                 .stream
@@ -184,7 +184,9 @@ impl Line {
             _ => true,
         }
     }
+}
 
+impl Line {
     /// Whether to wait until the line can be written, where it has something to write or not.
     pub fn wants_write(&self, has_output: bool) -> bool {
         match self {

@@ -1,39 +1,23 @@
 //! The root's settings: a folder is the truth, and what differs from it is published.
-//!
-//! Changes that wait are merged: of each key the last value alone is published. A round is so many
-//! harmless items and then the whole table.
-use crate::body::{entry_bytes, Body, Entry, Meaning, BODY_BYTES, VALUE_BYTES};
 use crate::config::{is_key, Root as Config};
 use crate::fact;
 use inotify::{Inotify, WatchMask};
+use rignolda::net::BODY_BYTES;
+use rignolda::settings::{Published, Publisher, VALUE_BYTES};
 use std::collections::{BTreeMap, BTreeSet};
 use std::fs;
 use std::io::{self, Write};
 use std::os::unix::io::{AsRawFd, RawFd};
 use std::path::Path;
-use std::sync::Arc;
 use std::time::{Duration, Instant, SystemTime, UNIX_EPOCH};
 
-/// The most changes in one body.
-const CHANGES: usize = 4_096;
-/// After so many items a new table is published, if it is not longer than they were.
-const MANY: u64 = 64;
 /// How long after a change of the folder it is read.
 const SETTLES: Duration = Duration::from_millis(5);
 
 pub struct Root {
     config: Config,
     notify: Option<Inotify>,
-    settings: BTreeMap<String, Vec<u8>>,
-    /// The keys whose last value is not published yet.
-    changed: BTreeSet<String>,
-    sequence: u64,
-    /// Items and bytes since the last whole table, and what that table had.
-    since: (u64, usize),
-    table_bytes: usize,
-    /// Items of the round under way that are still to come, its table with them.
-    round: u64,
-    table_first: bool,
+    publisher: Publisher,
     pub draining: bool,
     next_round: Instant,
     next_scan: Option<Instant>,
@@ -48,13 +32,7 @@ impl Root {
         let mut root = Root {
             config: config.clone(),
             notify: Inotify::init().ok(),
-            settings: BTreeMap::new(),
-            changed: BTreeSet::new(),
-            sequence: clock.as_micros() as u64,
-            since: (0, 0),
-            table_bytes: 0,
-            round: 0,
-            table_first: true,
+            publisher: Publisher::new(clock.as_micros() as u64),
             draining: false,
             next_round: now,
             next_scan: None,
@@ -75,11 +53,7 @@ impl Root {
     }
 
     pub fn settings(&self) -> u64 {
-        self.settings.len() as u64
-    }
-
-    pub fn is_file(&self) -> bool {
-        self.config.settings.is_file()
+        self.publisher.settings().len() as u64
     }
 
     /// The folder may have changed: when it is read is said by [`Root::deadline`].
@@ -109,60 +83,28 @@ impl Root {
     /// A round begins now. One that is under way goes on instead.
     pub fn begin_round(&mut self, now: Instant) {
         self.next_round = now + self.config.round;
-        if self.round == 0 && !self.draining {
+        if !self.publisher.is_in_a_round() && !self.draining {
             self.read();
-            self.round = u64::from(self.config.harmless) + 1;
+            self.publisher.begin_round(self.config.harmless);
         }
     }
 
     /// Whether something waits to be published.
     pub fn waits(&self) -> bool {
-        !self.draining && (self.table_first || self.round > 0 || !self.changed.is_empty())
+        !self.draining && self.publisher.waits()
     }
 
-    /// The next body to publish, whether it is a whole table, and the keys whose value is in it.
-    /// `limit`: how many items may follow a table at most.
-    pub fn next(&mut self, limit: u64) -> Option<(Arc<Body>, bool, Vec<String>)> {
-        if !self.waits() {
+    /// The next body to publish. `limit`: how many items may follow a table at most.
+    pub fn next(&mut self, limit: u64) -> Option<Published> {
+        if self.draining {
             return None;
         }
-        self.sequence += 1;
-        let (items, bytes) = self.since;
-        // (tables never take more than the changes between them, but where these are very many)
-        let is_long = bytes > self.table_bytes && (items >= MANY || bytes > VALUE_BYTES);
-        let is_long = is_long || items >= limit;
-        let is_table = self.table_first || (self.changed.is_empty() && self.round == 1) || is_long;
-        if is_table {
-            // (the table of a round comes behind its harmless items)
-            self.round -= u64::from(self.round == 1);
-            self.table_first = false;
-            let entries = self.settings.iter();
-            let entries = entries.map(|(key, value)| (key.as_str(), Some(value.as_slice())));
-            let body = Body::new(self.sequence, &Meaning::Table(entries.collect()));
-            self.since = (0, 0);
-            self.table_bytes = body.bytes.len();
-            return Some((body, true, std::mem::take(&mut self.changed).into_iter().collect()));
-        }
-        let (body, keys) = if self.changed.is_empty() {
-            self.round -= 1;
-            (Body::new(self.sequence, &Meaning::Harmless), Vec::new())
-        } else {
-            let later = self.changed.iter().nth(CHANGES).cloned();
-            let later = later.map_or(BTreeSet::new(), |key| self.changed.split_off(&key));
-            let keys: Vec<String> =
-                std::mem::replace(&mut self.changed, later).into_iter().collect();
-            let value = |key: &String| self.settings.get(key).map(Vec::as_slice);
-            let entries: Vec<Entry<'_>> =
-                keys.iter().map(|key| (key.as_str(), value(key))).collect();
-            (Body::new(self.sequence, &Meaning::Changes(entries)), keys)
-        };
-        self.since = (items + 1, bytes + body.bytes.len());
-        Some((body, false, keys))
+        self.publisher.next(limit)
     }
 
     /// Writes a setting's file and publishes it when its turn comes; without a value, removes it.
     pub fn change(&mut self, key: &str, value: Option<&[u8]>) -> Result<(), String> {
-        if self.is_file() {
+        if self.config.settings.is_file() {
             return Err(format!("the settings are kept in {}", self.config.settings.display()));
         }
         if self.draining {
@@ -171,9 +113,7 @@ impl Root {
         if !is_key(key) {
             return Err("it is no key".into());
         }
-        let old = self.settings.get(key).map_or(0, |old| entry_bytes(&(key, Some(old))));
-        let all = self.total() - old + entry_bytes(&(key, value));
-        if value.is_some_and(|value| value.len() > VALUE_BYTES) || all > BODY_BYTES {
+        if value.is_some_and(|value| !self.publisher.has_room(key, value)) {
             return Err("it is too long".into());
         }
         let path = self.config.settings.join(key);
@@ -183,17 +123,11 @@ impl Root {
         };
         done.map_err(|e| format!("{}: {e}", path.display()))?;
         // (also where it is as it was: whoever asked for it is told a number)
-        self.changed.insert(key.into());
         match value {
-            Some(value) => self.settings.insert(key.into(), value.into()),
-            None => self.settings.remove(key),
-        };
+            Some(value) => self.publisher.set(key, value.into()),
+            None => self.publisher.unset(key),
+        }
         Ok(())
-    }
-
-    fn total(&self) -> usize {
-        let entries = self.settings.iter();
-        13 + entries.map(|(key, value)| entry_bytes(&(key, Some(value)))).sum::<usize>()
     }
 
     /// Reads the settings, and notes what differs. What cannot be read stays as it was.
@@ -208,16 +142,10 @@ impl Root {
         };
         match read {
             Ok(settings) => {
-                let bytes = settings.iter().map(|(key, value)| entry_bytes(&(key, Some(value))));
-                if 13 + bytes.sum::<usize>() > BODY_BYTES {
+                if Publisher::bytes_of(&settings) > BODY_BYTES {
                     faults.insert(format!("all settings have more than {BODY_BYTES} bytes"));
                 } else {
-                    let old = std::mem::replace(&mut self.settings, settings);
-                    let differs = |(key, value): &(&String, &Vec<u8>)| old.get(*key) != Some(value);
-                    let new = self.settings.iter().filter(differs).map(|(key, _)| key.clone());
-                    self.changed.extend(new);
-                    let gone = old.into_keys().filter(|key| !self.settings.contains_key(key));
-                    self.changed.extend(gone);
+                    self.publisher.replace(settings);
                 }
             }
             Err(error) => {
@@ -263,7 +191,7 @@ impl Root {
                 Err(error) if error.kind() == io::ErrorKind::NotFound => (),
                 Err(error) => {
                     faults.insert(format!("{key}: {error}"));
-                    if let Some(value) = self.settings.get(key) {
+                    if let Some(value) = self.publisher.settings().get(key) {
                         settings.insert(key.to_owned(), value.clone());
                     }
                 }

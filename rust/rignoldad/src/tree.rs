@@ -2,12 +2,11 @@
 //!
 //! Each agent sends its list up now and then, itself first and each agent after its parent, and its
 //! parent puts it behind its own.
+pub use rignolda::net::wire::REPORT_BYTES;
 use serde::{Deserialize, Serialize};
 use std::collections::{BTreeMap, BTreeSet};
 use std::time::Instant;
 
-/// The most bytes of a list that is sent up.
-pub const REPORT_BYTES: usize = 1 << 20;
 /// The most agents in one.
 const AGENTS: usize = 10_000;
 

@@ -66,6 +66,22 @@ impl Drop for Place {
 
 const LOG: &str = "echo \"$1 $2 $(cat) $RIGNOLDA_SEQUENCE\" >>calls";
 
+/// The changes of one setting.
+trait Changes {
+    fn set(&mut self, key: &str, value: &[u8], sequence: u64);
+    fn unset(&mut self, key: &str, sequence: u64);
+}
+
+impl Changes for Applier {
+    fn set(&mut self, key: &str, value: &[u8], sequence: u64) {
+        self.change(key, Some(value), sequence);
+    }
+
+    fn unset(&mut self, key: &str, sequence: u64) {
+        self.change(key, None, sequence);
+    }
+}
+
 fn start(config: &Apply) -> Applier {
     Applier::new(config, Arc::new(|| ())).unwrap()
 }

@@ -1,5 +1,5 @@
 //! What a configuration means, and what is said of one that is wrong.
-use rignoldad::config::{is_key, milliseconds, Address, Children, Config};
+use rignoldad::config::{milliseconds, Address, Children, Config};
 use std::time::Duration;
 
 const WHOLE: &str = r#"
@@ -33,9 +33,10 @@ fn reads_every_key() {
     assert_eq!(config.name, "rack3");
     assert_eq!(config.listen[1], Address::Tcp("[fd00::3]:7464".into()));
     assert_eq!(config.listen[2], Address::Unix("/run/rignolda/link".into()));
-    assert_eq!(config.children, Children::Named(vec!["host31".into(), "host32".into()]));
+    let children = [("host31".into(), None), ("host32".into(), None)];
+    assert_eq!(config.children, Children::Named(children.into()));
     assert_eq!(config.parents[1].name.as_deref(), Some("hub2"));
-    assert_eq!(config.parents[1].address.to_string(), "10.1.0.2:7464");
+    assert_eq!(config.parents[1].address, Some(Address::Tcp("10.1.0.2:7464".into())));
     assert_eq!(config.link.ack_timeout, Duration::from_millis(500));
     assert_eq!(config.link.backlog, 200);
     assert_eq!(config.link.evict, Duration::from_secs(600));
@@ -162,16 +163,6 @@ fn plain_tcp_stays_on_the_machine_unless_it_is_asked_for() {
     for address in ["0.0.0.0:1", "[::]:1", "hub:1", "localhost.example:1", "127.0.0.1.example:1"] {
         assert!(Config::parse(&text(address)).is_err(), "{address}");
         assert!(Config::parse(&(text(address) + "insecure = true")).is_ok(), "{address}");
-    }
-}
-
-#[test]
-fn keys_are_names_of_plain_files() {
-    for good in ["a", "nginx.conf", "A-1_b", &"k".repeat(128)] {
-        assert!(is_key(good), "{good}");
-    }
-    for bad in ["", ".", "..", ".new", "a/b", "-r", "a b", "a\n", "ä", "a\0", &"k".repeat(129)] {
-        assert!(!is_key(bad), "{bad:?}");
     }
 }
 

@@ -9,6 +9,7 @@ use openssl::pkey::{PKey, Private};
 use openssl::ssl::{SslConnector, SslMethod, SslVerifyMode, SslVersion};
 use openssl::x509::extension::{BasicConstraints, SubjectAlternativeName};
 use openssl::x509::{X509Builder, X509NameBuilder, X509};
+use rignolda::net::Line as _;
 use rignoldad::config::{Address, Tls};
 use rignoldad::line::{Line, Listener, Maker, Place};
 use std::fs;

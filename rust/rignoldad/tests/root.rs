@@ -1,5 +1,6 @@
 //! The root's folder, and what is published of it.
-use rignoldad::body::{Body, Meaning, VALUE_BYTES};
+use rignolda::net::{checksum, Body};
+use rignolda::settings::{Meaning, VALUE_BYTES};
 use rignoldad::config;
 use rignoldad::root::Root;
 use std::collections::BTreeMap;
@@ -53,7 +54,7 @@ fn said(body: &Body) -> (char, Said) {
 }
 
 fn next(root: &mut Root) -> Option<(char, Said)> {
-    root.next(100).map(|(body, _, _)| said(&body))
+    root.next(100).map(|published| said(&published.body))
 }
 
 fn entry(key: &str, value: Option<&str>) -> (String, Option<String>) {
@@ -108,13 +109,15 @@ fn of_changes_that_wait_the_last_value_is_published() {
 fn numbers_go_up_by_one() {
     let folder = Folder::new("numbers");
     let (mut root, _) = root(&folder.0, false);
-    let first = root.next(100).unwrap().0.meaning().unwrap().0;
+    let number = |root: &mut Root| root.next(100).unwrap().body.meaning().unwrap().0;
+    let first = number(&mut root);
     root.change("a", Some(b"1")).unwrap();
-    let (body, is_table, keys) = root.next(100).unwrap();
-    assert_eq!((body.meaning().unwrap().0, is_table, keys), (first + 1, false, vec!["a".into()]));
+    let next = root.next(100).unwrap();
+    assert_eq!((next.body.meaning().unwrap().0, next.is_table), (first + 1, false));
+    assert_eq!(next.keys, ["a".to_string()].into());
     // (a root that begins later goes on above)
     let (mut later, _) = self::root(&folder.0, false);
-    assert!(later.next(100).unwrap().0.meaning().unwrap().0 > first);
+    assert!(number(&mut later) > first);
 }
 
 #[test]
@@ -124,14 +127,14 @@ fn a_table_comes_after_so_many_items_or_bytes() {
     let mut kinds = String::new();
     for at in 0..12 {
         root.change("key", Some(at.to_string().as_bytes())).unwrap();
-        kinds.push(said(&root.next(5).unwrap().0).0);
+        kinds.push(said(&root.next(5).unwrap().body).0);
     }
     assert_eq!(kinds, "CCCCCTCCCCCT");
     let big = vec![b'x'; VALUE_BYTES];
     kinds.clear();
     for at in 0..6 {
         root.change(&format!("big{at}"), Some(&big)).unwrap();
-        kinds.push(said(&root.next(100).unwrap().0).0);
+        kinds.push(said(&root.next(100).unwrap().body).0);
     }
     assert_eq!(kinds, "CTCCTC", "as many bytes as the table has");
 }
@@ -194,5 +197,22 @@ fn a_file_may_hold_all_settings() {
         root.notified(now);
         root.tick(now + ROUND / 2);
         assert_eq!(root.settings(), 2);
+    }
+}
+
+#[test]
+fn the_checksum_is_that_of_another_program() {
+    let mut state = 5_u64;
+    let bytes: Vec<u8> = (0..5_000)
+        .map(|_| {
+            state = state.wrapping_mul(6_364_136_223_846_793_005).wrapping_add(1);
+            (state >> 56) as u8
+        })
+        .collect();
+    for length in (0..100).chain([4_096, 4_999]) {
+        for from in 0..9.min(bytes.len() - length + 1) {
+            let part = &bytes[from..from + length];
+            assert_eq!(checksum(part), crc32fast::hash(part), "{from} {length}");
+        }
     }
 }

@@ -1,7 +1,7 @@
 //! Messages and bodies: what is written is read again, and whatever else comes does no harm.
-use rignoldad::body::{entry_bytes, Body, Meaning, BODY_BYTES, VALUE_BYTES};
-use rignoldad::tree::REPORT_BYTES;
-use rignoldad::wire::{ack, frame, report, take, Expect, Hello, Message};
+use rignolda::net::wire::{ack, frame, report, take, Expect, Hello, Message, REPORT_BYTES};
+use rignolda::net::{Body, BODY_BYTES};
+use rignolda::settings::{entry_bytes, is_key, Meaning, VALUE_BYTES};
 
 struct Random(u64);
 
@@ -14,12 +14,19 @@ impl Random {
     }
 
     fn bytes(&mut self, most: u64) -> Vec<u8> {
-        (0..self.next() % (most + 1)).map(|_| self.next() as u8).collect()
+        (0..self.next() % (most + 1))
+            .map(|_| self.next() as u8)
+            .collect()
     }
 }
 
 fn hello() -> Hello {
-    Hello { life: 0x0102_0304_0506_0708, label: 255, from: "host31".into(), to: "rack3".into() }
+    Hello {
+        life: 0x0102_0304_0506_0708,
+        label: 255,
+        from: "host31".into(),
+        to: "rack3".into(),
+    }
 }
 
 /// All messages that come before the first error, and the bytes that are left.
@@ -44,9 +51,18 @@ fn the_bytes_are_these() {
     let bytes = b"C\0\0\0\0\0\0\0\x07\0\0\0\x02S\x01a\0\0\0\x02xyU\x01b";
     assert_eq!(body.bytes, bytes);
     // (the checksum of another program: zlib's crc32)
-    assert_eq!(Body::new(1, &Meaning::Harmless).bytes, b"H\0\0\0\0\0\0\0\x01");
+    assert_eq!(
+        Body::new(1, &Meaning::Harmless).bytes,
+        b"H\0\0\0\0\0\0\0\x01"
+    );
     assert_eq!(Body::new(1, &Meaning::Harmless).item, CRC_OF_HARMLESS);
-    let head = frame(3, &Body { item: 0x0a0b_0c0d, bytes: vec![9; 5] });
+    let head = frame(
+        3,
+        &Body {
+            item: 0x0a0b_0c0d,
+            bytes: vec![9; 5],
+        },
+    );
     assert_eq!(head, b"F\x00\x03\x0a\x0b\x0c\x0d\x00\x00\x00\x05");
 }
 
@@ -54,16 +70,27 @@ const CRC_OF_HARMLESS: u32 = 0xf444_8527;
 
 #[test]
 fn messages_come_in_any_pieces() {
-    let body = Body::new(5, &Meaning::Table(vec![("a", Some(b"1")), ("b", Some(b""))]));
+    let body = Body::new(
+        5,
+        &Meaning::Table(vec![("a", Some(b"1")), ("b", Some(b""))]),
+    );
     let mut frames = frame(9, &body);
     frames.extend_from_slice(&body.bytes);
-    frames.extend(frame(10, &Body { item: 4, bytes: vec![] }));
+    frames.extend(frame(
+        10,
+        &Body {
+            item: 4,
+            bytes: vec![],
+        },
+    ));
     let mut acks = ack(9);
     acks.extend(report(b"[1]"));
     acks.extend(ack(10));
-    for (stream, expect, count) in
-        [(hello().bytes(), Expect::Hello, 1), (frames, Expect::Frames, 2), (acks, Expect::Acks, 3)]
-    {
+    for (stream, expect, count) in [
+        (hello().bytes(), Expect::Hello, 1),
+        (frames, Expect::Frames, 2),
+        (acks, Expect::Acks, 3),
+    ] {
         let (whole, left) = all(stream.clone(), expect);
         assert_eq!((whole.len(), left), (count, Ok(vec![])));
         let (mut input, mut pieces) = (Vec::new(), Vec::new());
@@ -80,7 +107,11 @@ fn what_is_too_long_is_refused_before_it_comes() {
     let long = |kind: &[u8], length: u32| [kind, &length.to_be_bytes()].concat();
     let frame = long(b"F\0\0\0\0\0\0", BODY_BYTES as u32 + 1);
     assert_eq!(all(frame, Expect::Frames).1, Err("a body is too long"));
-    assert!(all(long(b"F\0\0\0\0\0\0", BODY_BYTES as u32), Expect::Frames).1.is_ok());
+    assert!(
+        all(long(b"F\0\0\0\0\0\0", BODY_BYTES as u32), Expect::Frames)
+            .1
+            .is_ok()
+    );
     let report = long(b"R", REPORT_BYTES as u32 + 1);
     assert_eq!(all(report, Expect::Acks).1, Err("a report is too long"));
 }
@@ -88,18 +119,35 @@ fn what_is_too_long_is_refused_before_it_comes() {
 #[test]
 fn a_hello_of_another_kind_is_refused() {
     let good = hello().bytes();
-    assert_eq!(all(b"GET / HTTP/1.1\r\n".to_vec(), Expect::Hello).1, Err("it is no hello"));
+    assert_eq!(
+        all(b"GET / HTTP/1.1\r\n".to_vec(), Expect::Hello).1,
+        Err("it is no hello")
+    );
     let mut other = good.clone();
     other[4] = 2;
     let why = "its version of the protocol is another one";
     assert_eq!(all(other, Expect::Hello).1, Err(why));
     for name in ["", "a/b", ".a", "-a", "\u{e9}"] {
-        let bytes = Hello { from: name.into(), ..hello() }.bytes();
-        assert_eq!(all(bytes, Expect::Hello).1, Err("a name of its hello is none"), "{name}");
+        let bytes = Hello {
+            from: name.into(),
+            ..hello()
+        }
+        .bytes();
+        assert_eq!(
+            all(bytes, Expect::Hello).1,
+            Err("a name of its hello is none"),
+            "{name}"
+        );
     }
     // (a child that was not told the name of its parent says none)
-    let unknown = Hello { to: String::new(), ..hello() };
-    assert_eq!(all(unknown.bytes(), Expect::Hello).0, [Message::Hello(unknown)]);
+    let unknown = Hello {
+        to: String::new(),
+        ..hello()
+    };
+    assert_eq!(
+        all(unknown.bytes(), Expect::Hello).0,
+        [Message::Hello(unknown)]
+    );
 }
 
 #[test]
@@ -107,10 +155,19 @@ fn drawn_bytes_do_no_harm() {
     let mut random = Random(7);
     let good = [
         hello().bytes(),
-        [frame(1, &Body::new(1, &Meaning::Harmless)), b"H\0\0\0\0\0\0\0\x01".to_vec()].concat(),
+        [
+            frame(1, &Body::new(1, &Meaning::Harmless)),
+            b"H\0\0\0\0\0\0\0\x01".to_vec(),
+        ]
+        .concat(),
         ack(3),
         report(b"[]"),
-        Body::new(5, &Meaning::Table(vec![("a", Some(b"1")), ("b", Some(b"2"))])).bytes.clone(),
+        Body::new(
+            5,
+            &Meaning::Table(vec![("a", Some(b"1")), ("b", Some(b"2"))]),
+        )
+        .bytes
+        .clone(),
     ];
     for round in 0..200_000 {
         let mut bytes = match round % 2 {
@@ -129,9 +186,13 @@ fn drawn_bytes_do_no_harm() {
             }
         }
         // (under the right checksum, so that the rest is read)
-        let body = Body { item: crc32fast::hash(&bytes), bytes };
+        let body = Body::of(bytes);
         if let Some((sequence, meaning)) = body.meaning() {
-            assert_eq!(*Body::new(sequence, &meaning), body, "one body says one thing");
+            assert_eq!(
+                *Body::new(sequence, &meaning),
+                body,
+                "one body says one thing"
+            );
         }
     }
 }
@@ -143,30 +204,62 @@ fn a_body_that_does_not_fit_its_item_says_nothing() {
     for bit in 0..body.bytes.len() * 8 {
         let mut bytes = body.bytes.clone();
         bytes[bit / 8] ^= 1 << (bit % 8);
-        assert_eq!(Body { item: body.item, bytes }.meaning(), None);
+        assert_eq!(
+            Body {
+                item: body.item,
+                bytes
+            }
+            .meaning(),
+            None
+        );
     }
     for bit in 0..32 {
-        assert_eq!(Body { item: body.item ^ 1 << bit, bytes: body.bytes.clone() }.meaning(), None);
+        assert_eq!(
+            Body {
+                item: body.item ^ 1 << bit,
+                bytes: body.bytes.clone()
+            }
+            .meaning(),
+            None
+        );
     }
 }
 
 #[test]
 fn bodies_that_nobody_writes_say_nothing() {
-    let says = |bytes: &[u8]| {
-        let body = Body { item: crc32fast::hash(bytes), bytes: bytes.to_vec() };
-        body.meaning().is_some()
-    };
+    let says = |bytes: &[u8]| Body::of(bytes.to_vec()).meaning().is_some();
     assert!(says(b"T\0\0\0\0\0\0\0\x05\0\0\0\0"));
     assert!(!says(b""), "nothing");
     assert!(!says(b"X\0\0\0\0\0\0\0\x05"), "another kind");
     assert!(!says(b"H\0\0\0\0\0\0\0\x05 "), "more behind it");
-    assert!(!says(b"T\0\0\0\0\0\0\0\x05\xff\xff\xff\xff"), "more entries than there are");
-    assert!(!says(b"T\0\0\0\0\0\0\0\x05\0\0\0\x01U\x01a"), "a table unsets nothing");
-    assert!(!says(b"C\0\0\0\0\0\0\0\x05\0\0\0\x02U\x01bU\x01a"), "in another order");
-    assert!(!says(b"C\0\0\0\0\0\0\0\x05\0\0\0\x02U\x01aU\x01a"), "a key twice");
-    assert!(!says(b"C\0\0\0\0\0\0\0\x05\0\0\0\x01U\x03a/b"), "a key that leaves the folder");
-    assert!(!says(b"C\0\0\0\0\0\0\0\x05\0\0\0\x01U\x02.a"), "a key of a hidden file");
-    assert!(!says(b"C\0\0\0\0\0\0\0\x05\0\0\0\x01S\x01a\xff\xff\xff\xffx"), "a value that is cut");
+    assert!(
+        !says(b"T\0\0\0\0\0\0\0\x05\xff\xff\xff\xff"),
+        "more entries than there are"
+    );
+    assert!(
+        !says(b"T\0\0\0\0\0\0\0\x05\0\0\0\x01U\x01a"),
+        "a table unsets nothing"
+    );
+    assert!(
+        !says(b"C\0\0\0\0\0\0\0\x05\0\0\0\x02U\x01bU\x01a"),
+        "in another order"
+    );
+    assert!(
+        !says(b"C\0\0\0\0\0\0\0\x05\0\0\0\x02U\x01aU\x01a"),
+        "a key twice"
+    );
+    assert!(
+        !says(b"C\0\0\0\0\0\0\0\x05\0\0\0\x01U\x03a/b"),
+        "a key that leaves the folder"
+    );
+    assert!(
+        !says(b"C\0\0\0\0\0\0\0\x05\0\0\0\x01U\x02.a"),
+        "a key of a hidden file"
+    );
+    assert!(
+        !says(b"C\0\0\0\0\0\0\0\x05\0\0\0\x01S\x01a\xff\xff\xff\xffx"),
+        "a value that is cut"
+    );
     let long = vec![0; VALUE_BYTES + 1];
     let long = Body::new(1, &Meaning::Changes(vec![("a", Some(&long))]));
     assert_eq!(long.meaning(), None, "a value that is too long");
@@ -175,4 +268,26 @@ fn bodies_that_nobody_writes_say_nothing() {
     let most = Body::new(1, &Meaning::Changes(vec![entry]));
     assert!(most.meaning().is_some());
     assert_eq!(most.bytes.len(), 13 + entry_bytes(&entry));
+}
+
+#[test]
+fn keys_are_names_of_plain_files() {
+    for good in ["a", "nginx.conf", "A-1_b", &"k".repeat(128)] {
+        assert!(is_key(good), "{good}");
+    }
+    for bad in [
+        "",
+        ".",
+        "..",
+        ".new",
+        "a/b",
+        "-r",
+        "a b",
+        "a\n",
+        "ä",
+        "a\0",
+        &"k".repeat(129),
+    ] {
+        assert!(!is_key(bad), "{bad:?}");
+    }
 }

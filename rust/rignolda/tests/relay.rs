@@ -1,9 +1,8 @@
 //! Trees of nodes without sockets: connections that break, processes that begin anew, children that
 //! are away, and what every agent has at the end.
+use rignolda::net::{Body, Relay};
+use rignolda::settings::{Meaning, Table};
 use rignolda::Connection;
-use rignoldad::body::{Body, Meaning};
-use rignoldad::relay::Relay;
-use rignoldad::table::Table;
 use std::collections::{BTreeMap, VecDeque};
 use std::sync::Arc;
 use std::time::{Duration, Instant};
@@ -73,9 +72,11 @@ impl Tree {
     fn begun(&mut self, at: usize, count: usize) -> Agent {
         self.lives += 1;
         let mut relay = Relay::new(at == 0, self.room, 2 * at + 1 < count);
-        (2 * at + 1..2 * at + 3).filter(|it| *it < count).for_each(|it| {
-            relay.add(&it.to_string(), self.now);
-        });
+        (2 * at + 1..2 * at + 3)
+            .filter(|it| *it < count)
+            .for_each(|it| {
+                relay.add(&it.to_string(), self.now);
+            });
         Agent {
             parent: (at > 0).then(|| (at - 1) / 2),
             relay,
@@ -101,39 +102,66 @@ impl Tree {
     }
 
     fn leave(&mut self, at: usize) {
-        let Some(wire) = self.agents[at].wire.take() else { return };
+        let Some(wire) = self.agents[at].wire.take() else {
+            return;
+        };
         self.agents[at].relay.ended(wire.below);
         let parent = self.agents[at].parent.unwrap();
-        self.agents[parent].relay.child_ended(&at.to_string(), wire.above, self.now);
+        self.agents[parent]
+            .relay
+            .child_ended(&at.to_string(), wire.above, self.now);
     }
 
-    fn connect(&mut self, at: usize) {
-        let Some(parent) = self.agents[at].parent else { return };
+    /// A connection that the agent makes, or its parent: then the agent acknowledges first.
+    fn connect(&mut self, at: usize, by_parent: bool) {
+        let Some(parent) = self.agents[at].parent else {
+            return;
+        };
         self.leave(at);
-        let below = self.agents[at].relay.made().unwrap();
-        let (life, label) = (self.agents[at].life, self.agents[at].relay.label());
         let name = at.to_string();
-        let accepted = self.agents[parent].relay.accepted(&name, life, label, self.now);
-        let wire = Wire { below, above: accepted.unwrap().0, down: [].into(), up: [].into() };
+        let made = by_parent.then(|| self.agents[parent].relay.made_to(&name).unwrap());
+        let (life, agent) = (self.agents[at].life, &mut self.agents[at].relay);
+        let (below, up) = match by_parent {
+            true => (agent.accepted().unwrap(), agent.ack()),
+            false => (agent.made().unwrap(), None),
+        };
+        assert_eq!(up.is_some(), by_parent);
+        let label = agent.label();
+        let above = self.agents[parent]
+            .relay
+            .greeted(&name, life, label, made, self.now);
+        let wire = Wire {
+            below,
+            above: above.unwrap().0,
+            down: [].into(),
+            up: up.into_iter().collect(),
+        };
         self.agents[at].wire = Some(wire);
     }
 
     /// The parent writes to this child what it may.
     fn poll(&mut self, at: usize) {
-        let Some(parent) = self.agents[at].parent else { return };
+        let Some(parent) = self.agents[at].parent else {
+            return;
+        };
         if self.agents[at].wire.is_none() {
             return;
         }
         let frame = self.agents[parent].relay.poll(&at.to_string(), self.now);
         let wire = self.agents[at].wire.as_mut().unwrap();
         wire.down.extend(frame);
-        assert!(wire.down.len() + wire.up.len() <= 1, "one message is under way");
+        assert!(
+            wire.down.len() + wire.up.len() <= 1,
+            "one message is under way"
+        );
     }
 
     fn take_frame(&mut self, at: usize) {
         let agent = &mut self.agents[at];
         let Some(wire) = &mut agent.wire else { return };
-        let Some((label, body)) = wire.down.pop_front() else { return };
+        let Some((label, body)) = wire.down.pop_front() else {
+            return;
+        };
         let below = wire.below;
         let (fresh, left) = agent.relay.on_frame(below, label, &body);
         if fresh && agent.deliver(&body) {
@@ -146,11 +174,19 @@ impl Tree {
     }
 
     fn take_ack(&mut self, at: usize) {
-        let Some(parent) = self.agents[at].parent else { return };
-        let Some(wire) = &mut self.agents[at].wire else { return };
-        let Some(label) = wire.up.pop_front() else { return };
+        let Some(parent) = self.agents[at].parent else {
+            return;
+        };
+        let Some(wire) = &mut self.agents[at].wire else {
+            return;
+        };
+        let Some(label) = wire.up.pop_front() else {
+            return;
+        };
         let above = wire.above;
-        self.agents[parent].relay.on_ack(&at.to_string(), above, label);
+        self.agents[parent]
+            .relay
+            .on_ack(&at.to_string(), above, label);
     }
 
     fn publish(&mut self, meaning: &Meaning<'_>) {
@@ -167,7 +203,9 @@ impl Tree {
 
     fn publish_table(&mut self) {
         let truth = std::mem::take(&mut self.truth);
-        let entries = truth.iter().map(|(key, value)| (key.as_str(), Some(value.as_slice())));
+        let entries = truth
+            .iter()
+            .map(|(key, value)| (key.as_str(), Some(value.as_slice())));
         self.publish(&Meaning::Table(entries.collect()));
         self.truth = truth;
     }
@@ -189,11 +227,14 @@ impl Tree {
             let mut idle = true;
             for at in 1..self.agents.len() {
                 if self.agents[at].wire.is_none() {
-                    self.connect(at);
+                    self.connect(at, at % 2 == 0);
                     idle = false;
                 }
                 self.poll(at);
-                idle &= self.agents[at].wire.as_ref().is_none_or(|it| it.down.is_empty());
+                idle &= self.agents[at]
+                    .wire
+                    .as_ref()
+                    .is_none_or(|it| it.down.is_empty());
                 self.take_frame(at);
                 self.take_ack(at);
             }
@@ -220,7 +261,9 @@ impl Tree {
 
 impl Agent {
     fn deliver(&mut self, body: &Body) -> bool {
-        let Some((sequence, meaning)) = body.meaning() else { return false };
+        let Some((sequence, meaning)) = body.meaning() else {
+            return false;
+        };
         if !self.table.takes(sequence, &meaning) {
             return false;
         }
@@ -238,8 +281,9 @@ impl Agent {
             }
             Meaning::Table(entries) => {
                 let entries = entries.into_iter();
-                self.settings =
-                    entries.map(|(key, value)| (key.into(), value.unwrap().into())).collect();
+                self.settings = entries
+                    .map(|(key, value)| (key.into(), value.unwrap().into()))
+                    .collect();
                 true
             }
         }
@@ -258,7 +302,7 @@ fn drawn(seed: u64, restarts: bool, steps: usize) -> Tree {
             1 | 2 => tree.leave(at),
             3..=5 => {
                 if tree.agents[at].wire.is_none() {
-                    tree.connect(at);
+                    tree.connect(at, random.below(2) == 0);
                 }
             }
             6 | 7 => {
@@ -387,12 +431,12 @@ fn one_that_is_away_too_long_is_evicted() {
 fn what_comes_by_a_connection_that_was_left_changes_nothing() {
     let mut tree = Tree::new(2, 16);
     tree.publish_table();
-    tree.connect(1);
+    tree.connect(1, false);
     tree.poll(1);
     // (the frame lies on the old connection when the agent makes a new one)
     let old = tree.agents[1].wire.take().unwrap();
     tree.agents[0].relay.child_ended("1", old.above, tree.now);
-    tree.connect(1);
+    tree.connect(1, false);
     let (label, body) = old.down[0].clone();
     let (fresh, _) = tree.agents[1].relay.on_frame(old.below, label, &body);
     assert!(!fresh);

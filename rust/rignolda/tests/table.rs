@@ -1,20 +1,32 @@
 //! Which bodies an agent applies.
-use rignoldad::body::Meaning;
-use rignoldad::table::Table;
+use rignolda::settings::{Meaning, Table};
 
 const CHANGE: Meaning<'_> = Meaning::Changes(Vec::new());
 const TABLE: Meaning<'_> = Meaning::Table(Vec::new());
 
 /// Whether each of these was taken.
 fn taken(table: &mut Table, bodies: &[(u64, Meaning<'_>)]) -> Vec<bool> {
-    bodies.iter().map(|(sequence, meaning)| table.takes(*sequence, meaning)).collect()
+    bodies
+        .iter()
+        .map(|(sequence, meaning)| table.takes(*sequence, meaning))
+        .collect()
 }
 
 #[test]
 fn newer_ones_are_taken_and_older_ones_are_strays() {
     let mut table = Table::default();
-    let bodies = [(7, TABLE), (8, CHANGE), (8, CHANGE), (7, TABLE), (10, CHANGE), (11, CHANGE)];
-    assert_eq!(taken(&mut table, &bodies), [true, true, false, false, true, true]);
+    let bodies = [
+        (7, TABLE),
+        (8, CHANGE),
+        (8, CHANGE),
+        (7, TABLE),
+        (10, CHANGE),
+        (11, CHANGE),
+    ];
+    assert_eq!(
+        taken(&mut table, &bodies),
+        [true, true, false, false, true, true]
+    );
     assert_eq!((table.sequence, table.round), (11, 7));
     assert_eq!((table.strays, table.gaps, table.whole), (2, 1, false));
     assert!(table.takes(12, &TABLE) && table.whole && table.round == 12);
@@ -34,7 +46,12 @@ fn a_whole_round_that_is_older_is_taken() {
     for spoiled in [100, u64::MAX] {
         let mut table = Table::default();
         table.sequence = spoiled;
-        let bodies = [(7, Meaning::Harmless), (8, CHANGE), (9, TABLE), (10, CHANGE)];
+        let bodies = [
+            (7, Meaning::Harmless),
+            (8, CHANGE),
+            (9, TABLE),
+            (10, CHANGE),
+        ];
         assert_eq!(taken(&mut table, &bodies), [false, false, true, true]);
         assert_eq!((table.sequence, table.round, table.whole), (10, 9, true));
     }

@@ -1,11 +1,6 @@
-//! A node of the tree: the library's node, the bodies of its items, and its children.
-//!
-//! Each step of a link is a call of the library. What is done here beside it: the body of each item
-//! that the node keeps lies at the same place as the item; the node keeps all from the last whole
-//! table on, so that a child that begins anew is offered that table and what came since; and where
-//! there is no room, the child that is furthest behind is left behind.
-use crate::body::{Body, BODY_BYTES};
-use rignolda::{Child, Connection, Frame, Node, Params, Session};
+//! A node of the tree with the bodies of its items, and its children.
+use super::{Body, BODY_BYTES};
+use crate::{Child, Connection, Frame, Node, Params, Session};
 use std::collections::{BTreeMap, VecDeque};
 use std::sync::Arc;
 use std::time::{Duration, Instant};
@@ -22,6 +17,32 @@ enum Above {
     Below(Session<Node>),
 }
 
+/// A node of the tree with the bodies of its items, and with children that have names.
+///
+/// Each step of a link is a call that is proved. What is done here beside it: the body of each item
+/// that the node keeps lies at the same place as the item; the node keeps all from the last whole
+/// table on, so that a child that begins anew is offered that table and what came since; and where
+/// there is no room, the child that is furthest behind is left behind.
+///
+/// ```
+/// use rignolda::net::{Body, Relay};
+/// use std::sync::Arc;
+/// use std::time::Instant;
+///
+/// let now = Instant::now();
+/// let (mut root, mut leaf) = (Relay::new(true, 8, true), Relay::new(false, 8, false));
+/// root.add("leaf", now);
+/// root.publish(&Arc::new(Body::of(b"a whole table".to_vec())));
+/// root.last_is_a_table();
+/// // (the leaf connects, and says its life and its label in its hello)
+/// let below = leaf.made().expect("it has a link above it");
+/// let (above, anew) = root.greeted("leaf", 1, leaf.label(), None, now).expect("it is a child");
+/// assert!(anew);
+/// let (label, body) = root.poll("leaf", now).expect("there is a table to send");
+/// assert!(leaf.on_frame(below, label, &body).0);
+/// root.on_ack("leaf", above, leaf.ack().expect("it has the turn"));
+/// assert_eq!(root.poll("leaf", now), None);
+/// ```
 pub struct Relay {
     params: Params,
     above: Above,
@@ -49,7 +70,9 @@ pub struct Link {
     pub since: Instant,
     /// When its frame was sent.
     pub sent: Option<Instant>,
+    /// How many connections it had.
     pub connections: u64,
+    /// How many were left since nothing came in time. It is counted by the caller.
     pub timeouts: u64,
     /// What was counted in earlier counts of the link.
     acknowledged: u64,
@@ -57,21 +80,25 @@ pub struct Link {
 }
 
 impl Link {
+    /// Whether the child has a connection.
     pub fn is_connected(&self) -> bool {
         self.connection.is_some()
     }
 
+    /// How many acknowledgements were taken.
     pub fn acknowledged(&self) -> u64 {
         self.acknowledged + self.session.acknowledged()
     }
 
+    /// How many acknowledgements changed nothing.
     pub fn ignored(&self) -> u64 {
         self.ignored + self.session.ignored()
     }
 }
 
 impl Relay {
-    /// A node with room for so many items, at the root or below it; whether it may have children.
+    /// A node with room for so many items, at the root or below it; and whether it keeps the last
+    /// whole table for children, which it does in any case from the first child on.
     pub fn new(is_root: bool, room: u64, keeps: bool) -> Relay {
         // (the label is none of a sender's: so the first frame is fresh)
         let node = Node::new(LABELS, room as usize);
@@ -103,6 +130,7 @@ impl Relay {
         (self.bodies.len() as u64, self.bytes)
     }
 
+    /// How many frames were old.
     pub fn old_frames(&self) -> u64 {
         self.node().old_frames()
     }
@@ -125,6 +153,14 @@ impl Relay {
         }
     }
 
+    /// The same for a connection that the parent made. An acknowledgement is to be sent first.
+    pub fn accepted(&mut self) -> Option<Connection> {
+        match &mut self.above {
+            Above::Root(_) => None,
+            Above::Below(session) => session.accepted(),
+        }
+    }
+
     /// Leaves the connection to the parent.
     pub fn ended(&mut self, connection: Connection) {
         if let Above::Below(session) = &mut self.above {
@@ -141,7 +177,10 @@ impl Relay {
         body: &Arc<Body>,
     ) -> (bool, Vec<String>) {
         let left = self.make_room();
-        let frame = Frame { label, item: body.item };
+        let frame = Frame {
+            label,
+            item: body.item,
+        };
         let fresh = match &mut self.above {
             Above::Root(_) => false,
             Above::Below(session) => session.on_frame(connection, frame),
@@ -183,7 +222,9 @@ impl Relay {
     /// How many items there are from the last whole table on, or, without one, that are kept.
     fn since_table(&self) -> u64 {
         let kept = self.bodies.len() as u64;
-        self.table.as_ref().map_or(kept, |table| self.node().length() - table.offered())
+        self.table
+            .as_ref()
+            .map_or(kept, |table| self.node().length() - table.offered())
     }
 
     /// Forgets what neither a child lacks nor a table has to be kept for.
@@ -217,7 +258,10 @@ impl Relay {
             let last = last.min_by_key(|(_, link)| link.session.offered());
             match last.map(|(name, link)| (name.clone(), link.session.offered())) {
                 Some((name, offered))
-                    if self.table.as_ref().is_none_or(|table| offered <= table.offered()) =>
+                    if self
+                        .table
+                        .as_ref()
+                        .map_or(true, |table| offered <= table.offered()) =>
                 {
                     self.leave_behind(&name);
                     names.push(name);
@@ -231,16 +275,24 @@ impl Relay {
 
     // ---- The links below
 
+    /// The children, by their names.
     pub fn children(&self) -> impl Iterator<Item = (&String, &Link)> {
         self.children.iter()
     }
 
+    /// The link to a child.
+    pub fn child(&self, name: &str) -> Option<&Link> {
+        self.children.get(name)
+    }
+
+    /// The same, to count its timeouts.
     pub fn child_mut(&mut self, name: &str) -> Option<&mut Link> {
         self.children.get_mut(name)
     }
 
     /// A child that may connect. Until it does, it holds nothing back.
     pub fn add(&mut self, name: &str, now: Instant) {
+        self.keeps = true;
         if !self.children.contains_key(name) {
             let session = Session::new(self.node().child(self.params, 0, 0));
             let link = Link {
@@ -260,22 +312,32 @@ impl Relay {
         }
     }
 
+    /// A child is one no longer.
     pub fn remove(&mut self, name: &str) {
         self.children.remove(name);
         self.forget();
     }
 
-    /// Accepts a connection of a child, which said this in its hello. The link goes on where it is
-    /// the same process, and was not left behind; else it begins anew at the last whole table. With
-    /// it comes whether it did.
-    pub fn accepted(
+    /// Begins a connection to a child. The one that there was is left.
+    pub fn made_to(&mut self, name: &str) -> Option<Connection> {
+        let link = self.children.get_mut(name)?;
+        link.connection = None;
+        link.session.made()
+    }
+
+    /// A child said this in its hello, on a connection that it made, or that was made to it under a
+    /// number. The link goes on where it is the same process, and was not left behind; else it
+    /// begins anew at the last whole table. With the connection comes whether it did.
+    pub fn greeted(
         &mut self,
         name: &str,
         life: u64,
         label: u16,
+        made: Option<Connection>,
         now: Instant,
     ) -> Option<(Connection, bool)> {
-        let anew = self.children.get(name).is_none_or(|link| link.life != Some(life) || link.left);
+        let link = self.children.get(name)?;
+        let anew = link.life != Some(life) || link.left;
         let end = anew.then(|| {
             // (the receiver takes the first frame of a sender with another label as fresh)
             let other = if label < LABELS - 1 { label + 1 } else { 0 };
@@ -287,20 +349,30 @@ impl Relay {
             let before = link.session.renew(end);
             link.acknowledged += before.acknowledged();
             link.ignored += before.ignored();
-            (link.held, link.life, link.left) = (None, Some(life), false);
+            link.held = None;
+            link.life = Some(life);
+            link.left = false;
         }
-        (link.since, link.sent) = (now, None);
-        link.connections += 1;
-        link.connection = Some(link.session.accepted()?);
-        Some((link.connection?, anew))
+        link.connection = match made {
+            None => link.session.accepted(),
+            Some(_) if anew => link.session.made(),
+            Some(number) => Some(number).filter(|number| link.session.has(*number)),
+        };
+        link.since = now;
+        link.sent = None;
+        link.connections += u64::from(link.connection.is_some());
+        link.connection.map(|number| (number, anew))
     }
 
     /// Leaves a connection of a child.
     pub fn child_ended(&mut self, name: &str, connection: Connection, now: Instant) {
-        let Some(link) = self.children.get_mut(name) else { return };
-        link.session.ended(connection);
-        if link.connection == Some(connection) {
-            (link.connection, link.sent, link.since) = (None, None, now);
+        if let Some(link) = self.children.get_mut(name) {
+            link.session.ended(connection);
+            if link.connection == Some(connection) {
+                link.connection = None;
+                link.sent = None;
+                link.since = now;
+            }
         }
     }
 
@@ -314,7 +386,10 @@ impl Relay {
         };
         let frame = link.session.poll(node)?;
         if link.session.offered() != before {
-            link.held = self.bodies.get((before - node.forgotten()) as usize).cloned();
+            link.held = self
+                .bodies
+                .get((before - node.forgotten()) as usize)
+                .cloned();
         }
         link.sent = Some(now);
         let body = link.held.clone()?;
@@ -324,18 +399,20 @@ impl Relay {
 
     /// Takes an acknowledgement of a child.
     pub fn on_ack(&mut self, name: &str, connection: Connection, label: u16) {
-        let Some(link) = self.children.get_mut(name) else { return };
-        if link.session.on_ack(connection, label) {
-            link.held = None;
+        if let Some(link) = self.children.get_mut(name) {
+            if link.session.on_ack(connection, label) {
+                link.held = None;
+            }
+            link.sent = None;
+            self.forget();
         }
-        link.sent = None;
-        self.forget();
     }
 
     /// Drops the backlog of a child: it begins anew when it connects again.
     pub fn leave_behind(&mut self, name: &str) {
         if let Some(link) = self.children.get_mut(name) {
-            (link.left, link.held) = (true, None);
+            link.left = true;
+            link.held = None;
         }
     }
 
@@ -353,12 +430,16 @@ impl Relay {
 
     /// When [`Relay::evict`] may have something to do next.
     pub fn evicts_at(&self, after: Duration) -> Option<Instant> {
-        let away = self.children.values().filter(|link| !link.left && !link.is_connected());
+        let away = self
+            .children
+            .values()
+            .filter(|link| !link.left && !link.is_connected());
         away.map(|link| link.since + after).min()
     }
 
+    /// Whether what the child needs next was forgotten, so that it begins anew.
     pub fn is_left_behind(&self, name: &str) -> bool {
-        self.children.get(name).is_some_and(|link| link.left)
+        self.children.get(name).map_or(false, |link| link.left)
     }
 
     /// How many items a child has not acknowledged.

@@ -1,0 +1,114 @@
+//! What an agent over a network needs beside the calls of its links, without its sockets.
+//!
+//! An item of a link has 32 bits. Here it is the checksum of a [`Body`], which travels in the same
+//! frame: so an agent sends texts, tables or programs of up to 16 MiB. [`wire`] is what goes over a
+//! connection, byte for byte; a [`Relay`] is a node with the bodies of its items and with children
+//! that have names; [`Peers`] are all the connections of an agent: who connects to whom, what each
+//! end says first, who is waited for, and what is sent when. Its caller has the sockets, certificates
+//! and clocks.
+//!
+//! Each step of a link is a call that is proved. That a body lies beside its item, and all that is
+//! done about connections, is tested alone.
+mod peers;
+mod relay;
+pub mod wire;
+
+pub use peers::{Call, Children, Handler, Line, Parent, Peers, Setup, Whom};
+pub use relay::{Link, Relay};
+
+/// The longest body, in bytes.
+pub const BODY_BYTES: usize = 16 << 20;
+/// The longest name of an agent, in bytes.
+pub const NAME_BYTES: usize = 64;
+
+/// A body and its item, which need not fit it: whoever takes one looks.
+#[derive(Debug, PartialEq, Eq)]
+pub struct Body {
+    /// What the link carries.
+    pub item: u32,
+    /// What it stands for.
+    pub bytes: Vec<u8>,
+}
+
+impl Body {
+    /// A body of these bytes, with its item.
+    ///
+    /// ```
+    /// let mut body = rignolda::net::Body::of(b"any bytes".to_vec());
+    /// assert!(body.fits());
+    /// body.bytes[3] ^= 1;
+    /// assert!(!body.fits());
+    /// ```
+    pub fn of(bytes: Vec<u8>) -> Body {
+        Body {
+            item: checksum(&bytes),
+            bytes,
+        }
+    }
+
+    /// Whether the item is the checksum of the bytes.
+    pub fn fits(&self) -> bool {
+        self.item == checksum(&self.bytes)
+    }
+}
+
+/// The checksum CRC-32 of some bytes, as zlib and others have it.
+///
+/// ```
+/// assert_eq!(rignolda::net::checksum(b"123456789"), 0xcbf4_3926);
+/// ```
+pub fn checksum(bytes: &[u8]) -> u32 {
+    let mut sum = !0;
+    let mut eights = bytes.chunks_exact(8);
+    for eight in &mut eights {
+        let mut next = 0;
+        for (at, byte) in eight.iter().enumerate() {
+            // (the sum so far goes into the first four bytes)
+            let mixed = u32::from(*byte) ^ (if at < 4 { sum >> (8 * at) & 255 } else { 0 });
+            next ^= SUMS[7 - at][mixed as usize];
+        }
+        sum = next;
+    }
+    for byte in eights.remainder() {
+        sum = sum >> 8 ^ SUMS[0][((sum ^ u32::from(*byte)) & 255) as usize];
+    }
+    !sum
+}
+
+/// The checksum of each byte with so many zeros after it.
+static SUMS: [[u32; 256]; 8] = {
+    let mut sums = [[0; 256]; 8];
+    let mut byte = 0;
+    while byte < 256 {
+        let (mut sum, mut zeros) = (byte as u32, 0);
+        while zeros < 8 {
+            let mut bit = 0;
+            while bit < 8 {
+                sum = if sum & 1 == 1 {
+                    sum >> 1 ^ 0xedb8_8320
+                } else {
+                    sum >> 1
+                };
+                bit += 1;
+            }
+            sums[zeros][byte] = sum;
+            zeros += 1;
+        }
+        byte += 1;
+    }
+    sums
+};
+
+/// Whether this may be the name of an agent: letters, digits, `.`, `_` and `-`, and no dot or
+/// hyphen in front.
+pub fn is_name(text: &str) -> bool {
+    is_plain(text, NAME_BYTES)
+}
+
+pub(crate) fn is_plain(text: &str, most: usize) -> bool {
+    (1..=most).contains(&text.len())
+        && !text.starts_with(['.', '-'])
+        && text
+            .bytes()
+            .all(|b| b.is_ascii_alphanumeric() || b"._-".contains(&b))
+}

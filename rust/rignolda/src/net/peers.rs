@@ -1,0 +1,970 @@
+//! The connections of an agent: who connects to whom, what is said first, and who is waited for.
+use super::wire::{self, Expect, Hello, Message};
+use super::{Body, Relay};
+use crate::Connection;
+use std::collections::{BTreeMap, BTreeSet, VecDeque};
+use std::fmt;
+use std::io::{ErrorKind, Read, Write};
+use std::sync::Arc;
+use std::time::{Duration, Instant};
+
+/// How many connections there are at most whose hello has not come.
+const GREETING: usize = 64;
+/// How many children there are at most where any may connect.
+const ANY: usize = 10_000;
+/// The slowest line on which a body counts as under way, in bytes a second.
+const SLOWEST: u64 = 64 << 10;
+/// How many messages wait at most on a connection that brings more.
+const UNREAD: usize = 16;
+/// How much is read from one connection before the others have their turn.
+const TURN_BYTES: usize = 1 << 20;
+/// Up to this length a body is written together with its head.
+const JOINED: usize = 16 << 10;
+/// How long a connection has to stand to count as one that did.
+const SHORT: Duration = Duration::from_secs(1);
+
+/// A connection of bytes that never makes its caller wait.
+pub trait Line: Read + Write {
+    /// Whether the other end may be called so, by its certificate say.
+    fn may_be(&self, name: &str) -> bool;
+}
+
+/// What an agent does about what comes.
+pub trait Handler {
+    /// An item came from the parent, or was published, and is the last of the list now. Whether it
+    /// is a whole table, so that children who begin anew may begin with it.
+    fn on_item(&mut self, body: &Arc<Body>, now: Instant) -> bool;
+    /// A child says this for watching alone. Whether it makes sense; else its connection is closed.
+    fn on_report(&mut self, child: &str, report: &[u8], now: Instant) -> bool;
+    /// A child is one no longer: what it said may be forgotten.
+    fn on_gone(&mut self, child: &str);
+    /// A fact for a journal: `connected`, `closed`, `refused`, `left-behind`, `evicted`, or `parent`
+    /// and `child` where one cannot be connected to; and its words.
+    fn on_fact(&mut self, fact: &'static str, words: fmt::Arguments<'_>);
+}
+
+/// Whom an agent may have connections with. `A`: an address, that is where one connects to.
+#[derive(Clone, Debug, PartialEq, Eq)]
+pub struct Setup<A> {
+    /// The agent's own name.
+    pub name: String,
+    /// In the order in which they are tried. Empty at the root alone.
+    pub parents: Vec<Parent<A>>,
+    /// Those below.
+    pub children: Children<A>,
+    /// How long the answer to a frame, or a hello, may take before the connection is left.
+    pub ack_timeout: Duration,
+    /// How long a child may be away before its backlog is dropped.
+    pub evict: Duration,
+}
+
+/// A parent. It has a name, an address or both.
+#[derive(Clone, Debug, PartialEq, Eq)]
+pub struct Parent<A> {
+    /// Where there is one, the parent's hello has to have it.
+    pub name: Option<String>,
+    /// Where there is none, the parent connects to the agent.
+    pub address: Option<A>,
+}
+
+/// Its name; where it has none, its address.
+impl<A: fmt::Display> fmt::Display for Parent<A> {
+    fn fmt(&self, to: &mut fmt::Formatter<'_>) -> fmt::Result {
+        match (&self.name, &self.address) {
+            (Some(name), _) => to.write_str(name),
+            (None, Some(address)) => address.fmt(to),
+            (None, None) => Ok(()),
+        }
+    }
+}
+
+/// Which agents may be children.
+#[derive(Clone, Debug, PartialEq, Eq)]
+pub enum Children<A> {
+    /// These. A child that has no address connects to the agent, and the agent to the others.
+    Named(BTreeMap<String, Option<A>>),
+    /// Each one that can connect, and whose line may have its name.
+    Any,
+}
+
+/// The other end of a connection.
+#[derive(Clone, Debug, PartialEq, Eq, PartialOrd, Ord)]
+pub enum Whom {
+    /// The parent.
+    Parent,
+    /// The child of this name.
+    Child(String),
+}
+
+impl fmt::Display for Whom {
+    fn fmt(&self, to: &mut fmt::Formatter<'_>) -> fmt::Result {
+        to.write_str(match self {
+            Whom::Parent => "the parent",
+            Whom::Child(name) => name,
+        })
+    }
+}
+
+/// A connection that is to be made.
+#[derive(Clone, Debug, PartialEq, Eq)]
+pub struct Call<A> {
+    /// To whom.
+    pub whom: Whom,
+    /// Where to.
+    pub address: A,
+    /// How often in turn it failed: of several places that an address has, another one is to be
+    /// tried each time.
+    pub failed: usize,
+}
+
+/// When somebody is called next.
+struct Dial {
+    next: Instant,
+    failed: u32,
+    under_way: bool,
+}
+
+struct Conn<L> {
+    line: L,
+    /// Whether this end made it.
+    made: bool,
+    /// Unknown where it was accepted, and its hello has not come.
+    whom: Option<(Whom, Connection)>,
+    /// Since when its hello has come.
+    greeted: Option<Instant>,
+    input: Vec<u8>,
+    output: VecDeque<Chunk>,
+    /// How much of the first chunk is written.
+    written: usize,
+    /// When it is closed, unless what it waits for comes.
+    until: Option<Instant>,
+}
+
+enum Chunk {
+    Bytes(Vec<u8>),
+    Body(Arc<Body>),
+}
+
+impl Chunk {
+    fn bytes(&self) -> &[u8] {
+        match self {
+            Chunk::Bytes(bytes) => bytes,
+            Chunk::Body(body) => &body.bytes,
+        }
+    }
+}
+
+/// The connections of an agent, over lines `L` to addresses `A`.
+///
+/// Its caller makes and accepts lines, and waits until one of them can be read or written, or until
+/// [`Peers::deadline`]. A connection may be made by either end: the end that makes it says its hello
+/// first, and on the link the other end has the first turn.
+pub struct Peers<L, A> {
+    setup: Setup<A>,
+    life: u64,
+    relay: Relay,
+    conns: BTreeMap<u64, Conn<L>>,
+    made: u64,
+    /// Those of which more may be read at once.
+    again: Vec<u64>,
+    dials: BTreeMap<Whom, Dial>,
+    children: BTreeMap<String, u64>,
+    /// Which parent is tried or connected, its connection, and its life.
+    parent: usize,
+    above: Option<u64>,
+    above_life: Option<u64>,
+    reconnects: u64,
+    refused: u64,
+    said_refused: Option<Instant>,
+}
+
+impl<L: Line, A: Clone + PartialEq + fmt::Display> Peers<L, A> {
+    /// An agent without connections. `life`: a number that the process drew when it began; `room`:
+    /// how many items its list has room for.
+    pub fn new(setup: Setup<A>, life: u64, room: u64, now: Instant) -> Peers<L, A> {
+        let keeps = matches!(setup.children, Children::Any);
+        let mut peers = Peers {
+            relay: Relay::new(setup.parents.is_empty(), room, keeps),
+            setup,
+            life,
+            conns: BTreeMap::new(),
+            made: 0,
+            again: Vec::new(),
+            dials: BTreeMap::new(),
+            children: BTreeMap::new(),
+            parent: 0,
+            above: None,
+            above_life: None,
+            reconnects: 0,
+            refused: 0,
+            said_refused: None,
+        };
+        peers.dial_all(now);
+        peers
+    }
+
+    /// Takes another set-up: those that are no longer in it are left. The name stays.
+    pub fn set_up(&mut self, setup: Setup<A>, now: Instant, to: &mut dyn Handler) {
+        let old = std::mem::replace(&mut self.setup, setup);
+        self.setup.name = old.name;
+        if let Children::Named(children) = &self.setup.children {
+            let all = self.relay.children().map(|(name, _)| name);
+            let gone: Vec<String> = all
+                .filter(|name| !children.contains_key(*name))
+                .cloned()
+                .collect();
+            for name in gone {
+                let _ = self.remove(&name, now, to);
+            }
+        }
+        let parents = &self.setup.parents;
+        if old.parents != *parents {
+            let here = old.parents.get(self.parent);
+            let stays = here.is_some() && here == parents.first();
+            self.parent = 0;
+            if let (false, Some(id)) = (stays, self.above) {
+                self.close(id, "the parents changed", now, to);
+                self.parent = 0;
+                self.dials.remove(&Whom::Parent);
+            }
+        }
+        self.dial_all(now);
+    }
+
+    /// Each child of the set-up is one, and all are called who have an address.
+    fn dial_all(&mut self, now: Instant) {
+        let mut whoms = BTreeSet::new();
+        if !self.setup.parents.is_empty() {
+            whoms.insert(Whom::Parent);
+        }
+        if let Children::Named(children) = &self.setup.children {
+            for (name, address) in children {
+                self.relay.add(name, now);
+                whoms.extend(address.as_ref().map(|_| Whom::Child(name.clone())));
+            }
+        }
+        self.dials.retain(|whom, _| whoms.contains(whom));
+        for whom in whoms {
+            let dial = Dial {
+                next: now,
+                failed: 0,
+                under_way: false,
+            };
+            self.dials.entry(whom).or_insert(dial);
+        }
+    }
+
+    /// Adds a child to the set-up.
+    ///
+    /// # Errors
+    ///
+    /// Why it is none, and nothing is changed.
+    pub fn add(
+        &mut self,
+        name: &str,
+        address: Option<A>,
+        now: Instant,
+    ) -> Result<(), &'static str> {
+        if !super::is_name(name) || name == self.setup.name {
+            return Err("it is no name of a child");
+        }
+        match &mut self.setup.children {
+            Children::Any => return Err("any child may connect already"),
+            Children::Named(names) if names.contains_key(name) => {
+                return Err("it is a child already");
+            }
+            Children::Named(names) => names.insert(name.into(), address),
+        };
+        self.dial_all(now);
+        Ok(())
+    }
+
+    /// Removes a child from the set-up, and closes its connection.
+    ///
+    /// # Errors
+    ///
+    /// Where there is none of this name.
+    pub fn remove(
+        &mut self,
+        name: &str,
+        now: Instant,
+        to: &mut dyn Handler,
+    ) -> Result<(), &'static str> {
+        if self.relay.child_mut(name).is_none() {
+            return Err("it is no child");
+        }
+        if let Children::Named(names) = &mut self.setup.children {
+            names.remove(name);
+        }
+        let whom = Whom::Child(name.into());
+        self.dials.remove(&whom);
+        let its = |conn: &Conn<L>| conn.whom.as_ref().map_or(false, |(it, _)| *it == whom);
+        let ids: Vec<u64> = self
+            .conns
+            .iter()
+            .filter(|(_, conn)| its(conn))
+            .map(|(id, _)| *id)
+            .collect();
+        for id in ids {
+            self.close(id, "it was removed", now, to);
+        }
+        self.relay.remove(name);
+        to.on_gone(name);
+        Ok(())
+    }
+
+    // ---- What is to be seen
+
+    /// The links, to be read.
+    pub fn relay(&self) -> &Relay {
+        &self.relay
+    }
+
+    /// The parent that it is connected to, and since when.
+    pub fn parent(&self) -> Option<(&Parent<A>, Instant)> {
+        let conn = self.conns.get(&self.above?)?;
+        Some((self.setup.parents.get(self.parent)?, conn.greeted?))
+    }
+
+    /// The number that the process drew when it began.
+    pub fn life(&self) -> u64 {
+        self.life
+    }
+
+    /// How often it was connected to a parent.
+    pub fn reconnects(&self) -> u64 {
+        self.reconnects
+    }
+
+    /// How many connections were refused.
+    pub fn refused(&self) -> u64 {
+        self.refused
+    }
+
+    /// Each line with its number, and whether it has something to write.
+    pub fn lines(&self) -> impl Iterator<Item = (u64, &L, bool)> {
+        self.conns
+            .iter()
+            .map(|(id, conn)| (*id, &conn.line, !conn.output.is_empty()))
+    }
+
+    /// When there is something to do although nothing comes.
+    pub fn deadline(&self, now: Instant) -> Option<Instant> {
+        let again = (!self.again.is_empty()).then_some(now);
+        let conns = self.conns.values().filter_map(|conn| conn.until);
+        let dials = self
+            .dials
+            .iter()
+            .filter(|(whom, dial)| self.is_idle(whom, dial));
+        let dials = dials.map(|(_, dial)| dial.next);
+        let evicts = self.relay.evicts_at(self.setup.evict);
+        conns.chain(dials).chain(evicts).chain(again).min()
+    }
+
+    // ---- Connections
+
+    /// Takes a line that was accepted. Of those whose hello has not come, one too many drives the
+    /// oldest one out.
+    pub fn accept(&mut self, line: L, now: Instant, to: &mut dyn Handler) {
+        self.open(line, None, now);
+        let greeting = self.conns.iter().filter(|(_, conn)| conn.whom.is_none());
+        let greeting: Vec<u64> = greeting.map(|(id, _)| *id).collect();
+        if greeting.len() > GREETING {
+            self.close(greeting[0], "too many say no hello", now, to);
+        }
+    }
+
+    fn open(&mut self, line: L, whom: Option<(Whom, Connection)>, now: Instant) -> u64 {
+        self.made += 1;
+        let conn = Conn {
+            line,
+            made: whom.is_some(),
+            whom,
+            greeted: None,
+            input: Vec::new(),
+            output: VecDeque::new(),
+            written: 0,
+            until: Some(now + self.setup.ack_timeout),
+        };
+        self.conns.insert(self.made, conn);
+        self.made
+    }
+
+    fn is_idle(&self, whom: &Whom, dial: &Dial) -> bool {
+        let is_connected = match whom {
+            Whom::Parent => self.above.is_some(),
+            Whom::Child(name) => self.children.contains_key(name),
+        };
+        !dial.under_way && !is_connected
+    }
+
+    fn address(&self, whom: &Whom) -> Option<&A> {
+        match (whom, &self.setup.children) {
+            (Whom::Parent, _) => self.setup.parents.get(self.parent)?.address.as_ref(),
+            (Whom::Child(name), Children::Named(children)) => children.get(name)?.as_ref(),
+            (Whom::Child(_), Children::Any) => None,
+        }
+    }
+
+    /// How many are tried in turn.
+    fn all(&self, whom: &Whom) -> u32 {
+        match whom {
+            Whom::Parent => self.setup.parents.len().max(1) as u32,
+            Whom::Child(_) => 1,
+        }
+    }
+
+    /// A connection that is to be made now. What became of it is to be told to [`Peers::called`].
+    pub fn next_call(&mut self, now: Instant, to: &mut dyn Handler) -> Option<Call<A>> {
+        let due = |whom: &Whom, dial: &Dial| self.is_idle(whom, dial) && now >= dial.next;
+        let whom = self
+            .dials
+            .iter()
+            .find(|(whom, dial)| due(whom, dial))?
+            .0
+            .clone();
+        let (address, all) = (self.address(&whom).cloned(), self.all(&whom));
+        match address {
+            Some(address) => {
+                let dial = self.dials.get_mut(&whom)?;
+                dial.under_way = true;
+                let failed = (dial.failed / all) as usize;
+                Some(Call {
+                    whom,
+                    address,
+                    failed,
+                })
+            }
+            None => {
+                // (it has a while to connect itself, before the next one is tried)
+                self.failed(&whom, "it has not connected", now, to);
+                self.dials.get_mut(&whom)?.next = now + self.setup.ack_timeout;
+                self.next_call(now, to)
+            }
+        }
+    }
+
+    /// A call led to a line, or failed. It is dropped where it is not wanted any more.
+    pub fn called(
+        &mut self,
+        call: Call<A>,
+        line: Result<L, String>,
+        now: Instant,
+        to: &mut dyn Handler,
+    ) {
+        let is_wanted = self.address(&call.whom) == Some(&call.address);
+        match self.dials.get_mut(&call.whom) {
+            Some(dial) if dial.under_way => dial.under_way = false,
+            _ => return,
+        }
+        if !is_wanted || !self.is_idle(&call.whom, &self.dials[&call.whom]) {
+            return;
+        }
+        let line = match line {
+            Ok(line) => line,
+            Err(why) => return self.failed(&call.whom, &why, now, to),
+        };
+        let (number, name) = match &call.whom {
+            Whom::Parent => {
+                let parent = self.setup.parents.get(self.parent);
+                let name = parent.and_then(|parent| parent.name.clone());
+                (self.relay.made(), name.unwrap_or_default())
+            }
+            Whom::Child(name) => (self.relay.made_to(name), name.clone()),
+        };
+        let number = match number {
+            Some(number) => number,
+            None => return self.failed(&call.whom, "no number is left", now, to),
+        };
+        if let Some(dial) = self.dials.get_mut(&call.whom) {
+            dial.under_way = true;
+        }
+        let id = self.open(line, Some((call.whom.clone(), number)), now);
+        if call.whom == Whom::Parent {
+            self.above = Some(id);
+        }
+        self.say_hello(id, name);
+    }
+
+    fn say_hello(&mut self, id: u64, to: String) {
+        let (life, label, from) = (self.life, self.relay.label(), self.setup.name.clone());
+        self.send(
+            id,
+            Hello {
+                life,
+                label,
+                from,
+                to,
+            }
+            .bytes(),
+        );
+    }
+
+    fn send(&mut self, id: u64, bytes: Vec<u8>) {
+        if let Some(conn) = self.conns.get_mut(&id) {
+            conn.output.push_back(Chunk::Bytes(bytes));
+        }
+    }
+
+    /// Somebody cannot be connected to now: the next one is tried after a while.
+    fn failed(&mut self, whom: &Whom, why: &str, now: Instant, to: &mut dyn Handler) {
+        let all = self.all(whom);
+        let dial = match self.dials.get_mut(whom) {
+            Some(dial) => dial,
+            None => return,
+        };
+        if dial.failed == 0 {
+            match (whom, self.setup.parents.get(self.parent)) {
+                (Whom::Child(name), _) => to.on_fact("child", format_args!("{name}: {why}")),
+                (
+                    Whom::Parent,
+                    Some(Parent {
+                        address: Some(address),
+                        ..
+                    }),
+                ) => {
+                    to.on_fact("parent", format_args!("{address}: {why}"));
+                }
+                (Whom::Parent, Some(parent)) => {
+                    to.on_fact("parent", format_args!("{parent}: {why}"));
+                }
+                (Whom::Parent, None) => (),
+            }
+        }
+        let rounds = (dial.failed / all).min(5);
+        dial.failed = dial.failed.saturating_add(1);
+        // (each agent at its own time, so that a parent that is back is not run over)
+        let drawn = (self.life ^ self.made.wrapping_mul(0x9e37_79b9_7f4a_7c15)) % 1_000;
+        dial.next = now + Duration::from_millis((50 << rounds) * (500 + drawn) / 1_000);
+        if *whom == Whom::Parent {
+            self.parent = (self.parent + 1) % all as usize;
+        }
+    }
+
+    /// Closes a connection: its end of the link leaves it.
+    pub fn close(&mut self, id: u64, why: &str, now: Instant, to: &mut dyn Handler) {
+        let conn = match self.conns.remove(&id) {
+            Some(conn) => conn,
+            None => return,
+        };
+        let (whom, number) = match conn.whom {
+            Some(whom) => whom,
+            None => {
+                self.refused += 1;
+                // (whoever can connect must not fill the journal)
+                if self
+                    .said_refused
+                    .map_or(true, |said| now >= said + Duration::from_secs(1))
+                {
+                    self.said_refused = Some(now);
+                    to.on_fact("refused", format_args!("{why} ({} in all)", self.refused));
+                }
+                return;
+            }
+        };
+        if conn.greeted.is_some() {
+            to.on_fact("closed", format_args!("{whom}: {why}"));
+        }
+        match &whom {
+            Whom::Parent => {
+                self.relay.ended(number);
+                self.above = self.above.filter(|above| *above != id);
+            }
+            Whom::Child(name) => {
+                self.relay.child_ended(name, number, now);
+                if self.children.get(name) == Some(&id) {
+                    self.children.remove(name);
+                }
+            }
+        }
+        let all = self.all(&whom);
+        let dial = match self.dials.get_mut(&whom) {
+            Some(dial) => dial,
+            None => return,
+        };
+        dial.under_way &= !conn.made;
+        if conn.greeted.map_or(false, |since| now >= since + SHORT) {
+            dial.failed = 0;
+            dial.next = now + Duration::from_millis(self.life % 50);
+            if whom == Whom::Parent {
+                self.parent = 0;
+            }
+        } else {
+            // (after a short one it waits too, but never long)
+            if conn.greeted.is_some() {
+                dial.failed = dial.failed.min(all);
+            }
+            self.failed(&whom, why, now, to);
+        }
+    }
+
+    /// Closes what waited too long, and drops the backlog of who is away too long.
+    pub fn tick(&mut self, now: Instant, to: &mut dyn Handler) {
+        let late = |conn: &Conn<L>| conn.until.map_or(false, |at| now >= at);
+        let late: Vec<u64> = self
+            .conns
+            .iter()
+            .filter(|(_, conn)| late(conn))
+            .map(|(id, _)| *id)
+            .collect();
+        for id in late {
+            let whom = self.conns.get(&id).filter(|conn| conn.greeted.is_some());
+            if let Some((Whom::Child(name), _)) = whom.and_then(|conn| conn.whom.clone()) {
+                self.relay
+                    .child_mut(&name)
+                    .into_iter()
+                    .for_each(|link| link.timeouts += 1);
+            }
+            self.close(id, "nothing came in time", now, to);
+        }
+        for name in self.relay.evict(self.setup.evict, now) {
+            to.on_fact("evicted", format_args!("{name}"));
+            if self.setup.children == Children::Any {
+                self.relay.remove(&name);
+                to.on_gone(&name);
+            }
+        }
+    }
+
+    // ---- Bytes
+
+    /// Reads lines that can be read, and those of which there is more: each whole message is
+    /// handled, and what follows from it is written.
+    pub fn read(
+        &mut self,
+        ready: impl IntoIterator<Item = u64>,
+        now: Instant,
+        to: &mut dyn Handler,
+    ) {
+        let ready: BTreeSet<u64> = ready.into_iter().chain(self.again.drain(..)).collect();
+        for id in ready {
+            match self.read_one(id, now, to) {
+                Ok(()) => self.write_one(id, now, to),
+                Err(why) => self.close(id, &why, now, to),
+            }
+        }
+    }
+
+    fn read_one(&mut self, id: u64, now: Instant, to: &mut dyn Handler) -> Result<(), String> {
+        let mut space = [0; 16_384];
+        let mut total = 0;
+        while let Some(conn) = self.conns.get_mut(&id) {
+            match conn.line.read(&mut space) {
+                Ok(0) => return Err("the other end closed it".into()),
+                Ok(count) => {
+                    total += count;
+                    conn.input.extend_from_slice(&space[..count]);
+                    self.messages(id, now, to)?;
+                }
+                Err(e) if e.kind() == ErrorKind::WouldBlock => break,
+                Err(e) if e.kind() == ErrorKind::Interrupted => (),
+                Err(e) => return Err(e.to_string()),
+            }
+            if total >= TURN_BYTES {
+                // (by TLS, there may be more of which the system knows nothing)
+                self.again.push(id);
+                break;
+            }
+        }
+        Ok(())
+    }
+
+    /// Writes what can be written now.
+    pub fn write(&mut self, now: Instant, to: &mut dyn Handler) {
+        let ids: Vec<u64> = self
+            .lines()
+            .filter(|(_, _, has)| *has)
+            .map(|(id, ..)| id)
+            .collect();
+        for id in ids {
+            self.write_one(id, now, to);
+        }
+    }
+
+    fn write_one(&mut self, id: u64, now: Instant, to: &mut dyn Handler) {
+        let conn = match self.conns.get_mut(&id) {
+            Some(conn) => conn,
+            None => return,
+        };
+        while let Some(chunk) = conn.output.front() {
+            let left = &chunk.bytes()[conn.written..];
+            if left.is_empty() {
+                conn.output.pop_front();
+                conn.written = 0;
+                continue;
+            }
+            match conn.line.write(left) {
+                Ok(0) => return self.close(id, "it takes nothing", now, to),
+                Ok(count) => conn.written += count,
+                Err(e) if e.kind() == ErrorKind::WouldBlock => return,
+                Err(e) if e.kind() == ErrorKind::Interrupted => (),
+                Err(e) => return self.close(id, &e.to_string(), now, to),
+            }
+        }
+    }
+
+    /// Handles each whole message that a connection brought.
+    fn messages(
+        &mut self,
+        id: u64,
+        now: Instant,
+        to: &mut dyn Handler,
+    ) -> Result<(), &'static str> {
+        while let Some(conn) = self.conns.get_mut(&id) {
+            if conn.output.len() > UNREAD {
+                return Err("it reads nothing");
+            }
+            let expect = match (&conn.whom, conn.greeted) {
+                (Some((Whom::Parent, _)), Some(_)) => Expect::Frames,
+                (Some((Whom::Child(_), _)), Some(_)) => Expect::Acks,
+                _ => Expect::Hello,
+            };
+            let message = match wire::take(&mut conn.input, expect)? {
+                Some(message) => message,
+                None => break,
+            };
+            match (conn.whom.clone(), message) {
+                (_, Message::Hello(hello)) => self.greets(id, &hello, now, to)?,
+                (Some((Whom::Parent, number)), Message::Frame(label, body)) => {
+                    self.frame(id, number, label, &body, now, to);
+                }
+                (Some((Whom::Child(name), number)), Message::Ack(label)) => {
+                    // (else whoever acknowledges without end would be sent to without end)
+                    if conn.until.take().is_none() || !conn.output.is_empty() {
+                        return Err("it acknowledges what was not sent");
+                    }
+                    self.relay.on_ack(&name, number, label);
+                    self.poll(&name, now);
+                }
+                (Some((Whom::Child(name), _)), Message::Report(bytes)) => {
+                    if !to.on_report(&name, &bytes, now) {
+                        return Err("it sent no report");
+                    }
+                }
+                _ => return Err("it is no message"),
+            }
+        }
+        Ok(())
+    }
+
+    // ---- What is said first
+
+    fn greets(
+        &mut self,
+        id: u64,
+        hello: &Hello,
+        now: Instant,
+        to: &mut dyn Handler,
+    ) -> Result<(), &'static str> {
+        let made = self.conns.get(&id).and_then(|conn| conn.whom.clone());
+        // (a child that was told no name of its parent says none)
+        let is_meant = hello.to == self.setup.name;
+        let (whom, at) = match &made {
+            Some((whom, _)) => {
+                let name = match whom {
+                    Whom::Parent => self
+                        .setup
+                        .parents
+                        .get(self.parent)
+                        .and_then(|parent| parent.name.as_ref()),
+                    Whom::Child(name) => Some(name),
+                };
+                if !is_meant || name.map_or(false, |name| *name != hello.from) {
+                    return Err("its hello has other names");
+                }
+                (whom.clone(), self.parent)
+            }
+            None if !is_meant && !hello.to.is_empty() => return Err("it means another agent"),
+            None => self
+                .caller(&hello.from)
+                .ok_or("its name is none of a child")?,
+        };
+        if !self
+            .conns
+            .get(&id)
+            .map_or(false, |conn| conn.line.may_be(&hello.from))
+        {
+            return Err("its certificate has another name");
+        }
+        let made = made.map(|(_, number)| number);
+        match whom {
+            Whom::Parent => self.parent_greets(id, made, at, hello, now, to),
+            Whom::Child(name) => self.child_greets(id, made, &name, hello, now, to),
+        }
+    }
+
+    /// Who an agent of this name is, where it connects itself; of a parent, which one.
+    fn caller(&self, from: &str) -> Option<(Whom, usize)> {
+        let is = |it: &Parent<A>| it.address.is_none() && it.name.as_deref() == Some(from);
+        if let Some(at) = self.setup.parents.iter().position(is) {
+            return Some((Whom::Parent, at));
+        }
+        let is_child = match &self.setup.children {
+            Children::Named(children) => children.get(from) == Some(&None),
+            Children::Any => {
+                let is_known = self.relay.child(from).is_some();
+                from != self.setup.name && (is_known || self.relay.children().count() < ANY)
+            }
+        };
+        is_child.then(|| (Whom::Child(from.into()), 0))
+    }
+
+    fn parent_greets(
+        &mut self,
+        id: u64,
+        made: Option<Connection>,
+        at: usize,
+        hello: &Hello,
+        now: Instant,
+        to: &mut dyn Handler,
+    ) -> Result<(), &'static str> {
+        if let (None, Some(above)) = (made, self.above) {
+            if at != self.parent && self.parent().is_some() {
+                return Err("another parent is connected");
+            }
+            self.close(above, "it connected anew", now, to);
+        }
+        let number = made
+            .or_else(|| self.relay.accepted())
+            .ok_or("no number is left")?;
+        self.parent = at;
+        self.above = Some(id);
+        self.begins(id, Whom::Parent, number, now);
+        let anew = self.above_life.replace(hello.life) != Some(hello.life);
+        self.reconnects += 1;
+        let count = if anew { ", a new count" } else { "" };
+        to.on_fact(
+            "connected",
+            format_args!("the parent {}{count}", hello.from),
+        );
+        if made.is_none() {
+            // (the end that accepted has the first turn)
+            self.say_hello(id, hello.from.clone());
+            let label = self.relay.ack();
+            label
+                .into_iter()
+                .for_each(|label| self.send(id, wire::ack(label)));
+        }
+        Ok(())
+    }
+
+    fn child_greets(
+        &mut self,
+        id: u64,
+        made: Option<Connection>,
+        name: &str,
+        hello: &Hello,
+        now: Instant,
+        to: &mut dyn Handler,
+    ) -> Result<(), &'static str> {
+        if let Some(old) = self.children.remove(name) {
+            self.close(old, "it connected anew", now, to);
+        }
+        self.relay.add(name, now);
+        let greeted = self.relay.greeted(name, hello.life, hello.label, made, now);
+        let (number, anew) = greeted.ok_or("no number is left")?;
+        let count = if anew { ", a new count" } else { "" };
+        to.on_fact("connected", format_args!("{name}{count}"));
+        self.children.insert(name.into(), id);
+        self.begins(id, Whom::Child(name.into()), number, now);
+        match self.conns.get_mut(&id) {
+            // (a child that accepted has the first turn)
+            Some(conn) if made.is_some() => conn.until = Some(now + self.setup.ack_timeout),
+            _ => self.say_hello(id, name.into()),
+        }
+        self.poll(name, now);
+        Ok(())
+    }
+
+    fn begins(&mut self, id: u64, whom: Whom, number: Connection, now: Instant) {
+        if let Some(conn) = self.conns.get_mut(&id) {
+            conn.whom = Some((whom, number));
+            conn.greeted = Some(now);
+            conn.until = None;
+        }
+    }
+
+    // ---- What travels
+
+    fn frame(
+        &mut self,
+        id: u64,
+        number: Connection,
+        label: u16,
+        body: &Arc<Body>,
+        now: Instant,
+        to: &mut dyn Handler,
+    ) {
+        let (fresh, left) = self.relay.on_frame(number, label, body);
+        self.left_behind(left, now, to);
+        if fresh && to.on_item(body, now) {
+            self.relay.last_is_a_table();
+        }
+        let label = self.relay.ack();
+        label
+            .into_iter()
+            .for_each(|label| self.send(id, wire::ack(label)));
+        self.poll_all(now);
+    }
+
+    /// At the root: puts a body at the end of the list.
+    pub fn publish(&mut self, body: &Arc<Body>, now: Instant, to: &mut dyn Handler) {
+        let left = self.relay.publish(body);
+        if to.on_item(body, now) {
+            self.relay.last_is_a_table();
+        }
+        self.left_behind(left, now, to);
+        self.poll_all(now);
+    }
+
+    /// Says this to the parent, for watching alone: whether there is one that takes it now.
+    pub fn report(&mut self, report: &[u8]) -> bool {
+        let conn = self.above.and_then(|id| self.conns.get_mut(&id));
+        // (what waits there already is not added to)
+        match conn.filter(|conn| conn.greeted.is_some() && conn.output.is_empty()) {
+            Some(conn) => {
+                conn.output.push_back(Chunk::Bytes(wire::report(report)));
+                true
+            }
+            None => false,
+        }
+    }
+
+    fn left_behind(&mut self, names: Vec<String>, now: Instant, to: &mut dyn Handler) {
+        for name in names {
+            to.on_fact("left-behind", format_args!("{name}"));
+            if let Some(id) = self.children.get(&name) {
+                self.close(*id, "it is too far behind", now, to);
+            }
+        }
+    }
+
+    fn poll_all(&mut self, now: Instant) {
+        let names: Vec<String> = self.children.keys().cloned().collect();
+        names.iter().for_each(|name| self.poll(name, now));
+    }
+
+    /// Sends a child what is to be sent to it now.
+    fn poll(&mut self, name: &str, now: Instant) {
+        let conn = self
+            .children
+            .get(name)
+            .and_then(|id| self.conns.get_mut(id));
+        let conn = match conn {
+            Some(conn) => conn,
+            None => return,
+        };
+        if let Some((label, body)) = self.relay.poll(name, now) {
+            let length = body.bytes.len();
+            let takes = Duration::from_secs(length as u64 / SLOWEST);
+            conn.until = Some(now + self.setup.ack_timeout + takes);
+            let mut head = wire::frame(label, &body);
+            if length <= JOINED {
+                head.extend_from_slice(&body.bytes);
+                conn.output.push_back(Chunk::Bytes(head));
+            } else {
+                conn.output.extend([Chunk::Bytes(head), Chunk::Body(body)]);
+            }
+        }
+    }
+}

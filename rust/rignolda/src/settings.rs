@@ -1,0 +1,384 @@
+//! Settings that travel down a tree: a key, which is a text, and a value, which is bytes.
+//!
+//! The root has a [`Publisher`]: changes that wait are merged, and a round brings all settings anew.
+//! Every agent has a [`Table`], which says of each body whether it is to be applied. So after any
+//! fault of any agents the settings are right after two rounds: one under way, and a whole one.
+//!
+//! ```
+//! use rignolda::settings::{Meaning, Publisher, Table};
+//!
+//! let (mut publisher, mut table) = (Publisher::new(7), Table::default());
+//! publisher.set("colour", b"red".to_vec());
+//! publisher.set("colour", b"blue".to_vec());
+//! let published = publisher.next(100).expect("the whole table comes first");
+//! let (sequence, meaning) = published.body.meaning().expect("it fits its item");
+//! assert_eq!(meaning, Meaning::Table(vec![("colour", Some(b"blue"))]));
+//! assert!(table.takes(sequence, &meaning) && table.whole);
+//! assert!(publisher.next(100).is_none());
+//! ```
+use crate::net::{is_plain, Body, BODY_BYTES};
+use std::collections::{BTreeMap, BTreeSet};
+use std::sync::Arc;
+
+/// The longest key of a setting, in bytes.
+pub const KEY_BYTES: usize = 128;
+/// The longest value of a setting, in bytes.
+pub const VALUE_BYTES: usize = 1 << 20;
+/// The most changes in one body.
+const CHANGES: usize = 4_096;
+/// After so many items a new table is published, if it is not longer than they were.
+const MANY: u64 = 64;
+/// How many bytes a body with entries has before them.
+const HEAD: usize = 13;
+
+/// Whether this may be the key of a setting, by the rule of [names](crate::net::is_name). So a key is
+/// a file's name, and no file whose name begins with a dot is a setting.
+pub fn is_key(text: &str) -> bool {
+    is_plain(text, KEY_BYTES)
+}
+
+/// What a body says.
+///
+/// A body is `kind u8 | sequence u64 | rest`, numbers in big-endian order. A harmless one has no
+/// rest. That of changes and of a whole table is `count u32` and so many entries, in the order of
+/// the keys: `'S' | length u8 | key | length u32 | value`, or `'U' | length u8 | key`.
+#[derive(Clone, Debug, PartialEq, Eq)]
+pub enum Meaning<'a> {
+    /// Settings that changed: each key once, with its value, or with none where it is unset.
+    Changes(Vec<Entry<'a>>),
+    /// All settings: what is not named here is unset.
+    Table(Vec<Entry<'a>>),
+    /// Nothing: it may be lost, or come at any time.
+    Harmless,
+}
+
+/// A key, and its value, unless it is unset.
+pub type Entry<'a> = (&'a str, Option<&'a [u8]>);
+
+impl Body {
+    /// A body that says this, under a sequence number.
+    pub fn new(sequence: u64, meaning: &Meaning<'_>) -> Arc<Body> {
+        let (kind, entries) = match meaning {
+            Meaning::Changes(entries) => (b'C', Some(entries)),
+            Meaning::Table(entries) => (b'T', Some(entries)),
+            Meaning::Harmless => (b'H', None),
+        };
+        let rest: usize = entries.into_iter().flatten().map(entry_bytes).sum();
+        let mut bytes = Vec::with_capacity(HEAD + rest);
+        bytes.push(kind);
+        bytes.extend_from_slice(&sequence.to_be_bytes());
+        if let Some(entries) = entries {
+            bytes.extend_from_slice(&(entries.len() as u32).to_be_bytes());
+            for (key, value) in entries {
+                bytes.push(if value.is_some() { b'S' } else { b'U' });
+                bytes.push(key.len() as u8);
+                bytes.extend_from_slice(key.as_bytes());
+                if let Some(value) = value {
+                    bytes.extend_from_slice(&(value.len() as u32).to_be_bytes());
+                    bytes.extend_from_slice(value);
+                }
+            }
+        }
+        Arc::new(Body::of(bytes))
+    }
+
+    /// The sequence and what the body says, or nothing where it does not fit its item or says
+    /// nothing that [`Body::new`] writes.
+    pub fn meaning(&self) -> Option<(u64, Meaning<'_>)> {
+        if !self.fits() {
+            return None;
+        }
+        let mut rest = Rest(&self.bytes);
+        let kind = rest.number(1)? as u8;
+        let sequence = rest.number(8)?;
+        let meaning = match kind {
+            b'C' => Meaning::Changes(rest.entries()?),
+            b'T' => {
+                let entries = rest.entries()?;
+                let all_set = entries.iter().all(|(_, value)| value.is_some());
+                all_set.then_some(Meaning::Table(entries))?
+            }
+            b'H' => Meaning::Harmless,
+            _ => return None,
+        };
+        rest.0.is_empty().then_some((sequence, meaning))
+    }
+}
+
+/// How many bytes of a body an entry takes.
+pub fn entry_bytes((key, value): &Entry<'_>) -> usize {
+    2 + key.len() + value.map_or(0, |value| 4 + value.len())
+}
+
+/// What is still to be read.
+struct Rest<'a>(&'a [u8]);
+
+impl<'a> Rest<'a> {
+    fn take(&mut self, length: usize) -> Option<&'a [u8]> {
+        if length > self.0.len() {
+            return None;
+        }
+        let (taken, rest) = self.0.split_at(length);
+        self.0 = rest;
+        Some(taken)
+    }
+
+    fn number(&mut self, bytes: usize) -> Option<u64> {
+        Some(
+            self.take(bytes)?
+                .iter()
+                .fold(0, |number, byte| number << 8 | u64::from(*byte)),
+        )
+    }
+
+    fn key(&mut self) -> Option<&'a str> {
+        let length = self.number(1)? as usize;
+        std::str::from_utf8(self.take(length)?)
+            .ok()
+            .filter(|key| is_key(key))
+    }
+
+    fn entries(&mut self) -> Option<Vec<Entry<'a>>> {
+        let count = self.number(4)? as usize;
+        // (an entry has 3 bytes at least)
+        let mut entries: Vec<Entry<'a>> = Vec::with_capacity(count.min(self.0.len() / 3));
+        for _ in 0..count {
+            let kind = self.number(1)? as u8;
+            let key = self.key()?;
+            let value = match kind {
+                b'S' => {
+                    let length = self.number(4)? as usize;
+                    Some(
+                        self.take(length)
+                            .filter(|value| value.len() <= VALUE_BYTES)?,
+                    )
+                }
+                b'U' => None,
+                _ => return None,
+            };
+            if entries.last().map_or(false, |(last, _)| *last >= key) {
+                return None;
+            }
+            entries.push((key, value));
+        }
+        Some(entries)
+    }
+}
+
+/// Which bodies an agent applies: each one that is newer than the last, by its sequence number.
+///
+/// Nothing of it has to be right: a spoiled one is right after a whole round.
+#[derive(Debug, Default)]
+pub struct Table {
+    /// The sequence number of the last body that was applied, or meant nothing; 0 before the first.
+    pub sequence: u64,
+    /// That of the last whole table.
+    pub round: u64,
+    /// Whether a whole table came, and no gap since.
+    pub whole: bool,
+    /// The keys of all settings.
+    pub keys: BTreeSet<String>,
+    /// Bodies that were older than the last, and not applied.
+    pub strays: u64,
+    /// How often a number was left out before a body that is no whole table.
+    pub gaps: u64,
+    /// Whether the harmless items of a round that is older came last.
+    old_round: bool,
+}
+
+impl Table {
+    /// Whether to apply a body that came now.
+    ///
+    /// An older one is a stray: it came by a link that began anew, or lay somewhere. But where a
+    /// whole round is older, its harmless items and then its table, it is this agent's own number
+    /// that is wrong, or the root's clock was set back: then that table is taken.
+    pub fn takes(&mut self, sequence: u64, meaning: &Meaning<'_>) -> bool {
+        let is_table = matches!(meaning, Meaning::Table(_));
+        let fresh = sequence > self.sequence;
+        if !(fresh || is_table && self.old_round) {
+            self.strays += 1;
+            self.old_round |= *meaning == Meaning::Harmless;
+            return false;
+        }
+        // (a whole table makes up for whatever was left out before it)
+        let follows = self.sequence == 0 || sequence == self.sequence.wrapping_add(1);
+        if !follows && !is_table {
+            self.gaps += 1;
+            self.whole = false;
+        }
+        self.sequence = sequence;
+        self.old_round = false;
+        match meaning {
+            Meaning::Table(entries) => {
+                self.round = sequence;
+                self.whole = true;
+                self.keys = entries.iter().map(|(key, _)| (*key).to_owned()).collect();
+            }
+            Meaning::Changes(entries) => entries.iter().for_each(|(key, value)| match value {
+                Some(_) => drop(self.keys.insert((*key).to_owned())),
+                None => drop(self.keys.remove(*key)),
+            }),
+            Meaning::Harmless => (),
+        }
+        true
+    }
+}
+
+/// All settings, as the root has them, and which bodies it publishes.
+///
+/// Changes that wait are merged: of each key the last value alone is published. A round is so many
+/// harmless items and then the whole table.
+#[derive(Debug)]
+pub struct Publisher {
+    settings: BTreeMap<String, Vec<u8>>,
+    /// The keys whose last value is not published yet.
+    changed: BTreeSet<String>,
+    sequence: u64,
+    /// Items and bytes since the last whole table, and what that table had.
+    since: (u64, usize),
+    table_bytes: usize,
+    /// Items of the round under way that are still to come, its table with them.
+    round: u64,
+    table_first: bool,
+}
+
+/// A body to publish.
+#[derive(Debug)]
+pub struct Published {
+    /// The body.
+    pub body: Arc<Body>,
+    /// Whether it is a whole table.
+    pub is_table: bool,
+    /// The keys of those changes that were waiting and are in it.
+    pub keys: BTreeSet<String>,
+}
+
+impl Publisher {
+    /// A publisher without settings, whose bodies have the numbers after this one: to be above those
+    /// of an earlier life, it may be that of a clock. It begins with the whole table.
+    pub fn new(sequence: u64) -> Publisher {
+        Publisher {
+            settings: BTreeMap::new(),
+            changed: BTreeSet::new(),
+            sequence,
+            since: (0, 0),
+            table_bytes: 0,
+            round: 0,
+            table_first: true,
+        }
+    }
+
+    /// All settings.
+    pub fn settings(&self) -> &BTreeMap<String, Vec<u8>> {
+        &self.settings
+    }
+
+    /// How long a whole table of these settings would be, in bytes. It has to be at most
+    /// [`BODY_BYTES`].
+    pub fn bytes_of(settings: &BTreeMap<String, Vec<u8>>) -> usize {
+        let entries = settings.iter();
+        HEAD + entries
+            .map(|(key, value)| entry_bytes(&(key, Some(value))))
+            .sum::<usize>()
+    }
+
+    /// Whether there is room for this setting beside all others.
+    pub fn has_room(&self, key: &str, value: &[u8]) -> bool {
+        let old = self
+            .settings
+            .get(key)
+            .map_or(0, |old| entry_bytes(&(key, Some(old))));
+        let all = Publisher::bytes_of(&self.settings) - old + entry_bytes(&(key, Some(value)));
+        value.len() <= VALUE_BYTES && all <= BODY_BYTES
+    }
+
+    /// Makes a setting. It is published even where it is as it was.
+    pub fn set(&mut self, key: &str, value: Vec<u8>) {
+        self.changed.insert(key.into());
+        self.settings.insert(key.into(), value);
+    }
+
+    /// Removes a setting.
+    pub fn unset(&mut self, key: &str) {
+        self.changed.insert(key.into());
+        self.settings.remove(key);
+    }
+
+    /// Takes all settings anew: what differs is published.
+    pub fn replace(&mut self, settings: BTreeMap<String, Vec<u8>>) {
+        let old = std::mem::replace(&mut self.settings, settings);
+        let differs = |(key, value): &(&String, &Vec<u8>)| old.get(*key) != Some(value);
+        let new = self
+            .settings
+            .iter()
+            .filter(differs)
+            .map(|(key, _)| key.clone());
+        self.changed.extend(new);
+        let gone = old
+            .into_keys()
+            .filter(|key| !self.settings.contains_key(key));
+        self.changed.extend(gone);
+    }
+
+    /// A round with so many harmless items begins, unless one is under way.
+    pub fn begin_round(&mut self, harmless: u32) {
+        if !self.is_in_a_round() {
+            self.round = u64::from(harmless) + 1;
+        }
+    }
+
+    /// Whether a round is under way.
+    pub fn is_in_a_round(&self) -> bool {
+        self.round > 0
+    }
+
+    /// Whether something waits to be published.
+    pub fn waits(&self) -> bool {
+        self.table_first || self.round > 0 || !self.changed.is_empty()
+    }
+
+    /// The next body to publish. `limit`: how many items may follow a table at most.
+    pub fn next(&mut self, limit: u64) -> Option<Published> {
+        if !self.waits() {
+            return None;
+        }
+        self.sequence += 1;
+        let (items, bytes) = self.since;
+        // (tables never take more than the changes between them, but where these are very many)
+        let is_long = bytes > self.table_bytes && (items >= MANY || bytes > VALUE_BYTES);
+        let is_long = is_long || items >= limit;
+        let is_table = self.table_first || (self.changed.is_empty() && self.round == 1) || is_long;
+        if is_table {
+            // (the table of a round comes behind its harmless items)
+            self.round -= u64::from(self.round == 1);
+            self.table_first = false;
+            let entries = self.settings.iter();
+            let entries = entries.map(|(key, value)| (key.as_str(), Some(value.as_slice())));
+            let body = Body::new(self.sequence, &Meaning::Table(entries.collect()));
+            self.since = (0, 0);
+            self.table_bytes = body.bytes.len();
+            return Some(Published {
+                body,
+                is_table,
+                keys: std::mem::take(&mut self.changed),
+            });
+        }
+        let later = self.changed.iter().nth(CHANGES).cloned();
+        let later = later.map_or(BTreeSet::new(), |key| self.changed.split_off(&key));
+        let keys = std::mem::replace(&mut self.changed, later);
+        let body = if keys.is_empty() {
+            self.round -= 1;
+            Body::new(self.sequence, &Meaning::Harmless)
+        } else {
+            let value = |key: &String| self.settings.get(key).map(Vec::as_slice);
+            let entries = keys.iter().map(|key| (key.as_str(), value(key))).collect();
+            Body::new(self.sequence, &Meaning::Changes(entries))
+        };
+        self.since = (items + 1, bytes + body.bytes.len());
+        Some(Published {
+            body,
+            is_table,
+            keys,
+        })
+    }
+}
