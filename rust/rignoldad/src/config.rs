@@ -417,19 +417,24 @@ impl<'a> Check<'a> {
             name,
             children,
         };
-        let comes = match &config.children {
-            Children::Named(names) => names.values().any(Option::is_none),
-            Children::Any => true,
+        let (has_children, child_comes) = match &config.children {
+            Children::Named(names) => (!names.is_empty(), names.values().any(Option::is_none)),
+            Children::Any => (true, true),
         };
         let parent_comes = config.parents.iter().any(|parent| parent.address.is_none());
-        if comes && listen.is_empty() {
+        if child_comes && listen.is_empty() {
             self.fault("children", "children connect to an address of `listen`");
         }
         if parent_comes && listen.is_empty() {
-            self.fault("parents", "a parent without ADDRESS connects to an address of `listen`");
+            self.fault("parents", "a parent without an address connects to one of `listen`");
         }
-        if !comes && !parent_comes && !listen.is_empty() {
+        if !has_children && !parent_comes && !listen.is_empty() {
             self.fault("listen", "nobody may connect: there are no `children`");
+        }
+        for parent in config.parents.iter().filter_map(|parent| parent.name.as_deref()) {
+            if matches!(&config.children, Children::Named(names) if names.contains_key(parent)) {
+                self.fault("children", format!("`{parent}` is a parent"));
+            }
         }
         if config.root.is_some() && !parents.is_empty() {
             self.fault("root", "the root has no `parents`");

@@ -48,6 +48,22 @@ fn reads_every_key() {
 }
 
 #[test]
+fn either_end_may_connect() {
+    let child = "name = \"c\"\nlisten = \"[::1]:1\"\nparents = [\"hub\", \"b@[::1]:2\"]";
+    let parents = Config::parse(child).unwrap().parents;
+    let all: Vec<_> = parents.iter().map(|it| (it.to_string(), it.address.is_some())).collect();
+    assert_eq!(all, [("hub".into(), false), ("b".into(), true)]);
+    // (nobody connects to this root, so it listens nowhere)
+    let root = "name = \"a\"\nchildren = [\"c@[::1]:1\", \"d@unix:/d\"]\n\
+         [root]\nsettings = \"/s\"";
+    let children = [
+        ("c".into(), Some(Address::Tcp("[::1]:1".into()))),
+        ("d".into(), Some(Address::Unix("/d".into()))),
+    ];
+    assert_eq!(Config::parse(root).unwrap().children, Children::Named(children.into()));
+}
+
+#[test]
 fn says_each_fault_with_its_line_and_key() {
     let long = format!("name = \"{}\"\n[root]\nsettings = \"/s\"", "a".repeat(65));
     let cases: &[(&str, usize, &str, &str)] = &[
@@ -74,6 +90,32 @@ fn says_each_fault_with_its_line_and_key() {
         ("name = \"a\"\nparents = [\"a@127.0.0.1:1\"]", 2, "parents", "of its own"),
         ("name = \"a\"\nparents = [\"b@127.0.0.1:0\"]", 2, "parents", "from 1 to 65535"),
         ("name = \"a\"\nparents = [\"b@::1:7464\"]", 2, "parents", "needs brackets"),
+        ("name = \"a\"\nparents = [\"b\"]", 2, "parents", "one of `listen`"),
+        ("name = \"a\"\nlisten = \"[::1]:1\"\nparents = [\"b/c\"]", 3, "parents", "1 to 64"),
+        (
+            "name = \"a\"\nchildren = [\"b@10.0.0.1:1\"]\n[root]\nsettings = \"/s\"",
+            2,
+            "children",
+            "is on the network",
+        ),
+        (
+            "name = \"a\"\nchildren = [\"b@[::1]:0\"]\n[root]\nsettings = \"/s\"",
+            2,
+            "children",
+            "from 1 to 65535",
+        ),
+        (
+            "name = \"a\"\nchildren = [\"a@[::1]:1\"]\n[root]\nsettings = \"/s\"",
+            2,
+            "children",
+            "twice",
+        ),
+        (
+            "name = \"a\"\nparents = [\"b@[::1]:1\"]\nchildren = [\"b@[::1]:2\"]",
+            3,
+            "children",
+            "is a parent",
+        ),
         ("name = \"a\"\nparents = [\"b@unix:run\"]", 2, "parents", "absolute path"),
         (
             "name = \"a\"\nparents = [\"127.0.0.1:1\"]\n[tls]\ncertificate = \"/a\"\nkey = \"/b\"\n\
