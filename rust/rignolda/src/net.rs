@@ -4,8 +4,8 @@
 //! frame: so an agent sends texts, tables or programs of up to 16 MiB. [`wire`] is what goes over a
 //! connection, byte for byte; a [`Relay`] is a node with the bodies of its items and with children
 //! that have names; [`Peers`] are all the connections of an agent: who connects to whom, what each
-//! end says first, who is waited for, and what is sent when. Its caller has the sockets, certificates
-//! and clocks.
+//! end says first, who is waited for, and what is sent when. Its caller has the sockets,
+//! certificates and clocks.
 //!
 //! Each step of a link is a call that is proved. That a body lies beside its item, and all that is
 //! done about connections, is tested alone.

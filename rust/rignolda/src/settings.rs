@@ -1,8 +1,8 @@
 //! Settings that travel down a tree: a key, which is a text, and a value, which is bytes.
 //!
-//! The root has a [`Publisher`]: changes that wait are merged, and a round brings all settings anew.
-//! Every agent has a [`Table`], which says of each body whether it is to be applied. So after any
-//! fault of any agents the settings are right after two rounds: one under way, and a whole one.
+//! The root has a [`Publisher`]: changes that wait are merged, and a round brings all settings
+//! anew. Every agent has a [`Table`], which says of each body whether it is to be applied. So after
+//! any fault of any agents the settings are right after two rounds: one under way, and a whole one.
 //!
 //! ```
 //! use rignolda::settings::{Meaning, Publisher, Table};
@@ -31,8 +31,8 @@ const MANY: u64 = 64;
 /// How many bytes a body with entries has before them.
 const HEAD: usize = 13;
 
-/// Whether this may be the key of a setting, by the rule of [names](crate::net::is_name). So a key is
-/// a file's name, and no file whose name begins with a dot is a setting.
+/// Whether this may be the key of a setting, by the rule of [names](crate::net::is_name). So a key
+/// is a file's name, and no file whose name begins with a dot is a setting.
 pub fn is_key(text: &str) -> bool {
     is_plain(text, KEY_BYTES)
 }
@@ -254,8 +254,8 @@ pub struct Published {
 }
 
 impl Publisher {
-    /// A publisher without settings, whose bodies have the numbers after this one: to be above those
-    /// of an earlier life, it may be that of a clock. It begins with the whole table.
+    /// A publisher without settings, whose bodies have the numbers after this one: to be above
+    /// those of an earlier life, it may be that of a clock. It begins with the whole table.
     pub fn new(sequence: u64) -> Publisher {
         Publisher {
             settings: BTreeMap::new(),

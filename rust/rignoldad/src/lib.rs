@@ -1,7 +1,7 @@
 //! A daemon that carries settings down a tree of machines, over the proved library `rignolda`.
 //!
-//! Each step that the laws speak of is a call of the library, and what goes over a connection is its
-//! module `net`. Here is the shell around it: sockets, files and watching.
+//! Each step that the laws speak of is a call of the library, and its module `net` has what goes
+//! over a connection. Here is the shell around it: sockets, files and watching.
 #![forbid(unsafe_code)]
 
 pub mod agent;

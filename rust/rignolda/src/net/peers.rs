@@ -38,8 +38,8 @@ pub trait Handler {
     fn on_report(&mut self, child: &str, report: &[u8], now: Instant) -> bool;
     /// A child is one no longer: what it said may be forgotten.
     fn on_gone(&mut self, child: &str);
-    /// A fact for a journal: `connected`, `closed`, `refused`, `left-behind`, `evicted`, or `parent`
-    /// and `child` where one cannot be connected to; and its words.
+    /// A fact for a journal: `connected`, `closed`, `refused`, `left-behind`, `evicted`, or
+    /// `parent` and `child` where one cannot be connected to; and its words.
     fn on_fact(&mut self, fact: &'static str, words: fmt::Arguments<'_>);
 }
 
@@ -157,8 +157,8 @@ impl Chunk {
 /// The connections of an agent, over lines `L` to addresses `A`.
 ///
 /// Its caller makes and accepts lines, and waits until one of them can be read or written, or until
-/// [`Peers::deadline`]. A connection may be made by either end: the end that makes it says its hello
-/// first, and on the link the other end has the first turn.
+/// [`Peers::deadline`]. A connection may be made by either end: the end that makes it says its
+/// hello first, and on the link the other end has the first turn.
 pub struct Peers<L, A> {
     setup: Setup<A>,
     life: u64,

@@ -1,0 +1,572 @@
+//! Agents over lines in memory: who connects to whom, what is said first, and who is taken.
+use rignolda::net::wire::{self, Expect, Hello, Message};
+use rignolda::net::{Body, Children, Handler, Line, Parent, Peers, Setup};
+use std::cell::RefCell;
+use std::collections::{BTreeMap, VecDeque};
+use std::fmt;
+use std::io::{self, Error, ErrorKind, Read, Write};
+use std::rc::Rc;
+use std::sync::Arc;
+use std::time::{Duration, Instant};
+
+const ACK_TIMEOUT: Duration = Duration::from_millis(500);
+const STEP: Duration = Duration::from_millis(10);
+
+#[derive(Default)]
+struct Pipe {
+    bytes: VecDeque<u8>,
+    closed: bool,
+}
+
+/// An end of a line in memory. It knows the name in the other end's certificate.
+struct End {
+    other: String,
+    from: Rc<RefCell<Pipe>>,
+    to: Rc<RefCell<Pipe>>,
+}
+
+/// A line between the holders of two certificates.
+fn line(one: &str, two: &str) -> (End, End) {
+    let (down, up) = (Rc::default(), Rc::default());
+    let first = End {
+        other: two.into(),
+        from: Rc::clone(&up),
+        to: Rc::clone(&down),
+    };
+    (
+        first,
+        End {
+            other: one.into(),
+            from: down,
+            to: up,
+        },
+    )
+}
+
+impl Read for End {
+    fn read(&mut self, to: &mut [u8]) -> io::Result<usize> {
+        let mut from = self.from.borrow_mut();
+        if from.bytes.is_empty() && !from.closed {
+            return Err(ErrorKind::WouldBlock.into());
+        }
+        // (a few bytes at a time)
+        let most = to.len().min(50);
+        from.bytes.read(&mut to[..most])
+    }
+}
+
+impl Write for End {
+    fn write(&mut self, from: &[u8]) -> io::Result<usize> {
+        let mut to = self.to.borrow_mut();
+        if to.closed {
+            return Err(Error::new(ErrorKind::BrokenPipe, "it is closed"));
+        }
+        let count = from.len().min(30);
+        to.bytes.extend(&from[..count]);
+        Ok(count)
+    }
+
+    fn flush(&mut self) -> io::Result<()> {
+        Ok(())
+    }
+}
+
+impl Drop for End {
+    fn drop(&mut self) {
+        self.from.borrow_mut().closed = true;
+        self.to.borrow_mut().closed = true;
+    }
+}
+
+impl Line for End {
+    fn may_be(&self, name: &str) -> bool {
+        self.other == name
+    }
+}
+
+#[derive(Default)]
+struct Said {
+    items: Vec<String>,
+    facts: Vec<String>,
+}
+
+impl Handler for Said {
+    fn on_item(&mut self, body: &Arc<Body>, _: Instant) -> bool {
+        self.items
+            .push(String::from_utf8(body.bytes.clone()).unwrap());
+        body.bytes.starts_with(b"T")
+    }
+
+    fn on_report(&mut self, child: &str, report: &[u8], _: Instant) -> bool {
+        self.facts
+            .push(format!("report of {child} {}", report.len()));
+        report == b"well"
+    }
+
+    fn on_gone(&mut self, child: &str) {
+        self.facts.push(format!("gone {child}"));
+    }
+
+    fn on_fact(&mut self, fact: &'static str, words: fmt::Arguments<'_>) {
+        self.facts.push(format!("{fact} {words}"));
+    }
+}
+
+struct Agent {
+    peers: Peers<End, String>,
+    said: Said,
+}
+
+/// Agents, whose addresses are their names.
+struct Net {
+    agents: BTreeMap<String, Agent>,
+    now: Instant,
+    lives: u64,
+}
+
+fn parent(name: &str, address: Option<&str>) -> Parent<String> {
+    Parent {
+        name: Some(name.into()),
+        address: address.map(String::from),
+    }
+}
+
+fn children(all: &[(&str, bool)]) -> Children<String> {
+    let child =
+        |(name, called): &(&str, bool)| (name.to_string(), called.then(|| name.to_string()));
+    Children::Named(all.iter().map(child).collect())
+}
+
+fn setup(name: &str, parents: Vec<Parent<String>>, children: Children<String>) -> Setup<String> {
+    let evict = Duration::from_secs(60);
+    Setup {
+        name: name.into(),
+        parents,
+        children,
+        ack_timeout: ACK_TIMEOUT,
+        evict,
+    }
+}
+
+impl Net {
+    fn new(setups: Vec<Setup<String>>) -> Net {
+        let mut net = Net {
+            agents: BTreeMap::new(),
+            now: Instant::now(),
+            lives: 0,
+        };
+        setups.into_iter().for_each(|setup| net.start(setup));
+        net
+    }
+
+    fn start(&mut self, setup: Setup<String>) {
+        self.lives += 1;
+        let name = setup.name.clone();
+        let peers = Peers::new(setup, self.lives, 64, self.now);
+        self.agents.insert(
+            name,
+            Agent {
+                peers,
+                said: Said::default(),
+            },
+        );
+    }
+
+    fn agent(&mut self, name: &str) -> &mut Agent {
+        self.agents.get_mut(name).unwrap()
+    }
+
+    /// Each agent does all that it can do now.
+    fn step(&mut self) {
+        self.now += STEP;
+        let now = self.now;
+        let names: Vec<String> = self.agents.keys().cloned().collect();
+        for name in names {
+            let agent = self.agent(&name);
+            agent.peers.tick(now, &mut agent.said);
+            let ids: Vec<u64> = agent.peers.lines().map(|(id, ..)| id).collect();
+            agent.peers.read(ids, now, &mut agent.said);
+            agent.peers.write(now, &mut agent.said);
+            while let Some(call) = {
+                let agent = self.agent(&name);
+                agent.peers.next_call(now, &mut agent.said)
+            } {
+                let (here, there) = line(&name, &call.address);
+                let answers = self.agents.get_mut(&call.address);
+                let is_there = answers.is_some();
+                if let Some(other) = answers {
+                    other.peers.accept(there, now, &mut other.said);
+                }
+                let made = is_there
+                    .then_some(here)
+                    .ok_or_else(|| "nobody is there".into());
+                let agent = self.agent(&name);
+                agent.peers.called(call, made, now, &mut agent.said);
+            }
+        }
+    }
+
+    fn steps(&mut self, count: usize) {
+        (0..count).for_each(|_| self.step());
+    }
+
+    fn publish(&mut self, at: &str, text: &str) {
+        let (now, agent) = (self.now, self.agent(at));
+        let body = Arc::new(Body::of(text.as_bytes().to_vec()));
+        agent.peers.publish(&body, now, &mut agent.said);
+    }
+
+    /// Breaks the connections of an agent.
+    fn cut(&mut self, name: &str) {
+        let (now, agent) = (self.now, self.agent(name));
+        let ids: Vec<u64> = agent.peers.lines().map(|(id, ..)| id).collect();
+        for id in ids {
+            agent.peers.close(id, "it was cut", now, &mut agent.said);
+        }
+    }
+
+    /// A stranger with a certificate of this name connects to an agent, and says these bytes: the
+    /// end that the stranger has.
+    fn stranger(&mut self, to: &str, certificate: &str, says: &[u8]) -> End {
+        let (now, agent) = (self.now, self.agent(to));
+        let (here, there) = line(certificate, to);
+        agent.peers.accept(there, now, &mut agent.said);
+        here.to.borrow_mut().bytes.extend(says);
+        here
+    }
+
+    fn said(&mut self, name: &str, fact: &str) -> bool {
+        self.agent(name)
+            .said
+            .facts
+            .iter()
+            .any(|it| it.starts_with(fact))
+    }
+}
+
+fn hello(from: &str, to: &str) -> Vec<u8> {
+    Hello {
+        life: 99,
+        label: 7,
+        from: from.into(),
+        to: to.into(),
+    }
+    .bytes()
+}
+
+/// The root, `a` below it, and `b` below that: each link made by the parent, or by the child.
+fn path(by_parent: [bool; 2]) -> Net {
+    let to = |name: &str, by_parent: bool| parent(name, (!by_parent).then_some(name));
+    Net::new(vec![
+        setup("root", vec![], children(&[("a", by_parent[0])])),
+        setup(
+            "a",
+            vec![to("root", by_parent[0])],
+            children(&[("b", by_parent[1])]),
+        ),
+        setup("b", vec![to("a", by_parent[1])], children(&[])),
+    ])
+}
+
+const WAYS: [[bool; 2]; 4] = [[false, false], [false, true], [true, false], [true, true]];
+
+#[test]
+fn items_travel_whoever_connects() {
+    for way in WAYS {
+        let mut net = path(way);
+        net.publish("root", "T0");
+        net.steps(20);
+        for at in 1..40 {
+            net.publish("root", &format!("{at} {}", "x".repeat(at * 97 % 301)));
+            net.steps(1);
+        }
+        net.steps(2_000);
+        let all = net.agent("root").said.items.clone();
+        assert_eq!(all.len(), 40);
+        assert_eq!(net.agent("a").said.items, all, "{way:?}");
+        assert_eq!(net.agent("b").said.items, all, "{way:?}");
+        assert!(net.agent("b").peers.parent().is_some());
+    }
+}
+
+#[test]
+fn connections_that_break_lose_nothing() {
+    for (seed, way) in (1_u64..60).zip(WAYS.iter().cycle()) {
+        let mut state = seed;
+        let mut draw = |bound: u64| {
+            state = state
+                .wrapping_mul(6_364_136_223_846_793_005)
+                .wrapping_add(1);
+            (state >> 33) % bound
+        };
+        let mut net = path(*way);
+        net.publish("root", "T0");
+        for at in 1..30 {
+            net.steps(draw(30) as usize);
+            net.publish("root", &format!("{at} {}", "x".repeat(draw(200) as usize)));
+            if draw(2) == 0 {
+                net.cut(["root", "a", "b"][draw(3) as usize]);
+            }
+        }
+        net.steps(3_000);
+        let all = net.agent("root").said.items.clone();
+        assert_eq!(net.agent("a").said.items, all, "{seed}");
+        assert_eq!(net.agent("b").said.items, all, "{seed}");
+    }
+}
+
+#[test]
+fn one_that_begins_anew_gets_the_table_and_what_came_since() {
+    for way in WAYS {
+        let mut net = path(way);
+        for text in ["T0", "1", "T2", "3", "4"] {
+            net.publish("root", text);
+            net.steps(40);
+        }
+        net.agents.remove("a");
+        net.steps(3);
+        let to = parent("root", (!way[0]).then_some("root"));
+        net.start(setup("a", vec![to], children(&[("b", way[1])])));
+        net.steps(1_000);
+        assert_eq!(net.agent("a").said.items, ["T2", "3", "4"], "{way:?}");
+        net.publish("root", "5");
+        net.steps(400);
+        assert_eq!(net.agent("a").said.items, ["T2", "3", "4", "5"], "{way:?}");
+        assert_eq!(net.agent("b").said.items.last().unwrap(), "5", "{way:?}");
+    }
+}
+
+#[test]
+fn whoever_is_somebody_else_is_refused() {
+    let cases: [(&str, &str, Vec<u8>, &str); 9] = [
+        (
+            "root",
+            "x",
+            hello("x", "root"),
+            "its name is none of a child",
+        ),
+        ("root", "a", hello("a", "other"), "it means another agent"),
+        (
+            "root",
+            "x",
+            hello("a", "root"),
+            "its certificate has another name",
+        ),
+        // (one that is connected to does not connect itself, and a child is no parent)
+        ("a", "b", hello("b", "a"), "its name is none of a child"),
+        ("b", "a", hello("a", "b2"), "it means another agent"),
+        (
+            "b",
+            "x",
+            hello("a", "b"),
+            "its certificate has another name",
+        ),
+        ("b", "x", hello("x", "b"), "its name is none of a child"),
+        (
+            "root",
+            "root",
+            hello("root", "root"),
+            "its name is none of a child",
+        ),
+        ("root", "a", b"GET / HTTP/1.1".to_vec(), "it is no hello"),
+    ];
+    for (to, certificate, says, why) in cases {
+        let mut net = path([false, true]);
+        net.agents.remove(if to == "a" { "b" } else { "a" });
+        let stranger = net.stranger(to, certificate, &says);
+        net.step();
+        assert!(
+            net.said(to, &format!("refused {why}")),
+            "{why}: {:?}",
+            net.agent(to).said.facts
+        );
+        assert!(stranger.from.borrow().closed, "{why}");
+        assert_eq!(net.agent(to).peers.refused(), 1);
+    }
+}
+
+#[test]
+fn an_end_that_was_called_has_to_be_who_was_meant() {
+    // (at its address there is an agent of another name, or with another certificate)
+    for (from, to, certificate) in [("x", "root", "a"), ("a", "x", "a"), ("a", "root", "x")] {
+        let mut net = Net::new(vec![setup("root", vec![], children(&[("a", true)]))]);
+        let (now, agent) = (net.now, net.agent("root"));
+        let call = agent.peers.next_call(now, &mut agent.said).unwrap();
+        let (here, there) = line("root", certificate);
+        agent.peers.called(call, Ok(here), now, &mut agent.said);
+        there.to.borrow_mut().bytes.extend(hello(from, to));
+        net.step();
+        assert!(
+            there.from.borrow().closed && net.said("root", "child a: its"),
+            "{from} {to}"
+        );
+        assert_eq!(net.agent("root").peers.relay().least_backlog(), None);
+    }
+}
+
+#[test]
+fn parents_are_tried_in_order() {
+    let mut net = Net::new(vec![setup(
+        "leaf",
+        vec![parent("first", None), parent("second", Some("second"))],
+        children(&[]),
+    )]);
+    // (the first one has a while to connect)
+    net.steps(20);
+    assert!(net.said("leaf", "parent first: it has not connected"));
+    assert!(!net.said("leaf", "parent second"));
+    net.start(setup("second", vec![], children(&[("leaf", false)])));
+    net.steps(100);
+    let name = |net: &mut Net| {
+        net.agent("leaf")
+            .peers
+            .parent()
+            .map(|(it, _)| it.to_string())
+    };
+    assert_eq!(name(&mut net).as_deref(), Some("second"));
+    // (a parent that comes while there is another one is refused, and calls again)
+    net.start(setup("first", vec![], children(&[("leaf", true)])));
+    net.steps(100);
+    assert!(net.said("leaf", "refused another parent is connected"));
+    assert_eq!(name(&mut net).as_deref(), Some("second"));
+    net.agents.remove("second");
+    net.steps(400);
+    assert_eq!(name(&mut net).as_deref(), Some("first"));
+}
+
+#[test]
+fn a_changed_setup_turns_a_link() {
+    let mut net = path([false, false]);
+    net.publish("root", "T0");
+    net.steps(100);
+    let now = net.now;
+    let agent = net.agent("a");
+    let turned = setup("a", vec![parent("root", None)], children(&[("b", false)]));
+    agent.peers.set_up(turned, now, &mut agent.said);
+    assert!(net.said("a", "closed the parent: the parents changed"));
+    let agent = net.agent("root");
+    agent.peers.set_up(
+        setup("root", vec![], children(&[("a", true)])),
+        now,
+        &mut agent.said,
+    );
+    net.publish("root", "1");
+    net.steps(400);
+    assert_eq!(net.agent("b").said.items, ["T0", "1"]);
+    // (one that is no child any more is closed and forgotten)
+    let now = net.now;
+    let agent = net.agent("root");
+    agent
+        .peers
+        .set_up(setup("root", vec![], children(&[])), now, &mut agent.said);
+    assert!(net.said("root", "gone a"));
+    net.steps(100);
+    assert!(net.agent("a").peers.parent().is_none());
+    let agent = net.agent("root");
+    assert_eq!(agent.peers.add("a", None, now), Ok(()));
+    assert_eq!(
+        agent.peers.add("a", None, now),
+        Err("it is a child already")
+    );
+    assert_eq!(
+        agent.peers.add("root", None, now),
+        Err("it is no name of a child")
+    );
+    assert_eq!(
+        agent.peers.remove("x", now, &mut agent.said),
+        Err("it is no child")
+    );
+}
+
+#[test]
+fn slow_hellos_and_too_many_are_dropped() {
+    let mut net = path([false, false]);
+    net.agents.remove("a");
+    let mut ends: Vec<End> = (0..70).map(|_| net.stranger("root", "a", b"RGN")).collect();
+    net.step();
+    let closed = |ends: &[End]| ends.iter().filter(|end| end.from.borrow().closed).count();
+    assert_eq!(
+        (closed(&ends), closed(&ends[..6])),
+        (6, 6),
+        "the oldest ones"
+    );
+    net.steps(ACK_TIMEOUT.as_millis() as usize / STEP.as_millis() as usize);
+    assert_eq!(closed(&ends), 70);
+    ends.clear();
+    assert_eq!(net.agent("root").peers.refused(), 70);
+}
+
+/// The next message that an end has from an agent.
+fn next(end: &End, expect: Expect) -> Option<Message> {
+    let mut bytes: Vec<u8> = end.from.borrow_mut().bytes.drain(..).collect();
+    let message = wire::take(&mut bytes, expect).unwrap();
+    end.from.borrow_mut().bytes.extend(bytes);
+    message
+}
+
+#[test]
+fn who_acknowledges_what_was_not_sent_is_closed() {
+    let mut net = path([false, false]);
+    net.agents.remove("a");
+    let greeting = [hello("a", "root"), wire::ack(3)].concat();
+    let end = net.stranger("root", "a", &greeting);
+    net.step();
+    assert!(net.said("root", "closed a: it acknowledges what was not sent"));
+    drop(end);
+    // (a report that makes no sense closes the connection too, and one that does is heard)
+    let greeting = [
+        hello("a", "root"),
+        wire::report(b"well"),
+        wire::report(b"bad"),
+    ]
+    .concat();
+    let end = net.stranger("root", "a", &greeting);
+    net.step();
+    assert!(net.said("root", "report of a 4") && net.said("root", "closed a: it sent no report"));
+    drop(end);
+}
+
+#[test]
+fn who_does_not_answer_is_left() {
+    let mut net = path([false, false]);
+    net.agents.remove("a");
+    net.publish("root", "T0");
+    let end = net.stranger("root", "a", &hello("a", ""));
+    net.steps(3);
+    let expected = Hello {
+        life: 1,
+        label: 255,
+        from: "root".into(),
+        to: "a".into(),
+    };
+    assert_eq!(next(&end, Expect::Hello), Some(Message::Hello(expected)));
+    // (a receiver with label 7 takes the first frame as fresh)
+    match next(&end, Expect::Frames) {
+        Some(Message::Frame(8, body)) => assert_eq!(body.bytes, b"T0"),
+        other => panic!("{:?}", other),
+    }
+    assert!(!end.from.borrow().closed);
+    net.steps(60);
+    assert!(end.from.borrow().closed && net.said("root", "closed a: nothing came in time"));
+    assert_eq!(
+        net.agent("root").peers.relay().child("a").unwrap().timeouts,
+        1
+    );
+}
+
+#[test]
+fn a_child_that_was_connected_to_acknowledges_first() {
+    let mut net = path([true, true]);
+    net.agents.remove("root");
+    let end = net.stranger("a", "root", &hello("root", "a"));
+    net.step();
+    let expected = Hello {
+        life: 2,
+        label: 255,
+        from: "a".into(),
+        to: "root".into(),
+    };
+    assert_eq!(next(&end, Expect::Hello), Some(Message::Hello(expected)));
+    assert_eq!(next(&end, Expect::Acks), Some(Message::Ack(255)));
+    assert_eq!(next(&end, Expect::Acks), None);
+}
