@@ -74,9 +74,9 @@
 //! # Agents over a network
 //!
 //! With the feature `net`, which is on unless it is turned off, there is what an agent needs beside
-//! these calls: [`net`](crate::net) are its connections, byte for byte and without sockets, and
-//! [`settings`](crate::settings) are keys and values that travel so. These two need the standard
-//! library, and are tested and not proved.
+//! these calls: `net` are its connections, byte for byte and without sockets, and `settings` are
+//! keys and values that travel so. These two need the standard library, and are tested and not
+//! proved.
 #![cfg_attr(not(feature = "net"), no_std)]
 #![warn(missing_docs)]
 

@@ -102,8 +102,9 @@ impl Tree {
     }
 
     fn leave(&mut self, at: usize) {
-        let Some(wire) = self.agents[at].wire.take() else {
-            return;
+        let wire = match self.agents[at].wire.take() {
+            Some(found) => found,
+            None => return,
         };
         self.agents[at].relay.ended(wire.below);
         let parent = self.agents[at].parent.unwrap();
@@ -114,8 +115,9 @@ impl Tree {
 
     /// A connection that the agent makes, or its parent: then the agent acknowledges first.
     fn connect(&mut self, at: usize, by_parent: bool) {
-        let Some(parent) = self.agents[at].parent else {
-            return;
+        let parent = match self.agents[at].parent {
+            Some(found) => found,
+            None => return,
         };
         self.leave(at);
         let name = at.to_string();
@@ -141,8 +143,9 @@ impl Tree {
 
     /// The parent writes to this child what it may.
     fn poll(&mut self, at: usize) {
-        let Some(parent) = self.agents[at].parent else {
-            return;
+        let parent = match self.agents[at].parent {
+            Some(found) => found,
+            None => return,
         };
         if self.agents[at].wire.is_none() {
             return;
@@ -158,9 +161,13 @@ impl Tree {
 
     fn take_frame(&mut self, at: usize) {
         let agent = &mut self.agents[at];
-        let Some(wire) = &mut agent.wire else { return };
-        let Some((label, body)) = wire.down.pop_front() else {
-            return;
+        let wire = match &mut agent.wire {
+            Some(found) => found,
+            None => return,
+        };
+        let (label, body) = match wire.down.pop_front() {
+            Some(found) => found,
+            None => return,
         };
         let below = wire.below;
         let (fresh, left) = agent.relay.on_frame(below, label, &body);
@@ -174,14 +181,17 @@ impl Tree {
     }
 
     fn take_ack(&mut self, at: usize) {
-        let Some(parent) = self.agents[at].parent else {
-            return;
+        let parent = match self.agents[at].parent {
+            Some(found) => found,
+            None => return,
         };
-        let Some(wire) = &mut self.agents[at].wire else {
-            return;
+        let wire = match &mut self.agents[at].wire {
+            Some(found) => found,
+            None => return,
         };
-        let Some(label) = wire.up.pop_front() else {
-            return;
+        let label = match wire.up.pop_front() {
+            Some(found) => found,
+            None => return,
         };
         let above = wire.above;
         self.agents[parent]
@@ -234,7 +244,7 @@ impl Tree {
                 idle &= self.agents[at]
                     .wire
                     .as_ref()
-                    .is_none_or(|it| it.down.is_empty());
+                    .map_or(true, |it| it.down.is_empty());
                 self.take_frame(at);
                 self.take_ack(at);
             }
@@ -261,8 +271,9 @@ impl Tree {
 
 impl Agent {
     fn deliver(&mut self, body: &Body) -> bool {
-        let Some((sequence, meaning)) = body.meaning() else {
-            return false;
+        let (sequence, meaning) = match body.meaning() {
+            Some(found) => found,
+            None => return false,
         };
         if !self.table.takes(sequence, &meaning) {
             return false;
@@ -325,7 +336,10 @@ fn without_restarts_each_agent_is_right_without_a_round() {
         tree.settle();
         assert!(tree.all_are_right(), "seed {seed}");
         for agent in &tree.agents {
-            assert!(agent.applied.is_sorted_by(|a, b| a < b), "seed {seed}");
+            assert!(
+                agent.applied.windows(2).all(|two| two[0] < two[1]),
+                "seed {seed}"
+            );
         }
     }
 }
@@ -338,7 +352,10 @@ fn restarts_lose_nothing_either() {
         tree.settle();
         assert!(tree.all_are_right(), "seed {seed}");
         for agent in &tree.agents {
-            assert!(agent.applied.is_sorted_by(|a, b| a < b), "seed {seed}");
+            assert!(
+                agent.applied.windows(2).all(|two| two[0] < two[1]),
+                "seed {seed}"
+            );
         }
     }
 }
