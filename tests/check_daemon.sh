@@ -66,6 +66,7 @@ else
     ! type -P cargo-fmt >/dev/null || holds 'the form' formatted
     holds 'no line is longer than 100 characters' short_enough
 fi
+adds tests/daemon/check_judge.py
 adds tests/daemon/check.py
 printf '%d passed, %d failed\n' "$passed" "$failed"
 [ "$failed" -eq 0 ]
