@@ -161,10 +161,8 @@ fn heard(json: &[u8], now: Instant) {
     if !below.heard("child", json, now) {
         return;
     }
-    let children = ["child", "other"].map(|name| ChildStatus {
-        name: name.into(),
-        ..ChildStatus::default()
-    });
+    let children =
+        ["child", "other"].map(|name| ChildStatus { name: name.into(), ..ChildStatus::default() });
     let status = Status { name: "inner".into(), children: children.into(), ..Status::default() };
     let report = below.report(&status, now);
     assert!(report.len() <= REPORT_BYTES);
@@ -177,7 +175,11 @@ fn heard(json: &[u8], now: Instant) {
 fn checksum(bytes: &[u8]) -> u32 {
     !bytes.iter().fold(u32::MAX, |sum, byte| {
         (0..8).fold(sum ^ u32::from(*byte), |sum, _| {
-            if sum & 1 == 1 { sum >> 1 ^ 0xedb8_8320 } else { sum >> 1 }
+            if sum & 1 == 1 {
+                sum >> 1 ^ 0xedb8_8320
+            } else {
+                sum >> 1
+            }
         })
     })
 }
@@ -203,9 +205,12 @@ fn body(bytes: &[u8]) {
     let sequence = bytes.len() as u64;
     for meaning in [
         Meaning::Table(entries.clone().into_iter().collect()),
-        Meaning::Changes(entries.into_iter().map(|(key, value)| {
-            (key, value.filter(|value| !value.is_empty()))
-        }).collect()),
+        Meaning::Changes(
+            entries
+                .into_iter()
+                .map(|(key, value)| (key, value.filter(|value| !value.is_empty())))
+                .collect(),
+        ),
     ] {
         assert_eq!(Body::new(sequence, &meaning).meaning(), Some((sequence, meaning)));
     }
@@ -246,8 +251,10 @@ fn control(bytes: &[u8]) {
         for line in bytes[..end].split_inclusive(|byte| *byte == b'\n') {
             let expected = serde_json::from_slice::<Request>(line).ok();
             let requests = server.ready(Instant::now());
-            assert_eq!(requests.iter().map(|(_, it)| it).collect::<Vec<_>>(),
-                expected.iter().collect::<Vec<_>>());
+            assert_eq!(
+                requests.iter().map(|(_, it)| it).collect::<Vec<_>>(),
+                expected.iter().collect::<Vec<_>>()
+            );
             for (ticket, request) in requests {
                 let again = serde_json::to_vec(&request).expect("a request is JSON");
                 assert_eq!(serde_json::from_slice::<Request>(&again).ok(), Some(request));
