@@ -2,7 +2,7 @@
 # Builds the module of the page from the proved crate stab_page.
 #
 #   page/build.sh                 builds it, and writes page/index.html: page/page.html with the
-#                                 module inside, as base64
+#                                 module inside, compressed and as base64
 #   page/build.sh FILE            builds it, and writes it to FILE alone
 #   page/build.sh --page FILE     writes page/index.html with the module FILE, and builds nothing
 #   page/build.sh --compare FILE  compares page/index.html with the page of the module FILE: the
@@ -61,7 +61,7 @@ build() {
 # the spaces before other lines, and those that a style does not need.
 page() {
     local line module is_style=
-    module=$(base64 -w 0 -- "$1")
+    module=$(gzip -9n <"$1" | base64 -w 0)
     while IFS= read -r line || [ -n "$line" ]; do
         if [[ $line == *'{{MODULE}}'* ]]; then
             line=${line%%'{{MODULE}}'*}$module${line#*'{{MODULE}}'}
