@@ -847,8 +847,11 @@ class Checks:
             said = browser.run("""return [...document.querySelectorAll('button, input, select, textarea, summary')].filter(e =>
                 e.checkVisibility() && !e.classList.contains('msg')).length""")
             self.see(f"{name}: no control is printed", said == 0, said)
-            self.see(f"{name}: the table is printed whole",
-                browser.run("return getComputedStyle(document.querySelector('.table')).maxHeight") == "none")
+            said = browser.run("""return ['.table', '.table thead th'].map(s => getComputedStyle(document.querySelector(s)))
+                .map((style, i) => i ? style.position : style.maxHeight)""")
+            self.see(f"{name}: the table is printed whole, its head where it begins", said == ["none", "static"], said)
+            said = browser.run("proofTo(7); return [$('proof-name'), $('proof-says'), $('proof-forth')].map(e => e.checkVisibility())")
+            self.see(f"{name}: the sentence of the proof is printed", said == [True, True, False], said)
             browser.ask("Emulation.setEmulatedMedia", media="")
 
     def faults(self, browser, name):
