@@ -15,6 +15,10 @@ use toml::value::{Table, Value};
 /// The longest configuration file, in bytes.
 const FILE_BYTES: u64 = 1 << 20;
 const CHILDREN: usize = 10_000;
+/// How deep brackets may nest in a text of TOML, and of how many parts a name may be.
+const DEPTH: usize = 32;
+/// What is said of a text that goes deeper.
+pub const TOO_DEEP: &str = "brackets nest more than 32 deep, or a name has more than 32 dots";
 const ADDRESSES: usize = 64;
 
 /// What an agent is set up with.
@@ -163,6 +167,9 @@ impl Config {
 
     /// Reads a text, and checks it: the configuration, or every fault that was found.
     pub fn parse(text: &str) -> Result<Config, Vec<Fault>> {
+        if let Some(line) = too_deep(text) {
+            return Err(vec![Fault { line, key: String::new(), text: TOO_DEEP.into() }]);
+        }
         let table: Table = toml::from_str(text).map_err(|e| {
             let line = e.line_col().map_or(0, |(line, _)| line + 1);
             let said = e.to_string();
@@ -532,4 +539,58 @@ pub fn milliseconds(text: &str) -> Option<u64> {
         _ => return None,
     };
     text[..end].parse::<u64>().ok()?.checked_mul(unit)
+}
+
+/// The line on which a text of TOML first goes deeper than [`DEPTH`], if one does. Its reader calls
+/// itself for each bracket and each dot of a name, so it has no room for very many. What is inside
+/// texts and comments does not count.
+pub fn too_deep(text: &str) -> Option<usize> {
+    let bytes = text.as_bytes();
+    let (mut at, mut line, mut depth, mut dots) = (0, 1, 0, 0);
+    while let Some(&byte) = bytes.get(at) {
+        let end = match byte {
+            b'#' => at + bytes[at..].iter().take_while(|byte| **byte != b'\n').count(),
+            b'"' | b'\'' => end_of_text(bytes, at),
+            _ => at + 1,
+        };
+        match byte {
+            b'[' | b'{' => depth += 1,
+            b']' | b'}' => depth -= depth.min(1),
+            b'.' => dots += 1,
+            _ => {}
+        }
+        if !matches!(byte, b'.' | b'"' | b'\'' | b'-' | b'_' | b' ' | b'\t')
+            && !byte.is_ascii_alphanumeric()
+        {
+            dots = 0;
+        }
+        if depth > DEPTH || dots > DEPTH {
+            return Some(line);
+        }
+        line += bytes[at..end].iter().filter(|byte| **byte == b'\n').count();
+        at = end;
+    }
+    None
+}
+
+/// Where a text of TOML ends that begins here: behind its closing marks, or at the end of the line
+/// where one of a single line is not closed.
+fn end_of_text(bytes: &[u8], start: usize) -> usize {
+    let mark = bytes[start];
+    let long = bytes[start..].starts_with(&[mark; 3]);
+    let mut at = start + if long { 3 } else { 1 };
+    while let Some(&byte) = bytes.get(at) {
+        match byte {
+            b'\\' if mark == b'"' => at += 1,
+            b'\n' if !long => return at,
+            _ if byte == mark && !long => return at + 1,
+            // (up to two marks more belong to the text)
+            _ if byte == mark && bytes[at..].starts_with(&[mark; 3]) => {
+                return at + bytes[at..].iter().take(5).take_while(|it| **it == mark).count();
+            }
+            _ => {}
+        }
+        at += 1;
+    }
+    bytes.len()
 }

@@ -1,5 +1,5 @@
 //! The root's settings: a folder is the truth, and what differs from it is published.
-use crate::config::{is_key, Root as Config};
+use crate::config::{is_key, too_deep, Root as Config, TOO_DEEP};
 use crate::fact;
 use inotify::{Inotify, WatchMask};
 use rignolda::net::BODY_BYTES;
@@ -224,7 +224,10 @@ fn read_value(path: &Path) -> io::Result<Vec<u8>> {
 fn read_file(path: &Path) -> io::Result<BTreeMap<String, Vec<u8>>> {
     let mut text = String::new();
     let most = BODY_BYTES as u64;
-    io::Read::read_to_string(&mut io::Read::take(fs::File::open(path)?, most), &mut text)?;
+    io::Read::read_to_string(&mut io::Read::take(fs::File::open(path)?, most + 1), &mut text)?;
+    if text.len() > BODY_BYTES {
+        return Err(bad(format!("the file has more than {BODY_BYTES} bytes")));
+    }
     let values: Vec<(String, String)> = if path.extension().is_some_and(|it| it == "json") {
         let all: serde_json::Map<String, serde_json::Value> =
             serde_json::from_str(&text).map_err(|e| bad(e.to_string()))?;
@@ -234,6 +237,9 @@ fn read_file(path: &Path) -> io::Result<BTreeMap<String, Vec<u8>>> {
         };
         all.into_iter().map(|(key, value)| (key, plain(value))).collect()
     } else {
+        if let Some(line) = too_deep(&text) {
+            return Err(bad(format!("line {line}: {TOO_DEEP}")));
+        }
         let all: toml::value::Table = toml::from_str(&text).map_err(|e| bad(e.to_string()))?;
         let plain = |value: toml::Value| match value {
             toml::Value::String(text) => text,

@@ -1,5 +1,5 @@
 //! What a configuration means, and what is said of one that is wrong.
-use rignoldad::config::{milliseconds, Address, Children, Config};
+use rignoldad::config::{milliseconds, too_deep, Address, Children, Config, TOO_DEEP};
 use std::time::Duration;
 
 const WHOLE: &str = r#"
@@ -230,6 +230,37 @@ fn knows_which_keys_need_a_start() {
         WHOLE.replace("rack3", "rack4").replace("/settings", "/other").replace("9464", "9465");
     let cold = Config::parse(&cold).unwrap();
     assert_eq!(old.at_a_start_alone(&cold), ["name", "apply.folder", "metrics"]);
+}
+
+#[test]
+fn refuses_what_goes_too_deep_for_its_reader() {
+    let many = |text: &str| text.repeat(30_000);
+    for (line, text) in [
+        (2, format!("name = \"a\"\nx = {}{}", many("["), many("]"))),
+        (1, format!("x = {}", many("{a = "))),
+        (3, format!("\n\n[{}a]", many("a."))),
+        (1, format!("{}a = 1", many("a . "))),
+        (1, format!("{}a = 1", many("\"a\"."))),
+        // (a text may end in two marks of its own)
+        (2, format!("x = [\"\"\"\na\"\"\"\"\", {}", many("["))),
+        (1, format!("x = ['a\\', {}", many("["))),
+        (1, format!("x = [\"a\\\"\", {}", many("["))),
+        (2, format!("x = \"a\ny = {}", many("["))),
+    ] {
+        let faults = Config::parse(&text).unwrap_err();
+        assert_eq!(faults.len(), 1);
+        assert_eq!((faults[0].line, faults[0].text.as_str()), (line, TOO_DEEP));
+    }
+    let deep = "[".repeat(100);
+    for text in [
+        format!("# {deep}\nx = \"{deep}\" # {deep}"),
+        format!("x = '{deep}'\ny = \"\"\"\n{deep}\n\\\"\"\"\"\nz = '''{deep}''{deep}'''"),
+        format!("x = {}{}", "[".repeat(32), "]".repeat(32)),
+        format!("x = [{}]", "0.5, ".repeat(100)),
+        format!("x = {}", "[], ".repeat(100)),
+    ] {
+        assert_eq!(too_deep(&text), None);
+    }
 }
 
 /// Garbage, and the good text with some bytes of it changed: an answer, and no panic.
