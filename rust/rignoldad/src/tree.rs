@@ -42,22 +42,23 @@ pub struct Seen {
 pub struct Below(BTreeMap<String, (Instant, Vec<Seen>)>);
 
 impl Below {
-    /// Takes a list that this child sent. Whether it is one.
+    /// Takes a list that this child sent. Whether it is one, with the child first. Of the others it
+    /// is what agents further below say, so what cannot be of a tree is left out, and the child is
+    /// not blamed for it: a name that is none or is there before, and an agent whose parent is not.
     pub fn heard(&mut self, child: &str, bytes: &[u8], now: Instant) -> bool {
         if bytes.len() > REPORT_BYTES {
             return false;
         }
         let Ok(mut list) = serde_json::from_slice::<Vec<Seen>>(bytes) else { return false };
-        let names: BTreeSet<&str> = list.iter().map(|seen| seen.name.as_str()).collect();
-        let good = list.len() <= AGENTS
-            && names.len() == list.len()
-            && list.first().is_some_and(|first| first.name == child)
-            && list.iter().all(|seen| crate::config::is_name(&seen.name));
-        drop(names);
-        if !good || !each_after_its_parent(&list) {
+        if list.len() > AGENTS || list.first().map_or(true, |first| first.name != child) {
             return false;
         }
         list[0].parent.clear();
+        let mut names = BTreeSet::new();
+        list.retain(|seen| {
+            let placed = names.is_empty() || names.contains(&seen.parent);
+            placed && crate::config::is_name(&seen.name) && names.insert(seen.name.clone())
+        });
         self.0.insert(child.into(), (now, list));
         true
     }
@@ -67,20 +68,31 @@ impl Below {
         self.0.remove(child);
     }
 
-    /// The list of an agent with this status, itself first.
+    /// The list of an agent with this status, itself first. What a child says of a name that is this
+    /// agent's own, a child's, or one that a child before it has reported, is left out.
     pub fn tree(&self, status: &crate::control::Status, now: Instant) -> Vec<Seen> {
         let mut list = vec![status.seen()];
+        let mut taken: BTreeSet<&str> = status.children.iter().map(|it| &*it.name).collect();
+        taken.insert(&status.name);
         for child in &status.children {
             let at = list.len();
             match self.0.get(&child.name) {
                 Some((heard, below)) => {
                     let age = now.saturating_duration_since(*heard).as_millis() as u64;
-                    list.extend(below.iter().cloned().map(|mut seen| {
-                        seen.age = seen.age.saturating_add(age);
-                        // (of who is below an agent that is away, nothing newer is known)
-                        seen.connected &= child.connected;
-                        seen
-                    }));
+                    let mut kept = BTreeSet::new();
+                    for (place, seen) in below.iter().enumerate() {
+                        let placed = kept.contains(seen.parent.as_str());
+                        if place > 0 && !(placed && taken.insert(&seen.name)) {
+                            continue;
+                        }
+                        kept.insert(seen.name.as_str());
+                        list.push(Seen {
+                            age: seen.age.saturating_add(age),
+                            // (of who is below an agent that is away, nothing newer is known)
+                            connected: seen.connected && child.connected,
+                            ..seen.clone()
+                        });
+                    }
                 }
                 None => list.push(Seen { name: child.name.clone(), ..Seen::default() }),
             }
@@ -102,16 +114,6 @@ impl Below {
             list.truncate(list.len() / 2);
         }
     }
-}
-
-/// Whether the parent of each agent but the first is one before it.
-fn each_after_its_parent(list: &[Seen]) -> bool {
-    let mut before = BTreeSet::new();
-    list.iter().enumerate().all(|(at, seen)| {
-        let good = at == 0 || before.contains(seen.parent.as_str());
-        before.insert(seen.name.as_str());
-        good
-    })
 }
 
 /// How deep each agent of a list is, the first one being at 0.
