@@ -66,7 +66,8 @@ def main():
     if crate not in libraries:
         sys.exit(f"functions: crates.txt has no crate {crate}")
     folder = os.path.abspath(sys.argv[2]) if len(sys.argv) == 3 else f"{TOP}/crates/{crate}"
-    root = next((it for it in ("src/lib.rt", "src/main.rt") if os.path.isfile(f"{folder}/{it}")), "")
+    root = next((it for it in ("src/lib.rt", "src/main.rt") if os.path.isfile(f"{folder}/{it}")),
+        "")
     if not root:
         sys.exit(f"functions: {folder} has no src/lib.rt and no src/main.rt")
     times, said, mark = [], [], " (first of its part)"

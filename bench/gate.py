@@ -32,7 +32,8 @@ TASK_BYTES = 3_000_000_000
 LOOK, TELL = 1.0, 120.0
 KINDS = ("proof", "tests", "edits", "programs")
 COUNT = re.compile(rb"[0-9]{1,9} passed, [0-9]{1,9} failed\n?")
-# What rt ci says at its end of how much it has done itself, where it took the rest from earlier runs.
+# What rt ci says at its end of how much it has done itself, where it took the rest from earlier
+# runs.
 SHARE = re.compile(rb"rt: ok; .*; done in this run: (.*); the others are kept from earlier runs")
 TICK = os.sysconf("SC_CLK_TCK")
 PAGE = os.sysconf("SC_PAGE_SIZE")

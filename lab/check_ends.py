@@ -3,9 +3,10 @@
 
     lab/check_ends.py YOUR_ENDS.py [-c CAPACITY] [-k LABELS] [-n ITEMS]
 
-YOUR_ENDS.py has the classes Sender and Receiver, as lab/template.py says. The line, what is lost and
-repeated, and the garbage of the start are made here. Every state that can be reached is visited,
-the nearest first, so a run that is printed is a shortest one that breaks the law of a link:
+YOUR_ENDS.py has the classes Sender and Receiver, as lab/template.py says. The line, what is lost
+and repeated, and the garbage of the start are made here. Every state that can be reached is
+visited, the nearest first, so a run that is printed is a shortest one that breaks the law of a
+link:
 
 - first come at most CAPACITY strays, items that lay on the line at the start;
 - then come items that were offered, in their order, each at most once;
@@ -104,7 +105,8 @@ def moves(ends, state, capacity, items):
     """Each event that may be next: as a job names it, what is said of it, and the state after."""
     if state.offered < items:
         took, sender = ends.call(ends.sender, state.sender, "offer", state.offered)
-        yield (["offer", state.offered], f"item {state.offered} is offered" + ("" if took else ", and refused"),
+        yield (["offer", state.offered],
+            f"item {state.offered} is offered" + ("" if took else ", and refused"),
                state._replace(sender=sender, offered=state.offered + bool(took)))
     frame, sender = ends.call(ends.sender, state.sender, "send")
     if frame is not None:
@@ -245,7 +247,8 @@ def judge(ends, capacity, labels, items):
                 why = (f"in the last {2 * capacity + 1} rounds nothing was lost, and no item "
                        "counts as acknowledged")
                 return tell(ends, start, events + more, why, labels, capacity)
-    print(f"These ends obey the law of a link: capacity {capacity}, {labels} labels, {items} items, "
+    print(f"These ends obey the law of a link: capacity {capacity}, {labels} labels, "
+        f"{items} items, "
           f"{count} starts, {len(came_from)} states.")
     return 0
 

@@ -56,7 +56,7 @@ tools/build_daemon --check >"$work/built" 2>&1
 status=$?
 cat -- "$work/built"
 if [ "$status" -eq 3 ]; then
-    printf 'the daemon is not built here, so its own tests do not run: its kept programs are tried\n'
+    printf 'the daemon is not built here, so not tested: its kept programs are tried\n'
     holds 'the kept programs' tools/build_daemon --unpack "$work"
     export RIGNOLDAD_BIN=$work
 else

@@ -236,7 +236,8 @@ status=$?
 holds 'nothing is computed of a run that took most from earlier ones' bash -c '
     grep -qF "**This was not a run from nothing:** \`rt ci\` did 2 of the 9 proofs, and" "$0" &&
         ! grep -qF Computed "$0"' "$work/page"
-said='rt: ok; handles allowed: none; done in this run: 3 of the 9 proofs (of crates and of their tests)'
+said='rt: ok; handles allowed: none; done in this run: 3 of the 9 proofs '
+said+='(of crates and of their tests)'
 run "echo '$said; the others are kept from earlier runs of the same files on this machine'
     echo 9 passed, 0 failed" 'echo 1 passed, 0 failed'
 holds 'and what rt says of that is kept' grep -qF \

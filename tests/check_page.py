@@ -15,8 +15,9 @@ In each browser it looks that
 - each job that the program refuses is refused, and no other, but for trees that are too large;
 - each exercise is refused with too few events, and solved with the events that are given here, and
   what is said of events that only seem to solve it is right;
-- what is drawn of the circle is what the module says, an item is delivered where the page says that its
-  acknowledgement will show it, and the rows and stars are those of the runs in docs/PROTOCOL.md;
+- what is drawn of the circle is what the module says, an item is delivered where the page says that
+  its acknowledgement will show it, and the rows and stars are those of the runs in
+  docs/PROTOCOL.md;
 - rounds are counted as docs/PROTOCOL.md counts them;
 - the hint, the live check and the solution of an exercise come when they should;
 - what follows a fault in a tree is what the program says of the job that is saved;
@@ -26,8 +27,8 @@ In each browser it looks that
 - in Chromium's tree for screen readers each control has a role and a name, and each picture and list a
   text; a step is announced once;
 - the runs on the slides of the lesson are those of the page;
-- a step of the slider, the best of ten, takes less than 50 ms at 4,096 events, at 360 pixels nothing is cut off, and
-  nothing but the picture of a page is printed;
+- a step of the slider, the best of ten, takes less than 50 ms at 4,096 events, at 360 pixels
+  nothing is cut off, and nothing but the picture of a page is printed;
 - what is said of missing items fits the number of labels, and of an item whose frame is under way;
 - the buttons, the slider, the keys and the address do what they say;
 
@@ -76,7 +77,8 @@ class Chromium:
         quiet = {"stdout": subprocess.DEVNULL, "stderr": subprocess.DEVNULL}
         self.process = subprocess.Popen(words, preexec_fn=wire, close_fds=False, **quiet)
         os.close(to_read), os.close(to_write)
-        target = next(t for t in self.ask("Target.getTargets")["targetInfos"] if t["type"] == "page")
+        target = next(t for t in self.ask("Target.getTargets")["targetInfos"]
+            if t["type"] == "page")
         said = self.ask("Target.attachToTarget", targetId=target["targetId"], flatten=True)
         self.session = said["sessionId"]
         self.ask("Page.enable")
@@ -152,7 +154,8 @@ class Firefox:
                  "browser.shell.checkDefaultBrowser": False, "app.update.enabled": False}
         lines = [f"user_pref({json.dumps(k)}, {json.dumps(v)});\n" for k, v in prefs.items()]
         pathlib.Path(folder, "user.js").write_text("".join(lines))
-        words = ["firefox-esr", "--headless", "--marionette", "--no-remote", "--profile", str(folder)]
+        words = ["firefox-esr", "--headless", "--marionette", "--no-remote", "--profile",
+            str(folder)]
         quiet = {"stdout": subprocess.DEVNULL, "stderr": subprocess.DEVNULL}
         env = {**os.environ, "HOME": str(folder), "MOZ_HEADLESS_WIDTH": "1100"}
         self.process = subprocess.Popen(words, env=env, **quiet)
@@ -218,8 +221,10 @@ class Firefox:
 
 
 def program(job, *words):
-    """What `stab link --trace` answers, or `stab` with these words: its text, or None where it refuses."""
-    done = subprocess.run([TOP / "stab", *(words or ["link", "--trace"])], input=job, capture_output=True)
+    """What `stab link --trace` answers, or `stab` with these words: its text, or None where it
+    refuses."""
+    done = subprocess.run([TOP / "stab", *(words or ["link", "--trace"])], input=job,
+        capture_output=True)
     return done.stdout.decode() if done.returncode == 0 else None
 
 
@@ -227,13 +232,15 @@ def drawn_job(draw):
     """A drawn job: any start that fits, and events that mostly do something."""
     capacity = draw.choice([1, 1, 1, 2, 2, 3, 4, 8, 64])
     labels = draw.choice([2 * capacity + 2, 2 * capacity + 3, draw.randint(2 * capacity + 2, 1000)])
-    label = lambda: draw.choice([draw.randrange(labels), draw.randrange(labels), draw.randrange(65536)])
+    label = lambda: draw.choice([draw.randrange(labels), draw.randrange(labels),
+        draw.randrange(65536)])
     item = lambda: draw.choice([draw.randrange(100), draw.randrange(1 << 32)])
     start = {"frames": [[label(), item()] for _ in range(draw.randint(0, capacity))],
              "acks": [label() for _ in range(draw.randint(0, capacity))],
              "send": label(), "recv": label()}
     words = ["send_frame", "recv_frame", "send_ack", "recv_ack"] * 4
-    words += ["recv_frame_keep", "recv_ack_keep", "lose_frame", "lose_ack", "offer", "offer", "offer"]
+    words += ["recv_frame_keep", "recv_ack_keep", "lose_frame", "lose_ack", "offer", "offer",
+        "offer"]
     events = []
     for _ in range(draw.choice([0, 10, 50, 200, 200, 400])):
         word = draw.choice(words)
@@ -262,12 +269,14 @@ PUBLISHED = 1000
 
 
 def drawn_tree(draw):
-    """A drawn tree that fits the page, in any file order, with a schedule that mostly does something."""
+    """A drawn tree that fits the page, in any file order, with a schedule that mostly does
+    something."""
     count = draw.choice([1, 2, 2, 3, 3, 4, 5, 8])
     names = draw.sample(["r", "a", "b", "c-1", "node_2", "x", "y", "a-long-name-of-a-node"], count)
     above = {name: draw.choice(names[:i]) for i, name in enumerate(names) if i > 0}
     order = draw.sample(names, count)
-    tree = [{"name": name, "parent": above[name]} if name in above else {"name": name} for name in order]
+    tree = [{"name": name, "parent": above[name]} if name in above else {"name": name}
+        for name in order]
     children = [name for name in order if name in above]
     capacity = draw.choice([1, 1, 1, 2, 3, 8])
     job = {"capacity": capacity, "labels": draw.choice([2 * capacity + 2, 2 * capacity + 3, 1000]),
@@ -279,7 +288,8 @@ def drawn_tree(draw):
             if draw.random() < 0.5:
                 own = draw.choice([1, 2, 4])
                 params[name] = (own, 2 * own + 2)
-        job["links"] = [{"capacity": params[name][0], "labels": params[name][1]} for name in children]
+        job["links"] = [{"capacity": params[name][0], "labels": params[name][1]}
+            for name in children]
     if draw.random() < 0.8:
         job["starts"] = []
         for name in children:
@@ -313,13 +323,14 @@ def fits_page(job):
 
 
 def standing(job, text):
-    """Of each node its strays, its missing items and their bounds, counted in the text of the program. No
-    published item may be in a link at its start, and each is published once."""
+    """Of each node its strays, its missing items and their bounds, counted in the text of the
+    program. No published item may be in a link at its start, and each is published once."""
     job, rows = json.loads(job), []
     lists = [[int(word) for word in line.split()[1:]] for line in text.splitlines()[1::2]]
     above = {node["name"]: node.get("parent") for node in job["tree"]}
     own = iter(job.get("links", [{"capacity": job["capacity"]} for _ in job["tree"]]))
-    capacity = {name: (next(own) or job)["capacity"] for name, parent in above.items() if parent is not None}
+    capacity = {name: (next(own) or job)["capacity"] for name, parent in above.items()
+        if parent is not None}
     for name, items in zip(above, lists):
         places = [job["items"].index(item) for item in items if item in job["items"]]
         path = []
@@ -354,7 +365,8 @@ WORST = [offered(10), "recv_ack", "send_ack", offered(11), "recv_ack", "recv_fra
 # for each exercise events that solve it; without the last of them it is not solved
 SOLVED = [
     one_round(7) + one_round(8),
-    [offered(7), "send_frame", ["lose_frame", 0], "send_frame", "recv_frame", "send_ack", "recv_ack"],
+    [offered(7), "send_frame", ["lose_frame", 0], "send_frame", "recv_frame", "send_ack",
+        "recv_ack"],
     ["recv_frame"],
     WORST,
     [offered(10), "recv_ack", "send_ack", "recv_frame", *LATE, offered(14), "send_frame",
@@ -369,12 +381,14 @@ UNSOLVED = [
     (2, one_round(6), "No frame was lost"),
     (2, one_round(6) + LOST, "The item of the lost frame has to be delivered"),
     (2, LOST + ["send_frame", "recv_frame", "send_ack", ["lose_ack", 0]], "This item has to be"),
-    (5, SOLVED[4][:4] + LATE[:-2], "Such an item is acknowledged, but its frame is still under way"),
+    (5, SOLVED[4][:4] + LATE[:-2], "Such an item is acknowledged, "
+        "but its frame is still under way"),
     (5, SOLVED[4][:4] + LATE, "No such item is missing so far"),
     (5, WORST, "From here none can go missing any more"),
     (5, WORST + one_round(13)[:2], "From here none can go missing any more"),
     (5, [event for item in range(5) for event in one_round(item)], "From here none can go missing"),
-    (6, [event for item in range(4) for event in one_round(item)], "So far 1 of 3 items are missing"),
+    (6, [event for item in range(4) for event in one_round(item)],
+        "So far 1 of 3 items are missing"),
     (6, WORST, "Item number 3 is not acknowledged so far"),
     (6, WORST + one_round(13)[:3], "Item number 3 is not acknowledged so far"),
 ]
@@ -425,11 +439,14 @@ def announced(before, now):
 
 TREES = """return args[0].map(text => {
   try {
-    const job = readTree(text), text_ = treeText(job), { nodes } = treeAfter(job, job.events.length);
+    const job = readTree(text), text_ = treeText(job),
+        { nodes } = treeAfter(job, job.events.length);
     if (treeText(readTree(treeJobText(job))) !== text_) return ["another tree is saved"];
-    if (nodes.some(node => node.list.length !== node.origins.length)) return ["an item has no origin"];
+    if (nodes.some(node => node.list.length !== node.origins.length))
+      return ["an item has no origin"];
     return [text_, nodes.map(n => [n.strays, n.mostStrays, n.missing, n.mostMissing])];
-  } catch (error) { return error instanceof TooLarge ? ["too large"] : error instanceof Fault ? [null] : ["error: " + error]; }
+  } catch (error) { return error instanceof TooLarge ? ["too large"] : error instanceof Fault ?
+      [null] : ["error: " + error]; }
 });"""
 
 TEXTS = """return args[0].map(text => {
@@ -440,13 +457,15 @@ TEXTS = """return args[0].map(text => {
     const { steps } = follow(job, asPairs(job.events), link.effects, link.offered);
     for (let k = 0; k <= job.events.length; k += k < 40 ? 1 : 37) {
       const row = rowAt(job, k), step = steps[k], said = s => JSON.stringify(s);
-      if (row.send !== step.send || row.recv !== step.recv.label || said(row.acks) !== said(step.acks.map(a => a.label))
+      if (row.send !== step.send || row.recv !== step.recv.label ||
+          said(row.acks) !== said(step.acks.map(a => a.label))
         || said(row.frames) !== said(step.frames.map(f => [f.label, f.item]))
         || said(row.queued.map(o => o[0] ? o[1] : null)) !== said(step.frames.map(f => f.number)))
         return 'another state is drawn after ' + k;
     }
     const good = link.effects.flatMap((effect, k) => effect === "Acked" ? [steps[k].isGood] : []);
-    if (good.some((is, i) => is && !hasCome(link, i))) return 'a good acknowledgement shows nothing';
+    if (good.some((is, i) => is && !hasCome(link, i)))
+      return 'a good acknowledgement shows nothing';
     return traceText(job);
   } catch (error) { return error instanceof Fault ? null : "error: " + error; }
 });"""
@@ -483,7 +502,8 @@ class Checks:
                     if answer[0] != want:
                         continue
                     counts = standing(data, want)
-                    self.see(f"{name}: bounds of {job}", [row[1::2] for row in answer[1]] == [row[1::2]
+                    self.see(f"{name}: bounds of {job}",
+                        [row[1::2] for row in answer[1]] == [row[1::2]
                         for row in counts], answer)
                     self.see(f"{name}: within bounds of {job}",
                         all(a <= b and c <= d for a, b, c, d in answer[1]), answer)
@@ -496,34 +516,45 @@ class Checks:
         for i, events in enumerate(SOLVED_TREES):
             self.see(f"{name}: tree exercise {i + 1} is solved", browser.run(body, i, events) == "",
                 browser.run(body, i, events))
-            self.see(f"{name}: tree exercise {i + 1} fails", browser.run(body, i, events[:-1]) != "")
+            self.see(f"{name}: tree exercise {i + 1} fails",
+                browser.run(body, i, events[:-1]) != "")
             self.see(f"{name}: tree exercise {i + 1} from another start",
                      browser.run("return checkTree(args[0], TREES['A clean tree']);", i) != "")
 
     def tree_hands(self, browser, name):
         """Buttons, slider, keys and the address of the tree."""
         state = """return [isTreeSeen, treeAt, tree.events.length, tree.names[child],
-            [...$('t-nodes').rows].map(row => [...row.cells].slice(2, 4).map(cell => cell.textContent).join('; '))];"""
-        browser.run("$('see-tree').click(); $('t-runs').value = 'Two links under one schedule'; $('t-load').click(); $('t-last').click();")
+            [...$('t-nodes').rows].map(row => [...row.cells]
+                .slice(2, 4).map(cell => cell.textContent).join('; '))];"""
+        browser.run("$('see-tree').click(); $('t-runs').value = 'Two links under one schedule'; "
+            "$('t-load').click(); $('t-last').click();")
         said = browser.run(state)
-        self.see(f"{name}: the tree at its end", said[0] and said[1] == said[2] == 48 and said[3] == "b",
+        self.see(f"{name}: the tree at its end",
+            said[0] and said[1] == said[2] == 48 and said[3] == "b",
             said)
         self.see(f"{name}: counts at the nodes", said[4] == ["0 of at most 0; 0 of at most 0",
             "1 of at most 1; 3 of at most 3",
-                                                             "1 of at most 2; 5 of at most 6 (sharper: 5)"], said)
+                                                             "1 of at most 2; "
+                                                             "5 of at most 6 (sharper: 5)"], said)
         browser.run("$('t-at').value = 6; $('t-at').dispatchEvent(new Event('input'));")
         said = browser.run("return [treeAt, $('t-happened').textContent, tree.names[child]];")
-        self.see(f"{name}: the slider of the tree", said[0] == 6 and "99 is delivered: a stray" in said[1]
+        self.see(f"{name}: the slider of the tree",
+            said[0] == 6 and "99 is delivered: a stray" in said[1]
             and said[2] == "a", said)
-        browser.run("document.body.dispatchEvent(new KeyboardEvent('keydown', {key: 'ArrowLeft', bubbles: true}));")
+        browser.run("document.body.dispatchEvent(new KeyboardEvent('keydown', {key: 'ArrowLeft', "
+            "bubbles: true}));")
         self.see(f"{name}: the left key in the tree", browser.run(state)[1] == 5)
         browser.run("document.querySelector('[data-act=recv_frame]').click();")
-        self.see(f"{name}: an event replaces the rest of the schedule", browser.run(state)[1:3] == [6, 6])
+        self.see(f"{name}: an event replaces the rest of the schedule",
+            browser.run(state)[1:3] == [6, 6])
         self.see(f"{name}: the saved schedule",
-            json.loads(browser.run("return treeJobText(tree)"))["schedule"][5] == ["a", "recv_frame"])
+            json.loads(browser.run("return treeJobText(tree)"))["schedule"][5] == ["a",
+                "recv_frame"])
         browser.run("showTree(TREES['A clean chain, nothing done yet'], 'x'); pick(2);")
-        dim = "return [...document.querySelectorAll('[data-act]')].filter(b => !isDim(b)).map(b => b.dataset.act);"
-        self.see(f"{name}: nothing to offer yet", browser.run(dim) == ["close", "send_ack"], browser.run(dim))
+        dim = ("return [...document.querySelectorAll('[data-act]')].filter(b => !isDim(b)).map(b "
+            "=> b.dataset.act);")
+        self.see(f"{name}: nothing to offer yet", browser.run(dim) == ["close", "send_ack"],
+            browser.run(dim))
         browser.run("pick(1);")
         self.see(f"{name}: the root offers", browser.run(dim) == ["offer", "close", "send_ack"],
             browser.run(dim))
@@ -531,12 +562,14 @@ class Checks:
         address = browser.run("return location.href")
         browser.go(address)
         self.wait(browser)
-        said = browser.run("return [isTreeSeen, treeAt, tree.events.length, $('fault').textContent];")
+        said = browser.run("return [isTreeSeen, treeAt, tree.events.length, "
+            "$('fault').textContent];")
         self.see(f"{name}: a tree in the address", said == [True, 12, 22, ""], said)
         many = json.dumps({"capacity": 1, "labels": 4, "items": [],
             "tree": [{"name": f"n{i}", **({"parent": "n0"} if i else {})} for i in range(9)]})
         said = browser.run("tryJob(args[0]); return $('fault').textContent", many)
-        self.see(f"{name}: a tree that is too large", "this page takes at most 8 nodes" in said, said)
+        self.see(f"{name}: a tree that is too large", "this page takes at most 8 nodes" in said,
+            said)
         said = browser.run("tryJob(args[0], 'x'); return [isTreeSeen, job.events.length]",
                            json.dumps({"capacity": 1, "labels": 4, "start": {"send": 0, "recv": 1},
                                "events": ["send_ack"]}))
@@ -547,15 +580,18 @@ class Checks:
         page = (TOP / "docs" / "PROTOCOL.md").read_text()
         blocks = re.findall(r"\(`((?:links/)?\w+)`[^)`]*\)[^`]*```\n( +SENDER.*?)```", page, re.S)
         jobs = [(title, (DATA / f"{title}.json").read_text(), block) for title, block in blocks]
-        two = re.search(r"## What goes wrong with two labels.*?```\n( +SENDER.*?)```", page, re.S)[1]
-        jobs.append(("two labels", browser.run("return jobText(RUNS['The shortest run with two labels'])"),
+        two = re.search(r"## What goes wrong with two labels.*?```\n( +SENDER.*?)```", page,
+            re.S)[1]
+        jobs.append(("two labels", browser.run(
+            "return jobText(RUNS['The shortest run with two labels'])"),
             two))
         self.see(f"{name}: there are drawn runs", len(blocks) >= 8, len(blocks))
         for title, text, block in jobs:
             lines = [line for line in block.split("\n")[1:] if line.strip()]
             heads = [(m.group(), m.start()) for m in re.finditer(r"\S+", lines[0])]
             ends = [at for _, at in heads[1:]] + [None]
-            said = browser.run("show(readJob(args[0], true), 'x', 1e9); drawRows(); return [...$('rows').rows].map(r => [...r.cells].map(c => c.textContent));",
+            said = browser.run("show(readJob(args[0], true), 'x', 1e9); drawRows(); "
+                "return [...$('rows').rows].map(r => [...r.cells].map(c => c.textContent));",
                                text)
             for line in lines[1:]:
                 cell = {(head, i): line[at:end].strip() for i,
@@ -567,31 +603,41 @@ class Checks:
                 self.see(f"{name}: event {number} of {title}", not number
                     or row[1] == cell[keys[0]].rstrip("*"), f"{row[1]} and not {cell[keys[0]]}")
                 # (the offered item may have a star here, where it is a stray of the link above)
-                clean = lambda text: " ".join(w for w in text.split() if w not in ("v", "^", "x")) or "-"
+                clean = lambda text: " ".join(w for w in text.split()
+                    if w not in ("v", "^", "x")) or "-"
                 wanted = [clean(cell[keys[names.index(head)]]) for head in ("frames", "acks")]
                 wanted.append(cell[keys[len(names) - 1 - names[::-1].index("label")]])
                 if "delivers" in names:
                     wanted.append(cell[keys[names.index("delivers")]])
                 found = row[6:8] + row[8:8 + len(wanted) - 2]
-                self.see(f"{name}: row {number} of {title}", found == wanted, f"{found} and not {wanted}")
+                self.see(f"{name}: row {number} of {title}", found == wanted,
+                    f"{found} and not {wanted}")
         for title, wanted in (("links/three_rounds_for_an_item", [6, 13, 20]),
             ("links/two_clean_rounds", [5, 10]), ("worst_start", [])):
-            said = browser.run("show(readJob(args[0]), 'x', 1e9); return [tracked.rounds, $('rounds').textContent];", (DATA / f"{title}.json").read_text())
+            said = browser.run("show(readJob(args[0]), 'x', 1e9); "
+                "return [tracked.rounds, "
+                "$('rounds').textContent];", (DATA / f"{title}.json").read_text())
             self.see(f"{name}: rounds of {title}", said == [wanted, f"Rounds: {len(wanted)}"], said)
 
     def lesson(self, browser, name):
         """The circle, the exercise beside it, questions, the address, and where the focus is."""
         said = browser.run("""show(RUNS['The worst start'], 'The worst start');
             return [$('happened').textContent, [...$('labels').children].map(c => c.className),
-                    ['frames', 'acks'].map(id => $(id).querySelector('button').className), $('of-recv').className];""")
+                    ['frames', 'acks'].map(id => $(id).querySelector('button').className),
+                        $('of-recv').className];""")
         self.see(f"{name}: the start", "Nobody knows from when" in said[0]
-            and said[1:] == [[" next", "", "", "free"], ["msg old ", "msg old lie"], "badge msg old "], said)
-        says = "go(args[0]); return [$('says').textContent, $('says').className, $('happened').textContent];"
+            and said[1:] == [[" next", "", "", "free"], ["msg old ", "msg old lie"],
+                "badge msg old "], said)
+        says = ("go(args[0]); "
+            "return [$('says').textContent, $('says').className, $('happened').textContent];")
         for at, part, style, told in (
-                (1, "does not show that it was delivered", "some", "But a 0 is in the link already"),
+                (1, "does not show that it was delivered", "some",
+                    "But a 0 is in the link already"),
                 (2, "may be acknowledged and never arrive", "some",
-                    "was on the line before you came. The sender waited for 0: item 10 is acknowledged, and it was never"),
-                (3, "may be acknowledged", "some", "sends 1, the label that it remembers since the start"),
+                    "was on the line before you came. The sender waited for 0: "
+                    "item 10 is acknowledged, and it was never"),
+                (3, "may be acknowledged", "some",
+                    "sends 1, the label that it remembers since the start"),
                 (6, "may be acknowledged", "some",
                     "Its label 2 is not the remembered 1, so 99 is delivered: a stray"),
                 (9, "cannot go missing", "done", "This 2 came with a stray."), (11,
@@ -600,41 +646,56 @@ class Checks:
             self.see(f"{name}: what is said at {at}", part in said[0] and said[1] == style
                 and told in said[2], said)
         # (the shape of this circle is always good, and the first item is missing all the same)
-        said = browser.run("show(RUNS['The receiver remembers the first label'], 'x', 4); return [$('says').textContent, $('missing').textContent];")
+        said = browser.run("show(RUNS['The receiver remembers the first label'], 'x', 4); "
+            "return [$('says').textContent, $('missing').textContent];")
         self.see(f"{name}: a good shape is not enough", "does not show" in said[0]
             and said[1].startswith("Missing: 0"), said)
 
-        card = "return [!$('task').hidden, $('task').querySelector('[role=status]').textContent, $('task').innerText.includes('Show a solution'), $('task').innerText.includes('Hint'), $('item').value];"
+        card = ("return [!$('task').hidden, $('task').querySelector('[role=status]').textContent, "
+            "$('task').innerText.includes('Show a solution'), "
+            "$('task').innerText.includes('Hint'), $('item').value];")
         browser.run("$('item').value = 77; $('tasks').children[3].click();")
         said = browser.run(card)
-        self.see(f"{name}: an exercise begins", said == [True, "So far 0 of 3 items are missing.", False,
+        self.see(f"{name}: an exercise begins",
+            said == [True, "So far 0 of 3 items are missing.", False,
             True, "10"], said)
-        browser.run("[...$('task').querySelectorAll('button')].find(b => b.textContent === 'Hint').click();")
+        browser.run("[...$('task').querySelectorAll('button')].find(b => b.textContent === "
+            "'Hint').click();")
         self.see(f"{name}: a hint",
             "Three labels are on the circle" in browser.run("return $('task').innerText"))
-        browser.run("for (const event of args[0]) { if (event[0] === 'offer') { $('item').value = event[1]; event.splice(1); } document.querySelector(`[data-event=${[].concat(event)[0]}]`).click(); }", WORST)
+        browser.run("for (const event of args[0]) { if (event[0] === 'offer') { $('item').value = "
+            "event[1]; event.splice(1); "
+            "} document.querySelector(`[data-event=${[].concat(event)[0]}]`).click(); }", WORST)
         said = browser.run(card)
         self.see(f"{name}: it is solved by hand", said[:4] == [True, "Done.", True, False], said)
-        browser.run("[...$('task').querySelectorAll('button')].find(b => b.textContent === 'Show a solution').click(); $('last').click();")
-        said = browser.run("return [$('task').querySelector('[role=status]').textContent, job.events.length, $('task').hidden]")
+        browser.run("[...$('task').querySelectorAll('button')].find(b => b.textContent === 'Show "
+            "a solution').click(); $('last').click();")
+        said = browser.run("return [$('task').querySelector('[role=status]').textContent, "
+            "job.events.length, $('task').hidden]")
         self.see(f"{name}: the solution solves it", said == ["Done.", 9, False], said)
         self.see(f"{name}: another run has no exercise",
-            browser.run("$('runs').value = 'A clean start'; $('load').click(); return $('task').hidden"))
-        solved = """return [TASKS.map((task, i) => checkTask(i, { ...task.job, events: task.solution })),
+            browser.run("$('runs').value = 'A clean start'; $('load').click(); "
+                "return $('task').hidden"))
+        solved = """return [TASKS.map((task, i) =>
+            checkTask(i, { ...task.job, events: task.solution })),
             TREE_TASKS.map((task, i) => checkTree(i, { ...task.job, events: task.solution }))]"""
         self.see(f"{name}: all solutions solve", browser.run(solved) == [[""] * 6, [""] * 3],
             browser.run(solved))
 
-        ask = "return [$('ask').hidden, at, $('ask').innerText, $('happened').textContent, $('score').textContent];"
-        browser.run("$('asks').checked = true; show(RUNS['The worst start'], 'x', 1); $('forth').click();")
+        ask = ("return [$('ask').hidden, at, $('ask').innerText, $('happened').textContent, "
+            "$('score').textContent];")
+        browser.run("$('asks').checked = true; show(RUNS['The worst start'], 'x', 1); "
+            "$('forth').click();")
         said = browser.run(ask)
-        self.see(f"{name}: a question", said[:2] == [False, 1] and "What will the sender do now?" in said[2],
+        self.see(f"{name}: a question",
+            said[:2] == [False, 1] and "What will the sender do now?" in said[2],
             said)
         browser.run("$('ask').querySelectorAll('button')[0].click();")
         said = browser.run(ask)
         self.see(f"{name}: a right answer", said[:2] == [True, 2] and "Right. This 0" in said[3]
             and said[4] == "1 of 1 right", said)
-        browser.run("go(5); document.querySelector('[data-event=recv_frame]').click(); $('ask').querySelectorAll('button')[1].click();")
+        browser.run("go(5); document.querySelector('[data-event=recv_frame]').click(); "
+            "$('ask').querySelectorAll('button')[1].click();")
         said = browser.run(ask)
         self.see(f"{name}: a wrong answer", said[:2] == [True, 6] and "No. This frame" in said[3]
             and said[4] == "1 of 2 right", said)
@@ -643,25 +704,35 @@ class Checks:
         said = browser.run("""$('n-capacity').value = 3; fillWorst(); ownStart();
             return [job.capacity, job.labels, job.start, name];""")
         worst = {"frames": [[4, 97], [5, 98], [6, 99]], "acks": [0, 1, 2], "send": 0, "recv": 3}
-        self.see(f"{name}: the worst start of capacity 3", said == [3, 8, worst, "a start of your own"], said)
-        browser.run("show(RUNS['A clean start'], 'x'); document.querySelector('[data-event=offer]').focus(); document.activeElement.click();")
+        self.see(f"{name}: the worst start of capacity 3",
+            said == [3, 8, worst, "a start of your own"], said)
+        browser.run("show(RUNS['A clean start'], 'x'); "
+            "document.querySelector('[data-event=offer]').focus(); document.activeElement.click();")
         self.see(f"{name}: the focus stays",
             browser.run("return document.activeElement.dataset.event") == "offer")
-        browser.run("document.querySelector('[data-event=send_frame]').click(); $('frames').querySelector('button').focus(); document.activeElement.click();")
-        said = browser.run("return [document.activeElement.id, job.events.at(-1), $('happened').textContent]")
-        self.see(f"{name}: a message is lost by pressing it", said[:2] == ["frames", ["lose_frame", 0]]
+        browser.run("document.querySelector('[data-event=send_frame]').click(); "
+            "$('frames').querySelector('button').focus(); document.activeElement.click();")
+        said = browser.run("return [document.activeElement.id, job.events.at(-1), "
+            "$('happened').textContent]")
+        self.see(f"{name}: a message is lost by pressing it",
+            said[:2] == ["frames", ["lose_frame", 0]]
             and "label 0, item 10" in said[2], said)
         at = browser.run("return at")
-        browser.run("document.querySelector('.table').dispatchEvent(new KeyboardEvent('keydown', {key: 'ArrowLeft', bubbles: true}));")
+        browser.run("document.querySelector('.table').dispatchEvent(new KeyboardEvent('keydown', "
+            "{key: 'ArrowLeft', bubbles: true}));")
         self.see(f"{name}: keys in the table do not step", browser.run("return at") == at)
         for garbage in ("#job=garbage", "#nothing", "#tree=e30"):
             browser.go(PAGE.as_uri() + garbage)
             self.wait(browser)
             said = browser.run("return [$('fault').textContent, job.events.length];")
-            self.see(f"{name}: the address {garbage}", "cannot be read" in said[0] and said[1] == 12, said)
-        said = browser.run("share(); const had = location.hash; $('load').click(); return [had.slice(0, 5), location.hash];")
+            self.see(f"{name}: the address {garbage}",
+                "cannot be read" in said[0] and said[1] == 12, said)
+        said = browser.run("share(); const had = location.hash; $('load').click(); "
+            "return [had.slice(0, 5), location.hash];")
         self.see(f"{name}: another run clears the address", said == ["#job=", ""], said)
-        said = browser.run("tryJob('{\"capacity\":1.0,\"labels\":4,\"start\":{\"send\":0,\"recv\":1},\"events\":[]}'); return $('fault').textContent")
+        said = browser.run(
+            "tryJob('{\"capacity\":1.0,\"labels\":4,\"start\":{\"send\":0,\"recv\":1},"
+            "\"events\":[]}'); return $('fault').textContent")
         self.see(f"{name}: a number with a point", "and not a number with a point" in said, said)
 
     def proof(self, browser, name):
@@ -776,11 +847,14 @@ class Checks:
 
     def lab(self, browser, name):
         """Runs of wrong ends, as lab/check_ends.py writes them into an address."""
-        for ends, events, missing, strays, last in (("two_labels", 14, "3 of at most 3", "1 of at most 1",
+        for ends, events, missing, strays, last in (
+            ("two_labels", 14, "3 of at most 3", "1 of at most 1",
             "item 3 counts as acknowledged"),
                                                     ("any_acknowledgement", 8, "4 of at most 3",
-                                                        "0 of at most 1", "item 3 counts as acknowledged"),
-                                                    ("every_frame", 2, "0 of at most 3", "2 of at most 1",
+                                                        "0 of at most 1",
+                                                        "item 3 counts as acknowledged"),
+                                                    ("every_frame", 2, "0 of at most 3",
+                                                        "2 of at most 1",
                                                         "90 is delivered")):
             said = subprocess.run([TOP / "lab/check_ends.py", TOP / f"lab/ends/{ends}.py"],
                 capture_output=True, text=True).stdout
@@ -788,24 +862,30 @@ class Checks:
             browser.go(PAGE.as_uri() + address)
             self.wait(browser)
             found = browser.run("""for (let k = 0; k <= job.events.length; k++) go(k);
-                return [$('fault').textContent, at, $('missing').textContent, $('strays').textContent, $('happened').textContent,
-                    [...document.querySelectorAll('[data-event]')].every(isDim), $('says').textContent];""")
+                return [$('fault').textContent, at, $('missing').textContent,
+                    $('strays').textContent, $('happened').textContent,
+                    [...document.querySelectorAll('[data-event]')].every(isDim),
+                        $('says').textContent];""")
             self.see(f"{name}: a run of {ends}", found[:4] == ["", events, f"Missing: {missing}",
                 f"Strays: {strays}"] and found[4].endswith(last)
                      and found[5] and found[6].startswith("These are other ends"), found)
         text = base64.urlsafe_b64decode(address[5:] + "==").decode()
-        spoiled = base64.urlsafe_b64encode(text.replace('[[65535, 90]]', '[[7, 90]]').replace('[[0, 90]]',
+        spoiled = base64.urlsafe_b64encode(
+            text.replace('[[65535, 90]]', '[[7, 90]]').replace('[[0, 90]]',
             '[[7, 90]]', 1).encode()).decode().rstrip("=")
         browser.go(PAGE.as_uri() + "#run=" + spoiled)
         self.wait(browser)
         said = browser.run("return [$('fault').textContent, 'record' in job];")
-        self.see(f"{name}: a run that does not follow", "do not follow" in said[0] and not said[1], said)
+        self.see(f"{name}: a run that does not follow", "do not follow" in said[0] and not said[1],
+            said)
 
     def slides(self, browser, name):
-        """The runs on the slides of the lesson are drawn as the page draws them, and nothing is cut off."""
+        """The runs on the slides of the lesson are drawn as the page draws them, and nothing is cut
+        off."""
         drawn = []
         for title in ("The worst start", "The shortest run with two labels"):
-            drawn.append(browser.run("show(RUNS[args[0]], 'x', 1e9); return [...$('drawn').querySelectorAll('text')].map(e => e.textContent);", title))
+            drawn.append(browser.run("show(RUNS[args[0]], 'x', 1e9); "
+                "return [...$('drawn').querySelectorAll('text')].map(e => e.textContent);", title))
         slides = TOP / "lab/slides.html"
         said = [re.findall(r"<text[^>]*>([^<]*)</text>", svg)
             for svg in re.findall(r'<svg class="run".*?</svg>', slides.read_text(), re.S)]
@@ -814,7 +894,8 @@ class Checks:
         if name == "chromium":
             browser.go(slides.as_uri())
             time.sleep(0.5)
-            said = browser.run("return [document.querySelectorAll('section').length, document.documentElement.scrollWidth - innerWidth];")
+            said = browser.run("return [document.querySelectorAll('section').length, "
+                "document.documentElement.scrollWidth - innerWidth];")
             self.see(f"{name}: the slides", said[0] == 12 and said[1] <= 0, said)
         browser.go(PAGE.as_uri())
         self.wait(browser)
@@ -837,14 +918,16 @@ class Checks:
             "$('tasks').children[4].click();", "$('see-tree').click();",
                      "show(readJob(args[0]), 'x', 9);"):
             browser.run(view, long_job())
-            said = browser.run("return [document.documentElement.scrollWidth, innerWidth, screen.width]")
+            said = browser.run("return [document.documentElement.scrollWidth, innerWidth, "
+                "screen.width]")
             self.see(f"{name}: nothing is cut off at 360 pixels",
                 said[0] <= max(360, said[1] if name == "firefox" else 0), said)
         browser.size(*WIDE, False)
         if name == "chromium":
             browser.run("show(RUNS['The worst start'], 'x', 9);")
             browser.ask("Emulation.setEmulatedMedia", media="print")
-            said = browser.run("""return [...document.querySelectorAll('button, input, select, textarea, summary')].filter(e =>
+            said = browser.run("""return [...document.querySelectorAll(
+                    'button, input, select, textarea, summary')].filter(e =>
                 e.checkVisibility() && !e.classList.contains('msg')).length""")
             self.see(f"{name}: no control is printed", said == 0, said)
             said = browser.run("""return ['.table', '.table thead th'].map(s => getComputedStyle(document.querySelector(s)))
@@ -855,38 +938,52 @@ class Checks:
             browser.ask("Emulation.setEmulatedMedia", media="")
 
     def faults(self, browser, name):
-        """A struck link and a restarted node, against the program's answer to the job that is saved."""
-        state = "return [treeAt, isAtRest(stateOf(treeAt)), ['t-rest', 't-strike', 't-restart'].map(id => isDim($(id)))];"
+        """A struck link and a restarted node, against the program's answer to the job that is
+        saved."""
+        state = ("return [treeAt, isAtRest(stateOf(treeAt)), ['t-rest', 't-strike', "
+            "'t-restart'].map(id => isDim($(id)))];")
         browser.run("showTree(TREES['A clean chain, nothing done yet'], 'x');")
-        self.see(f"{name}: a tree with work left", browser.run(state) == [0, False, [False, True, True]],
+        self.see(f"{name}: a tree with work left",
+            browser.run(state) == [0, False, [False, True, True]],
             browser.run(state))
         browser.run("$('t-strike').click();")
         self.see(f"{name}: no fault before the rest", browser.run("return tree.since ?? ''") == "")
         browser.run("$('t-rest').click();")
         said = browser.run(state)
-        self.see(f"{name}: everything comes to rest", said == [40, True, [True, False, False]], said)
+        self.see(f"{name}: everything comes to rest", said == [40, True, [True, False, False]],
+            said)
         for press, node, start, events in (
-                ("t-strike", 1, {"frames": [[2, 910]], "acks": [0], "send": 0, "recv": 1}, WORST_ON + ROUND),
-                ("t-strike", 2, {"frames": [[2, 920]], "acks": [0], "send": 0, "recv": 1}, WORST_ON + ROUND),
+                ("t-strike", 1, {"frames": [[2, 910]], "acks": [0], "send": 0, "recv": 1},
+                    WORST_ON + ROUND),
+                ("t-strike", 2, {"frames": [[2, 920]], "acks": [0], "send": 0, "recv": 1},
+                    WORST_ON + ROUND),
                 ("t-restart", 1, {"frames": [], "acks": [], "send": 0, "recv": 0}, ROUND)):
-            browser.run("""showTree(TREES['A clean chain, nothing done yet'], 'x'); $('t-rest').click();
+            browser.run("""showTree(TREES['A clean chain, nothing done yet'], 'x');
+                $('t-rest').click();
                 pick(args[1]); $(args[0]).click();""", press, node)
             saved = json.loads(browser.run("return treeJobText(tree)"))
-            self.see(f"{name}: the start after {press} at {node}", saved["starts"][node - 1] == start
+            self.see(f"{name}: the start after {press} at {node}",
+                saved["starts"][node - 1] == start
                 and saved["items"][0] == 14, saved)
             if node == 2:
-                browser.run("pick(1); for (let i = 0; i < 5; i++) for (const word of args[0]) act(word); pick(2);", ROUND)
+                browser.run("pick(1); for (let i = 0; i < 5; "
+                    "i++) for (const word of args[0]) act(word); pick(2);", ROUND)
             browser.run("for (const word of args[0]) act(word); $('t-rest').click();", events)
             text = browser.run("return treeJobText(tree)")
             want = program(text.encode(), "tree")
-            said = browser.run("return [treeText(tree), treeAfter(tree, tree.events.length).nodes.map(n => [n.strays, n.mostStrays, n.missing, n.mostMissing]), $('t-since').textContent];")
+            said = browser.run("return [treeText(tree), treeAfter(tree, "
+                "tree.events.length).nodes.map(n => [n.strays, n.mostStrays, n.missing, "
+                "n.mostMissing]), $('t-since').textContent];")
             self.see(f"{name}: the tree after {press} at {node}", said[0] == want
                 and said[1] == standing(text, want), f"{said} and not {want}")
-            lost = [[0, 0], [1, 3], [1, 3]] if press == "t-strike" and node == 1 else [[0, 0], [0, 0],
+            lost = [[0, 0], [1, 3], [1, 3]] if press == "t-strike" and node == 1 else [[0, 0],
+                [0, 0],
                 [1, 3]] if node == 2 else [[0, 0], [0, 1], [0, 2]]
-            self.see(f"{name}: what {press} at {node} costs", [row[::2] for row in said[1]] == lost, said[1])
+            self.see(f"{name}: what {press} at {node} costs", [row[::2] for row in said[1]] == lost,
+                said[1])
             self.see(f"{name}: it is said", "All numbers count from there" in said[2], said)
-        browser.run("showTree(readTree(args[0]), 'x');", json.dumps({"capacity": 1, "labels": 4, "items": [1],
+        browser.run("showTree(readTree(args[0]), 'x');",
+            json.dumps({"capacity": 1, "labels": 4, "items": [1],
             "tree": [{"name": "r"}]}))
         self.see(f"{name}: a lone root has no link", browser.run("return $('t-one').hidden"))
 
@@ -900,16 +997,19 @@ class Checks:
 
         for exercise, events, wanted in UNSOLVED:
             said = browser.run(body, exercise - 1, events)
-            self.see(f"{name}: what seems to solve exercise {exercise}", said.startswith(wanted), said)
+            self.see(f"{name}: what seems to solve exercise {exercise}", said.startswith(wanted),
+                said)
 
     def labels(self, browser, name):
         """What is said of missing items, by the number of labels, and of one that is under way."""
-        body = """show({...RUNS['Two labels are too few'], labels: args[0], capacity: args[1]}, 'x', args[2]);
+        body = """show({...RUNS['Two labels are too few'], labels: args[0], capacity: args[1]},
+            'x', args[2]);
             return ['missing', 'missing-say', 'happened'].map(id => $(id).textContent)
                 .concat([...$('offered').children].map(item => item.className));"""
         for labels, capacity, missing, why in [
                 (4, 1, "of at most 3", "only among the first 3 items"),
-                (3, 1, "of at most 3", "The bound holds with 3 labels; the program asks for one more"),
+                (3, 1, "of at most 3",
+                    "The bound holds with 3 labels; the program asks for one more"),
                 (2, 1, "Missing: ", "with 2 labels there is no bound: with capacity 1 it needs 3"),
                 (6, 2, "of at most 5", "only among the first 5 items"),
                 (5, 2, "of at most 5", "The bound holds with 5 labels"),
@@ -924,67 +1024,82 @@ class Checks:
             said[2].endswith("is acknowledged, though its frame is still under way.")
                  and said[3:] == ["gone", "late"], said)
         said = browser.run(body, 2, 1, 9)
-        self.see(f"{name}: and it comes", "item number 1" in said[2] and said[3:] == ["gone", "sent"], said)
+        self.see(f"{name}: and it comes",
+            "item number 1" in said[2] and said[3:] == ["gone", "sent"], said)
         said = browser.run(body, 2, 1, 23)
         self.see(f"{name}: an item that was lost",
             said[2].endswith("is acknowledged, and it was never delivered."), said)
 
     def hands(self, browser, name):
         """Buttons, slider, keys and the address."""
-        state = "return [at, job.events.length, $('happened').textContent, $('strays').textContent];"
-        browser.run("show(RUNS['The worst start'], 'x'); for (let i = 0; i < 12; i++) $('forth').click();")
+        state = ("return [at, job.events.length, $('happened').textContent, "
+            "$('strays').textContent];")
+        browser.run("show(RUNS['The worst start'], 'x'); for (let i = 0; i < 12; "
+            "i++) $('forth').click();")
         said = browser.run(state)
-        self.see(f"{name}: forward to the end", said[:2] == [12, 12] and said[3] == "Strays: 1 of at most 1",
+        self.see(f"{name}: forward to the end",
+            said[:2] == [12, 12] and said[3] == "Strays: 1 of at most 1",
             said)
         self.see(f"{name}: missing of the worst start",
             browser.run("return $('missing').textContent") == "Missing: 3 of at most 3")
         browser.run("$('at').value = 6; $('at').dispatchEvent(new Event('input'));")
         said = browser.run(state)
         self.see(f"{name}: the slider", said[0] == 6 and "a stray" in said[2], said)
-        browser.run("document.body.dispatchEvent(new KeyboardEvent('keydown', {key: 'ArrowLeft', bubbles: true}));")
+        browser.run("document.body.dispatchEvent(new KeyboardEvent('keydown', {key: 'ArrowLeft', "
+            "bubbles: true}));")
         self.see(f"{name}: the left key", browser.run(state)[0] == 5)
         browser.run("$('back').click(); document.querySelector('[data-event=send_ack]').click();")
         self.see(f"{name}: an event replaces the rest", browser.run(state)[:2] == [5, 5])
         self.see(f"{name}: its text", browser.run("return jobText(job)").count("send_ack") == 2)
         browser.run("show(RUNS['A clean start'], 'x');")
-        dim = "return [...document.querySelectorAll('[data-event]')].filter(b => !isDim(b)).map(b => b.dataset.event);"
+        dim = ("return [...document.querySelectorAll('[data-event]')].filter(b => !isDim(b)).map(b "
+            "=> b.dataset.event);")
         self.see(f"{name}: what can happen to a clean link", browser.run(dim) == ["offer", "close",
             "send_ack"], browser.run(dim))
         browser.run("show(RUNS['Two labels are too few'], 'x'); go(99); share();")
         address = browser.run("return location.href")
         browser.go(address)
         self.wait(browser)
-        said = browser.run("return [at, job.labels, $('missing-box').className, $('fault').textContent];")
+        said = browser.run("return [at, job.labels, $('missing-box').className, "
+            "$('fault').textContent];")
         self.see(f"{name}: a run in the address", said == [23, 2, "over", ""], said)
-        browser.run("tryJob('{\"capacity\":1,\"labels\":4,\"start\":{\"send\":0,\"recv\":1},\"events\":[\"send_ack\",\"sent\"]}');")
+        browser.run("tryJob('{\"capacity\":1,\"labels\":4,\"start\":{\"send\":0,\"recv\":1},"
+            "\"events\":[\"send_ack\",\"sent\"]}');")
         said = browser.run("return $('fault').textContent")
         self.see(f"{name}: a refused job names the place", "events[1]" in said, said)
-        names = """return [...document.querySelectorAll('button, input, select, textarea')].filter(e =>
-            !(e.textContent.trim() || e.getAttribute('aria-label') || e.closest('label'))).length;"""
+        names = """return [...document.querySelectorAll(
+                'button, input, select, textarea')].filter(e =>
+            !(e.textContent.trim() || e.getAttribute('aria-label') ||
+                e.closest('label'))).length;"""
         self.see(f"{name}: each control has a name", browser.run(names) == 0)
 
     def wait(self, browser):
         end = time.time() + SECONDS
         while not browser.run("return document.documentElement?.dataset.ready ?? ''"):
             if time.time() > end:
-                raise RuntimeError("the page is not ready: " + browser.run("return document.body.innerText.slice(0, 300)"))
+                raise RuntimeError("the page is not ready: "
+                    + browser.run("return document.body.innerText.slice(0, 300)"))
             time.sleep(0.05)
 
 
 def pictures(browser, name, folder, dark):
     for width, height in (WIDE, NARROW):
         browser.size(width, height, dark)
-        browser.run("show(RUNS['The worst start of capacity two'], 'The worst start of capacity two', 20);")
+        browser.run("show(RUNS['The worst start of capacity two'], "
+            "'The worst start of capacity two', 20);")
         time.sleep(0.6)
-        kind = f"{name}-{'dark' if dark else 'light'}-{'wide' if (width, height) == WIDE else 'narrow'}"
+        kind = (f"{name}-{'dark' if dark else 'light'}-"
+            f"{'wide' if (width, height) == WIDE else 'narrow'}")
         pathlib.Path(folder, kind + ".png").write_bytes(browser.picture())
         wider = browser.run("return document.documentElement.scrollWidth - innerWidth")
         yield kind, wider
         for title, at in (("Two links under one schedule", 40), ("A clean tree", 30)):
             browser.run("showTree(TREES[args[0]], args[0], args[1]);", title, at)
             time.sleep(0.6)
-            pathlib.Path(folder, f"{kind}-{title.split()[0].lower()}-tree.png").write_bytes(browser.picture())
-            yield f"{kind}, {title}", browser.run("return document.documentElement.scrollWidth - innerWidth")
+            pathlib.Path(folder, f"{kind}-{title.split()[0].lower()}-tree.png").write_bytes(
+                browser.picture())
+            yield f"{kind}, {title}", browser.run(
+                "return document.documentElement.scrollWidth - innerWidth")
 
 
 def main():
@@ -1016,7 +1131,8 @@ def main():
         or not unseen(text)]
     trees += [(f"drawn tree {i}", drawn_tree(draw)) for i in range(words.jobs)]
     wanted_trees = [program(text.encode(), "tree") for _, text in trees]
-    fitting = sum(want is not None and fits_page(text) for (_, text), want in zip(trees, wanted_trees))
+    fitting = sum(want is not None and fits_page(text)
+        for (_, text), want in zip(trees, wanted_trees))
     print(f"{len(trees)} trees, of which {fitting} fit the page")
     accepted = sum(text is not None for text in wanted)
     print(f"{len(jobs)} jobs, of which the program takes {accepted}")
@@ -1035,7 +1151,8 @@ def main():
                     for _ in range(5):
                         browser.go(PAGE.as_uri())
                         checks.wait(browser)
-                        times.append(int(browser.run("return document.documentElement.dataset.ready")))
+                        times.append(int(
+                            browser.run("return document.documentElement.dataset.ready")))
                     print(f"{name}: ready after {min(times)} ms ({times})")
                     checks.see(f"{name}: ready in time", min(times) < MOST_MILLISECONDS, times)
                     checks.texts(browser, name, jobs, wanted)

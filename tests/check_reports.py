@@ -3,16 +3,15 @@
 Run by hand, and not by the gate: python3 tests/check_reports.py [COUNT [SEED]]. The programs are
 those of release/, or STAB and RIGNOLDA in the environment. 10,000 jobs take three minutes.
 
-Each job is drawn: a tree with starts, scripts, openings, links of their own and few turns, and items
-of which many are equal to one another and to strays. `stab run`, with `--words`, `--mixed` or
-neither, or `stab tree` prints a report of it, which `rignolda check` has to accept. Then one item is
-swapped with the next, doubled, altered or dropped, or a count or an ending is altered, and
+Each job is drawn: a tree with starts, scripts, openings, links of their own and few turns, and
+items of which many are equal to one another and to strays. `stab run`, with `--words`, `--mixed` or
+neither, or `stab tree` prints a report of it, which `rignolda check` has to accept. Then one item
+is swapped with the next, doubled, altered or dropped, or a count or an ending is altered, and
 `rignolda check` has to answer what the plain checker below answers: that the report obeys, or which
 part is broken first, at which node; or that the text is no report, with the line. The checker is
 written from docs/FORMATS.md, tries every number of strays, and shares nothing with the program. Of
 reports of runs it is compared with agents/check_report.py as well. One job in five is a link job,
-of which `stab link` prints the text, and in it a line is spoiled in the same way.
-"""
+of which `stab link` prints the text, and in it a line is spoiled in the same way."""
 
 import collections
 import gzip
@@ -30,7 +29,8 @@ sys.dont_write_bytecode = True
 sys.path.insert(0, str(ROOT / "agents"))
 import check_report  # noqa: E402
 
-LINK_LINES = ["delivered", "offered", "acked", "send label", "recv label", "frames", "acks", "closed"]
+LINK_LINES = ["delivered", "offered", "acked", "send label", "recv label", "frames", "acks",
+    "closed"]
 ACTS = ["offer", "offer", "send_frame", "send_frame", "recv_frame", "recv_frame", "recv_frame_keep",
         "send_ack", "send_ack", "recv_ack", "recv_ack", "recv_ack_keep", "close"]
 SAID = {
@@ -134,7 +134,8 @@ def link_law(above, acked, capacity, frames, delivered):
             continue
         rest = delivered[:len(delivered) - len(sure)]
         for strays in range(min(capacity, len(rest)) + 1):
-            if is_picked(rest[:strays], frames) and is_picked(rest[strays:], above[:min(first, acked)]):
+            if is_picked(rest[:strays], frames) and is_picked(rest[strays:],
+                above[:min(first, acked)]):
                 return True
     return False
 

@@ -3,10 +3,11 @@
 
     tests/check_scenarios.py [COUNT [SEED]]     200 scenarios by default, the same each time
 
-Of each scenario `rignolda scenario` has to print what tests/faults/scenario.py prints, `rignolda draw`
-what tests/faults/drawn.py prints, its picture has to have the rows of that text in their order, and
-`rignolda explain` has to find nothing. Then one value of a step is spoiled: where `rignolda scenario`
-refuses a step, the first thing that `explain` finds has to be at that step, and else nothing.
+Of each scenario `rignolda scenario` has to print what tests/faults/scenario.py prints, `rignolda
+draw` what tests/faults/drawn.py prints, its picture has to have the rows of that text in their
+order, and `rignolda explain` has to find nothing. Then one value of a step is spoiled: where
+`rignolda scenario` refuses a step, the first thing that `explain` finds has to be at that step, and
+else nothing.
 
 The program is the one of check_tables.py. The last line is 'N passed, M failed'.
 """
@@ -30,7 +31,8 @@ from drawn import drawn_text
 from scenario import random_job, text_of
 from tables.program import program
 
-VALUES = [None, True, -1, 0, 1, 70000, 0.5, "", "x", "offer", "publish", "lose_frame", [], [0], [[0]],
+VALUES = [None, True, -1, 0, 1, 70000, 0.5, "", "x", "offer", "publish", "lose_frame", [], [0],
+    [[0]],
           {}, {"send": 0, "recv": 1}, {"send": 0, "recv": 1, "acks": [1, 1, 1, 1]}]
 
 

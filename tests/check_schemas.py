@@ -17,7 +17,8 @@ DATA = ROOT / "crates" / "stab_checks" / "data"
 
 # the faults that a schema finds as well, wherever they are found
 FOUND = {
-    "job: wrong shape", "job: unknown version", "job: capacity out of range", "job: too many labels",
+    "job: wrong shape", "job: unknown version", "job: capacity out of range",
+    "job: too many labels",
     "job: bad event", "job: turns out of range", "job: rate out of range", "job: h out of range",
     "tree: wrong shape", "tree: bad name", "tree: too many nodes",
 }

@@ -28,7 +28,8 @@ from tables.program import program
 from tables.rows import Printed, Repeated
 
 TABLES = [
-    rignolda_lines, rignolda_explain, rignolda_bounds, rignolda_check, rignolda_draw, rignolda_files,
+    rignolda_lines, rignolda_explain, rignolda_bounds, rignolda_check, rignolda_draw,
+    rignolda_files,
     rignolda_jobs, rignolda_moment, rignolda_scenario,
     stab_lines, stab_jobs, stab_trees, stab_parts, stab_plain, stab_links, stab_openings,
     stab_limits,

@@ -5,10 +5,9 @@
                                    completions for bash. The last line is 'N passed, M failed'.
     tests/completions.py --write   writes the files of completions/
 
-The commands and options of rignolda are those of its help, and the man pages have to name them all. `--program FILE` names the program that
-is asked for it; without, it is the one of release/. The program stab has no help, so its commands
-and flags are those of the table in docs/FORMATS.md.
-"""
+The commands and options of rignolda are those of its help, and the man pages have to name them all.
+`--program FILE` names the program that is asked for it; without, it is the one of release/. The
+program stab has no help, so its commands and flags are those of the table in docs/FORMATS.md. """
 
 import argparse
 import gzip
@@ -27,7 +26,8 @@ ENTRY = re.compile(r"^  ([a-z]+) +(\S.*)$")
 
 
 class Command:
-    """A command: its name, what it does, its options (name, value, help), and whether it has a file."""
+    """A command: its name, what it does, its options (name, value, help), and whether it has a
+    file."""
 
     def __init__(self, name, about, options, has_file):
         self.name, self.about, self.options, self.has_file = name, about, options, has_file
@@ -60,7 +60,8 @@ def options_of(text):
 
 def asked(program, *words):
     """The help that the program prints."""
-    return subprocess.run([program, *words, "--help"], capture_output=True, text=True, check=True).stdout
+    return subprocess.run([program, *words, "--help"], capture_output=True, text=True,
+        check=True).stdout
 
 
 def rignolda(program):
@@ -110,7 +111,8 @@ def bash(program, commands, options):
             files = " files=yes" if c.has_file else ""
             lines.append("        %s)" % c.name)
             if c.flags():
-                lines += ["            flags='%s'" % part if at == 0 else "            flags+=' %s'" % part
+                lines += ["            flags='%s'" % part if at == 0
+                    else "            flags+=' %s'" % part
                           for at, part in enumerate(folded(c.flags(), 75))]
             if files:
                 lines.append("            files=yes")
@@ -168,21 +170,26 @@ def zsh(program, commands, options):
         if specs:
             lines.append("    %s)" % c.name)
             lines.append("        _arguments \\")
-            lines += ["            %s%s" % (quoted(spec), " \\" if spec is not specs[-1] else "") for spec in specs]
+            lines += ["            %s%s" % (quoted(spec), " \\" if spec is not specs[-1] else "")
+                for spec in specs]
             lines.append("        ;;")
     return "\n".join(lines + ["esac"]) + "\n"
 
 
 def fish(program, commands, options):
     """The completions for fish."""
-    lines = ["# The completions of %s for fish. %s" % (program, WRITTEN), "complete -c %s -f" % program]
+    lines = ["# The completions of %s for fish. %s" % (program, WRITTEN),
+        "complete -c %s -f" % program]
     for name, _, text in options:
-        lines.append("complete -c %s -n __fish_use_subcommand -l %s -d %s" % (program, name, quoted(text)))
+        lines.append("complete -c %s -n __fish_use_subcommand -l %s -d %s" % (program, name,
+            quoted(text)))
     for c in commands:
-        lines.append("complete -c %s -n __fish_use_subcommand -a %s -d %s" % (program, c.name, quoted(c.about)))
+        lines.append("complete -c %s -n __fish_use_subcommand -a %s -d %s" % (program, c.name,
+            quoted(c.about)))
         seen = "complete -c %s -n '__fish_seen_subcommand_from %s'" % (program, c.name)
         for name, value, text in c.options:
-            lines.append("%s -l %s%s%s" % (seen, name, " -x" if value else "", " -d " + quoted(text) if text else ""))
+            lines.append("%s -l %s%s%s" % (seen, name, " -x" if value else "",
+                " -d " + quoted(text) if text else ""))
         if c.has_file:
             lines.append(seen + " -F")
     return "\n".join(lines) + "\n"
@@ -200,10 +207,13 @@ def files_of(program):
 
 def completed(program, *words):
     """What bash completes these words with, of which the last is being typed."""
-    script = 'source "$1"; shift; COMP_WORDS=("$@"); COMP_CWORD=$(($# - 1)); _%s; printf "%%s\\n" "${COMPREPLY[@]}"'
-    said = subprocess.run(["bash", "-c", script % program, "-", str(HOME / (program + ".bash")), program, *words],
+    script = ('source "$1"; shift; COMP_WORDS=("$@"); COMP_CWORD=$(($# - 1)); _%s; '
+        'printf "%%s\\n" "${COMPREPLY[@]}"')
+    said = subprocess.run(["bash", "-c", script % program, "-", str(HOME / (program + ".bash")),
+        program, *words],
                           capture_output=True, text=True, cwd=HOME)
-    return sorted(said.stdout.split()) if said.returncode == 0 and not said.stderr else [said.stderr]
+    return sorted(said.stdout.split()) if said.returncode == 0 and not said.stderr else [
+        said.stderr]
 
 
 def cases(program):
@@ -222,9 +232,11 @@ def cases(program):
         yield "%s in bash" % name, completed(name, "") == firsts
         for c in commands:
             if c.options:
-                yield "%s %s in bash" % (name, c.name), completed(name, c.name, "--") == sorted(c.flags().split())
+                yield "%s %s in bash" % (name, c.name), completed(name, c.name,
+                    "--") == sorted(c.flags().split())
             if c.has_file:
-                yield "%s %s FILE in bash" % (name, c.name), completed(name, c.name, "_") == ["_rignolda", "_stab"]
+                yield "%s %s FILE in bash" % (name, c.name), completed(name, c.name,
+                    "_") == ["_rignolda", "_stab"]
 
 
 def main():

@@ -23,7 +23,8 @@ EVENTS = ["send_frame", "recv_frame", "recv_frame_keep", "send_ack", "recv_ack",
 def start(draw, capacity):
     """A start whose queues fit the capacity."""
     return {
-        "frames": [[draw.randrange(9), draw.randrange(99)] for _ in range(draw.randrange(capacity + 1))],
+        "frames": [[draw.randrange(9), draw.randrange(99)]
+            for _ in range(draw.randrange(capacity + 1))],
         "acks": [draw.randrange(9) for _ in range(draw.randrange(capacity + 1))],
         "send": draw.randrange(9), "recv": draw.randrange(9),
     }
@@ -121,7 +122,8 @@ def main():
     refused = ignored = 0
     for number in range(count):
         text = spoiled_text(draw)
-        done = subprocess.run([ROOT / "rignolda", "explain"], input=text.encode(), capture_output=True)
+        done = subprocess.run([ROOT / "rignolda", "explain"], input=text.encode(),
+            capture_output=True)
         lines = done.stdout.decode().splitlines()
         command = lines[-1].split()[1].rstrip(":") if lines else "link"
         want = answer_of(command, text)
@@ -129,10 +131,12 @@ def main():
         accepted = want.endswith("accepted")
         clean = accepted and len(lines) == 1
         if not lines or lines[-1] != want or bare or done.returncode != (0 if clean else 1):
-            sys.exit("%d: %s\n%s\nwanted: %s, status %d" % (number, text, "\n".join(lines), want, done.returncode))
+            sys.exit("%d: %s\n%s\nwanted: %s, status %d" % (number, text, "\n".join(lines), want,
+                done.returncode))
         refused += not accepted
         ignored += accepted and not clean
-    print("%d jobs: %d refused, %d accepted with something ignored, no disagreement" % (count, refused, ignored))
+    print("%d jobs: %d refused, %d accepted with something ignored, no disagreement" % (count,
+        refused, ignored))
 
 
 if __name__ == "__main__":

@@ -61,26 +61,37 @@ def trees():
     step = lambda n: '["%s","%s"]' % ("ab"[n % 2], steps[n * 7 % 6])
     yield "steps", text(JOB, "schedule", listed(step, 1_000_000))
     yield "steps, too many", text(JOB, "schedule", listed(lambda n: '["a","offer"]'))
-    yield "steps of unknown nodes", text(JOB, "schedule", listed(lambda n: '["c%d","offer"]' % n, 900_000))
-    yield "steps of unknown words", text(JOB, "schedule", listed(lambda n: '["a","offre"]', 1_000_000))
+    yield "steps of unknown nodes", text(JOB, "schedule",
+        listed(lambda n: '["c%d","offer"]' % n, 900_000))
+    yield "steps of unknown words", text(JOB, "schedule",
+        listed(lambda n: '["a","offre"]', 1_000_000))
     yield "steps on the root", text(JOB, "schedule", listed(lambda n: '["r","offer"]', 1_000_000))
-    yield "steps that are numbers", text(JOB, "schedule", listed(lambda n: "1" + " " * 14, 1_000_000))
+    yield "steps that are numbers", text(JOB, "schedule",
+        listed(lambda n: "1" + " " * 14, 1_000_000))
     yield "a step of a long word", text(JOB, "schedule", '[["a","%s"]]' % ("offer" * 3_300_000))
-    yield "losses", text(JOB, "schedule", listed(lambda n: '["a","lose_ack",%d]' % (n % 9), 900_000))
+    yield "losses", text(JOB, "schedule",
+        listed(lambda n: '["a","lose_ack",%d]' % (n % 9), 900_000))
     yield "items, too many", text(dict(JOB, items=0), "items", listed(lambda n: "%d" % (n % 999)))
     yield "items that are texts", text(JOB, "items", listed(lambda n: '"%d"' % n))
-    yield "unknown members", json.dumps(JOB)[:-1] + "," + filled(lambda n: '"shedule%d":%d' % (n, n)) + "}"
-    yield "members of short names", json.dumps(JOB)[:-1] + "," + filled(lambda n: '"%x":0' % n) + "}"
+    yield "unknown members", json.dumps(JOB)[:-1] + "," + filled(
+        lambda n: '"shedule%d":%d' % (n, n)) + "}"
+    yield "members of short names", json.dumps(JOB)[:-1] + "," + filled(
+        lambda n: '"%x":0' % n) + "}"
     yield "a member of a long name", json.dumps(JOB)[:-1] + ', "%s": 1}' % ("schedul" * 2_300_000)
-    yield "members of long names", json.dumps(JOB)[:-1] + "," + filled(lambda n: '"%s%d":0' % ("x" * 9000, n)) + "}"
-    yield "one member again and again", json.dumps(JOB)[:-1] + "," + filled(lambda n: '"turns":%d' % (n + 1)) + "}"
+    yield "members of long names", json.dumps(JOB)[:-1] + "," + filled(
+        lambda n: '"%s%d":0' % ("x" * 9000, n)) + "}"
+    yield "one member again and again", json.dumps(JOB)[:-1] + "," + filled(
+        lambda n: '"turns":%d' % (n + 1)) + "}"
     yield "a long ignored text", text(JOB, "note", '"%s"' % ("x" * 16_600_000))
     yield "a long text of escapes", text(JOB, "note", '"%s"' % ("\\u0041" * 2_760_000))
     yield "an ignored list", text(JOB, "note", listed(lambda n: "[]"))
     yield "ignored objects", text(JOB, "note", listed(lambda n: '{"a":1}'))
-    yield "nodes, too many", text(without, "tree", '[{"name":"r"},%s]' % filled(lambda n: node("n%d" % n)))
-    yield "nodes of one name", text(without, "tree", '[{"name":"r"},%s]' % filled(lambda n: node("a")))
-    yield "nodes of unknown parents", text(without, "tree", listed(lambda n: node("n%d" % n, "p%d" % n)))
+    yield "nodes, too many", text(without, "tree",
+        '[{"name":"r"},%s]' % filled(lambda n: node("n%d" % n)))
+    yield "nodes of one name", text(without, "tree",
+        '[{"name":"r"},%s]' % filled(lambda n: node("a")))
+    yield "nodes of unknown parents", text(without, "tree",
+        listed(lambda n: node("n%d" % n, "p%d" % n)))
     yield "nodes of bad names", text(without, "tree", listed(lambda n: node("N %d" % n)))
     yield "nodes without names", text(without, "tree", listed(lambda n: "{}"))
     yield "nodes that are numbers", text(without, "tree", listed(lambda n: "1"))
@@ -92,25 +103,31 @@ def trees():
         '{"name":"%s%d","parent":"%s"}' % ("ab" * 130_000, n, "p" * 31 + "x") for n in range(64)))
     start = '{"frames":[%s],"acks":[0],"send":0,"recv":1}'
     yield "starts, too many", text(JOB, "starts", listed(lambda n: start % "[1,2]"))
-    yield "starts of many frames", text(JOB, "starts", "[%s,%s]" % (start % filled(lambda n: "[1,2]"), start % ""))
+    yield "starts of many frames", text(JOB, "starts",
+        "[%s,%s]" % (start % filled(lambda n: "[1,2]"), start % ""))
     yield "starts without labels", text(JOB, "starts", listed(lambda n: "{}"))
-    yield "frames that are numbers", text(JOB, "starts", "[%s,%s]" % (start % filled(lambda n: "1"), start % ""))
+    yield "frames that are numbers", text(JOB, "starts",
+        "[%s,%s]" % (start % filled(lambda n: "1"), start % ""))
     yield "scripts, too many", text(JOB, "scripts", listed(lambda n: "null"))
-    yield "a script too long", text(JOB, "scripts", '[null,{"frames_out":"%s"}]' % ("PDE" * 5_500_000))
-    yield "a script of bad letters", text(JOB, "scripts", '[null,{"frames_out":"%s"}]' % ("pde" * 5_500_000))
+    yield "a script too long", text(JOB, "scripts",
+        '[null,{"frames_out":"%s"}]' % ("PDE" * 5_500_000))
+    yield "a script of bad letters", text(JOB, "scripts",
+        '[null,{"frames_out":"%s"}]' % ("pde" * 5_500_000))
     yield "scripts that are empty lists", text(JOB, "scripts", listed(lambda n: "[]"))
     yield "links without numbers", text(JOB, "links", listed(lambda n: "{}"))
     yield "links, too many", text(JOB, "links", listed(lambda n: '{"capacity":1,"labels":4}'))
     yield "openings, too many", text(two, "openings", listed(lambda n: "[1]"))
     yield "a long opening", text(two, "openings", "[[],%s,[]]" % listed(lambda n: "%d" % (n % 9)))
     yield "not JSON at its end", text(JOB, "schedule", listed(step, 900_000))[:-2]
-    yield "not JSON, many lines", text(JOB, "schedule", listed(lambda n: "\n" + step(n), 900_000)) + "x"
+    yield "not JSON, many lines", text(JOB, "schedule",
+        listed(lambda n: "\n" + step(n), 900_000)) + "x"
     yield "white space", json.dumps(JOB)[:-1] + " " * 16_600_000 + "}"
 
 
 def link_jobs():
     """Link jobs, by name: the text of each."""
-    words = ['"send_frame"', '"recv_frame"', '"send_ack"', '"recv_ack"', '["offer",%d]', '"recv_ack_keep"']
+    words = ['"send_frame"', '"recv_frame"', '"send_ack"', '"recv_ack"', '["offer",%d]',
+        '"recv_ack_keep"']
     event = lambda n: (words[n * 7 % 6] + " " * 4).replace("%d", str(n))
     yield "events", text(LINK, "events", listed(event, 1_000_000))
     yield "offers", text(LINK, "events", listed(lambda n: '["offer",%d]' % n, 1_000_000))
@@ -126,7 +143,8 @@ def taken(program, command, job):
     best = None
     for _ in range(2):
         before = resource.getrusage(resource.RUSAGE_CHILDREN)
-        subprocess.run([program, command, job], stdout=subprocess.DEVNULL, stderr=subprocess.DEVNULL)
+        subprocess.run([program, command, job], stdout=subprocess.DEVNULL,
+            stderr=subprocess.DEVNULL)
         after = resource.getrusage(resource.RUSAGE_CHILDREN)
         spent = after.ru_utime + after.ru_stime - before.ru_utime - before.ru_stime
         best = spent if best is None else min(best, spent)
@@ -164,7 +182,8 @@ def main():
                 is_slow = spent > 3 * base and spent > 0.5
                 slow += is_slow
                 print("%-28s %8d bytes  stab %s %5.2f s  %s %5.2f s, %4.1f times%s" % (
-                    name, size, reader, base, command, spent, spent / max(base, 0.01), "  SLOW" if is_slow else ""), flush=True)
+                    name, size, reader, base, command, spent, spent / max(base, 0.01),
+                        "  SLOW" if is_slow else ""), flush=True)
     print("%d jobs, %d commands too slow" % (count, slow))
     sys.exit(1 if slow else 0)
 

@@ -85,7 +85,8 @@ def longest_in_vain(c):
         open_ones = list(states)
         while open_ones:
             state = open_ones.pop()
-            for what in ("send_frame", "recv_frame", "keep_frame", "send_ack", "recv_ack", "keep_ack"):
+            for what in ("send_frame", "recv_frame", "keep_frame", "send_ack", "recv_ack",
+                "keep_ack"):
                 after = moved(state, what)
                 if after is not None and after not in states:
                     states.add(after)
@@ -101,8 +102,8 @@ def longest_in_vain(c):
 
 
 def receipts_in_vain(c):
-    """The most frames that are received before every frame and the receiver have the sender's label,
-    and then the most acknowledgements before the item is acknowledged; losses are free."""
+    """The most frames that are received before every frame and the receiver have the sender's
+    label, and then the most acknowledgements before the item is acknowledged; losses are free."""
     bits = [q for n in range(c + 1) for q in itertools.product((0, 1), repeat=n)]
     states = [(f, a, r) for f in bits for a in bits for r in (0, 1)]
 
@@ -150,9 +151,11 @@ def tree_case(rng, reading):
         c = rng.choice((1, 1, 2, 3))
         labels = 2 * c + 2
         full = rng.random() < 0.5
-        frames = [(rng.randrange(labels), -100 * n - i) for i in range(c if full else rng.randint(0, c))]
+        frames = [(rng.randrange(labels), -100 * n - i)
+            for i in range(c if full else rng.randint(0, c))]
         acks = [rng.randrange(labels) for _ in range(c if full else rng.randint(0, c))]
-        links.append(Link(c, labels, frames, acks, rng.randrange(labels), rng.randrange(labels + 1)))
+        links.append(Link(c, labels, frames, acks, rng.randrange(labels),
+            rng.randrange(labels + 1)))
         opening.append([-1] * rng.randint(0, hold) if n in inner else [])
 
     def received(n):

@@ -15,7 +15,8 @@ from reference import ACTS, Count, random_tree, strike_at_random
 def enough(tree, node):
     """So many reading rounds of its path are said to be enough."""
     way = list(tree.path(node))
-    return sum(len(tree.backlog(w)) for w in way) + sum(tree.links[w].capacity + 1 for w in way[1:]) + 1
+    return sum(len(tree.backlog(w)) for w in way) + sum(tree.links[w].capacity + 1
+        for w in way[1:]) + 1
 
 class Reading:
     """What a reading round of a link waits for, and how many are complete."""
@@ -52,7 +53,8 @@ def fault(rng, tree, child, new):
         tree.restart(child, [next(new) for _ in range(rng.randint(0, 2))])
 
 def read_round(rng, tree, node, new):
-    """Each link of the path completes a reading round; what else happens is no fault on the path."""
+    """Each link of the path completes a reading round; what else happens is no fault on the
+    path."""
     way = list(tree.path(node))
     reads = {w: Reading(tree.links[w].capacity) for w in way}
     elsewhere = [n for n in range(1, len(tree.parents)) if n not in way]
@@ -71,7 +73,8 @@ def read_round(rng, tree, node, new):
             reads[child].see(act)
 
 def handed_on(tree, node):
-    return all(not tree.links[w].frames and tree.links[w].acked == len(tree.list_of(tree.parents[w]))
+    return all(not tree.links[w].frames
+        and tree.links[w].acked == len(tree.list_of(tree.parents[w]))
         for w in tree.path(node))
 
 def is_complete(count, tree, node):
@@ -137,7 +140,8 @@ def main():
         exact, left, later = search(seed)
         clean, nearest = clean + exact, min(nearest, left)
         items += later if exact else 0
-    print(f'{number} trees, and in each one node came back within the rounds, the nearest with {nearest} left;')
+    print(f'{number} trees, and in each one node came back within the rounds, '
+        f'the nearest with {nearest} left;')
     print(f'{clean} of them received exactly what was published later, {items} items')
 
 if __name__ == '__main__':

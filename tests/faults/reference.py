@@ -2,7 +2,7 @@
 """reference.py: a tree of links with faults in plain Python, from the rules in docs/PROTOCOL.md,
 and a search over random trees for a node that breaks the law counted from its last fault.
 
-    tests/faults/reference.py [N]     N random trees (10,000 by default), and how near the bounds came
+    tests/faults/reference.py [N] N random trees (10,000 by default), and how near the bounds came
 
 It is an independent program: the expected values of the tests of `stab_faults` are its values, and
 nothing of it is made from the crates."""

@@ -1,9 +1,9 @@
 #!/usr/bin/env python3
-"""scenario.py: what `rignolda scenario` has to print, in plain Python, from docs/FORMATS.md and from
-the rules of reference.py beside it.
+"""scenario.py: what `rignolda scenario` has to print, in plain Python, from docs/FORMATS.md and
+from the rules of reference.py beside it.
 
     tests/faults/scenario.py FILE             prints the lines of a scenario
-    tests/faults/scenario.py --search N       N random scenarios, each also given to the program that
+    tests/faults/scenario.py --search N N random scenarios, each also given to the program that
                                               RIGNOLDA in the environment names; any difference ends
                                               it with status 1
 

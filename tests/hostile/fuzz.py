@@ -276,8 +276,8 @@ def member(value, name):
 
 
 def open_nodes(draw, value):
-    """A job of a tree with a version and with openings. Most are right: those of inner nodes have no
-    more items than an opening may have, and those of the root and of the leaves none."""
+    """A job of a tree with a version and with openings. Most are right: those of inner nodes have
+    no more items than an opening may have, and those of the root and of the leaves none."""
     tree = member(value, "tree")
     if not isinstance(tree, list) or isinstance(tree, Members):
         return value
@@ -300,7 +300,8 @@ PIECES += b"[[ ]] [] {} // # 'a' \0".split(b" ")
 PIECES += [b"\xef\xbb\xbf", b"\xff", b"\xc0\xaf", b"\xed\xa0\x80", b"\xf4\x90\x80\x80"]
 PIECES += [b"\xc2\xa0", b"\xe2\x80\xa8", b"\x0c"]
 SPACES = [b" ", b"\n", b"\r\n", b"\t", b"\x0c", b"\x0b", b"\xc2\xa0", b"\xe2\x80\xa8"]
-LETTERS = [b"\xe9", b"\xc3\xa9", b"\xed\xa0\x80", b"\xed\xb0\x80", b"\xf0\x9d\x84\x9e", b"\xf8", b"\xc3"]
+LETTERS = [b"\xe9", b"\xc3\xa9", b"\xed\xa0\x80", b"\xed\xb0\x80", b"\xf0\x9d\x84\x9e", b"\xf8",
+    b"\xc3"]
 CODES = "utf-16 utf-16-le utf-16-be utf-32 utf-32-le utf-8-sig cp037 utf-7".split()
 
 

@@ -191,7 +191,8 @@ def whole_runs():
     for command in ["run"], ["run", "--words"], ["run", "--mixed"]:
         for is_chain, form in (True, "chain"), (False, "star"):
             links = {"links": wide(MAX_NODES - 1)} if "--mixed" in command else {}
-            yield f"{form} of 64, 10,000 items, whole", command, TEXT, lambda it=is_chain, of=links: (
+            named = f"{form} of 64, 10,000 items, whole"
+            yield named, command, TEXT, lambda it=is_chain, of=links: (
                 tree_job(MAX_NODES, it, items=some("1", MAX_ITEMS), turns=MAX_TURNS, **of))
 
 
@@ -260,7 +261,8 @@ def main():
         times = f"{processor * 1000:7.1f}{late} {wall * 1000:6.0f}"
         peaks = f"{peak / 1e6:8.1f} {peak / size:7.1f}{large}"
         came += "" if right else " OTHER"
-        print(f"{' '.join(command):13} {name:32} {size / 1e6:6.2f} {times} {peaks}  {came}", flush=True)
+        print(f"{' '.join(command):13} {name:32} {size / 1e6:6.2f} {times} {peaks}  {came}",
+            flush=True)
     print(f"{passed} passed, {failed} failed")
     return 1 if failed else 0
 

@@ -21,7 +21,7 @@ enum { MOST_ENTRIES = 64, MOST_EVENTS = 1000000 };
 
 struct queue {
     unsigned capacity, count;
-    rignolda_frame entries[MOST_ENTRIES];      /* the front first; of an acknowledgement its label */
+    rignolda_frame entries[MOST_ENTRIES];    /* the front first; of an acknowledgement its label */
 };
 
 static rignolda_params params;

@@ -97,7 +97,8 @@ RUNS = [("run", ["run"]), ("run --words", ["run", "--words"]), ("run --mixed", [
 
 def chain(nodes, items, turns, words, held=0):
     """The job of a chain of so many nodes, with clean starts, for a run by these words. Where both
-    kinds of link are asked for, every other link is wider. Inner nodes begin with so many strays."""
+    kinds of link are asked for, every other link is wider. Inner nodes begin with so many
+    strays."""
     tree = [{"name": "r"}]
     for i in range(1, nodes):
         tree.append({"name": f"n{i}", "parent": tree[-1]["name"]})
@@ -339,9 +340,8 @@ def is_report_of(job):
     """A test for the report of a run of a chain with clean starts, under any schedule.
 
     Two runs of a job may print different lists. Whatever the schedule, there are two lines for each
-    node; the root has all items, and every other node has what it begins with and then some of those
-    of the node above it, in their order and each once.
-    """
+    node; the root has all items, and every other node has what it begins with and then some of
+    those of the node above it, in their order and each once. """
     openings = job.get("openings", [[]] * len(job["tree"]))
 
     def is_report(ended):

@@ -2,8 +2,9 @@
  * A small program with a planted bug, for tests/check_refused.sh. It includes no header.
  *
  * As `stab` it prints the report of a lone root: BUG says what it does wrong where memory, or its
- * thread, is refused. With the word `worst` it is `rignolda`, and prints the same without a thread. As stab_checks with the word `calls`, it makes two calls, again where one is
- * refused. With BUG 0 it does all of it right.
+ * thread, is refused. With the word `worst` it is `rignolda`, and prints the same without a thread.
+ * As stab_checks with the word `calls`, it makes two calls, again where one is refused. With BUG 0 it
+ * does all of it right.
  */
 
 #ifndef BUG

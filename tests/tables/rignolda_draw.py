@@ -1,6 +1,7 @@
 """The runs that `rignolda draw` draws, as text and as pictures.
 
-The runs of the example scenarios are those of tests/faults/drawn.py, and one is worked out by hand."""
+The runs of the example scenarios are those of tests/faults/drawn.py, and one is worked out by
+hand."""
 
 import json
 import sys
@@ -132,7 +133,8 @@ ROWS += [
     Row("draws a scenario", ["draw"], SCENARIO, out=SCENARIO_RUN),
     Row("draws the picture of a scenario", ["draw", "--svg"], SCENARIO,
         out=Like(parts=SCENARIO_PARTS, without=NEVER)),
-    Row("draws no steps that are no list", ["draw"], SCENARIO.replace('"steps": [', '"steps": 5, "s": ['),
+    Row("draws no steps that are no list", ["draw"],
+        SCENARIO.replace('"steps": [', '"steps": 5, "s": ['),
         status=1, err="rignolda: scenario: no list of steps\n"),
     Row("draws no scenario with a step that is none", ["draw", "--svg"],
         SCENARIO.replace('["b", "offer"]', '["r", "offer"]'), status=1,

@@ -168,7 +168,8 @@ steps[1][0]: the text "round"; the word before a number is "rounds" or "reading_
 steps[2][1]: 65536; how many rounds there are is a whole number from 0 to 65535
 stab tree: accepted
 """),
-    ('"items"', '"steps":[["restart","rack1",[]],["start","hub",[2]],["restart",1,[]]],"items"', """\
+    ('"items"', '"steps":[["restart","rack1",[]],["start","hub",[2]],["restart",1,[]]],"items"',
+        """\
 steps[0][1]: "rack1" is no node; did you mean "rack_1"?
 steps[1][0]: the text "start"; the word before a node and a list of items is "restart"
 steps[2][1]: 1; a node is named by a text
@@ -333,8 +334,8 @@ stab link: job: not JSON
 """),
 ]
 
-# A link job with so many events that are none, and its last line but one: of what is found a hundred
-# are written, and the others are counted, up to a million.
+# A link job with so many events that are none, and its last line but one: of what is found a
+# hundred are written, and the others are counted, up to a million.
 UNKNOWN = '{"capacity":1,"labels":4,"start":{"send":0,"recv":1},"events":["x"', ',"x"', "]}"
 COUNTED = [
     (100, 'events[99]: "x" is no event', "bad event"),
@@ -348,7 +349,8 @@ ROWS = [
     Row("finds nothing in a whole job", ["explain"], JOB, out="stab tree: accepted\n"),
     Row("finds nothing in a whole link job", ["explain"], LINK_JOB, out="stab link: accepted\n"),
     Row("knows the members of other commands", ["explain"],
-        replaced(JOB, '"items"', '"steps":[["site-a","offer"],["rack_1","lose_ack",0],["publish",[3]],'
+        replaced(JOB, '"items"',
+                 '"steps":[["site-a","offer"],["rack_1","lose_ack",0],["publish",[3]],'
                  '["strike","rack_1",{"frames":[[1,2]],"send":0,"recv":1}],["restart","hub",[4]],'
                  '["rounds",2],["reading_rounds",0]],"backlogs":[[],[7],[]],"items"'),
         out="stab tree: accepted\n"),

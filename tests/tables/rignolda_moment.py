@@ -15,8 +15,8 @@ JOB = """\
 "items":[20,21,22,23,24],"backlogs":[[],[8],[7]],
 "starts":[{"send":0,"recv":1},{"frames":[[2,99]],"send":0,"recv":1}]}"""
 
-# What each node received since: a misses three of 8, 20, 21, 22, 23, 24, and b three of 7, 22, 23, 24
-# after its stray.
+# What each node received since: a misses three of 8, 20, 21, 22, 23, 24, and b three of 7, 22, 23,
+# 24 after its stray.
 REPORT = """\
 r depth 0 received 5 acked - ended upstream
 items: 20 21 22 23 24
@@ -28,7 +28,8 @@ items: 99 24
 
 REPORTS = [
     ("", "", 0, "obeys\n"),
-    ("received 2 acked 4 ended upstream\nitems: 99", "received 3 acked 4 ended upstream\nitems: 99 7",
+    ("received 2 acked 4 ended upstream\nitems: 99",
+        "received 3 acked 4 ended upstream\nitems: 99 7",
      0, "obeys\n"),
     ("received 3 acked 6 ended upstream\nitems: 22 23 24\n"
      "b depth 2 received 2 acked 4 ended upstream\nitems: 99 24",
@@ -65,7 +66,8 @@ backlog: 8
 items of r: 20 21 22 23 24
 items of a: 23 22 24
 """),
-    ("received 2 acked 4 ended upstream\nitems: 99", "received 3 acked 4 ended upstream\nitems: 7 99",
+    ("received 2 acked 4 ended upstream\nitems: 99",
+        "received 3 acked 4 ended upstream\nitems: 7 99",
      1, """\
 b: what it received since is not what the link law allows
 the link from a has capacity 1 and 4 acknowledged items

@@ -1,7 +1,7 @@
 """What `rignolda scenario` prints, and which scenarios it refuses.
 
-The expected texts of the examples are those of tests/faults/scenario.py, and the first one is worked
-out by hand as well."""
+The expected texts of the examples are those of tests/faults/scenario.py, and the first one is
+worked out by hand as well."""
 
 import json
 import sys
@@ -58,7 +58,8 @@ REFUSED = [
     (["publish", [1.5]], "wrong shape"), (["publish", {}], "wrong shape"),
     (["sell", [1]], "wrong shape"), (["restart", "x", ["1"]], "wrong shape"),
     (["restart", 1, []], "wrong shape"), (["start", "a", []], "wrong shape"),
-    (["strike", "b", {"send": 0}], "wrong shape"), (["hit", "b", {"send": 0, "recv": 0}], "wrong shape"),
+    (["strike", "b", {"send": 0}], "wrong shape"),
+        (["hit", "b", {"send": 0, "recv": 0}], "wrong shape"),
     (["rounds", 65536], "wrong shape"), (["rounds", 1.0], "wrong shape"),
     (["round", 1], "wrong shape"), (["rounds", -1], "wrong shape"), (["rounds"], "wrong shape"),
     (["x", "offer"], "unknown node"), (["x", "lose_ack", 0], "unknown node"),
@@ -73,11 +74,14 @@ REFUSED = [
 
 ROWS = [
     Row("tells a scenario act by act", ["scenario"], chain(*STEPS), out=STRUCK),
-    Row("tells a scenario in a file", ["scenario", "job"], files={"job": chain(*STEPS)}, out=STRUCK),
+    Row("tells a scenario in a file", ["scenario", "job"], files={"job": chain(*STEPS)},
+        out=STRUCK),
     Row("restarts the root", ["scenario"], chain(["restart", "r", [3]], ["a", "offer"]),
         out="r since 1 published 1\nitems: 3\n"
-            "a since 1 received 0, strays at most 1, missing among the first 3\nitems:\npublished: 3\n"
-            "b since 1 received 0, strays at most 2, missing among the first 6\nitems:\npublished: 3\n"),
+            "a since 1 received 0, strays at most 1, "
+            "missing among the first 3\nitems:\npublished: 3\n"
+            "b since 1 received 0, strays at most 2, "
+            "missing among the first 6\nitems:\npublished: 3\n"),
     Row("tells a lone root", ["scenario"],
         '{"capacity":1,"labels":4,"tree":[{"name":"publish"}],"items":[1],'
         '"steps":[["rounds",3],["publish",[2]],["reading_rounds",65535]]}',
