@@ -24,6 +24,7 @@ import itertools
 import json
 import os
 import sys
+import traceback
 from collections import deque, namedtuple
 
 # What the items of the start are numbered from; offered items are numbered from 0.
@@ -33,6 +34,10 @@ MOST_STATES = 2_000_000
 # The line, both ends as what they remember, how many items were offered and how many of them count
 # as acknowledged, and what was delivered.
 State = namedtuple("State", "frames acks sender receiver offered acked delivered")
+
+
+# What the methods give that give more than whether something is so: how many numbers, and which.
+GIVES = {"send": (2, "a label and an item"), "frame": (1, "an item"), "acknowledge": (1, "a label")}
 
 
 class Unfit(Exception):
@@ -65,6 +70,11 @@ class Ends:
         end = kind.__new__(kind)
         end.__dict__.update(memory)
         answer = getattr(end, name)(*words)
+        if name in GIVES and answer is not None:
+            count, what = GIVES[name]
+            numbers = answer if count > 1 and isinstance(answer, (tuple, list)) else [answer]
+            if len(numbers) != count or not all(isinstance(one, int) for one in numbers):
+                raise Unfit(f"{name} gives {what} or None, and not {answer!r}")
         return answer, self.memory(end)
 
 
@@ -88,6 +98,8 @@ def fault(state, capacity):
         return "a stray comes after an item"
     if len(strays) > capacity or strays != sorted(set(strays)):
         return "there are more strays than frames of the start, or in another order"
+    if any(not 0 <= item < state.offered for item in items):
+        return "an item is delivered that was not offered"
     if items != sorted(set(items)):
         return "an item comes twice, or out of order"
     if state.acked > state.offered:
@@ -264,8 +276,14 @@ def main():
     labels = asked.labels or 2 * asked.capacity + 2
     try:
         return judge(Ends(asked.ends), asked.capacity, labels, asked.items)
-    except (Unfit, OSError, SyntaxError, AttributeError, TypeError, ValueError) as error:
+    except (Unfit, OSError, SyntaxError) as error:
         print(f"{asked.ends} cannot be judged: {error}", file=sys.stderr)
+        return 2
+    except Exception as error:  # what the ends themselves raise
+        place = traceback.extract_tb(error.__traceback__)[-1]
+        print(f"{asked.ends} cannot be judged: {type(error).__name__}: {error} "
+              f"({os.path.basename(place.filename)}, line {place.lineno}, in {place.name})",
+              file=sys.stderr)
         return 2
 
 

@@ -6,6 +6,7 @@ last line is 'N passed, M failed'."""
 import re
 import subprocess
 import sys
+import tempfile
 from pathlib import Path
 
 TOP = Path(__file__).resolve().parent.parent
@@ -24,7 +25,28 @@ CASES = [
     ("sends_once", [], 1, NO_MORE),
     ("fresh_alone", [], 1, NO_MORE),
     ("../template", [], 1, NO_MORE),
-    ("none", [], 2, ""),
+    ("none", [], 2, "No such file"),
+]
+# The right ends with another method, and what is said of them.
+SPOILED = [
+    ("Receiver", "def frame(self, label, item): return item + 1 if item < 90 else None", 1,
+     "BROKEN after 4 events: an item is delivered that was not offered"),
+    ("Receiver", "def frame(self, label, item): return 7", 1,
+     "BROKEN after 1 events: an item is delivered that was not offered"),
+    ("Receiver", "def frame(self, label, item): return -1", 1,
+     "BROKEN after 1 events: an item is delivered that was not offered"),
+    ("Receiver", "def frame(self, label, item): return 'it'", 2,
+     "frame gives an item or None, and not 'it'"),
+    ("Receiver", "def acknowledge(self): return 1, 2", 2,
+     "acknowledge gives a label or None, and not (1, 2)"),
+    ("Sender", "def send(self): return 0", 2, "send gives a label and an item or None, and not 0"),
+    ("Sender", "def send(self): return 0, 1, 2", 2, "send gives a label and an item or None"),
+    ("Sender", "def ack(self, label): return [][label]", 2,
+     "IndexError: list index out of range (ends.py, line 4, in ack)"),
+    ("Sender", "def offer(self, item): self.all = [item]", 2,
+     "an end may remember numbers, None and tuples"),
+    ("Sender", "def offer(self): return True", 2, "TypeError: "),
+    ("Sender", "def offer(self, item) return True", 2, "ends.py, line 4"),
 ]
 
 
@@ -34,7 +56,7 @@ def main():
         said = subprocess.run([TOP / "lab/check_ends.py", TOP / f"lab/ends/{name}.py", *words],
                               capture_output=True, text=True, check=False)
         first = said.stdout.partition("\n")[0]
-        well = said.returncode == status and text in first
+        well = said.returncode == status and text in (said.stderr if status == 2 else first)
         # (a run is as long as its first line says, and the page gets its address)
         if status == 1:
             events = re.findall(r"^ *(\d+)  ", said.stdout, re.MULTILINE)
@@ -43,7 +65,19 @@ def main():
                     and "page/index.html#run=" in said.stdout)
         failed += not well
         print("same  " if well else "OTHER ", name, *words, "" if well else first + said.stderr)
-    print(f"{len(CASES) - failed} passed, {failed} failed")
+    for end, method, status, text in SPOILED:
+        with tempfile.TemporaryDirectory() as folder:
+            ends = Path(folder, "ends.py")
+            ends.write_text(f"import sys; sys.path.insert(0, {str(TOP / 'lab/ends')!r})\n"
+                            f"import right; from right import Sender, Receiver\n"
+                            f"class {end}(right.{end}):\n    {method}\n")
+            said = subprocess.run([TOP / "lab/check_ends.py", ends],
+                                  capture_output=True, text=True, check=False)
+        first = (said.stdout + said.stderr).partition("\n")[0]
+        well = said.returncode == status and text in first
+        failed += not well
+        print("same  " if well else "OTHER ", method, "" if well else said.stdout + said.stderr)
+    print(f"{len(CASES) + len(SPOILED) - failed} passed, {failed} failed")
     return failed > 0
 
 
