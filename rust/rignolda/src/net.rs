@@ -9,10 +9,12 @@
 //!
 //! Each step of a link is a call that is proved. That a body lies beside its item, and all that is
 //! done about connections, is tested alone.
+mod address;
 mod peers;
 mod relay;
 pub mod wire;
 
+pub use address::Address;
 pub use peers::{Call, Children, Handler, Line, Parent, Peers, Setup, Whom};
 pub use relay::{Link, Relay};
 

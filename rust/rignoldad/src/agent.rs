@@ -79,13 +79,13 @@ pub fn run(path: &Path) -> Result<(), String> {
     let watchdog = watchdog.map(|micros: u64| Duration::from_micros(micros / 3));
     let mut watched = Instant::now();
     notify("READY=1");
-    fact!("start", "{} life {:016x}", agent.config.name, agent.peers.life());
+    fact!("start", "{} life {:016x}", agent.config.peers.name, agent.peers.life());
     loop {
         let most = watchdog.unwrap_or(Duration::from_secs(60));
         let fired = agent.wait(&signals, most).map_err(|e| format!("poll: {e}"))?;
         if fired.contains(&signals.end.as_raw_fd()) {
             notify("STOPPING=1");
-            fact!("end", "{}", agent.config.name);
+            fact!("end", "{}", agent.config.peers.name);
             return Ok(());
         }
         let now = Instant::now();
@@ -192,10 +192,10 @@ impl Agent {
             Listener::new(address).map_err(|e| format!("listen: {address}: {e}"))
         };
         let control = config.control.as_ref().map(|path| {
-            control::Server::new(path).map_err(|e| format!("control: {}: {e}", path.display()))
+            control::server(path).map_err(|e| format!("control: {}: {e}", path.display()))
         });
         let metrics = config.metrics.map(|address| {
-            metrics::Server::new(address).map_err(|e| format!("metrics: {address}: {e}"))
+            metrics::server(address).map_err(|e| format!("metrics: {address}: {e}"))
         });
         let poller = Arc::new(Poller::new().map_err(|e| format!("poll: {e}"))?);
         let applier = config.apply.as_ref().map(|apply| {
@@ -210,7 +210,7 @@ impl Agent {
             listeners: config.listen.iter().map(listen).collect::<Result<_, _>>()?,
             full_until: now,
             found: mpsc::channel(),
-            peers: Peers::new(config.setup(), life, config.link.backlog, now),
+            peers: Peers::new(config.peers.clone(), life, config.backlog, now),
             root: config.root.as_ref().map(|root| Root::new(root, now)),
             state: State {
                 is_root: config.root.is_some(),
@@ -242,9 +242,8 @@ impl Agent {
         let reads = reads.chain(listeners.map(AsRawFd::as_raw_fd));
         let reads = reads.chain(self.root.as_ref().and_then(Root::descriptor));
         let mut wanted: HashMap<RawFd, _> = reads.map(|fd| (fd, (Some(0), false))).collect();
-        let served = self.control.as_ref().map(control::Server::descriptors);
-        let counted = self.metrics.as_ref().map(metrics::Server::descriptors);
-        let served = served.into_iter().chain(counted).flatten();
+        let served = self.control.iter().flat_map(control::Server::descriptors);
+        let served = served.chain(self.metrics.iter().flat_map(metrics::Server::descriptors));
         // (a descriptor of theirs may be another one's since)
         wanted.extend(served.map(|(fd, writes)| (fd, (None, writes))));
         wanted.extend(
@@ -374,7 +373,7 @@ impl Agent {
     /// At the root: publishes what waits, as fast as the quickest child takes it.
     fn publish(&mut self, now: Instant) {
         while self.peers.relay().least_backlog().is_none_or(|backlog| backlog <= 1) {
-            let limit = self.config.link.backlog / 2;
+            let limit = self.config.backlog / 2;
             let Some(published) = self.root.as_mut().and_then(|root| root.next(limit)) else {
                 return;
             };
@@ -384,7 +383,7 @@ impl Agent {
             self.asked.retain(|(ticket, key)| {
                 let done = published.keys.contains(key);
                 if let (true, Some(control)) = (done, control.as_mut()) {
-                    control.answer(*ticket, &response);
+                    control::answer(control, *ticket, &response);
                 }
                 !done
             });
@@ -424,7 +423,7 @@ impl Agent {
             timeouts: link.timeouts,
         });
         Status {
-            name: self.config.name.clone(),
+            name: self.config.peers.name.clone(),
             is_root: self.root.is_some(),
             failing: applier.as_ref().map_or(0, Applier::failing),
             parent: parent.map(|(parent, _)| parent.to_string()),
@@ -437,7 +436,7 @@ impl Agent {
             settings: table.keys.len() as u64,
             draining: self.root.as_ref().is_some_and(|root| root.draining),
             harmless: self.config.root.as_ref().map_or(0, |root| root.harmless.into()),
-            limit: self.config.link.backlog,
+            limit: self.config.backlog,
             received: self.state.received,
             strays: table.strays,
             garbage: self.state.garbage,
@@ -451,64 +450,66 @@ impl Agent {
     }
 
     fn serve(&mut self, fired: &HashSet<RawFd>, now: Instant) {
-        let due = |at: Option<Instant>| at.is_some_and(|at| now >= at);
-        if let Some(mut server) = self.metrics.take() {
-            if due(server.deadline())
-                || server.descriptors().iter().any(|(fd, _)| fired.contains(fd))
-            {
-                server.ready(now, || self.status(now));
-            }
-            self.metrics = Some(server);
-        }
-        let Some(mut server) = self.control.take() else { return };
-        let mut requests = Vec::new();
-        if due(server.deadline()) || server.descriptors().iter().any(|(fd, _)| fired.contains(fd)) {
-            requests = server.ready(now);
-        }
-        for (ticket, request) in requests {
-            if let Some(response) = self.request(ticket, request, now) {
-                server.answer(ticket, &response);
+        let asked = self.metrics.as_mut().map(|server| server.ready(fired, now));
+        for (ticket, good) in asked.into_iter().flatten() {
+            let status = good.then(|| self.status(now));
+            if let Some(server) = &mut self.metrics {
+                metrics::answer(server, ticket, status.as_ref());
             }
         }
-        self.control = Some(server);
+        let asked = self.control.as_mut().map(|server| server.ready(fired, now));
+        for (ticket, request) in asked.into_iter().flatten() {
+            let response = match request {
+                Ok(request) => self.request(ticket, request, now),
+                Err(why) => Some(Response::Refused(why)),
+            };
+            if let (Some(server), Some(response)) = (&mut self.control, response) {
+                control::answer(server, ticket, &response);
+            }
+        }
     }
 
     /// Does what an operator asks for. Nothing where the answer comes later.
     fn request(&mut self, ticket: Ticket, request: Request, now: Instant) -> Option<Response> {
-        let done = |done: Result<(), &str>| match done {
-            Ok(()) => Response::Done,
-            Err(why) => Response::Refused(why.into()),
-        };
-        let (key, value) = match (request, &mut self.root) {
+        let done = match (request, &mut self.root) {
             (Request::Status, _) => return Some(Response::Status(Box::new(self.status(now)))),
             (Request::Tree, _) => {
                 return Some(Response::Tree(self.state.below.tree(&self.status(now), now)));
             }
-            (Request::ChildAdd { name }, _) => return Some(done(self.child_add(&name, now))),
-            (Request::ChildRemove { name }, _) => {
-                return Some(done(self.peers.remove(&name, now, &mut self.state)));
+            (Request::ChildAdd { name }, _) => self.child_add(&name, now),
+            (Request::ChildRemove { name }, _) => self.peers.remove(&name, now, &mut self.state),
+            (_, None) => Err("it is not the root"),
+            (Request::Publish { key, value }, Some(root)) => {
+                let done = root.change(&key, Some(&value));
+                return self.later(ticket, key, done);
             }
-            (_, None) => return Some(Response::Refused("it is not the root".into())),
-            (Request::Publish { key, value }, Some(_)) => (key, Some(value)),
-            (Request::Unset { key }, Some(_)) => (key, None),
+            (Request::Unset { key }, Some(root)) => {
+                let done = root.change(&key, None);
+                return self.later(ticket, key, done);
+            }
             (Request::Drain, Some(root)) => {
                 root.draining = true;
-                return Some(Response::Done);
+                Ok(())
             }
             (Request::Resume, Some(root)) => {
                 root.draining = false;
                 root.begin_round(now);
-                return Some(Response::Done);
+                Ok(())
             }
             (Request::Round, Some(root)) => {
                 root.begin_round(now);
-                return Some(Response::Done);
+                Ok(())
             }
         };
-        if let Err(why) = self.root.as_mut()?.change(&key, value.as_deref()) {
-            return Some(Response::Refused(why));
+        Some(done.map_or_else(|why| Response::Refused(why.into()), |()| Response::Done))
+    }
+
+    /// Who asked for a change that was made is answered when it is published.
+    fn later(&mut self, by: Ticket, key: String, made: Result<(), String>) -> Option<Response> {
+        match made {
+            Ok(()) => self.asked.push((by, key)),
+            Err(why) => return Some(Response::Refused(why)),
         }
-        self.asked.push((ticket, key));
         None
     }
 
@@ -546,13 +547,13 @@ impl Agent {
         if let (Some(root), Some(config)) = (&mut self.root, &self.config.root) {
             root.reload(config, now);
         }
-        self.peers.set_up(self.config.setup(), now, &mut self.state);
+        self.peers.set_up(self.config.peers.clone(), now, &mut self.state);
         self.state.changed = true;
         fact!("reload", "done");
     }
 }
 
 fn maker(config: &Config) -> Result<Maker, String> {
-    let timeout = (config.link.ack_timeout * 5).max(Duration::from_secs(5));
+    let timeout = (config.peers.ack_timeout * 5).max(Duration::from_secs(5));
     Maker::new(config.tls.as_ref(), timeout).map_err(|e| format!("tls: {e}"))
 }

@@ -78,6 +78,7 @@ struct Change {
     last: u64,
 }
 
+#[derive(Default)]
 struct State {
     config: Apply,
     /// What waits for its file, and the sequence number of the whole table that it is, if one.
@@ -104,20 +105,7 @@ impl Applier {
     pub fn new(config: &Apply, wake: Wake) -> io::Result<Applier> {
         let folder = config.folder.clone();
         let due = names(&folder.join(PENDING)).into_iter().filter(|name| is_key(name)).collect();
-        let state = State {
-            config: config.clone(),
-            files: BTreeMap::new(),
-            whole: None,
-            writing: None,
-            key: None,
-            hooks: BTreeMap::new(),
-            running: None,
-            due,
-            failing: BTreeSet::new(),
-            failures: 0,
-            done: Vec::new(),
-            closed: false,
-        };
+        let state = State { config: config.clone(), due, ..State::default() };
         let changed = Condvar::new();
         let shared = Arc::new(Shared { folder, state: Mutex::new(state), changed, wake });
         let applier = Applier { shared };

@@ -1,7 +1,8 @@
 //! The other end of the control socket: asks an agent, and makes text of what it says.
 use crate::control::{ChildStatus, Request, Response, Status};
-use crate::tree::{depths, Seen};
+use crate::tree::Seen;
 use serde::Serialize;
+use std::collections::BTreeMap;
 use std::fmt::Write as _;
 use std::io::{self, BufRead, BufReader, Write};
 use std::os::unix::net::UnixStream;
@@ -44,6 +45,20 @@ pub fn lacks(agent: &Seen, sequence: u64) -> Option<&'static str> {
     }
 }
 
+/// How deep each agent of a list is, the first one being at 0.
+pub fn depths(list: &[Seen]) -> Vec<usize> {
+    let mut by_name: BTreeMap<&str, usize> = BTreeMap::new();
+    list.iter()
+        .enumerate()
+        .map(|(at, seen)| {
+            let parent = by_name.get(seen.parent.as_str()).copied();
+            let depth = if at == 0 { 0 } else { parent.map_or(1, |depth| depth + 1) };
+            by_name.insert(&seen.name, depth);
+            depth
+        })
+        .collect()
+}
+
 /// The bounds of an agent at a depth, where each link is over connections: its capacity is 1.
 #[derive(Debug, PartialEq, Serialize)]
 pub struct Bounds {
@@ -63,7 +78,7 @@ pub struct Bounds {
 
 /// The bounds of each agent of a list that begins with the root.
 pub fn bounds(list: &[Seen]) -> Vec<Bounds> {
-    let mut above: std::collections::BTreeMap<&str, u64> = Default::default();
+    let mut above: BTreeMap<&str, u64> = BTreeMap::new();
     let depths = depths(list);
     list.iter()
         .zip(depths)

@@ -2,11 +2,11 @@
 //!
 //! Every fault is reported with its line and its key. Nothing here opens another file, except that
 //! [`Config::read`] reads the one that it is given.
-pub use rignolda::net::{is_name, Children, Parent, Setup, NAME_BYTES};
+pub use rignolda::net::{is_name, Address, Children, Parent, Setup, NAME_BYTES};
 pub use rignolda::settings::is_key;
 use std::collections::BTreeMap;
 use std::fmt;
-use std::net::{IpAddr, SocketAddr};
+use std::net::SocketAddr;
 use std::ops::RangeInclusive;
 use std::path::{Path, PathBuf};
 use std::time::Duration;
@@ -24,27 +24,17 @@ const ADDRESSES: usize = 64;
 /// What an agent is set up with.
 #[derive(Clone, Debug, PartialEq)]
 pub struct Config {
-    pub name: String,
+    pub peers: Setup<Address>,
     pub listen: Vec<Address>,
-    pub children: Children<Address>,
-    pub parents: Vec<Parent<Address>>,
+    /// The room of the list: a child that is more items behind is left behind, and begins anew.
+    pub backlog: u64,
     pub root: Option<Root>,
-    pub link: Link,
     pub tls: Option<Tls>,
     /// Whether plain TCP may leave this machine, where there is no `tls`.
     pub insecure: bool,
     pub apply: Option<Apply>,
     pub control: Option<PathBuf>,
     pub metrics: Option<SocketAddr>,
-}
-
-/// Where an agent listens, or connects to.
-#[derive(Clone, Debug, PartialEq, Eq, Hash, PartialOrd, Ord)]
-pub enum Address {
-    /// `HOST:PORT`, with an address of IPv6 in brackets.
-    Tcp(String),
-    /// `unix:/PATH`.
-    Unix(PathBuf),
 }
 
 /// What the root alone has.
@@ -58,23 +48,13 @@ pub struct Root {
 }
 
 #[derive(Clone, Debug, PartialEq)]
-pub struct Link {
-    /// How long the answer to a frame may take before the connection is left.
-    pub ack_timeout: Duration,
-    /// The room of the list: a child that is more items behind is left behind, and begins anew.
-    pub backlog: u64,
-    /// How long a child may be away, or not answer, before its backlog is dropped.
-    pub evict: Duration,
-}
-
-#[derive(Clone, Debug, PartialEq)]
 pub struct Tls {
     pub certificate: PathBuf,
     pub key: PathBuf,
     pub authority: PathBuf,
 }
 
-#[derive(Clone, Debug, PartialEq)]
+#[derive(Clone, Debug, Default, PartialEq)]
 pub struct Apply {
     pub folder: PathBuf,
     /// The permissions of a setting's file.
@@ -101,53 +81,6 @@ impl fmt::Display for Fault {
             write!(f, "{}: ", self.key)?;
         }
         f.write_str(&self.text)
-    }
-}
-
-impl Address {
-    /// The address that the text says, or what is wrong with it.
-    pub fn parse(text: &str) -> Result<Address, String> {
-        if let Some(path) = text.strip_prefix("unix:") {
-            // (a socket's path has room for 108 bytes, the last one being 0)
-            return match path.starts_with('/') && path.len() <= 107 {
-                true => Ok(Address::Unix(path.into())),
-                false => Err("after `unix:` comes an absolute path of at most 107 bytes".into()),
-            };
-        }
-        let (host, port) = text.rsplit_once(':').ok_or("HOST:PORT or unix:/PATH is expected")?;
-        if port.parse::<u16>().map_or(true, |port| port == 0) {
-            return Err(format!("the port is from 1 to 65535, not `{port}`"));
-        }
-        let good = match host.strip_prefix('[') {
-            Some(inner) => inner
-                .strip_suffix(']')
-                .is_some_and(|inner| inner.parse::<std::net::Ipv6Addr>().is_ok()),
-            None => {
-                let letter = |b: u8| b.is_ascii_alphanumeric() || b == b'.' || b == b'-';
-                (1..=253).contains(&host.len()) && host.bytes().all(letter)
-            }
-        };
-        match good {
-            true => Ok(Address::Tcp(text.into())),
-            false => Err(format!("`{host}` is no host (an address of IPv6 needs brackets)")),
-        }
-    }
-
-    /// Whether what goes there stays on this machine.
-    pub fn is_local(&self) -> bool {
-        let Address::Tcp(text) = self else { return true };
-        let host = text.rsplit_once(':').map_or("", |(host, _)| host);
-        let host = host.trim_start_matches('[').trim_end_matches(']');
-        host == "localhost" || host.parse::<IpAddr>().is_ok_and(|ip| ip.is_loopback())
-    }
-}
-
-impl fmt::Display for Address {
-    fn fmt(&self, f: &mut fmt::Formatter<'_>) -> fmt::Result {
-        match self {
-            Address::Tcp(text) => f.write_str(text),
-            Address::Unix(path) => write!(f, "unix:{}", path.display()),
-        }
     }
 }
 
@@ -192,10 +125,10 @@ impl Config {
         let folder = |c: &Config| c.apply.as_ref().map(|a| a.folder.clone());
         let settings = |c: &Config| c.root.as_ref().map(|r| r.settings.clone());
         [
-            ("name", self.name != new.name),
+            ("name", self.peers.name != new.peers.name),
             ("listen", self.listen != new.listen),
             ("root.settings", settings(self) != settings(new)),
-            ("link.backlog", self.link.backlog != new.link.backlog),
+            ("link.backlog", self.backlog != new.backlog),
             ("apply.folder", folder(self) != folder(new)),
             ("control", self.control != new.control),
             ("metrics", self.metrics != new.metrics),
@@ -208,25 +141,14 @@ impl Config {
     /// Takes a new configuration, but for these keys.
     pub fn take(&mut self, new: Config) {
         let old = std::mem::replace(self, new);
-        self.link.backlog = old.link.backlog;
-        (self.name, self.listen) = (old.name, old.listen);
+        self.peers.name = old.peers.name;
+        (self.listen, self.backlog) = (old.listen, old.backlog);
         (self.control, self.metrics) = (old.control, old.metrics);
         if let (Some(new), Some(old)) = (&mut self.root, old.root) {
             new.settings = old.settings;
         }
         if let (Some(new), Some(old)) = (&mut self.apply, old.apply) {
             new.folder = old.folder;
-        }
-    }
-
-    /// Whom the agent may have connections with.
-    pub fn setup(&self) -> Setup<Address> {
-        Setup {
-            name: self.name.clone(),
-            parents: self.parents.clone(),
-            children: self.children.clone(),
-            ack_timeout: self.link.ack_timeout,
-            evict: self.link.evict,
         }
     }
 }
@@ -396,17 +318,19 @@ impl<'a> Check<'a> {
         let listen = self.texts("listen", ADDRESSES);
         let config = Config {
             listen: listen.iter().filter_map(|text| self.address("listen", text)).collect(),
-            parents: parents.iter().filter_map(|text| self.parent(&name, text)).collect(),
+            peers: Setup {
+                parents: parents.iter().filter_map(|text| self.parent(&name, text)).collect(),
+                ack_timeout: self.time("link.ack_timeout", 2_000, 100..=600_000),
+                evict: self.time("link.evict", 60_000, 200..=86_400_000),
+                name,
+                children,
+            },
+            backlog: self.number("link.backlog", 1_024, 8..=65_536),
             root: self.has("root").then(|| Root {
                 settings: self.needed("root.settings"),
                 round: self.time("root.round", 30_000, 100..=86_400_000),
                 harmless: self.number("root.harmless", 23, 0..=10_000) as u32,
             }),
-            link: Link {
-                ack_timeout: self.time("link.ack_timeout", 2_000, 100..=600_000),
-                backlog: self.number("link.backlog", 1_024, 8..=65_536),
-                evict: self.time("link.evict", 60_000, 200..=86_400_000),
-            },
             tls: self.has("tls").then(|| Tls {
                 certificate: self.needed("tls.certificate"),
                 key: self.needed("tls.key"),
@@ -421,14 +345,13 @@ impl<'a> Check<'a> {
             insecure: self.insecure(),
             control: self.path("control"),
             metrics: self.metrics(),
-            name,
-            children,
         };
-        let (has_children, child_comes) = match &config.children {
+        let peers = &config.peers;
+        let (has_children, child_comes) = match &peers.children {
             Children::Named(names) => (!names.is_empty(), names.values().any(Option::is_none)),
             Children::Any => (true, true),
         };
-        let parent_comes = config.parents.iter().any(|parent| parent.address.is_none());
+        let parent_comes = peers.parents.iter().any(|parent| parent.address.is_none());
         if child_comes && listen.is_empty() {
             self.fault("children", "children connect to an address of `listen`");
         }
@@ -438,8 +361,8 @@ impl<'a> Check<'a> {
         if !has_children && !parent_comes && !listen.is_empty() {
             self.fault("listen", "nobody may connect: there are no `children`");
         }
-        for parent in config.parents.iter().filter_map(|parent| parent.name.as_deref()) {
-            if matches!(&config.children, Children::Named(names) if names.contains_key(parent)) {
+        for parent in peers.parents.iter().filter_map(|parent| parent.name.as_deref()) {
+            if matches!(&peers.children, Children::Named(names) if names.contains_key(parent)) {
                 self.fault("children", format!("`{parent}` is a parent"));
             }
         }
@@ -450,7 +373,7 @@ impl<'a> Check<'a> {
             self.fault("parents", "an agent without [root] has a parent");
         }
         let least = config.root.as_ref().map_or(0, |root| 4 * (u64::from(root.harmless) + 2));
-        if config.link.backlog < least {
+        if config.backlog < least {
             self.fault("link.backlog", format!("at this root it is at least {least}, four rounds"));
         }
         if let Some(apply) = &config.apply {
@@ -460,7 +383,7 @@ impl<'a> Check<'a> {
                 self.fault("apply.folder", "it has to be a folder of the agent's own, as /a/b");
             }
         }
-        if config.link.evict <= config.link.ack_timeout {
+        if peers.evict <= peers.ack_timeout {
             self.fault("link.evict", "it has to be longer than `ack_timeout`");
         }
         config

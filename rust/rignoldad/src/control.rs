@@ -2,13 +2,16 @@
 //!
 //! A request is one line of JSON, and so is its answer; a connection may carry one after the other.
 //! Who may connect is decided by the permissions of the socket's file.
-use crate::serve::{Parsed, Served, Ticket};
+use crate::config::Address;
+use crate::line::Listener;
+use crate::serve::{self, Ticket};
 use crate::tree::Seen;
 use serde::{Deserialize, Serialize};
+use std::fs::Permissions;
 use std::io;
-use std::os::unix::io::RawFd;
+use std::os::unix::fs::PermissionsExt;
 use std::path::Path;
-use std::time::{Duration, Instant};
+use std::time::Duration;
 
 /// The longest request: the hexadecimal digits of the longest value, and its key.
 const REQUEST_BYTES: usize = (2 << 20) + 4_096;
@@ -142,54 +145,25 @@ impl Status {
     }
 }
 
-/// The control socket, driven by the agent's loop.
-pub struct Server(Served);
+/// The control socket. What comes is a request, or says why it is none.
+pub type Server = serve::Server<Result<Request, String>>;
 
-impl Server {
-    /// Listens there. A socket's file that nobody listens at any more is replaced.
-    pub fn new(path: &Path) -> io::Result<Server> {
-        Ok(Server(Served::unix(path, REQUEST_BYTES, IDLE)?))
-    }
-
-    /// What the loop waits for.
-    pub fn descriptors(&self) -> Vec<(RawFd, bool)> {
-        self.0.descriptors()
-    }
-
-    /// When the loop has to come again, at the latest.
-    pub fn deadline(&self) -> Option<Instant> {
-        self.0.deadline()
-    }
-
-    /// Reads and writes what can be read and written now: the requests that came whole. Each ticket
-    /// is to be answered once.
-    pub fn ready(&mut self, now: Instant) -> Vec<(Ticket, Request)> {
-        let (mut good, mut bad) = (Vec::new(), Vec::new());
-        for (ticket, request) in self.0.ready(now, read) {
-            match request {
-                Ok(request) => good.push((ticket, request)),
-                Err(error) => bad.push((ticket, Response::Refused(error))),
-            }
-        }
-        for (ticket, response) in bad {
-            self.answer(ticket, &response);
-        }
-        good
-    }
-
-    /// Answers a request.
-    pub fn answer(&mut self, ticket: Ticket, response: &Response) {
-        let mut line = serde_json::to_vec(response).expect("texts, numbers and lists are JSON");
-        line.push(b'\n');
-        self.0.answer(ticket, &line, false);
-    }
+/// Listens at a socket of this path, for whom its file lets in.
+pub fn server(path: &Path) -> io::Result<Server> {
+    let listener = Listener::new(&Address::Unix(path.into()))?;
+    std::fs::set_permissions(path, Permissions::from_mode(0o660))?;
+    Ok(Server::new(listener, REQUEST_BYTES, IDLE, |bytes| {
+        let end = bytes.iter().position(|b| *b == b'\n')?;
+        let request = serde_json::from_slice(&bytes[..end]).map_err(|e| e.to_string());
+        Some((request, end + 1))
+    }))
 }
 
-/// The first request of these bytes, if its line is whole.
-fn read(bytes: &[u8]) -> Parsed<Result<Request, String>> {
-    let Some(end) = bytes.iter().position(|b| *b == b'\n') else { return Parsed::More };
-    let request = serde_json::from_slice(&bytes[..end]).map_err(|e| e.to_string());
-    Parsed::Whole(request, end + 1)
+/// Answers a request.
+pub fn answer(server: &mut Server, ticket: Ticket, response: &Response) {
+    let mut line = serde_json::to_vec(response).expect("texts, numbers and lists are JSON");
+    line.push(b'\n');
+    server.answer(ticket, &line, false);
 }
 
 /// Bytes as hexadecimal digits.

@@ -10,6 +10,7 @@ use std::io::{self, ErrorKind, Read, Write};
 use std::net::{SocketAddr, TcpListener, TcpStream};
 use std::os::unix::io::{AsRawFd, RawFd};
 use std::os::unix::net::{UnixListener, UnixStream};
+use std::path::{Path, PathBuf};
 use std::time::Duration;
 
 pub enum Line {
@@ -39,12 +40,13 @@ pub struct Maker {
 #[derive(Clone, Debug)]
 pub enum Place {
     Tcp(SocketAddr),
-    Unix(std::path::PathBuf),
+    Unix(PathBuf),
 }
 
+/// Where lines are accepted. A socket's file goes with it.
 pub enum Listener {
     Tcp(TcpListener),
-    Unix(UnixListener),
+    Unix(UnixListener, PathBuf),
 }
 
 impl Maker {
@@ -76,13 +78,9 @@ impl Maker {
 
     /// Takes the next connection of a listener.
     pub fn accept(&self, listener: &Listener) -> io::Result<Line> {
-        match listener {
-            Listener::Tcp(listener) => self.tcp(listener.accept()?.0, true),
-            Listener::Unix(listener) => {
-                let stream = listener.accept()?.0;
-                stream.set_nonblocking(true)?;
-                Ok(Line::Unix(stream))
-            }
+        match listener.accept()? {
+            Line::Tcp(stream) => self.tcp(stream, true),
+            line => Ok(line),
         }
     }
 
@@ -106,7 +104,7 @@ impl Maker {
 }
 
 fn context(tls: &Tls) -> Result<SslContext, String> {
-    let with = |path: &std::path::Path| {
+    let with = |path: &Path| {
         let path = path.display().to_string();
         move |e: openssl::error::ErrorStack| format!("{path}: {e}")
     };
@@ -133,6 +131,7 @@ fn context(tls: &Tls) -> Result<SslContext, String> {
 }
 
 impl Listener {
+    /// Listens there. A socket's file that nobody listens at any more is replaced.
     pub fn new(address: &Address) -> io::Result<Listener> {
         match address {
             Address::Tcp(address) => {
@@ -141,14 +140,44 @@ impl Listener {
                 Ok(Listener::Tcp(listener))
             }
             Address::Unix(path) => {
-                // (a socket that an earlier life left)
-                if UnixStream::connect(path).is_err() {
-                    let _ = std::fs::remove_file(path);
+                if UnixStream::connect(path).is_ok() {
+                    return Err(io::Error::new(
+                        ErrorKind::AddrInUse,
+                        "another process listens there",
+                    ));
+                }
+                match std::fs::remove_file(path) {
+                    Err(error) if error.kind() != ErrorKind::NotFound => return Err(error),
+                    _ => (),
                 }
                 let listener = UnixListener::bind(path)?;
                 listener.set_nonblocking(true)?;
-                Ok(Listener::Unix(listener))
+                Ok(Listener::Unix(listener, path.clone()))
             }
+        }
+    }
+
+    /// Takes the next connection, without TLS.
+    pub fn accept(&self) -> io::Result<Line> {
+        match self {
+            Listener::Tcp(listener) => {
+                let stream = listener.accept()?.0;
+                stream.set_nonblocking(true)?;
+                Ok(Line::Tcp(stream))
+            }
+            Listener::Unix(listener, _) => {
+                let stream = listener.accept()?.0;
+                stream.set_nonblocking(true)?;
+                Ok(Line::Unix(stream))
+            }
+        }
+    }
+}
+
+impl Drop for Listener {
+    fn drop(&mut self) {
+        if let Listener::Unix(_, path) = self {
+            let _ = std::fs::remove_file(path);
         }
     }
 }
@@ -157,7 +186,7 @@ impl AsRawFd for Listener {
     fn as_raw_fd(&self) -> RawFd {
         match self {
             Listener::Tcp(listener) => listener.as_raw_fd(),
-            Listener::Unix(listener) => listener.as_raw_fd(),
+            Listener::Unix(listener, _) => listener.as_raw_fd(),
         }
     }
 }

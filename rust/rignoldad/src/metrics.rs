@@ -1,11 +1,12 @@
 //! What an agent counts, as text for Prometheus, on a local address.
+use crate::config::Address;
 use crate::control::{ChildStatus, Status};
-use crate::serve::{Parsed, Served};
+use crate::line::Listener;
+use crate::serve::{self, Ticket};
 use std::fmt::Write;
 use std::io;
 use std::net::SocketAddr;
-use std::os::unix::io::RawFd;
-use std::time::{Duration, Instant};
+use std::time::Duration;
 
 const REQUEST_BYTES: usize = 8_192;
 
@@ -73,48 +74,29 @@ fn head(text: &mut String, whose: &str, name: &str, kind: &str, help: &str) {
     let _ = writeln!(text, "# TYPE rignolda_{whose}{name} {kind}");
 }
 
-/// The server, driven by the agent's loop.
-pub struct Server(Served);
+/// The server. What comes is whether a request is for the counts.
+pub type Server = serve::Server<bool>;
 
-impl Server {
-    pub fn new(address: SocketAddr) -> io::Result<Server> {
-        Ok(Server(Served::tcp(address, REQUEST_BYTES, Duration::from_secs(5))?))
-    }
-
-    /// What the loop waits for, and whether to wait until it can be written too.
-    pub fn descriptors(&self) -> Vec<(RawFd, bool)> {
-        self.0.descriptors()
-    }
-
-    /// When the loop has to come again, at the latest.
-    pub fn deadline(&self) -> Option<Instant> {
-        self.0.deadline()
-    }
-
-    /// Answers what came, with this agent's counts.
-    pub fn ready(&mut self, now: Instant, status: impl Fn() -> Status) {
-        for (ticket, good) in self.0.ready(now, read) {
-            let (head, body) = match good {
-                true => ("200 OK", text(&status())),
-                false => ("404 Not Found", "The counts are at /metrics.\n".into()),
-            };
-            let answer = format!(
-                "HTTP/1.1 {head}\r\nContent-Type: text/plain; version=0.0.4\r\n\
-                 Content-Length: {}\r\nConnection: close\r\n\r\n{body}",
-                body.len()
-            );
-            self.0.answer(ticket, answer.as_bytes(), true);
-        }
-    }
+/// Listens at an address.
+pub fn server(address: SocketAddr) -> io::Result<Server> {
+    let listener = Listener::new(&Address::Tcp(address.to_string()))?;
+    Ok(Server::new(listener, REQUEST_BYTES, Duration::from_secs(5), |bytes| {
+        let end = bytes.windows(4).position(|four| four == b"\r\n\r\n")?;
+        let good = [&b"GET /metrics "[..], b"GET /metrics?", b"GET / "];
+        Some((good.iter().any(|line| bytes.starts_with(line)), end + 4))
+    }))
 }
 
-/// Whether a whole request, which ends with an empty line, is for the counts.
-fn read(bytes: &[u8]) -> Parsed<bool> {
-    match bytes.windows(4).position(|four| four == b"\r\n\r\n") {
-        None => Parsed::More,
-        Some(end) => {
-            let good = [&b"GET /metrics "[..], b"GET /metrics?", b"GET / "];
-            Parsed::Whole(good.iter().any(|line| bytes.starts_with(line)), end + 4)
-        }
-    }
+/// Answers a request with the counts of an agent, or that they are elsewhere.
+pub fn answer(server: &mut Server, ticket: Ticket, status: Option<&Status>) {
+    let (head, body) = match status {
+        Some(status) => ("200 OK", text(status)),
+        None => ("404 Not Found", "The counts are at /metrics.\n".into()),
+    };
+    let answer = format!(
+        "HTTP/1.1 {head}\r\nContent-Type: text/plain; version=0.0.4\r\n\
+         Content-Length: {}\r\nConnection: close\r\n\r\n{body}",
+        body.len()
+    );
+    server.answer(ticket, answer.as_bytes(), true);
 }

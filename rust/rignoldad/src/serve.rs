@@ -1,11 +1,9 @@
 //! A small server for the agent's loop: it never waits, and its clients, what they send and how
 //! long they may take are bounded.
-use std::io::{self, Read, Write};
-use std::net::{SocketAddr, TcpListener, TcpStream};
-use std::os::unix::fs::PermissionsExt;
+use crate::line::{Line, Listener};
+use std::collections::HashSet;
+use std::io::{ErrorKind, Read, Write};
 use std::os::unix::io::{AsRawFd, RawFd};
-use std::os::unix::net::{UnixListener, UnixStream};
-use std::path::{Path, PathBuf};
 use std::time::{Duration, Instant};
 
 /// How many clients there are at most. One more is refused.
@@ -15,26 +13,12 @@ const CLIENTS: usize = 16;
 #[derive(Clone, Copy, Debug, PartialEq, Eq)]
 pub struct Ticket(u64);
 
-/// What the first bytes of a client's input are.
-pub enum Parsed<T> {
-    /// No whole request yet.
-    More,
-    /// A request, and how many bytes it took.
-    Whole(T, usize),
-}
-
-enum Listener {
-    Unix(UnixListener, PathBuf),
-    Tcp(TcpListener),
-}
-
-trait Stream: Read + Write + AsRawFd + Send {}
-impl Stream for UnixStream {}
-impl Stream for TcpStream {}
+/// Reads the first request of some bytes, and how many it took; nothing where more has to come.
+pub type Parse<T> = fn(&[u8]) -> Option<(T, usize)>;
 
 struct Client {
     number: u64,
-    stream: Box<dyn Stream>,
+    line: Line,
     input: Vec<u8>,
     output: Vec<u8>,
     /// Whether a request of it waits for its answer. Then nothing more is read.
@@ -43,8 +27,9 @@ struct Client {
     until: Instant,
 }
 
-pub struct Served {
+pub struct Server<T> {
     listener: Listener,
+    parse: Parse<T>,
     clients: Vec<Client>,
     made: u64,
     most: usize,
@@ -53,58 +38,33 @@ pub struct Served {
     full: Option<Instant>,
 }
 
-impl Served {
-    /// Listens at a Unix socket. A file that nobody listens at is replaced.
-    pub fn unix(path: &Path, most: usize, idle: Duration) -> io::Result<Served> {
-        if UnixStream::connect(path).is_ok() {
-            return Err(io::Error::new(io::ErrorKind::AddrInUse, "another process listens there"));
-        }
-        match std::fs::remove_file(path) {
-            Err(error) if error.kind() != io::ErrorKind::NotFound => return Err(error),
-            _ => (),
-        }
-        let listener = UnixListener::bind(path)?;
-        listener.set_nonblocking(true)?;
-        std::fs::set_permissions(path, std::fs::Permissions::from_mode(0o660))?;
-        Ok(Served::of(Listener::Unix(listener, path.into()), most, idle))
-    }
-
-    /// Listens at an address.
-    pub fn tcp(address: SocketAddr, most: usize, idle: Duration) -> io::Result<Served> {
-        let listener = TcpListener::bind(address)?;
-        listener.set_nonblocking(true)?;
-        Ok(Served::of(Listener::Tcp(listener), most, idle))
-    }
-
-    fn of(listener: Listener, most: usize, idle: Duration) -> Served {
-        Served { listener, clients: Vec::new(), made: 0, most, idle, full: None }
+impl<T> Server<T> {
+    /// `most`: the most bytes of a request; `idle`: how long a client may be without one.
+    pub fn new(listener: Listener, most: usize, idle: Duration, parse: Parse<T>) -> Server<T> {
+        Server { listener, parse, clients: Vec::new(), made: 0, most, idle, full: None }
     }
 
     /// The descriptors to wait for, and whether to wait until they can be written too.
-    pub fn descriptors(&self) -> Vec<(RawFd, bool)> {
-        let fd = match &self.listener {
-            Listener::Unix(listener, _) => listener.as_raw_fd(),
-            Listener::Tcp(listener) => listener.as_raw_fd(),
-        };
-        let client = |client: &Client| (client.stream.as_raw_fd(), !client.output.is_empty());
-        let listener = self.full.is_none().then_some((fd, false));
-        listener.into_iter().chain(self.clients.iter().map(client)).collect()
+    pub fn descriptors(&self) -> impl Iterator<Item = (RawFd, bool)> + '_ {
+        let client = |client: &Client| (client.line.as_raw_fd(), !client.output.is_empty());
+        let listener = self.full.is_none().then_some((self.listener.as_raw_fd(), false));
+        listener.into_iter().chain(self.clients.iter().map(client))
     }
 
     pub fn deadline(&self) -> Option<Instant> {
         self.clients.iter().map(|client| client.until).chain(self.full).min()
     }
 
-    /// Accepts, reads and writes what there is now: the requests that came whole.
-    pub fn ready<T>(
-        &mut self,
-        now: Instant,
-        read: impl Fn(&[u8]) -> Parsed<T>,
-    ) -> Vec<(Ticket, T)> {
+    /// Accepts, reads and writes what there is now, where one of these descriptors is its own: the
+    /// requests that came whole. Each ticket is to be answered once.
+    pub fn ready(&mut self, fired: &HashSet<RawFd>, now: Instant) -> Vec<(Ticket, T)> {
+        let is_due = self.deadline().is_some_and(|at| now >= at);
+        if !is_due && !self.descriptors().any(|(fd, _)| fired.contains(&fd)) {
+            return Vec::new();
+        }
         self.full = self.full.filter(|until| now < *until);
         self.accept(now);
         let mut requests = Vec::new();
-        let (most, idle) = (self.most, self.idle);
         self.clients.retain_mut(|client| {
             if now >= client.until || !client.write() || (client.last && client.output.is_empty()) {
                 return false;
@@ -112,17 +72,15 @@ impl Served {
             if client.asked || !client.output.is_empty() {
                 return true;
             }
-            let goes_on = client.read(most);
-            match read(&client.input) {
-                Parsed::Whole(request, taken) => {
-                    client.input.drain(..taken);
-                    client.asked = true;
-                    client.until = now + idle;
-                    requests.push((Ticket(client.number), request));
-                    true
-                }
-                Parsed::More => goes_on && client.input.len() < most,
-            }
+            let goes_on = client.read(self.most);
+            let Some((request, taken)) = (self.parse)(&client.input) else {
+                return goes_on && client.input.len() < self.most;
+            };
+            client.input.drain(..taken);
+            client.asked = true;
+            client.until = now + self.idle;
+            requests.push((Ticket(client.number), request));
+            true
         });
         requests
     }
@@ -143,44 +101,21 @@ impl Served {
     fn accept(&mut self, now: Instant) {
         // (a client that is one too many is closed, and so many at most in one turn)
         for _ in 0..CLIENTS {
-            let accepted: io::Result<Box<dyn Stream>> = match &self.listener {
-                Listener::Unix(listener, _) => listener.accept().and_then(|(stream, _)| {
-                    stream.set_nonblocking(true)?;
-                    Ok(Box::new(stream) as _)
-                }),
-                Listener::Tcp(listener) => listener.accept().and_then(|(stream, _)| {
-                    stream.set_nonblocking(true)?;
-                    Ok(Box::new(stream) as _)
-                }),
-            };
-            let stream = match accepted {
-                Ok(stream) => stream,
-                Err(error) if error.kind() == io::ErrorKind::WouldBlock => return,
+            match self.listener.accept() {
+                Ok(line) if self.clients.len() < CLIENTS => {
+                    self.made += 1;
+                    let (input, output) = (Vec::new(), Vec::new());
+                    let (number, until) = (self.made, now + self.idle);
+                    let (asked, last) = (false, false);
+                    self.clients.push(Client { number, line, input, output, asked, last, until });
+                }
+                Ok(_) => (),
+                Err(error) if error.kind() == ErrorKind::WouldBlock => return,
                 Err(_) => {
                     self.full = Some(now + Duration::from_millis(100));
                     return;
                 }
-            };
-            if self.clients.len() < CLIENTS {
-                self.made += 1;
-                self.clients.push(Client {
-                    number: self.made,
-                    stream,
-                    input: Vec::new(),
-                    output: Vec::new(),
-                    asked: false,
-                    last: false,
-                    until: now + self.idle,
-                });
             }
-        }
-    }
-}
-
-impl Drop for Served {
-    fn drop(&mut self) {
-        if let Listener::Unix(_, path) = &self.listener {
-            let _ = std::fs::remove_file(path);
         }
     }
 }
@@ -188,36 +123,24 @@ impl Drop for Served {
 impl Client {
     /// Reads what there is, up to the bound. Whether the connection goes on.
     fn read(&mut self, most: usize) -> bool {
-        let mut piece = [0; 16_384];
-        while self.input.len() < most {
-            let room = piece.len().min(most - self.input.len());
-            match self.stream.read(&mut piece[..room]) {
-                Ok(0) => return false,
-                Ok(count) => self.input.extend_from_slice(&piece[..count]),
-                Err(error) if error.kind() == io::ErrorKind::WouldBlock => return true,
-                Err(error) if error.kind() == io::ErrorKind::Interrupted => (),
-                Err(_) => return false,
-            }
+        let room = most.saturating_sub(self.input.len()) as u64;
+        match (&mut self.line).take(room).read_to_end(&mut self.input) {
+            Ok(_) => self.input.len() >= most,
+            Err(error) => error.kind() == ErrorKind::WouldBlock,
         }
-        true
     }
 
     /// Writes what it can. Whether the connection goes on.
     fn write(&mut self) -> bool {
-        let mut done = 0;
-        let goes_on = loop {
-            if done == self.output.len() {
-                break true;
+        while !self.output.is_empty() {
+            match self.line.write(&self.output) {
+                Ok(0) => return false,
+                Ok(count) => drop(self.output.drain(..count)),
+                Err(error) if error.kind() == ErrorKind::WouldBlock => return true,
+                Err(error) if error.kind() == ErrorKind::Interrupted => (),
+                Err(_) => return false,
             }
-            match self.stream.write(&self.output[done..]) {
-                Ok(0) => break false,
-                Ok(count) => done += count,
-                Err(error) if error.kind() == io::ErrorKind::WouldBlock => break true,
-                Err(error) if error.kind() == io::ErrorKind::Interrupted => (),
-                Err(_) => break false,
-            }
-        };
-        self.output.drain(..done);
-        goes_on
+        }
+        true
     }
 }

@@ -115,17 +115,3 @@ impl Below {
         }
     }
 }
-
-/// How deep each agent of a list is, the first one being at 0.
-pub fn depths(list: &[Seen]) -> Vec<usize> {
-    let mut by_name: BTreeMap<&str, usize> = BTreeMap::new();
-    list.iter()
-        .enumerate()
-        .map(|(at, seen)| {
-            let parent = by_name.get(seen.parent.as_str()).copied();
-            let depth = if at == 0 { 0 } else { parent.map_or(1, |depth| depth + 1) };
-            by_name.insert(&seen.name, depth);
-            depth
-        })
-        .collect()
-}

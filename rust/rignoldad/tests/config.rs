@@ -30,16 +30,16 @@ hook_timeout = "1m"
 #[test]
 fn reads_every_key() {
     let config = Config::parse(WHOLE).unwrap();
-    assert_eq!(config.name, "rack3");
+    assert_eq!(config.peers.name, "rack3");
     assert_eq!(config.listen[1], Address::Tcp("[fd00::3]:7464".into()));
     assert_eq!(config.listen[2], Address::Unix("/run/rignolda/link".into()));
     let children = [("host31".into(), None), ("host32".into(), None)];
-    assert_eq!(config.children, Children::Named(children.into()));
-    assert_eq!(config.parents[1].name.as_deref(), Some("hub2"));
-    assert_eq!(config.parents[1].address, Some(Address::Tcp("10.1.0.2:7464".into())));
-    assert_eq!(config.link.ack_timeout, Duration::from_millis(500));
-    assert_eq!(config.link.backlog, 200);
-    assert_eq!(config.link.evict, Duration::from_secs(600));
+    assert_eq!(config.peers.children, Children::Named(children.into()));
+    assert_eq!(config.peers.parents[1].name.as_deref(), Some("hub2"));
+    assert_eq!(config.peers.parents[1].address, Some(Address::Tcp("10.1.0.2:7464".into())));
+    assert_eq!(config.peers.ack_timeout, Duration::from_millis(500));
+    assert_eq!(config.backlog, 200);
+    assert_eq!(config.peers.evict, Duration::from_secs(600));
     assert_eq!(config.tls.unwrap().authority.to_str(), Some("/etc/rignolda/authority.crt"));
     let apply = config.apply.unwrap();
     assert_eq!((apply.mode, apply.hook_timeout), (0o600, Duration::from_secs(60)));
@@ -50,7 +50,7 @@ fn reads_every_key() {
 #[test]
 fn either_end_may_connect() {
     let child = "name = \"c\"\nlisten = \"[::1]:1\"\nparents = [\"hub\", \"b@[::1]:2\"]";
-    let parents = Config::parse(child).unwrap().parents;
+    let parents = Config::parse(child).unwrap().peers.parents;
     let all: Vec<_> = parents.iter().map(|it| (it.to_string(), it.address.is_some())).collect();
     assert_eq!(all, [("hub".into(), false), ("b".into(), true)]);
     // (nobody connects to this root, so it listens nowhere)
@@ -60,7 +60,7 @@ fn either_end_may_connect() {
         ("c".into(), Some(Address::Tcp("[::1]:1".into()))),
         ("d".into(), Some(Address::Unix("/d".into()))),
     ];
-    assert_eq!(Config::parse(root).unwrap().children, Children::Named(children.into()));
+    assert_eq!(Config::parse(root).unwrap().peers.children, Children::Named(children.into()));
 }
 
 #[test]

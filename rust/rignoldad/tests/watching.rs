@@ -1,7 +1,7 @@
 //! What is known of the agents below, and what is made of it.
-use rignoldad::ask::{bounds, harmless_needed, lacks, too_few_harmless, tree_text, Bounds};
+use rignoldad::ask::{bounds, depths, harmless_needed, lacks, too_few_harmless, tree_text, Bounds};
 use rignoldad::control::{ChildStatus, Request, Response, Status};
-use rignoldad::tree::{depths, Below, Seen, REPORT_BYTES};
+use rignoldad::tree::{Below, Seen, REPORT_BYTES};
 use std::time::{Duration, Instant};
 
 fn status(name: &str, children: &[&str]) -> Status {

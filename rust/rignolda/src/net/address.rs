@@ -1,0 +1,82 @@
+//! Where an agent listens, or connects to.
+use std::fmt;
+use std::net::{IpAddr, Ipv6Addr};
+use std::path::PathBuf;
+
+/// Where an agent listens, or connects to.
+///
+/// ```
+/// use rignolda::net::Address;
+///
+/// let address = Address::parse("hub.example:7464")?;
+/// assert_eq!(address, Address::Tcp("hub.example:7464".into()));
+/// assert!(!address.is_local() && Address::parse("[::1]:7464")?.is_local());
+/// assert!(Address::parse("unix:/run/link")?.is_local());
+/// assert!(Address::parse("::1:7464").is_err());
+/// # Ok::<(), String>(())
+/// ```
+#[derive(Clone, Debug, PartialEq, Eq, Hash, PartialOrd, Ord)]
+pub enum Address {
+    /// `HOST:PORT`, with an address of IPv6 in brackets.
+    Tcp(String),
+    /// `unix:/PATH`.
+    Unix(PathBuf),
+}
+
+impl Address {
+    /// The address that the text says.
+    ///
+    /// # Errors
+    ///
+    /// What is wrong with it.
+    pub fn parse(text: &str) -> Result<Address, String> {
+        if let Some(path) = text.strip_prefix("unix:") {
+            // (a socket's path has room for 108 bytes, the last one being 0)
+            return match path.starts_with('/') && path.len() <= 107 {
+                true => Ok(Address::Unix(path.into())),
+                false => Err("after `unix:` comes an absolute path of at most 107 bytes".into()),
+            };
+        }
+        let (host, port) = text
+            .rsplit_once(':')
+            .ok_or("HOST:PORT or unix:/PATH is expected")?;
+        if port.parse::<u16>().map_or(true, |port| port == 0) {
+            return Err(format!("the port is from 1 to 65535, not `{port}`"));
+        }
+        let good = match host.strip_prefix('[') {
+            Some(inner) => inner
+                .strip_suffix(']')
+                .map_or(false, |inner| inner.parse::<Ipv6Addr>().is_ok()),
+            None => {
+                let letter = |b: u8| b.is_ascii_alphanumeric() || b == b'.' || b == b'-';
+                (1..=253).contains(&host.len()) && host.bytes().all(letter)
+            }
+        };
+        match good {
+            true => Ok(Address::Tcp(text.into())),
+            false => Err(format!(
+                "`{host}` is no host (an address of IPv6 needs brackets)"
+            )),
+        }
+    }
+
+    /// Whether what goes there stays on this machine.
+    pub fn is_local(&self) -> bool {
+        let text = match self {
+            Address::Tcp(text) => text,
+            Address::Unix(_) => return true,
+        };
+        let host = text.rsplit_once(':').map_or("", |(host, _)| host);
+        let host = host.trim_start_matches('[').trim_end_matches(']');
+        host == "localhost" || host.parse::<IpAddr>().map_or(false, |ip| ip.is_loopback())
+    }
+}
+
+impl fmt::Display for Address {
+    fn fmt(&self, f: &mut fmt::Formatter<'_>) -> fmt::Result {
+        match self {
+            Address::Tcp(text) => f.write_str(text),
+            Address::Unix(path) => write!(f, "unix:{}", path.display()),
+        }
+    }
+}
