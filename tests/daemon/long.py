@@ -80,8 +80,8 @@ def stopped(process):
 
 
 class Trial:
-    def __init__(self, tree, draw):
-        self.tree, self.draw = tree, draw
+    def __init__(self, tree, draw, relays=()):
+        self.tree, self.draw, self.relays = tree, draw, relays
         self.lock = threading.Lock()
         self.done = threading.Event()
         self.cuts = []          # (lines of each log, agents that were killed then)
@@ -124,7 +124,15 @@ class Trial:
                 if not all(child["connected"] for child in status["children"]):
                     return False
             return True
-        return until(all_up, 30, 0.05)
+        # (all are connected at once after a while, also where links break all the time)
+        if until(all_up, 0.5, 0.05):
+            return True
+        for relay in self.relays:
+            relay.calm = True
+        found = until(all_up, 30, 0.05)
+        for relay in self.relays:
+            relay.calm = False
+        return found
 
     def judge(self):
         logs = {agent.name: agent.text() for agent in self.tree}
@@ -258,15 +266,16 @@ def run(chosen, seed):
 
     try:
         with Tree(fan(chosen.nodes), before=before) as tree:
-            return try_tree(tree, chosen, draw)
+            relays = [it for it in opened if isinstance(it, Relay)]
+            return try_tree(tree, chosen, Trial(tree, draw, relays))
     finally:
         for it in opened:
             it.close()
 
 
-def try_tree(tree, chosen, draw):
+def try_tree(tree, chosen, trial):
     """The trial itself, with a tree that is not started yet."""
-    trial = Trial(tree, draw)
+    draw = trial.draw
     tree.start()
     if not trial.connected():
         print("the tree is not ready")

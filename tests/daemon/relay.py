@@ -8,7 +8,8 @@ import time
 
 class Relay:
     """Passes bytes on. With `cuts` it closes each connection after a drawn while, and what is under
-    way is lost, often in the middle of a message; with `delay` bytes come so many seconds late."""
+    way is lost, often in the middle of a message, but not while it is `calm`; with `delay` bytes
+    come so many seconds late."""
 
     def __init__(self, port, cuts=None, delay=0.0, seed=1):
         self.to, self.cuts, self.delay = port, cuts, delay
@@ -16,6 +17,7 @@ class Relay:
         self.listener = socket.create_server(("127.0.0.1", 0))
         self.port = self.listener.getsockname()[1]
         self.open = True
+        self.calm = False
         self.connections = 0
         self.pairs = []
         threading.Thread(target=self.accept, daemon=True).start()
@@ -41,20 +43,20 @@ class Relay:
         try:
             while self.open:
                 now = time.monotonic()
-                if end and now >= end:
+                if end and now >= end and not self.calm:
                     break
                 while waiting and waiting[0][0] <= now:
                     _, to, piece = waiting.pop(0)
                     # (of the last piece only a part gets through, if the connection ends now)
                     to.sendall(piece)
-                times = [at - now for at in ([end] if end else []) + [w[0] for w in waiting[:1]]]
+                times = [at - now for at in ([end] if end and not self.calm else []) + [w[0] for w in waiting[:1]]]
                 ready = select.select([near, far], [], [], max(0.0, min(times + [0.2])))[0]
                 for sock in ready:
                     piece = sock.recv(1 << 16)
                     if not piece:
                         return
                     other = far if sock is near else near
-                    if self.cuts and self.draw.random() < 0.05:
+                    if self.cuts and not self.calm and self.draw.random() < 0.05:
                         other.sendall(piece[:self.draw.randrange(len(piece))])
                         return
                     waiting.append((time.monotonic() + self.delay, other, piece))
