@@ -288,7 +288,7 @@ chmod +x "$house/page/build.sh"
 touch "$house"/{include/rignolda.h,man/stab.1,docs/schema/job.json} \
     "$house"/{agents/{agent.c,out/agent},rust/rignolda/{src/lib.rs,target/built}}
 echo 'a module' >"$house/page/index.html"
-printf '## 1.2.0, 2026-11-24: of three\n' >"$house/CHANGELOG.md"
+printf '## 1.2.0, 2026-11-24, later: of three\n' >"$house/CHANGELOG.md"
 printf '[package]\nname = "it"\nversion = "1.2.0"\n\n' >"$house/rust/rignolda/Cargo.toml"
 run --check
 holds 'a release that lacks what crates.txt lists fails' checked '4 passed, 9 failed' "$whole
@@ -380,7 +380,7 @@ holds 'and released' checked '13 passed, 0 failed' ''
 sed -i 's/1.2.0/1.1.9/' "$house/rust/rignolda/Cargo.toml"
 run --archive
 holds 'a crate for Rust of another version is not packed' refused \
-    'CHANGELOG.md has the version 1.2.0, and the crate for Rust 1.1.9'
+    'CHANGELOG.md has the version 1.2.0, and the crate rignolda for Rust 1.1.9'
 sed -i 's/1.1.9/1.2.0/' "$house/rust/rignolda/Cargo.toml"
 run --archive
 holds 'the archive has all of it' [ "$(tar -tf \
@@ -396,6 +396,127 @@ rust/rignolda/Cargo.toml
 rust/rignolda/lib/x86_64-linux.a
 rust/rignolda/src/lib.rs
 stab' ]
+
+
+# The daemon, whose programs another compiler makes.
+cat >"$work/bin/cargo" <<'END'
+#!/usr/bin/env bash
+mkdir -p target/release
+for program in rignoldad rignoldactl; do
+    cat "rignoldad/src/$program.rs" rignolda/lib/* >"target/release/$program"
+done
+END
+cat >"$work/bin/rustc" <<'END'
+#!/bin/sh
+echo "rustc ${RUSTC:-1.0}"
+END
+cat >"$work/bin/dpkg-deb" <<'END'
+#!/bin/sh
+END
+chmod +x "$work/bin"/{cargo,rustc,dpkg-deb}
+mkdir -p "$house"/rust/rignoldad/{src,packaging}
+touch "$house"/rust/{Cargo.toml,Cargo.lock,rignolda/build.rs}
+echo 'a daemon' >"$house/rust/rignoldad/src/rignoldad.rs"
+echo 'a control' >"$house/rust/rignoldad/src/rignoldactl.rs"
+printf '[package]\nname = "it"\nversion = "1.2.0"\n\n' >"$house/rust/rignoldad/Cargo.toml"
+cat >"$house/rust/rignoldad/packaging/make_deb" <<'END'
+#!/bin/sh
+cat "$1/rignoldad" "$1/rignoldactl" "$1/stab" >"$4"
+echo "$2 $3 $SOURCE_DATE_EPOCH" >>"$4"
+END
+chmod +x "$house/rust/rignoldad/packaging/make_deb"
+cp -- "$top/tools/build_daemon" "$house/tools/"
+: >"$house/tools/debian_crates"
+rm -r "$house/out"
+
+# Runs tools/build_daemon, and notes its status and what it writes.
+daemon() {
+    PATH=$work/bin:$PATH "$house/tools/build_daemon" "$@" >"$work/out" 2>"$work/err"
+    status=$?
+}
+
+# Whether it ended with this status, and said this.
+said() {
+    [ "$status" -eq "$1" ] && grep -qF -- "$2" "$work/out"
+}
+
+daemon_sources='rignoldad: the manifest names these sources
+rignoldactl: the manifest names these sources'
+run --check
+holds 'a release without the programs of the daemon fails' checked '11 passed, 6 failed' "$whole
+$manifest
+rignoldad: the manifest names these sources
+rignoldad: the manifest names the file beside it
+rignoldactl: the manifest names these sources
+rignoldactl: the manifest names the file beside it"
+run --archive
+holds 'and is not packed' refused \
+    'the release of rignoldad was made from other sources: run tools/build_daemon --keep'
+daemon --check
+holds 'they are said to be missing' said 1 'run tools/build_daemon --keep'
+head -n 4 "$house/release/MANIFEST" >"$work/lines"
+daemon --keep
+holds 'they are kept' [ "$status" -eq 0 ]
+daemon --keep
+{
+    cat "$work/lines"
+    echo 'rustc 1.0'
+    for program in rignoldad rignoldactl; do
+        printf '%s sha256 %s sources %s\n' "$program" \
+            "$(digest "$house/rust/target/release/$program")" \
+            "$("$house/tools/build_daemon" --sources)"
+    done
+} >"$work/expected"
+holds 'with lines of their own, each once' cmp -s "$work/expected" "$house/release/MANIFEST"
+run --check
+holds 'then nothing is wrong' checked '17 passed, 0 failed' ''
+rm -r "$work/release"
+cp -r "$house/release" "$work/release"
+run
+holds 'another release leaves them as they are' diff -r "$work/release" "$house/release"
+daemon --check
+holds 'they are what is built of the sources' [ "$status" -eq 0 ]
+RUSTC=2.0 daemon --check
+holds 'another compiler is named, and nothing is compared' said 0 \
+    'of another compiler than rustc 2.0: not compared'
+sed -i 's/^\(rignoldad sha256 \).\{64\}/\1'"$(printf '0%.0s' {1..64})/" "$house/release/MANIFEST"
+daemon --check
+holds 'another program is found' said 1 'other programs than these sources give'
+run --check
+holds 'here too' checked '16 passed, 1 failed' 'rignoldad: the manifest names the file beside it'
+mkdir "$work/unpacked"
+daemon --unpack "$work/unpacked"
+holds 'and it is not unpacked' said 1 'is not what its MANIFEST says'
+cp "$work/release/MANIFEST" "$house/release/"
+daemon --unpack "$work/unpacked"
+holds 'the right ones are' diff "$house/rust/target/release" "$work/unpacked"
+echo more >>"$house/rust/rignoldad/src/rignoldad.rs"
+daemon --check
+holds 'other sources are found' said 1 'programs of other sources'
+run --check
+holds 'for both' checked '15 passed, 2 failed' "$daemon_sources"
+echo 'a daemon' >"$house/rust/rignoldad/src/rignoldad.rs"
+sed -i 's/1.2.0/1.1.9/' "$house/rust/rignoldad/Cargo.toml"
+daemon --keep
+run --archive
+holds 'a daemon of another version is not packed' refused \
+    'CHANGELOG.md has the version 1.2.0, and the crate rignoldad for Rust 1.1.9'
+sed -i 's/1.1.9/1.2.0/' "$house/rust/rignoldad/Cargo.toml"
+daemon --keep
+run --archive
+holds 'the archive has the programs, and what installs them' [ "$(tar -tf \
+    "$house/out/rignolda-1.2.0-x86_64-linux.tar.xz" | sed 's,^[^/]*/,,' |
+    grep 'rignolda[dc]' | grep -v '/$')" = 'rignoldactl
+rignoldad
+rust/rignoldad/Cargo.toml
+rust/rignoldad/packaging/make_deb' ]
+# (the first second of 24 November 2026)
+holds 'a package is made of the same programs, of the day of the version' cmp -s \
+    <(cat "$house"/rust/target/release/rignolda{d,ctl} "$house/crates/stab_cli/src/main.rt" &&
+        echo '1.2.0 amd64 1795478400') "$house/out/rignoldad_1.2.0_amd64.deb"
+holds 'both have their digests beside them' \
+    all [ "$(wc -l <"$house/out/SHA256SUMS")" -eq 2 ] and \
+    bash -c 'cd "$0" && sha256sum -c --quiet SHA256SUMS' "$house/out"
 
 printf '%s passed, %s failed\n' "$passed" "$failed"
 [ "$failed" -eq 0 ]
