@@ -1,0 +1,2 @@
+mod AnyGarbage
+mod Runs
