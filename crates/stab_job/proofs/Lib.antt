@@ -5,4 +5,6 @@ pub mod Needed
 pub mod OptionalMembers
 pub mod OwnParams
 pub mod Refused
+pub mod Rescheduled
+pub mod Scheduled
 pub mod Schedules

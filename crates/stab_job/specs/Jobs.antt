@@ -5,12 +5,12 @@
 -- and `["r", "jump"]`: the second entry is no act, so `Event`; that no node is called x is not
 -- looked at.
 -- Source: this project's profile. Each line of the lists below is a check beside its fault: `job`
--- has the first three, `job_of_members` the next two, `job_on_tree` those that follow once there is
--- a tree, `job_of_scripts` the one after the scripts, `schedule` the two after that, `link_params`
--- the next two, and `openings_of` those of the openings.
+-- has the first, `job_of_data` the two after it, `job_of_members` the next two, `job_on_tree` those
+-- that follow once there is a tree, `job_of_scripts` the one after the scripts, `schedule` the two
+-- after that, `link_params` the next two, and `openings_of` those of the openings.
 use Rattle.std.specs.Prelude.{ℕ, codes, ◌≡◌, List, length, ◌||◌, Bool, false, nat_lt, option_map}
 use Rattle.std.specs.Prelude.{Result, Ok}
-use Rattle.serde_json.specs.Data.{Items}
+use Rattle.serde_json.specs.Data.{Data, Items}
 use Rattle.serde_json.specs.Find.{get}
 use Rattle.stab_frames.specs.Parameters.{Parameters, fault_of}
 use Rattle.stab_json.specs.Checks.{◌>>=◌, ◌>>◌, ◌or◌, ◌when◌, ◌refused_as◌}
@@ -79,13 +79,18 @@ job_of_members m = do
   t ← tree_of m.tree refused_as fault.Tree
   job_on_tree t m
 
+-- the job of this value
+abbrev pub job_of_data : Data → Result JobValue JobFault
+job_of_data value = do
+  version ← version_of (get (codes "version") value) or fault.Version
+  m ← members version value or fault.Shape
+  job_of_members m
+
 -- the job of these bytes
 abbrev pub job : List ℕ → Result JobValue JobFault
 job bytes = do
   value ← value_of bytes or fault.Json
-  version ← version_of (get (codes "version") value) or fault.Version
-  m ← members version value or fault.Shape
-  job_of_members m
+  job_of_data value
 
 -- the numbers of entries of these members are right over that many links
 pub record AreCounted (links : ℕ) (m : Members) : Type 0 where

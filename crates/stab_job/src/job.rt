@@ -113,6 +113,23 @@ impl Job {
         }
     }
 
+    /// The same job with another schedule.
+    pub fn with_schedule(mut self, schedule: Sequence<TreeEvent>) -> Job
+        ensures { result ≡ record {
+          params = self.params;
+          tree = self.tree;
+          items = self.items;
+          starts = self.starts;
+          scripts = self.scripts;
+          turns = self.turns;
+          schedule = schedule;
+          openings = self.openings;
+        } }
+    {
+        self.schedule = schedule;
+        self
+    }
+
     /// The parameters of the links: one entry for each link, in the file order of their children.
     pub fn params(&self) -> &[Params]
         ensures params { result.now ≡ self.now.params }

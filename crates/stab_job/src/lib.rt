@@ -19,4 +19,4 @@ mod version;
 
 pub use fault::JobFault;
 pub use job::Job;
-pub use read::read_job;
+pub use read::{job_of_value, read_job};

@@ -6,7 +6,8 @@ ghost use Rattle.stab_json.specs.Values.{value_of};
 ghost use Rattle.stab_job.specs.JobLinks.{are_miscounted};
 ghost use Rattle.stab_job.specs.JobValues.{IsJob, links};
 ghost use Rattle.stab_job.specs.Jobs.{AreCounted, are_out_of_range};
-ghost use Rattle.stab_job.specs.Jobs.{job, job_of_members, job_on_tree, job_of_scripts};
+ghost use Rattle.stab_job.specs.Jobs.{job, job_of_data, job_of_members};
+ghost use Rattle.stab_job.specs.Jobs.{job_on_tree, job_of_scripts};
 ghost use Rattle.stab_job.specs.LinkParams.{link_params};
 ghost use Rattle.stab_job.specs.BorrowedMembers.{borrowed_members};
 ghost use Rattle.stab_job.specs.ReadParts.{job_read};
@@ -68,13 +69,12 @@ pub fn read_job(alloc: Global, bytes: &[u8]) -> Result<Job, JobFault>
     job_of_value(alloc, &value)
 }
 
-/// The job that this value means, or the first check that it fails.
-fn job_of_value(alloc: Global, value: &Value) -> Result<Job, JobFault>
+/// The job that this value means, or the first check that it fails; memory may be refused before a
+/// later check.
+pub fn job_of_value(alloc: Global, value: &Value) -> Result<Job, JobFault>
     ensures job { MatchResult result
-        (λ its_job. (bytes : List ℕ) → value_of bytes ≡ Some (view value.now)
-        → job bytes ≡ Ok its_job)
-        (λ fault. fault ≢ JobFault.Memory → (bytes : List ℕ)
-        → value_of bytes ≡ Some (view value.now) → job bytes ≡ Err fault) }
+        (λ its_job. job_of_data (view value.now) ≡ Ok its_job)
+        (λ fault. fault ≢ JobFault.Memory → job_of_data (view value.now) ≡ Err fault) }
     ensures reported { IfErr result (λ fault. is_of_value fault ≡ true) }
 {
     let Some(version) = version_of(value) else {

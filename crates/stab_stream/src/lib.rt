@@ -16,3 +16,4 @@ mod number;
 mod start;
 
 pub use job::read_link_job;
+pub use number::whole_of;

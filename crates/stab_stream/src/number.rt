@@ -12,7 +12,7 @@ const MOST_BEFORE_A_DIGIT: u64 = 1_844_674_407_370_955_160;
 /// The whole number that the text of a JSON number is, where it is digits alone and one of 64 bits,
 /// but for the six largest of these.
 #[tactic(auto, using(crate::proofs::Numbers::digit_is))]
-fn whole_of(text: &str) -> Option<u64>
+pub fn whole_of(text: &str) -> Option<u64>
     ensures { IfSome result (λ n. number_of text.now ≡ Some (unsigned n)) }
 {
     let bytes = text.as_bytes();

@@ -1,0 +1,49 @@
+-- A member that was read is put among the others, or is the schedule.
+use Rattle.std.proofs.Common.{◌≡◌, ◌≢◌, ℕ, List, Bool, true, false, Option, Some, None, refl, sym, ap, ◌∙◌}
+use Rattle.std.proofs.lemmas.Slice.Eq.{bytes_eq-Decides}
+use Rattle.std.specs.Str.{bytes_eq}
+use Rattle.serde_json.specs.Data.{Data, Members, put, no_members}
+use Rattle.serde_json.specs.Find.{get_member}
+use Rattle.serde_json.proofs.Views.{get_member-put, get_member-put_other}
+use Rattle.stab_json.specs.Values.{◌>>=◌, list_of}
+use Rattle.stab_job.specs.ScheduleEntries.{NamedAct, named_act}
+use Rattle.stab_stream.specs.Members.{Holds}
+use Rattle.stab_job_stream.specs.Parts.{the_schedule, HasParts}
+
+-- a member put into two objects, by whether the name is that member's
+put_both : (b : Bool) (name k : List ℕ) (d : Data) (ms us : Members) → bytes_eq name k ≡ b → get_member name ms ≡ get_member name us → get_member name (put k d ms) ≡ get_member name (put k d us)
+put_both true name k d ms us is same =
+    let named = (bytes_eq-Decides name k).0 is in rw named (get_member-put k d ms ∙ sym (get_member-put k d us))
+put_both false name k d ms us is same =
+    let other : name ≢ k = λ named. absurd (let found = (bytes_eq-Decides name k).1 named in cc) in
+    get_member-put_other name k d ms other ∙ same ∙ sym (get_member-put_other name k d us other)
+
+-- what is held of a member stays, where another one is put
+holds_on : {X : Type 0} (meaning : Data → Option X) (name k : List ℕ) (d : Data) (ms : Members) (read : Option X) → name ≢ k → Holds meaning name ms read → Holds meaning name (put k d ms) read
+holds_on meaning name k d ms None other h = h
+holds_on meaning name k d ms (Some x) other h = ap (λ o. o >>= meaning) (get_member-put_other name k d ms other) ∙ h
+
+-- nothing was read so far
+pub no_parts : HasParts no_members None no_members
+no_parts = (λ name other. refl, refl, tt)
+
+-- another member than the schedule
+pub one_more_other : (others ms : Members) (steps : Option (List NamedAct)) (k : List ℕ) (d : Data) → k ≢ the_schedule → HasParts others steps ms → HasParts (put k d others) steps (put k d ms)
+one_more_other others ms steps k d other has =
+    let apart : the_schedule ≢ k = λ e. other (sym e) in (
+      λ name is_other. put_any name is_other,
+      get_member-put_other the_schedule k d others apart ∙ has.1,
+      holds_on (list_of named_act) the_schedule k d ms steps apart has.2,
+    )
+  where
+    put_any : (name : List ℕ) → name ≢ the_schedule → get_member name (put k d others) ≡ get_member name (put k d ms)
+    put_any name is_other = put_both (bytes_eq name k) name k d others ms refl (has.0 name is_other)
+
+-- the schedule
+pub the_steps : (others ms : Members) (steps : Option (List NamedAct)) (d : Data) (acts : List NamedAct) → list_of named_act d ≡ Some acts → HasParts others steps ms
+    → HasParts others (Some acts) (put the_schedule d ms)
+the_steps others ms steps d acts is has = (
+  λ name other. has.0 name other ∙ sym (get_member-put_other name the_schedule d ms other),
+  has.1,
+  ap (λ o. o >>= list_of named_act) (get_member-put the_schedule d ms) ∙ is,
+)

@@ -1,0 +1,19 @@
+use Rattle.std.proofs.Common.{◌≡◌, [], Ok, sym, ap, ◌∙◌, subst}
+use Rattle.json.specs.Lex.{tokens}
+use Rattle.serde_json.specs.Data.{object}
+use Rattle.stab_json.specs.Checks.{◌>>=◌, ◌or◌}
+use Rattle.stab_job.specs.Jobs.{job_of_data}
+use Rattle.stab_job.specs.declared.fault.JobFault.TheVariants as fault
+use Rattle.stab_stream.specs.Members.{in_job}
+use Rattle.stab_stream.specs.Standing.{Stands}
+use Rattle.stab_stream.proofs.Jobs.{whole_text}
+use Rattle.stab_job_stream.proofs.read.read_plain.Goals as goal
+
+pub returns-clause-job : goal.returns-clause-job
+returns-clause-job c =
+    let bytes = c.args.bytes.now in
+    let text = c.in-Ok.ensures.cases in
+    let found = rw c.in-Some.is at c.in_ok-parts.ensures.value in
+    let first : Stands in_job (tokens bytes) (object found.0) [] = subst (λ t. Stands in_job (tokens t) (object found.0) []) text.0 found.1 in
+    let is : job_of_data (object found.0) ≡ Ok c.in-Some-2.job = (rw c.in-Some-2.is at c.in_ok-job.ensures) found.0 found.2 in
+    ap (λ o. (o or fault.Json) >>= job_of_data) (sym (whole_text bytes (object found.0) text.1 first)) ∙ is

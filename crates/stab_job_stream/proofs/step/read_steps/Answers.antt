@@ -1,0 +1,14 @@
+use Rattle.std.proofs.Common.{◌≡◌, ◌-◌, ◌∷◌, ap, ◌∙◌, arith}
+use Rattle.json.specs.Token.{Token}
+use Rattle.json.specs.Reads.{token_of}
+use Rattle.stab_job.specs.ScheduleEntries.{named_act}
+use Rattle.stab_stream.specs.Members.{in_member}
+use Rattle.stab_stream.proofs.Standing.{a_list}
+use Rattle.stab_job_stream.proofs.step.read_steps.Goals as goal
+
+pub returns-clause-value : goal.returns-clause-value
+returns-clause-value c =
+    let ts = c.next.new.self in
+    let is : c.args.reader.now ≡ Token.begin_array ∷ ts = c.in-Some-BeginArray.ensures.value ∙ ap (λ k. token_of k ∷ ts) c.in-Some-BeginArray.field-0-is in
+    let inside = rw c.in-Some.is at c.in_ok-list.ensures.value in
+    rw c.from_vec.ensures (rw is (a_list in_member named_act ts c.read_entries.new.reader c.in-Some.list.items (omega arith) (inside (in_member - 1) (omega arith))))

@@ -1,0 +1,96 @@
+ghost use Rattle.std.specs.Prelude.{◌≡◌, ◌<◌, [], length, Some, IfOk, IfSome, IsTrue, OnErr};
+ghost use Rattle.json.specs.Lex.{tokens};
+ghost use Rattle.serde_json.specs.Data.{Data, Members, no_members, object, put};
+ghost use Rattle.serde_json.specs.View.{members_view};
+ghost use Rattle.stab_stream.specs.Members.{in_job, in_member};
+ghost use Rattle.stab_stream.specs.Standing.{Stands, MembersMake};
+ghost use Rattle.stab_job_stream.specs.Parts.{HasParts};
+
+use crate::step::{Step, read_steps};
+use crate::value::read_member as read_other;
+use json::{Reader, Scratch, Token};
+use serde_json::{Map, Value};
+use stab_frames::Sequence;
+use std::alloc::{AllocError, Global};
+
+/// What was read of a job so far: the steps of its schedule, and the other members.
+#[derive(Drop)]
+pub(crate) struct JobParts<'t> {
+    pub(crate) others: Map<String, Value>,
+    pub(crate) steps: Option<Sequence<Step<'t>>>,
+}
+
+/// Reads the member of that name, whose value comes next; false where it has not the plain form.
+fn read_member<'t>(
+    alloc: Global,
+    reader: &mut Reader<'t>,
+    name: &str,
+    parts: &mut JobParts<'t>,
+) -> Result<bool, AllocError>
+    ensures value { IfOk result (λ done. IsTrue done → (d : Data)
+        × (Stands in_member reader.old d reader.new)
+        × ((ms : Members)
+        → HasParts (members_view parts.old.others.entries) parts.old.steps ms
+        → HasParts (members_view parts.new.others.entries) parts.new.steps (put name.now d ms))) }
+    ensures shorter { IfOk result (λ done. IsTrue done → length reader.new < length reader.old) }
+{
+    if name != "schedule" {
+        return read_other(alloc, reader, &mut parts.others, name);
+    }
+    let Some(steps) = read_steps(alloc, reader)? else {
+        return Ok(false);
+    };
+    parts.steps = Some(steps);
+    Ok(true)
+}
+
+/// The members of a job, whose opening brace was taken.
+fn read_members<'t>(
+    alloc: Global,
+    reader: &mut Reader<'t>,
+) -> Result<Option<JobParts<'t>>, AllocError>
+    ensures { IfOk result (λ found. IfSome found (λ parts. (ms : Members)
+        × (MembersMake in_member no_members (length reader.old) reader.old ms reader.new)
+        × HasParts (members_view parts.others.entries) parts.steps ms)) }
+{
+    let mut parts = JobParts {
+        others: Map::new(alloc),
+        steps: None,
+    };
+    'members: loop {
+        let Ok(name) = reader.next_key() else {
+            return Ok(None);
+        };
+        let Some(name) = name else {
+            return Ok(Some(parts));
+        };
+        if !read_member(alloc, reader, name, &mut parts)? {
+            return Ok(None);
+        }
+    }
+}
+
+/// The parts of the job that a text is, where it has the plain form.
+pub(crate) fn read_text<'t>(
+    alloc: Global,
+    text: &'t str,
+    scratch: &'t mut Scratch,
+) -> Result<Option<JobParts<'t>>, AllocError>
+    ensures value { IfOk result (λ found. IfSome found (λ parts. (ms : Members)
+        × (Stands in_job (tokens text.now) (object ms) [])
+        × HasParts (members_view parts.others.entries) parts.steps ms)) }
+    ensures some { IfOk result (λ found. IfSome found (λ _. 0 < length text.now)) }
+    ensures memory { OnErr result (0 < length text.now) }
+{
+    let mut reader = Reader::new(text, scratch)?;
+    let Some(Token::BeginObject) = reader.next() else {
+        return Ok(None);
+    };
+    let Some(parts) = read_members(alloc, &mut reader)? else {
+        return Ok(None);
+    };
+    match reader.next() {
+        Some(_) => Ok(None),
+        None => Ok(Some(parts)),
+    }
+}
