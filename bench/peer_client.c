@@ -416,6 +416,7 @@ static int follow(int prints, const char *path, char **command)
     }
     pid_t child = fork();
     if (child == 0) {
+        setsid();
         prctl(PR_SET_PDEATHSIG, SIGKILL);
         dup2(ends[1], prints ? 1 : 2);
         close(ends[0]), close(ends[1]);
@@ -472,6 +473,7 @@ int main(int count, char **words)
     int port = count > 3 ? atoi(words[3]) : 0;
     int is_jetstream = strcmp(kind, "jetstream") == 0, is_stream = strcmp(kind, "stream") == 0;
     if (strcmp(what, "sub") == 0 && count == 7) {
+        setsid();
         open_notes(words[5]);
         open_folder(words[6]);
         notes->process = getpid();
