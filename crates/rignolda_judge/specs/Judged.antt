@@ -1,0 +1,53 @@
+-- Logs that are judged, and why some bytes have no verdict.
+-- Example: The bytes of a job whose member `received` has one list for each of its nodes are
+-- judged: the answer is `obeys` and a newline, or names the node whose list the laws do not allow. Without
+-- that member the fault is a wrong shape of the logs.
+-- Source: this project's own.
+use Rattle.std.specs.Prelude.{◌≡◌, ℕ, ◌↔◌, Bool, List, Option, Some, None, IsTrue, Result, Ok, Err}
+use Rattle.serde_json.specs.Data.{Data}
+use Rattle.stab_job.specs.JobValues.{JobValue, network}
+use Rattle.stab_job.specs.Jobs.{job}
+use Rattle.stab_json.specs.Values.{value_of}
+use Rattle.stab_logs.specs.Logs.{LogsValue, logs}
+use Rattle.stab_logs.specs.LogTexts.{SaysLogs}
+use Rattle.stab_logs.specs.ObeysLogs.{ObeysLogs}
+use Rattle.stab_logs.specs.declared.logs.LogsFault.{LogsFault}
+use Rattle.stab_logs.specs.declared.logs.LogsFault.TheVariants as fault
+use Rattle.stab_task.specs.Answers.{IsFault}
+use Rattle.stab_task.specs.Statuses.{status_of}
+use Rattle.stab_task.specs.declared.command.Task.TheVariants.{Tree}
+use Rattle.stab_tree.specs.Nodes.{Nodes}
+use Rattle.rignolda_judge.specs.declared.fault.JudgeFault.{JudgeFault}
+use Rattle.rignolda_judge.specs.declared.fault.JudgeFault.TheVariants.{Job, Logs}
+
+-- these bytes are this job
+abbrev pub IsJob : List ℕ → JobValue → Type 0
+IsJob input its_job = job input ≡ Ok its_job
+
+-- the logs of the nodes of a tree that a value has, if it is one
+abbrev pub logs_in : Nodes → Option Data → Result LogsValue LogsFault
+logs_in t None = Err fault.Shape
+logs_in t (Some d) = logs t d
+
+-- These bytes are a job with logs. It is answered that they obey exactly if they obey the laws
+-- since a moment, whatever was in the links and nodes then; and the answer says so, or which part is
+-- broken.
+pub record IsJudged (input : List ℕ) (obeys : Bool) (answer : List ℕ) : Type 0 where
+  pub its_job : JobValue
+  pub read : IsJob input its_job
+  pub its_logs : LogsValue
+  pub has : logs_in its_job.tree (value_of input) ≡ Ok its_logs
+  pub exactly : IsTrue obeys ↔ ObeysLogs (network its_job) its_logs
+  pub says : SaysLogs (network its_job) its_logs obeys answer
+
+-- why these bytes are not judged: the job is refused, as `stab tree` does it, or its logs are
+abbrev pub IsUnjudged : List ℕ → JudgeFault → Type 0
+IsUnjudged input (Job refusal) = IsFault Tree input refusal
+IsUnjudged input (Logs refusal) =
+    (its_job : JobValue) × IsJob input its_job
+    × (logs_in its_job.tree (value_of input) ≡ Err refusal)
+
+-- the status that `stab` has for this fault, and 1 for logs that are refused
+abbrev pub judge_status : JudgeFault → ℕ
+judge_status (Job refusal) = status_of refusal
+judge_status (Logs refusal) = 1

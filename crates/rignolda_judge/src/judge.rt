@@ -1,0 +1,105 @@
+//! The command `judge`: whether logs obey the laws since a moment of which nobody knows more.
+
+ghost use Rattle.std.specs.Prelude.{◌≡◌, ◌≢◌, ℕ, List, string_bytes, Ok, IfErr, IfOk, IfSome, OnOk};
+ghost use Rattle.std.specs.Prelude.{length};
+ghost use Rattle.std.specs.Io.KnownBytes.{Appends, Keeps};
+ghost use Rattle.rignolda_judge.specs.Judged.{IsJob, IsJudged, IsUnjudged, logs_in};
+ghost use Rattle.stab_json.specs.Values.{value_of};
+ghost use Rattle.stab_task.specs.Answers.{IsFault};
+ghost use Rattle.stab_task.specs.declared.command.Task.{Task};
+
+use crate::fault::JudgeFault;
+use stab_job::{Job, read_job};
+use stab_json::read_value;
+use stab_logs::{Logs, LogsFault, read_logs, verdict_of_logs};
+use stab_task::{CliFault, load};
+use std::alloc::Global;
+use std::io::{Read, Write};
+
+/// Reads a job with logs, and writes whether they obey the laws since a moment, or which part of
+/// them is broken first. It answers true exactly where they obey. Where there is no verdict,
+/// nothing is written unless the fault is `Write`.
+pub fn act_judge<R: Read, W: Write>(
+    alloc: Global,
+    reader: &mut R,
+    writer: &mut W,
+) -> Result<bool, JudgeFault>
+    ensures verdict { IfOk result (λ obeys. IfSome (R.remaining reader.old) (λ input.
+        (answer : List ℕ) × IsJudged input obeys answer
+        × Appends (W.contents writer.old) (W.contents writer.new) answer)) }
+    ensures fault { IfErr result (λ fault. fault ≢ JudgeFault.Job CliFault.Write
+        → IfSome (R.remaining reader.old) (λ input. IsUnjudged input fault)) }
+    ensures nothing { IfErr result (λ fault. fault ≢ JudgeFault.Job CliFault.Write
+        → Keeps (W.contents writer.old) (W.contents writer.new)) }
+{
+    let (text, obeys) = judge_input(alloc, reader)?;
+    write_text(writer, &text)?;
+    Ok(obeys)
+}
+
+/// What is said of the logs of the job that the reader gives, and whether they obey.
+fn judge_input<R: Read>(alloc: Global, reader: &mut R) -> Result<(String, bool), JudgeFault>
+    ensures judged { IfOk result (λ said. IfSome (R.remaining reader.old) (λ input.
+        IsJudged input said.1 (string_bytes said.0))) }
+    ensures fault { IfErr result (λ fault.
+        IfSome (R.remaining reader.old) (λ input. IsUnjudged input fault)) }
+    ensures no_write { IfErr result (λ fault. fault ≢ JudgeFault.Job CliFault.Write) }
+{
+    let bytes = load(alloc, reader)?;
+    let said = judge_bytes(alloc, &bytes)?;
+    Ok(said)
+}
+
+/// The same of the job that these bytes are.
+fn judge_bytes(alloc: Global, bytes: &[u8]) -> Result<(String, bool), JudgeFault>
+    ensures judged { IfOk result (λ said. IsJudged bytes.now said.1 (string_bytes said.0)) }
+    ensures fault { IfErr result (IsUnjudged bytes.now) }
+    ensures no_write { IfErr result (λ fault. fault ≢ JudgeFault.Job CliFault.Write) }
+{
+    let job = job_of(alloc, bytes)?;
+    let logs = logs_of(alloc, &job, bytes)?;
+    let said = verdict_of_logs(alloc, &job, &logs)?;
+    Ok(said)
+}
+
+/// The job that these bytes are.
+fn job_of(alloc: Global, bytes: &[u8]) -> Result<Job, CliFault>
+    ensures read { IfOk result (IsJob bytes.now) }
+    ensures fault { IfErr result (IsFault Task.Tree bytes.now) }
+    ensures no_write { IfErr result (λ fault. fault ≢ CliFault.Write) }
+{
+    let job = read_job(alloc, bytes)?;
+    Ok(job)
+}
+
+/// The logs of this job, which these bytes are.
+fn logs_of(alloc: Global, job: &Job, bytes: &[u8]) -> Result<Logs, JudgeFault>
+    requires read { IsJob bytes.now job.now }
+    ensures has { IfOk result (λ logs. logs_in job.now.tree (value_of bytes.now) ≡ Ok logs) }
+    ensures per_node { IfOk result (λ logs.
+        length logs.received ≡ length job.now.tree.parents) }
+    ensures fault { IfErr result (IsUnjudged bytes.now) }
+    ensures no_write { IfErr result (λ fault. fault ≢ JudgeFault.Job CliFault.Write) }
+{
+    let Some(value) = read_value(alloc, bytes)? else {
+        return Err(JudgeFault::Logs(LogsFault::Shape));
+    };
+    match read_logs(alloc, job.tree(), &value) {
+        Ok(logs) => Ok(logs),
+        Err(LogsFault::Memory) => Err(JudgeFault::Job(CliFault::Memory)),
+        Err(fault) => Err(JudgeFault::Logs(fault)),
+    }
+}
+
+/// Writes a whole text, and asks the writer for a flush.
+fn write_text<W: Write>(writer: &mut W, text: &str) -> Result<(), CliFault>
+    ensures written { OnOk result
+        (Appends (W.contents writer.old) (W.contents writer.new) text.now) }
+    ensures fault { IfErr result (λ fault. fault ≡ CliFault.Write) }
+{
+    writer
+        .write_all(text.as_bytes())
+        .map_err(|_| CliFault::Write)?;
+    writer.flush().map_err(|_| CliFault::Write)?;
+    Ok(())
+}
