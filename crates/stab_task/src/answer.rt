@@ -166,7 +166,7 @@ fn answer_tree(alloc: Global, bytes: &[u8]) -> Result<String, CliFault>
     ensures answer { IfOk result (λ text. IsTreeAnswer bytes.now (string_bytes text)) }
     ensures fault { IfErr result (IsFault Task.Tree bytes.now) }
 {
-    match read_job(alloc, bytes) {
+    match stab_job_stream::read_job(alloc, bytes) {
         Ok(job) => schedule_answer(alloc, &job),
         Err(fault) => Err(CliFault::Job(fault)),
     }
