@@ -794,6 +794,22 @@ class Checks:
 
     def announced(self, browser, name):
         """A step of a run is announced once, and not again when it is drawn again."""
+        # (what is hidden from a screen reader does not count)
+        changes = """const seen = new MutationObserver(() => {}), found = new Set();
+            seen.observe(document.body, { childList: true, subtree: true });
+            $(args[0]).click();
+            for (const { target } of seen.takeRecords())
+                if (!target.closest('[aria-hidden], [role=img]')) found.add(target.id || target.parentElement.id);
+            seen.disconnect();
+            return [...found].sort();"""
+        browser.run("proofTo(0);")
+        said = browser.run(changes, "proof-forth")
+        self.see(f"{name}: a step of the proof changes its sentence alone",
+            said == ["proof-count", "proof-says"], said)
+        # the third event of this run puts the label 1 onto the way of the acknowledgements
+        browser.run("show(RUNS['The worst start'], 'x', 2);")
+        said = browser.run(changes, "forth")
+        self.see(f"{name}: an event changes what it changes alone", said == ["acks", "happened", "rows"], said)
         for begin, forth, again in (("show(RUNS['The worst start'], 'x');", "forth", "draw();"),
                 ("showTree(TREES['Two links under one schedule'], 'x');", "t-forth", "pick(1); pick(2);")):
             browser.run(begin)
