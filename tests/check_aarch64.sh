@@ -17,22 +17,8 @@ target=aarch64-unknown-linux-gnu
 archive=$top/out/librignolda-aarch64.a
 work=$(mktemp -d) || exit 1
 trap 'rm -rf -- "$work"' EXIT
-passed=0
-failed=0
-
-# Says whether a case holds: its name, and a command, whose words are shown if it fails.
-holds() {
-    local name=$1
-    shift
-    if "$@" >"$work/said" 2>&1; then
-        passed=$((passed + 1))
-        printf 'same   %s\n' "$name"
-    else
-        failed=$((failed + 1))
-        printf 'OTHER  %s\n' "$name"
-        tail -n 20 -- "$work/said" | sed 's/^/       /'
-    fi
-}
+# shellcheck source=tests/cases
+. tests/cases
 
 # Has the compiler of the kit make the archive over the libraries that the check has left.
 builds() (
@@ -59,16 +45,15 @@ for program in rt "$compiler" "$emulator"; do
         exit 2
     fi
 done
-holds 'the archive is built' builds
+works 'the archive is built' builds
 for test in link fuzz lists; do
-    holds "$test builds" "$compiler" -std=gnu11 -O2 -Wall -Wextra -Werror -Iinclude -static \
+    works "$test builds" "$compiler" -std=gnu11 -O2 -Wall -Wextra -Werror -Iinclude -static \
         "tests/library/$test.c" "$archive" -o "$work/$test.aarch64"
     printf '#!/bin/sh\nexec %s %s "$@"\n' "$emulator" "$work/$test.aarch64" >"$work/$test"
     chmod +x -- "$work/$test"
 done
-holds 'the drawn runs' tests/library/compare.py runs "$work/link"
-holds '1000 drawn links' tests/library/compare.py drawn "$work/link" 1000
-holds 'structs with drawn bits' "$work/fuzz" 100000 1
-holds 'a list up to the end of its count' "$work/lists" 100000 16 18446744073709501615
-printf '%s passed, %s failed\n' "$passed" "$failed"
-[ "$failed" -eq 0 ]
+works 'the drawn runs' tests/library/compare.py runs "$work/link"
+works '1000 drawn links' tests/library/compare.py drawn "$work/link" 1000
+works 'structs with drawn bits' "$work/fuzz" 100000 1
+works 'a list up to the end of its count' "$work/lists" 100000 16 18446744073709501615
+sum_up

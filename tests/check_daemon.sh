@@ -8,22 +8,8 @@ unset CDPATH
 cd -- "$(dirname -- "$(dirname -- "$(readlink -f -- "${BASH_SOURCE[0]}")")")" || exit 1
 work=$(mktemp -d) || exit 1
 trap 'rm -rf -- "$work"' EXIT
-passed=0
-failed=0
-
-# Counts a case: its name, and a command, whose words are shown if it fails.
-holds() {
-    local name=$1
-    shift
-    if "$@" >"$work/said" 2>&1; then
-        passed=$((passed + 1))
-        printf 'well   %s\n' "$name"
-    else
-        failed=$((failed + 1))
-        printf 'FAILED %s\n' "$name"
-        tail -n 30 -- "$work/said" | sed 's/^/       /'
-    fi
-}
+# shellcheck source=tests/cases
+. tests/cases
 
 # Adds the counts of a script whose last line has them.
 adds() {
@@ -57,16 +43,15 @@ status=$?
 cat -- "$work/built"
 if [ "$status" -eq 3 ]; then
     printf 'the daemon is not built here, so not tested: its kept programs are tried\n'
-    holds 'the kept programs' tools/build_daemon --unpack "$work"
+    works 'the kept programs' tools/build_daemon --unpack "$work"
     export RIGNOLDAD_BIN=$work
 else
-    holds 'the kept programs are those of the sources' [ "$status" -eq 0 ]
-    holds 'unit tests, and drawn bytes' cargo_tests
-    ! type -P cargo-clippy >/dev/null || holds 'the linter' lints
-    ! type -P cargo-fmt >/dev/null || holds 'the form' formatted
-    holds 'no line is longer than 100 characters' short_enough
+    works 'the kept programs are those of the sources' [ "$status" -eq 0 ]
+    works 'unit tests, and drawn bytes' cargo_tests
+    ! type -P cargo-clippy >/dev/null || works 'the linter' lints
+    ! type -P cargo-fmt >/dev/null || works 'the form' formatted
+    works 'no line is longer than 100 characters' short_enough
 fi
 adds tests/daemon/check_judge.py
 adds tests/daemon/check.py
-printf '%d passed, %d failed\n' "$passed" "$failed"
-[ "$failed" -eq 0 ]
+sum_up

@@ -9,26 +9,17 @@ work=$(mktemp -d) || exit 1
 trap 'rm -rf -- "$work"' EXIT
 unset CDPATH TMPDIR RT_JOBS
 house="$work/a house"
-passed=0
-failed=0
+# shellcheck source=tests/cases
+. "$top/tests/cases"
 mkdir -p "$work/bin" "$house/tests/refused" "$house/bench" "$house/tools" "$work/temporary"
 cp -- "$top/gate" "$house/"
 cp -- "$top/tools/launch" "$house/tools/"
 cp -- "$top/bench/gate.py" "$house/bench/"
 
-# Says whether a case holds: its name, and a command.
-holds() {
-    local name=$1
-    shift
-    if "$@"; then
-        passed=$((passed + 1))
-        printf 'same   %s\n' "$name"
-    else
-        failed=$((failed + 1))
-        printf 'OTHER  %s\n' "$name"
-        printf '       status %s, and it wrote:\n' "$status"
-        sed 's/^/       /' "$work/out" "$work/err"
-    fi
+# What is said of a case that does not hold.
+tell() {
+    printf 'status %s, and it wrote:\n' "$status"
+    cat -- "$work/out" "$work/err"
 }
 
 # Writes a command: what it does in bash.
@@ -305,5 +296,4 @@ for signal in TERM:143 INT:130 HUP:129; do
     holds "and so it does with --only (${signal%:*})" given_up "${signal#*:}"
 done
 
-printf '%s passed, %s failed\n' "$passed" "$failed"
-[ "$failed" -eq 0 ]
+sum_up

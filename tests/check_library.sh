@@ -18,22 +18,8 @@ done
 library=$(readlink -f -- "${library:-crates/stab_c/out/libstab_c.a}")
 work=$(mktemp -d) || exit 1
 trap 'rm -rf -- "$work"' EXIT
-passed=0
-failed=0
-
-# Says whether a case holds: its name, and a command, whose words are shown if it fails.
-holds() {
-    local name=$1
-    shift
-    if "$@" >"$work/said" 2>&1; then
-        passed=$((passed + 1))
-        printf 'same   %s\n' "$name"
-    else
-        failed=$((failed + 1))
-        printf 'OTHER  %s\n' "$name"
-        tail -n 20 -- "$work/said" | sed 's/^/       /'
-    fi
-}
+# shellcheck source=tests/cases
+. tests/cases
 
 # Builds the programs in C with a compiler and its words, and runs them.
 in_c() {
@@ -41,15 +27,15 @@ in_c() {
     shift 3
     for test in link fuzz sessions lists; do
         # (the source before the archive, which a linker reads in this order)
-        holds "$name: $test builds" "$1" "tests/library/$test.c" "${@:2}" -o "$work/$test"
+        works "$name: $test builds" "$1" "tests/library/$test.c" "${@:2}" -o "$work/$test"
     done
-    holds "$name: the drawn runs" tests/library/compare.py runs "$work/link"
-    holds "$name: $jobs drawn links" tests/library/compare.py drawn "$work/link" "$jobs"
+    works "$name: the drawn runs" tests/library/compare.py runs "$work/link"
+    works "$name: $jobs drawn links" tests/library/compare.py drawn "$work/link" "$jobs"
     # shellcheck disable=SC2086
-    holds "$name: structs with drawn bits" "$work/fuzz" $rounds
-    holds "$name: a million steps over connections" "$work/sessions" 1000000 1
-    holds "$name: lists that are forgotten, up to the end of their count" forget "$work/lists"
-    holds "$name: ends that do what they may not" break_a_bound "$work/sessions"
+    works "$name: structs with drawn bits" "$work/fuzz" $rounds
+    works "$name: a million steps over connections" "$work/sessions" 1000000 1
+    works "$name: lists that are forgotten, up to the end of their count" forget "$work/lists"
+    works "$name: ends that do what they may not" break_a_bound "$work/sessions"
 }
 
 # Whether a node hands on its list from places on that take years to reach: past 2^32 items, past
@@ -98,16 +84,16 @@ refuses() {
 
 # What is said to somebody who gives other words to agents/run_tree than it takes.
 agents_refuse() {
-    holds 'agents: a capacity of 3' refuses \
+    works 'agents: a capacity of 3' refuses \
         'has room for a power of two of messages: 1, 2, 4, 8, 16, 32, 64' --capacity 3
-    holds 'agents: too few labels' refuses 'with a capacity of 4 a link has 10 to 1000 labels' \
+    works 'agents: too few labels' refuses 'with a capacity of 4 a link has 10 to 1000 labels' \
         --capacity 4 --labels 9
-    holds 'agents: no agents' refuses 'a tree has 1 to 64 agents' --agents 0
-    holds 'agents: a folder that is there' refuses 'and a run is kept in a new folder' \
+    works 'agents: no agents' refuses 'a tree has 1 to 64 agents' --agents 0
+    works 'agents: a folder that is there' refuses 'and a run is kept in a new folder' \
         --keep "$work"
-    holds 'agents: a folder that cannot be made' refuses "Not a directory: '$work/said/it'" \
+    works 'agents: a folder that cannot be made' refuses "Not a directory: '$work/said/it'" \
         --keep "$work/said/it"
-    holds 'agents: no program' refuses 'is no program: `make -C agents run` builds one' \
+    works 'agents: no program' refuses 'is no program: `make -C agents run` builds one' \
         --agent "$work/none"
 }
 
@@ -151,12 +137,12 @@ gate() {
         "$kit"/lib/{Scrt1.o,crti.o,crtbeginS.o,crtendS.o,crtn.o,libc.so.6,libc_nonshared.a}
         "$library")
     in_c 'the kit' '20000 1' 300 "${words[@]}"
-    holds 'the checker of reports' tests/library/try_check_report.py
-    holds 'every order of acts over connections' tests/library/sessions.py 4 2
-    holds 'the crate for Rust has the archive of the release' \
+    works 'the checker of reports' tests/library/try_check_report.py
+    works 'every order of acts over connections' tests/library/sessions.py 4 2
+    works 'the crate for Rust has the archive of the release' \
         cmp rust/rignolda/lib/x86_64-linux.a release/librignolda.a
     agents_refuse
-    holds 'all of the archive needs nothing else' "$kit/bin/clang" -nostdlib -static \
+    works 'all of the archive needs nothing else' "$kit/bin/clang" -nostdlib -static \
         -fuse-ld=lld -Wl,--whole-archive "$library" -Wl,-e,rignolda_params_check -o "$work/alone"
 }
 
@@ -170,38 +156,38 @@ whole() {
         mapfile -t words < <(system "$compiler" -g -fsanitize=address,undefined \
             -fno-sanitize-recover=all)
         in_c "$compiler, sanitizers" '200000 2 all' 2000 "${words[@]}" "$library"
-        holds "$compiler: the header in C++" "$compiler" -x c++ -std=c++11 -Wall -Wextra -Werror \
+        works "$compiler: the header in C++" "$compiler" -x c++ -std=c++11 -Wall -Wextra -Werror \
             -fsyntax-only "$include/rignolda.h"
         ! type -P pkg-config >/dev/null ||
-            holds "$compiler: installed, and found by pkg-config" is_installed "${plus[$compiler]}"
-        holds "$compiler: the header in C of 2011" "$compiler" -x c -std=c11 -pedantic -Wall \
+            works "$compiler: installed, and found by pkg-config" is_installed "${plus[$compiler]}"
+        works "$compiler: the header in C of 2011" "$compiler" -x c -std=c11 -pedantic -Wall \
             -Wextra -Werror -fsyntax-only "$include/rignolda.h"
     done
-    holds 'no symbol is undefined, and all have the prefix' closed
+    works 'no symbol is undefined, and all have the prefix' closed
     if type -P cargo >/dev/null; then
         export RIGNOLDA_LIBRARY=$library CARGO_TARGET_DIR=$work/cargo
-        holds 'cargo: tests and examples' cargo test --offline --quiet \
+        works 'cargo: tests and examples' cargo test --offline --quiet \
             --manifest-path rust/rignolda/Cargo.toml
-        holds 'cargo: the link builds' cargo build --offline --quiet --release --example link \
+        works 'cargo: the link builds' cargo build --offline --quiet --release --example link \
             --manifest-path rust/rignolda/Cargo.toml
-        holds 'cargo: the package builds by itself' env -u RIGNOLDA_LIBRARY cargo package \
+        works 'cargo: the package builds by itself' env -u RIGNOLDA_LIBRARY cargo package \
             --offline --quiet --allow-dirty --manifest-path rust/rignolda/Cargo.toml
-        holds 'cargo: the drawn runs' tests/library/compare.py runs \
+        works 'cargo: the drawn runs' tests/library/compare.py runs \
             "$work/cargo/release/examples/link"
-        holds 'cargo: 10000 drawn links' tests/library/compare.py drawn \
+        works 'cargo: 10000 drawn links' tests/library/compare.py drawn \
             "$work/cargo/release/examples/link" 10000
     fi
-    holds 'the checker of reports' tests/library/try_check_report.py
-    holds 'every order of acts over connections' tests/library/sessions.py
+    works 'the checker of reports' tests/library/try_check_report.py
+    works 'every order of acts over connections' tests/library/sessions.py
     agents_refuse
-    holds 'agents: what make can do' helps
-    holds 'agents: a tree' make -s -C agents INCLUDE="$include" LIBRARY="$library" run
-    holds 'agents: a tree over TCP' make -s -C agents INCLUDE="$include" LIBRARY="$library" tcp
-    holds 'agents: spoiled ones over TCP are caught' \
+    works 'agents: what make can do' helps
+    works 'agents: a tree' make -s -C agents INCLUDE="$include" LIBRARY="$library" run
+    works 'agents: a tree over TCP' make -s -C agents INCLUDE="$include" LIBRARY="$library" tcp
+    works 'agents: spoiled ones over TCP are caught' \
         make -s -C agents INCLUDE="$include" LIBRARY="$library" tcp_spoiled
-    holds 'agents: 20 drawn trees' agents/trials runs 20
-    holds 'agents: 20 drawn trees, in which one is killed alone' agents/trials restarts 20
-    holds 'agents: spoiled ones are caught' are_caught
+    works 'agents: 20 drawn trees' agents/trials runs 20
+    works 'agents: 20 drawn trees, in which one is killed alone' agents/trials restarts 20
+    works 'agents: spoiled ones are caught' are_caught
 }
 
 case ${1-} in
@@ -212,5 +198,4 @@ case ${1-} in
         exit 2
         ;;
 esac
-printf '%s passed, %s failed\n' "$passed" "$failed"
-[ "$failed" -eq 0 ]
+sum_up

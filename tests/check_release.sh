@@ -10,22 +10,13 @@ trap 'rm -rf -- "$work"' EXIT
 unset CDPATH TMPDIR
 house="$work/a house"
 made=$house/crates/stab_cli/out/stab_cli.by-rattle
-passed=0
-failed=0
+# shellcheck source=tests/cases
+. "$top/tests/cases"
 
-# Says whether a case holds: its name, and a command.
-holds() {
-    local name=$1
-    shift
-    if "$@"; then
-        passed=$((passed + 1))
-        printf 'same   %s\n' "$name"
-    else
-        failed=$((failed + 1))
-        printf 'OTHER  %s\n' "$name"
-        printf '       status %s, and it wrote:\n' "$status"
-        sed 's/^/       /' "$work/out" "$work/err"
-    fi
+# What is said of a case that does not hold.
+tell() {
+    printf 'status %s, and it wrote:\n' "$status"
+    cat -- "$work/out" "$work/err"
 }
 
 # A command like rt, and the compiler that it finds. What they make is the text of the source.
@@ -518,5 +509,4 @@ holds 'both have their digests beside them' \
     all [ "$(wc -l <"$house/out/SHA256SUMS")" -eq 2 ] and \
     bash -c 'cd "$0" && sha256sum -c --quiet SHA256SUMS' "$house/out"
 
-printf '%s passed, %s failed\n' "$passed" "$failed"
-[ "$failed" -eq 0 ]
+sum_up

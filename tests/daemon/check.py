@@ -789,9 +789,14 @@ def it_is_installed_packed_and_removed():
             return print("  (there is no dpkg-deb here, so no package was made)")
         make("deb", f"PACKAGE={tree.home}/rignoldad.deb")
         listed = subprocess.run(["dpkg-deb", "-c", tree.home / "rignoldad.deb"], check=True,
-                                capture_output=True, text=True).stdout
+                                capture_output=True, text=True,
+                                env={**os.environ, "TZ": "UTC"}).stdout
+        changes = (packaging.parents[2] / "CHANGELOG.md").read_text()
+        day = re.search(r"^## [0-9.]+, ([0-9-]+)", changes, re.M)[1]
         for line in listed.splitlines():
-            mode, owner = line.split()[:2]
+            mode, owner, _, date, hour = line.split()[:5]
+            # (whoever makes it makes the same bytes)
+            sure((date, hour) == (day, "00:00"), line)
             # (no file is another one's to write, and none runs as somebody else)
             sure(owner == "root/root" and mode[5] != "w" and mode[8] != "w", line)
             sure("s" not in mode and mode[0] in "-d", line)
