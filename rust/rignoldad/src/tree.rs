@@ -50,7 +50,7 @@ impl Below {
             return false;
         }
         let Ok(mut list) = serde_json::from_slice::<Vec<Seen>>(bytes) else { return false };
-        if list.len() > AGENTS || list.first().map_or(true, |first| first.name != child) {
+        if list.len() > AGENTS || list.first().map(|first| &*first.name) != Some(child) {
             return false;
         }
         list[0].parent.clear();
