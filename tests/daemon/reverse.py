@@ -84,7 +84,7 @@ def parents_may_connect_to_their_children():
         draw = random.Random(5)
         tree.start()
         sure(tree.ready(), "the tree is not ready")
-        sure(tree["left"].status()["parent"] == "root", tree["left"].status())
+        sure(until(lambda: tree["left"].status()["parent"] == "root"), tree["left"].status())
         # connections that break lose nothing
         end = time.monotonic() + 2
         while time.monotonic() < end:

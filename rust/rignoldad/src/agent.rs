@@ -4,7 +4,7 @@ use crate::apply::Applier;
 use crate::config::{Address, Config};
 use crate::control::{self, ChildStatus, Request, Response, Status};
 use crate::fact;
-use crate::line::{Line, Listener, Maker, Place};
+use crate::line::{Line, Listener, Maker};
 use crate::metrics;
 use crate::root::Root;
 use crate::serve::Ticket;
@@ -12,6 +12,7 @@ use crate::tree::Below;
 use polling::{Event, Poller};
 use rignolda::net::{Body, Call, Handler, Peers};
 use rignolda::settings::{Meaning, Table};
+use socket2::SockAddr;
 use std::collections::{HashMap, HashSet};
 use std::io::{self, ErrorKind, Read};
 use std::net::{SocketAddr, ToSocketAddrs};
@@ -239,7 +240,7 @@ impl Agent {
         let now = Instant::now();
         let listeners = self.listeners.iter().filter(|_| now >= self.full_until);
         let reads = [signals.reload.as_raw_fd(), signals.end.as_raw_fd()].into_iter();
-        let reads = reads.chain(listeners.map(AsRawFd::as_raw_fd));
+        let reads = reads.chain(listeners.map(|it| it.socket.as_raw_fd()));
         let reads = reads.chain(self.root.as_ref().and_then(Root::descriptor));
         let mut wanted: HashMap<RawFd, _> = reads.map(|fd| (fd, (Some(0), false))).collect();
         let served = self.control.iter().flat_map(control::Server::descriptors);
@@ -312,7 +313,7 @@ impl Agent {
     // ---- Connections
 
     fn accept(&mut self, fired: &HashSet<RawFd>, now: Instant) {
-        for listener in self.listeners.iter().filter(|it| fired.contains(&it.as_raw_fd())) {
+        for listener in self.listeners.iter().filter(|it| fired.contains(&it.socket.as_raw_fd())) {
             for _ in 0..ACCEPTS {
                 match self.maker.accept(listener) {
                     Ok(line) => self.peers.accept(line, now, &mut self.state),
@@ -330,32 +331,25 @@ impl Agent {
     /// Makes the connections that are due.
     fn connect(&mut self, now: Instant) {
         while let Ok((call, found)) = self.found.1.try_recv() {
-            let place = match &found {
-                Ok(places) => places.get(call.failed % places.len().max(1)).copied(),
-                Err(_) => None,
-            };
-            let line = match (place, found) {
-                (Some(place), _) => self.maker.connect(&Place::Tcp(place)),
-                (None, Ok(_)) => Err(io::Error::new(ErrorKind::NotFound, "it has no address")),
-                (None, Err(error)) => Err(error),
-            };
-            let line = line.map_err(|e| e.to_string());
-            self.peers.called(call, line, now, &mut self.state);
+            let nothing = || io::Error::new(ErrorKind::NotFound, "it has no address");
+            let line = found.and_then(|places| {
+                let place = places.get(call.failed % places.len().max(1)).ok_or_else(nothing)?;
+                self.maker.connect(&SockAddr::from(*place))
+            });
+            self.peers.called(call, line.map_err(|e| e.to_string()), now, &mut self.state);
         }
         while let Some(call) = self.peers.next_call(now, &mut self.state) {
-            let place = match &call.address {
-                Address::Unix(path) => Some(Place::Unix(path.clone())),
-                Address::Tcp(text) => text.parse().ok().map(Place::Tcp),
-            };
-            let line = match place {
-                Some(place) => self.maker.connect(&place),
-                None => match self.look_up(call.clone()) {
-                    Ok(()) => continue,
-                    Err(error) => Err(error),
+            let line = match &call.address {
+                Address::Unix(path) => SockAddr::unix(path).and_then(|it| self.maker.connect(&it)),
+                Address::Tcp(text) => match text.parse::<SocketAddr>() {
+                    Ok(address) => self.maker.connect(&address.into()),
+                    Err(_) => match self.look_up(call.clone()) {
+                        Ok(()) => continue,
+                        Err(error) => Err(error),
+                    },
                 },
             };
-            let line = line.map_err(|e| e.to_string());
-            self.peers.called(call, line, now, &mut self.state);
+            self.peers.called(call, line.map_err(|e| e.to_string()), now, &mut self.state);
         }
     }
 

@@ -5,23 +5,22 @@ use openssl::ssl::{
     SslStream, SslVerifyMode, SslVersion,
 };
 use openssl::x509::X509;
-use socket2::{Domain, SockAddr, SockRef, Socket, TcpKeepalive, Type};
+use socket2::{Domain, SockAddr, Socket, TcpKeepalive, Type};
 use std::io::{self, ErrorKind, Read, Write};
-use std::net::{SocketAddr, TcpListener, TcpStream};
+use std::net::TcpListener;
 use std::os::unix::io::{AsRawFd, RawFd};
 use std::os::unix::net::{UnixListener, UnixStream};
 use std::path::{Path, PathBuf};
 use std::time::Duration;
 
 pub enum Line {
-    Tcp(TcpStream),
-    Unix(UnixStream),
+    Plain(Socket),
     Tls(Box<Secure>),
 }
 
 /// TLS, and what its last act waited for.
 pub struct Secure {
-    stream: SslStream<TcpStream>,
+    stream: SslStream<Socket>,
     greeted: bool,
     /// Whether the last read, and the last write, wait until the line can be written.
     waits: [bool; 2],
@@ -36,17 +35,10 @@ pub struct Maker {
     timeout: Duration,
 }
 
-/// Where a line may be made to, once the name of its host is known.
-#[derive(Clone, Debug)]
-pub enum Place {
-    Tcp(SocketAddr),
-    Unix(PathBuf),
-}
-
-/// Where lines are accepted. A socket's file goes with it.
-pub enum Listener {
-    Tcp(TcpListener),
-    Unix(UnixListener, PathBuf),
+/// Where lines are accepted. A Unix socket's file goes with it.
+pub struct Listener {
+    pub socket: Socket,
+    path: Option<PathBuf>,
 }
 
 impl Maker {
@@ -58,47 +50,39 @@ impl Maker {
     }
 
     /// Begins a connection. Whether it stands is seen when it is read or written.
-    pub fn connect(&self, place: &Place) -> io::Result<Line> {
-        let (domain, address) = match place {
-            Place::Tcp(address) => (Domain::for_address(*address), SockAddr::from(*address)),
-            Place::Unix(path) => (Domain::UNIX, SockAddr::unix(path)?),
-        };
+    pub fn connect(&self, address: &SockAddr) -> io::Result<Line> {
+        let domain = address.as_socket().map_or(Domain::UNIX, Domain::for_address);
         let socket = Socket::new(domain, Type::STREAM, None)?;
         socket.set_nonblocking(true)?;
-        match socket.connect(&address) {
+        match socket.connect(address) {
             // EINPROGRESS, which is 115 on Linux
             Err(e) if e.raw_os_error() != Some(115) => return Err(e),
             _ => (),
         }
-        match place {
-            Place::Tcp(_) => self.tcp(socket.into(), false),
-            Place::Unix(_) => Ok(Line::Unix(socket.into())),
-        }
+        self.line(socket, domain == Domain::UNIX, false)
     }
 
     /// Takes the next connection of a listener.
     pub fn accept(&self, listener: &Listener) -> io::Result<Line> {
-        match listener.accept()? {
-            Line::Tcp(stream) => self.tcp(stream, true),
-            line => Ok(line),
-        }
+        self.line(listener.accept()?, listener.path.is_some(), true)
     }
 
-    fn tcp(&self, stream: TcpStream, accepted: bool) -> io::Result<Line> {
-        stream.set_nonblocking(true)?;
-        stream.set_nodelay(true)?;
+    fn line(&self, socket: Socket, is_unix: bool, accepted: bool) -> io::Result<Line> {
+        if is_unix {
+            return Ok(Line::Plain(socket));
+        }
+        socket.set_nodelay(true)?;
         let part = (self.timeout / 4).max(Duration::from_secs(1));
         let alive = TcpKeepalive::new().with_time(part).with_interval(part).with_retries(3);
-        let socket = SockRef::from(&stream);
         socket.set_tcp_keepalive(&alive)?;
         socket.set_tcp_user_timeout(Some(self.timeout))?;
-        let Some(context) = &self.tls else { return Ok(Line::Tcp(stream)) };
+        let Some(context) = &self.tls else { return Ok(Line::Plain(socket)) };
         let mut ssl = Ssl::new(context)?;
         match accepted {
             true => ssl.set_accept_state(),
             false => ssl.set_connect_state(),
         }
-        let stream = SslStream::new(ssl, stream)?;
+        let stream = SslStream::new(ssl, socket)?;
         Ok(Line::Tls(Box::new(Secure { stream, greeted: false, waits: [false; 2] })))
     }
 }
@@ -133,69 +117,42 @@ fn context(tls: &Tls) -> Result<SslContext, String> {
 impl Listener {
     /// Listens there. A socket's file that nobody listens at any more is replaced.
     pub fn new(address: &Address) -> io::Result<Listener> {
-        match address {
-            Address::Tcp(address) => {
-                let listener = TcpListener::bind(address)?;
-                listener.set_nonblocking(true)?;
-                Ok(Listener::Tcp(listener))
-            }
+        let (socket, path) = match address {
+            Address::Tcp(address) => (TcpListener::bind(address)?.into(), None),
             Address::Unix(path) => {
                 if UnixStream::connect(path).is_ok() {
-                    return Err(io::Error::new(
-                        ErrorKind::AddrInUse,
-                        "another process listens there",
-                    ));
+                    let why = "another process listens there";
+                    return Err(io::Error::new(ErrorKind::AddrInUse, why));
                 }
                 match std::fs::remove_file(path) {
                     Err(error) if error.kind() != ErrorKind::NotFound => return Err(error),
-                    _ => (),
+                    _ => (UnixListener::bind(path)?.into(), Some(path.clone())),
                 }
-                let listener = UnixListener::bind(path)?;
-                listener.set_nonblocking(true)?;
-                Ok(Listener::Unix(listener, path.clone()))
             }
-        }
+        };
+        let listener = Listener { socket, path };
+        listener.socket.set_nonblocking(true)?;
+        Ok(listener)
     }
 
     /// Takes the next connection, without TLS.
-    pub fn accept(&self) -> io::Result<Line> {
-        match self {
-            Listener::Tcp(listener) => {
-                let stream = listener.accept()?.0;
-                stream.set_nonblocking(true)?;
-                Ok(Line::Tcp(stream))
-            }
-            Listener::Unix(listener, _) => {
-                let stream = listener.accept()?.0;
-                stream.set_nonblocking(true)?;
-                Ok(Line::Unix(stream))
-            }
-        }
+    pub fn accept(&self) -> io::Result<Socket> {
+        let socket = self.socket.accept()?.0;
+        socket.set_nonblocking(true)?;
+        Ok(socket)
     }
 }
 
 impl Drop for Listener {
     fn drop(&mut self) {
-        if let Listener::Unix(_, path) = self {
-            let _ = std::fs::remove_file(path);
-        }
-    }
-}
-
-impl AsRawFd for Listener {
-    fn as_raw_fd(&self) -> RawFd {
-        match self {
-            Listener::Tcp(listener) => listener.as_raw_fd(),
-            Listener::Unix(listener, _) => listener.as_raw_fd(),
-        }
+        self.path.iter().for_each(|path| drop(std::fs::remove_file(path)));
     }
 }
 
 impl AsRawFd for Line {
     fn as_raw_fd(&self) -> RawFd {
         match self {
-            Line::Tcp(stream) => stream.as_raw_fd(),
-            Line::Unix(stream) => stream.as_raw_fd(),
+            Line::Plain(socket) => socket.as_raw_fd(),
             Line::Tls(secure) => secure.stream.get_ref().as_raw_fd(),
         }
     }
@@ -242,7 +199,7 @@ impl Secure {
     fn act<T>(
         &mut self,
         which: usize,
-        act: impl FnOnce(&mut SslStream<TcpStream>) -> Result<T, openssl::ssl::Error>,
+        act: impl FnOnce(&mut SslStream<Socket>) -> Result<T, openssl::ssl::Error>,
     ) -> io::Result<T> {
         let mut done = Ok(());
         if !self.greeted {
@@ -270,8 +227,7 @@ impl Secure {
 impl Read for Line {
     fn read(&mut self, to: &mut [u8]) -> io::Result<usize> {
         match self {
-            Line::Tcp(stream) => stream.read(to),
-            Line::Unix(stream) => stream.read(to),
+            Line::Plain(socket) => socket.read(to),
             Line::Tls(secure) => secure.act(READ, |stream| stream.ssl_read(to)),
         }
     }
@@ -280,8 +236,7 @@ impl Read for Line {
 impl Write for Line {
     fn write(&mut self, from: &[u8]) -> io::Result<usize> {
         match self {
-            Line::Tcp(stream) => stream.write(from),
-            Line::Unix(stream) => stream.write(from),
+            Line::Plain(socket) => socket.write(from),
             Line::Tls(secure) => secure.act(WRITE, |stream| stream.ssl_write(from)),
         }
     }

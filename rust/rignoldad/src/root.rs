@@ -96,10 +96,7 @@ impl Root {
 
     /// The next body to publish. `limit`: how many items may follow a table at most.
     pub fn next(&mut self, limit: u64) -> Option<Published> {
-        if self.draining {
-            return None;
-        }
-        self.publisher.next(limit)
+        self.waits().then(|| self.publisher.next(limit))?
     }
 
     /// Writes a setting's file and publishes it when its turn comes; without a value, removes it.
@@ -141,13 +138,10 @@ impl Root {
             false => self.read_folder(&path, &mut faults),
         };
         match read {
-            Ok(settings) => {
-                if Publisher::bytes_of(&settings) > BODY_BYTES {
-                    faults.insert(format!("all settings have more than {BODY_BYTES} bytes"));
-                } else {
-                    self.publisher.replace(settings);
-                }
+            Ok(settings) if Publisher::bytes_of(&settings) > BODY_BYTES => {
+                faults.insert(format!("all settings have more than {BODY_BYTES} bytes"));
             }
+            Ok(settings) => self.publisher.replace(settings),
             Err(error) => {
                 faults.insert(format!("{}: {error}", path.display()));
             }
@@ -228,24 +222,19 @@ fn read_file(path: &Path) -> io::Result<BTreeMap<String, Vec<u8>>> {
     if text.len() > BODY_BYTES {
         return Err(bad(format!("the file has more than {BODY_BYTES} bytes")));
     }
+    let plain = |text: Option<&str>, written: String| text.map_or(written, str::to_owned);
     let values: Vec<(String, String)> = if path.extension().is_some_and(|it| it == "json") {
         let all: serde_json::Map<String, serde_json::Value> =
             serde_json::from_str(&text).map_err(|e| bad(e.to_string()))?;
-        let plain = |value: serde_json::Value| match value {
-            serde_json::Value::String(text) => text,
-            other => other.to_string(),
-        };
-        all.into_iter().map(|(key, value)| (key, plain(value))).collect()
+        let all = all.into_iter();
+        all.map(|(key, value)| (key, plain(value.as_str(), value.to_string()))).collect()
     } else {
         if let Some(line) = too_deep(&text) {
             return Err(bad(format!("line {line}: {TOO_DEEP}")));
         }
         let all: toml::value::Table = toml::from_str(&text).map_err(|e| bad(e.to_string()))?;
-        let plain = |value: toml::Value| match value {
-            toml::Value::String(text) => text,
-            other => other.to_string(),
-        };
-        all.into_iter().map(|(key, value)| (key, plain(value))).collect()
+        let all = all.into_iter();
+        all.map(|(key, value)| (key, plain(value.as_str(), value.to_string()))).collect()
     };
     for (key, value) in &values {
         if !is_key(key) || value.len() > VALUE_BYTES {

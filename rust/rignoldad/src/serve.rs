@@ -1,6 +1,7 @@
 //! A small server for the agent's loop: it never waits, and its clients, what they send and how
 //! long they may take are bounded.
-use crate::line::{Line, Listener};
+use crate::line::Listener;
+use socket2::Socket;
 use std::collections::HashSet;
 use std::io::{ErrorKind, Read, Write};
 use std::os::unix::io::{AsRawFd, RawFd};
@@ -18,7 +19,7 @@ pub type Parse<T> = fn(&[u8]) -> Option<(T, usize)>;
 
 struct Client {
     number: u64,
-    line: Line,
+    socket: Socket,
     input: Vec<u8>,
     output: Vec<u8>,
     /// Whether a request of it waits for its answer. Then nothing more is read.
@@ -46,8 +47,8 @@ impl<T> Server<T> {
 
     /// The descriptors to wait for, and whether to wait until they can be written too.
     pub fn descriptors(&self) -> impl Iterator<Item = (RawFd, bool)> + '_ {
-        let client = |client: &Client| (client.line.as_raw_fd(), !client.output.is_empty());
-        let listener = self.full.is_none().then_some((self.listener.as_raw_fd(), false));
+        let client = |client: &Client| (client.socket.as_raw_fd(), !client.output.is_empty());
+        let listener = self.full.is_none().then_some((self.listener.socket.as_raw_fd(), false));
         listener.into_iter().chain(self.clients.iter().map(client))
     }
 
@@ -102,12 +103,12 @@ impl<T> Server<T> {
         // (a client that is one too many is closed, and so many at most in one turn)
         for _ in 0..CLIENTS {
             match self.listener.accept() {
-                Ok(line) if self.clients.len() < CLIENTS => {
+                Ok(socket) if self.clients.len() < CLIENTS => {
                     self.made += 1;
                     let (input, output) = (Vec::new(), Vec::new());
                     let (number, until) = (self.made, now + self.idle);
                     let (asked, last) = (false, false);
-                    self.clients.push(Client { number, line, input, output, asked, last, until });
+                    self.clients.push(Client { number, socket, input, output, asked, last, until });
                 }
                 Ok(_) => (),
                 Err(error) if error.kind() == ErrorKind::WouldBlock => return,
@@ -124,7 +125,7 @@ impl Client {
     /// Reads what there is, up to the bound. Whether the connection goes on.
     fn read(&mut self, most: usize) -> bool {
         let room = most.saturating_sub(self.input.len()) as u64;
-        match (&mut self.line).take(room).read_to_end(&mut self.input) {
+        match (&mut self.socket).take(room).read_to_end(&mut self.input) {
             Ok(_) => self.input.len() >= most,
             Err(error) => error.kind() == ErrorKind::WouldBlock,
         }
@@ -133,7 +134,7 @@ impl Client {
     /// Writes what it can. Whether the connection goes on.
     fn write(&mut self) -> bool {
         while !self.output.is_empty() {
-            match self.line.write(&self.output) {
+            match self.socket.write(&self.output) {
                 Ok(0) => return false,
                 Ok(count) => drop(self.output.drain(..count)),
                 Err(error) if error.kind() == ErrorKind::WouldBlock => return true,

@@ -11,7 +11,8 @@ use openssl::x509::extension::{BasicConstraints, SubjectAlternativeName};
 use openssl::x509::{X509Builder, X509NameBuilder, X509};
 use rignolda::net::Line as _;
 use rignoldad::config::{Address, Tls};
-use rignoldad::line::{Line, Listener, Maker, Place};
+use rignoldad::line::{Line, Listener, Maker};
+use socket2::SockAddr;
 use std::fs;
 use std::io::{ErrorKind, Read, Write};
 use std::net::{SocketAddr, TcpStream};
@@ -98,8 +99,7 @@ fn maker(folder: &Path, name: &str, pair: &Pair, authority: &X509) -> Maker {
 
 fn listen() -> (Listener, SocketAddr) {
     let listener = Listener::new(&Address::Tcp("127.0.0.1:0".into())).unwrap();
-    let Listener::Tcp(it) = &listener else { unreachable!() };
-    let address = it.local_addr().unwrap();
+    let address = listener.socket.local_addr().unwrap().as_socket().unwrap();
     (listener, address)
 }
 
@@ -145,7 +145,7 @@ fn exchange(ends: [&mut Line; 2], bytes: usize) -> Result<(), String> {
 /// A connection of two makers, after it was tried.
 fn connected(above: &Maker, below: &Maker) -> Result<[Line; 2], String> {
     let (listener, address) = listen();
-    let mut down = below.connect(&Place::Tcp(address)).unwrap();
+    let mut down = below.connect(&address.into()).unwrap();
     let mut up = accept(above, &listener);
     exchange([&mut up, &mut down], 100).map(|()| [up, down])
 }
@@ -173,7 +173,7 @@ fn a_socket_of_a_path_is_a_line_too() {
     assert!(Listener::new(&Address::Unix(path.clone())).is_err());
     let maker = Maker::new(None, TIMEOUT).unwrap();
     drop(accept(&maker, &listener)); // of the one that asked whether it is in use
-    let mut down = maker.connect(&Place::Unix(path)).unwrap();
+    let mut down = maker.connect(&SockAddr::unix(path).unwrap()).unwrap();
     let mut up = accept(&maker, &listener);
     exchange([&mut up, &mut down], 100_000).unwrap();
 }
@@ -183,7 +183,7 @@ fn nobody_there_is_an_error_when_it_is_used() {
     let (listener, address) = listen();
     drop(listener);
     let maker = Maker::new(None, TIMEOUT).unwrap();
-    let Ok(mut line) = maker.connect(&Place::Tcp(address)) else { return };
+    let Ok(mut line) = maker.connect(&address.into()) else { return };
     let end = Instant::now() + TIMEOUT;
     while matches!(line.write(b"x"), Err(e) if e.kind() == ErrorKind::WouldBlock) {
         assert!(Instant::now() < end);
