@@ -1,0 +1,130 @@
+#!/usr/bin/env python3
+"""Judges logs of agents by `rignolda judge`: what stands between two moments, as one job.
+
+    tests/daemon/judge.py FILE..    judges trials that long.py kept; the last line is
+                                    'N passed, M failed', with one case for each count of an agent
+
+The program is the one of tests/check_tables.py. `job_of` makes a job of the logs of any agents.
+"""
+import json
+import subprocess
+import sys
+import tempfile
+from pathlib import Path
+
+sys.dont_write_bytecode = True
+sys.path.insert(0, str(Path(__file__).resolve().parent.parent))
+
+from tables.program import program
+
+GARBAGE = 2 ** 32 - 1       # an item that nobody publishes
+
+
+def job_of(above, published, counts, hold):
+    """A job with logs: the parent of each agent but the root, the numbers that the root published,
+    and for each agent that is judged the place in them where its count begins and what it received
+    since the moment. A node may have had `hold` numbers for each of its children. An item of the job is a
+    number in the order in which it is met here, since numbers of agents may be larger."""
+    root = next(parent for parent in above.values() if parent not in above)
+    names = [root, *above]
+    known = {}
+    item = lambda number: GARBAGE if number is None else known.setdefault(number, len(known))
+    first = min([place for place, _ in counts.values()], default=len(published))
+    return names, {
+        "version": 2, "h": hold, "capacity": 1, "labels": 4,
+        "tree": [{"name": root}] + [{"name": name, "parent": parent}
+                                    for name, parent in above.items()],
+        "items": [item(number) for number in published[first:]],
+        "received": [[item(number) for number in counts.get(name, (0, []))[1]] for name in names],
+        "from": [counts[name][0] - first if name in counts else 0 for name in names],
+    }
+
+
+def said_of(file, job):
+    """What the program says of a job: nothing where it obeys."""
+    done = subprocess.run([file, "judge"], input=json.dumps(job).encode(), capture_output=True)
+    text = done.stdout.decode()
+    if (done.returncode, text) == (0, "obeys\n"):
+        return None
+    if done.returncode != 1 or not text:
+        raise RuntimeError(f"status {done.returncode}: {done.stderr.decode()}")
+    return text
+
+
+def broken_in(file, above, published, counts, hold):
+    """What is wrong between two moments, by the agent's name. The list of the root begins for its
+    child with what the child had last or, where that was acknowledged, with the next number: so an
+    agent is wrong where both are refused."""
+    counts, moved, wrong = dict(counts), set(), {}
+    while True:
+        _, job = job_of(above, published, counts, hold)
+        text = said_of(file, job)
+        if text is None:
+            return wrong
+        name = text.split(":", 1)[0]
+        place, received = counts.pop(name)
+        if name in moved:
+            wrong[name] = text
+        else:
+            moved.add(name)
+            counts[name] = (min(place + 1, len(published)), received)
+
+
+def judge(file, cuts, texts, above, hold):
+    """Judges logs as `judge` of long.py does: what is wrong, as (part, agent, text), and how many
+    counts of agents were judged and left out."""
+    import long
+    logs = {name: long.lines_of(text) for name, text in texts.items()}
+    root = logs["root"]
+    wrong, judged, left_out = [], 0, 0
+    for at, (start, end) in enumerate(zip(cuts, cuts[1:])):
+        part = {name: log[start[name]:end[name]] for name, log in logs.items()}
+        begun = max([place for place, line in enumerate(root[:end["root"]])
+                     if line.startswith("start ")], default=0)
+        if begun >= start["root"]:
+            left_out += len(above)
+            continue
+        published = long.numbers(root[begun:end["root"]], "published")
+        counts = {}
+        for name in above:
+            path = [name]
+            while path[0] in above:
+                path.insert(0, above[path[0]])
+            path = path[1:]
+            if any(long.began_anew(part, step, above[step]) for step in path):
+                left_out += 1
+                continue
+            first = long.first_offered(root[begun:start["root"]], logs[path[0]][:start[path[0]]],
+                                       part[path[0]], path[0])
+            place = len(published) if first is None else \
+                sum(number < first for number in published)
+            counts[name] = (place, long.numbers(part[name], "received"))
+        judged += len(counts)
+        wrong += [(at, name, text)
+                  for name, text in broken_in(file, above, published, counts, hold).items()]
+    return wrong, judged, left_out
+
+
+def main():
+    import long
+    passed = failed = 0
+    with tempfile.TemporaryDirectory() as room:
+        file = program("rignolda", room)
+        if file is None:
+            print("judge: no rignolda was built of these sources: run ./release.sh, or ./gate")
+            print("0 passed, 1 failed")
+            return 1
+        for name in sys.argv[1:]:
+            kept = json.loads(Path(name).read_text())
+            wrong, judged, left_out = judge(file, kept["cuts"], kept["logs"], kept["above"],
+                                            long.LIMIT)
+            for at, agent, text in wrong:
+                print(f"{name}: part {at}: {text.splitlines()[0]}")
+            print(f"{name}: {judged} counts judged, {left_out} left out")
+            passed, failed = passed + judged - len(wrong), failed + len(wrong)
+    print(f"{passed} passed, {failed} failed")
+    return 1 if failed or not passed else 0
+
+
+if __name__ == "__main__":
+    sys.exit(main())
