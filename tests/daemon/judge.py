@@ -23,8 +23,8 @@ GARBAGE = 2 ** 32 - 1       # an item that nobody publishes
 def job_of(above, published, counts, hold):
     """A job with logs: the parent of each agent but the root, the numbers that the root published,
     and for each agent that is judged the place in them where its count begins and what it received
-    since the moment. A node may have had `hold` numbers for each of its children. An item of the job is a
-    number in the order in which it is met here, since numbers of agents may be larger."""
+    since the moment. A node may have had `hold` numbers for each of its children. An item of the
+    job is a number in the order in which it is met here, since numbers of agents may be larger."""
     root = next(parent for parent in above.values() if parent not in above)
     names = [root, *above]
     known = {}

@@ -23,7 +23,7 @@ FILES = {"job": JOB, "report": LINK}
 
 # Commands that read a job, in the place of the word FILE.
 READERS = ["bounds FILE", "draw FILE", "draw --svg FILE", "explain FILE", "check FILE report",
-           "scenario FILE"]
+           "judge FILE", "scenario FILE"]
 
 # A file that is not there, a folder, and a file that is one byte too long.
 UNREAD = [

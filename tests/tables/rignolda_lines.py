@@ -14,6 +14,7 @@ Commands:
   check     Says whether a report of a job obeys the laws, or which part of it is broken
   draw      Draws the run of a link job, a schedule or a scenario, a line for each event
   explain   Says what is wrong with a link job or a job of a tree, and where
+  judge     Says whether logs since a fault obey the laws, or at which node they do not
   random    Prints a job of a tree with random garbage in it, the same for the same options
   scenario  Says what a scenario of acts, rounds and faults makes of a tree
   worst     Prints a link job that delivers as many strays and misses as many items as can be

@@ -39,6 +39,10 @@ pub enum Request {
     Scenario {
         file: Option<String>,
     },
+    /// Say whether the logs of a job obey; it is read from standard input where no file is named.
+    Judge {
+        file: Option<String>,
+    },
     /// Say whether a report of a job obeys; where no file is named, that one is on standard input.
     Check {
         job: Option<String>,
@@ -78,6 +82,7 @@ fn job_request(alloc: Global, word: &str, matches: &ArgMatches<'_>) -> Result<Re
     Ok(match word {
         "explain" => Request::Explain { file },
         "bounds" => Request::Bounds { file },
+        "judge" => Request::Judge { file },
         "scenario" => Request::Scenario { file },
         _ => Request::Draw {
             svg: matches.get_flag("svg"),

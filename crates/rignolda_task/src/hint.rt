@@ -1,6 +1,7 @@
 //! What is said after a fault of which the kind of the job may be the reason.
 
 use rignolda_acts::{BoundsFault, CheckFault};
+use rignolda_judge::JudgeFault;
 use stab_job::JobFault;
 use stab_script::LinkJobFault;
 use stab_task::CliFault;
@@ -29,6 +30,14 @@ pub(crate) fn hint_of_bounds(fault: BoundsFault) -> &'static str {
     match fault {
         BoundsFault::Job(refusal) => hint_of(refusal),
         BoundsFault::LinkJob => "",
+    }
+}
+
+/// What is said after a fault of logs.
+pub(crate) fn hint_of_judge(fault: JudgeFault) -> &'static str {
+    match fault {
+        JudgeFault::Job(refusal) => hint_of(refusal),
+        JudgeFault::Logs(_) => "",
     }
 }
 

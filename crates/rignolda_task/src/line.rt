@@ -91,6 +91,11 @@ const LINES: &[Line] = &[
         arguments: &[JOB],
     },
     Line {
+        name: "judge",
+        about: "Says whether logs since a fault obey the laws, or at which node they do not",
+        arguments: &[JOB],
+    },
+    Line {
         name: "random",
         about: "Prints a job of a tree with random garbage in it, the same for the same options",
         arguments: &[

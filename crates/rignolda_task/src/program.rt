@@ -2,6 +2,7 @@ use crate::bounds::bounds_of;
 use crate::check::check_of;
 use crate::command::{Request, parse};
 use crate::hint::hint_of;
+use crate::judge::judge_of;
 use crate::scenario::{scenario_of, status_of_steps};
 use clap::Error;
 use clap::error::ErrorKind;
@@ -10,14 +11,15 @@ use stab_task::{CliFault, words};
 use std::rt::{Env, Files};
 use std::{fs, io};
 
-/// The status of an explanation in which something was found, and of a report that is broken.
+/// The status of an explanation in which something was found, and of a report or logs that are
+/// broken.
 pub(crate) const FOUND: u8 = 1;
 
 /// The status of a command line that is refused.
 const REFUSED: u8 = 2;
 
 /// Runs the program, prints what it answers, and gives the status to end with: 0, or 1 where a job
-/// or a file is refused, an explanation has a finding or a report does not obey, 2 where the
+/// or a file is refused, an explanation has a finding or a report or logs do not obey, 2 where the
 /// command line is refused, and 3 where a start, memory or a write is.
 ///
 /// A fault is one line on the standard error. Where a job is to be typed at a terminal, a line
@@ -76,6 +78,7 @@ fn done<R: Files + Input + Print + Eprint + AllocGlobal>(
             status_found(rt, explained)
         }
         Request::Bounds { file } => bounds_of(rt, file, is_typed),
+        Request::Judge { file } => judge_of(rt, file, is_typed),
         Request::Scenario { file } => scenario_of(rt, file, is_typed),
         Request::Check { job, report } => check_of(rt, job, report, is_typed),
     }
