@@ -24,8 +24,8 @@ In each browser it looks that
 - a run that the lab writes into an address is drawn as it was, and a spoiled one is refused;
 - the proof steps through states that were worked out by hand, marks what it speaks of, and can be
   played, left, and opened by an address;
-- in Chromium's tree for screen readers each control has a role and a name, and each picture and list a
-  text; a step is announced once;
+- in Chromium's tree for screen readers each control has a role and a name, and each picture and
+  list a text; a step is announced once;
 - the runs on the slides of the lesson are those of the page;
 - a step of the slider, the best of ten, takes less than 50 ms at 4,096 events, at 360 pixels
   nothing is cut off, and nothing but the picture of a page is printed;
@@ -122,7 +122,8 @@ class Chromium:
         return json.loads(said["result"]["value"])
 
     def spoken(self):
-        """What a screen reader is told: of each thing its role, name, description and properties."""
+        """What a screen reader is told: of each thing its role, name, description and
+        properties."""
         value = lambda node, key: node.get(key, {}).get("value", "")
         return [(value(node, "role"), value(node, "name"), value(node, "description"),
                  {one["name"]: one["value"].get("value") for one in node.get("properties", [])})
@@ -409,32 +410,40 @@ SOLVED_TREES = [
 PROOF = [
     (0, [3], 0, "frames"), (0, [3], 0, "acks"), (0, [3], 0, "recv"), (0, [3], 0, "send"),
     (0, [3], 0, "free"), (0, [3], 0, "labels"),
-    (1, [3], 0, "send acks"), (2, [0, 3], 1, "send"), (3, [0, 3], 1, "recv acks"), (5, [0, 3], 2, "send"),
-    (6, [0, 1, 3], 2, "recv"), (9, [0, 1, 3], 3, "send free"), (9, [0, 1, 3], 3, "frames recv acks"),
+    (1, [3], 0, "send acks"), (2, [0, 3], 1, "send"), (3, [0, 3], 1, "recv acks"),
+        (5, [0, 3], 2, "send"),
+    (6, [0, 1, 3], 2, "recv"), (9, [0, 1, 3], 3, "send free"),
+        (9, [0, 1, 3], 3, "frames recv acks"),
     (10, [0, 1, 3], 3, "send next"),
-    (1, [3], 0, "acks"), (2, [0, 3], 0, "acks"), (5, [1, 2, 3], 0, "frames recv"), (7, [1, 2, 3], 0, "send"),
+    (1, [3], 0, "acks"), (2, [0, 3], 0, "acks"), (5, [1, 2, 3], 0, "frames recv"),
+        (7, [1, 2, 3], 0, "send"),
     (10, [0, 1, 3], 3, "frames recv acks"), (11, [0, 1], 3, "frames"), (12, [0, 1, 3], 3, "frames"),
     (14, [0, 1], 3, "recv acks"), (15, [0, 1], 3, "send acks"), (16, [0, 1, 2], 3, "frames recv"),
     (17, [0, 1, 2], 3, "recv"), (19, [0, 1, 2], 3, "acks"), (20, [0, 1, 2], 3, "frames recv acks"),
     (21, [0, 1, 2], 3, "send"),
-    (21, [0, 1, 2], 3, "frames recv acks"), (22, [0, 1, 2], 3, "send next"), (24, [1, 2, 3], 3, "frames recv"),
+    (21, [0, 1, 2], 3, "frames recv acks"), (22, [0, 1, 2], 3, "send next"),
+        (24, [1, 2, 3], 3, "frames recv"),
     (26, [1, 2, 3], 3, "send"), (31, [0, 2, 3], 3, "send next"), (31, [0, 2, 3], 3, ""),
-    (0, [], 0, "labels"), (9, [0, 1], 3, "send"), (10, [0, 1], 3, "send next"), (10, [0, 1], 3, "free"),
+    (0, [], 0, "labels"), (9, [0, 1], 3, "send"), (10, [0, 1], 3, "send next"),
+        (10, [0, 1], 3, "free"),
     (14, [1, 2], 3, "send"),
     (0, [], 0, "labels"), (4, [], 1, "recv"), (7, [], 2, "frames send"), (10, [], 3, "send"),
     (12, [0], 2, "recv acks"), (14, [0], 3, "send"),
 ]
 # how many steps the parts have, and the labels and what is delivered at the end of each
-PROOF_PARTS = [(6, 4, []), (8, 4, [99]), (4, 4, [99, 10]), (10, 4, [99, 13]), (6, 4, [99, 13, 14, 15]),
+PROOF_PARTS = [(6, 4, []), (8, 4, [99]), (4, 4, [99, 10]), (10, 4, [99, 13]),
+    (6, 4, [99, 13, 14, 15]),
     (5, 3, [99, 13]), (6, 2, [99, 11])]
 
 # What is announced now: the texts of the live regions, and which of them are others than before.
 LIVE = """return [...document.querySelectorAll('[role=status], [role=alert], [aria-live]')].map(e => [
-    e.id || e.parentElement.id, e.checkVisibility() && e.getAttribute('aria-live') !== 'off' ? e.textContent : '']);"""
+    e.id || e.parentElement.id, e.checkVisibility() && e.getAttribute('aria-live') !== 'off' ?
+        e.textContent : '']);"""
 
 
 def announced(before, now):
-    return [place for (_, was), (place, text) in zip(before, now, strict=True) if text not in (was, "")]
+    return [place for (_, was), (place, text) in zip(before, now, strict=True)
+        if text not in (was, "")]
 
 
 TREES = """return args[0].map(text => {
@@ -736,16 +745,23 @@ class Checks:
         self.see(f"{name}: a number with a point", "and not a number with a point" in said, said)
 
     def proof(self, browser, name):
-        """Each step of the proof shows what it says, and only the sentence of the step is announced."""
-        self.see(f"{name}: the steps of the proof", sum(count for count, _, _ in PROOF_PARTS) == len(PROOF)
+        """Each step of the proof shows what it says, and only the sentence of the step is
+        announced."""
+        self.see(f"{name}: the steps of the proof",
+            sum(count for count, _, _ in PROOF_PARTS) == len(PROOF)
             == browser.run("return PROOF_STEPS.length"))
-        state = """const marked = e => /rgb/.test(getComputedStyle(e).boxShadow), ring = $('ring'), link = linkAt(job, at);
-            return { is: [at, [...$('labels').querySelectorAll('.free')].map(e => Number(e.firstChild.data)), link.missing,
-                    ring.dataset.mark], labels: job.labels, delivered: link.delivered, send: link.send,
+        state = """const marked = e => /rgb/.test(getComputedStyle(e).boxShadow), ring = $('ring'),
+            link = linkAt(job, at);
+            return { is: [at, [...$('labels').querySelectorAll('.free')].map(e =>
+                Number(e.firstChild.data)), link.missing,
+                    ring.dataset.mark], labels: job.labels, delivered: link.delivered,
+                        send: link.send,
                 frames: [...$('frames').querySelectorAll('button')].map(marked),
                 acks: [...$('acks').querySelectorAll('button')].map(marked),
-                ends: [marked($('of-send')), marked($('of-recv'))], chips: [...$('labels').children].map(marked),
-                ways: [...ring.querySelectorAll('svg path')].map(e => getComputedStyle(e).stroke) };"""
+                ends: [marked($('of-send')), marked($('of-recv'))],
+                    chips: [...$('labels').children].map(marked),
+                ways: [...ring.querySelectorAll('svg path')].map(e =>
+                    getComputedStyle(e).stroke) };"""
         browser.run("show(RUNS['A clean start'], 'x');")
         before, step, plain = browser.run(LIVE), 0, browser.run(state)["ways"][0]
         for part, (count, labels, delivered) in enumerate(PROOF_PARTS):
@@ -759,9 +775,12 @@ class Checks:
                 self.see(f"{name}: step {step + 1} of the proof",
                     said["is"] == list(PROOF[step]) and said["labels"] == labels, said)
                 self.see(f"{name}: what step {step + 1} of the proof marks",
-                    set(said["frames"]) <= {"frames" in marks} and set(said["acks"]) <= {"acks" in marks}
-                    and said["ends"] == ["send" in marks, "recv" in marks] and said["chips"] == chips
-                    and [way != plain for way in said["ways"]] == ["frames" in marks, "acks" in marks], said)
+                    set(said["frames"]) <= {"frames" in marks}
+                        and set(said["acks"]) <= {"acks" in marks}
+                    and said["ends"] == ["send" in marks, "recv" in marks]
+                        and said["chips"] == chips
+                    and [way != plain for way in said["ways"]] == ["frames" in marks,
+                        "acks" in marks], said)
                 changed = announced(before, live)
                 self.see(f"{name}: step {step + 1} of the proof is announced once",
                     changed == ["proof-says"], changed)
@@ -770,21 +789,28 @@ class Checks:
                 said["delivered"] == delivered, said)
         place = "return [proofAt, at, $('proof').hidden, $('proof-part').value, $('ring').dataset.mark];"
         key = "document.body.dispatchEvent(new KeyboardEvent('keydown', {key: args[0], bubbles: true}));" + place
-        self.see(f"{name}: the proof ends", browser.run("$('proof-forth').click();" + place)[0] == 44)
-        self.see(f"{name}: the left key in the proof", browser.run(key, "ArrowLeft")[:2] == [43, 12])
-        self.see(f"{name}: the first step by a key", browser.run(key, "Home") == [0, 0, False, "0", "frames"])
+        self.see(f"{name}: the proof ends",
+            browser.run("$('proof-forth').click();" + place)[0] == 44)
+        self.see(f"{name}: the left key in the proof",
+            browser.run(key, "ArrowLeft")[:2] == [43, 12])
+        self.see(f"{name}: the first step by a key",
+            browser.run(key, "Home") == [0, 0, False, "0", "frames"])
         said = browser.run("$('proof-part').value = 3; $('proof-part').onchange();" + place)
-        self.see(f"{name}: a part of the proof", said == [18, 10, False, "3", "frames recv acks"], said)
+        self.see(f"{name}: a part of the proof", said == [18, 10, False, "3", "frames recv acks"],
+            said)
         said = browser.run("happen('send_frame'); const own = $('happened').getAttribute('aria-live');"
             + place.replace("];", ", own];"))
-        self.see(f"{name}: an own event in the proof", said == [18, 11, False, "3", "", "polite"], said)
+        self.see(f"{name}: an own event in the proof", said == [18, 11, False, "3", "", "polite"],
+            said)
         said = browser.run("$('proof-forth').click();" + place)
         self.see(f"{name}: and on with the proof", said == [19, 11, False, "3", "frames"], said)
         said = browser.run("share(); const had = location.hash; $('proof-leave').click();"
             + place.replace("];", ", had, document.activeElement.id];"))
-        self.see(f"{name}: the proof is left", said[0] == -1 and said[2] and said[4:] == ["", "#proof=20",
+        self.see(f"{name}: the proof is left",
+            said[0] == -1 and said[2] and said[4:] == ["", "#proof=20",
             "proof-begin"], said)
-        for address, wanted in (("#proof=24", [23, 16]), ("#proof", [0, 0]), ("#proof=99", [44, 14])):
+        for address, wanted in (("#proof=24", [23, 16]), ("#proof", [0, 0]),
+            ("#proof=99", [44, 14])):
             browser.go(PAGE.as_uri() + address)
             self.wait(browser)
             said = browser.run(place)
@@ -799,7 +825,8 @@ class Checks:
             seen.observe(document.body, { childList: true, subtree: true });
             $(args[0]).click();
             for (const { target } of seen.takeRecords())
-                if (!target.closest('[aria-hidden], [role=img]')) found.add(target.id || target.parentElement.id);
+                if (!target.closest('[aria-hidden], [role=img]')) found.add(target.id ||
+                    target.parentElement.id);
             seen.disconnect();
             return [...found].sort();"""
         browser.run("proofTo(0);")
@@ -809,9 +836,11 @@ class Checks:
         # the third event of this run puts the label 1 onto the way of the acknowledgements
         browser.run("show(RUNS['The worst start'], 'x', 2);")
         said = browser.run(changes, "forth")
-        self.see(f"{name}: an event changes what it changes alone", said == ["acks", "happened", "rows"], said)
+        self.see(f"{name}: an event changes what it changes alone",
+            said == ["acks", "happened", "rows"], said)
         for begin, forth, again in (("show(RUNS['The worst start'], 'x');", "forth", "draw();"),
-                ("showTree(TREES['Two links under one schedule'], 'x');", "t-forth", "pick(1); pick(2);")):
+                ("showTree(TREES['Two links under one schedule'], 'x');", "t-forth",
+                    "pick(1); pick(2);")):
             browser.run(begin)
             before = browser.run(LIVE)
             for k in range(12):
@@ -821,22 +850,27 @@ class Checks:
                 self.see(f"{name}: event {k + 1} is announced once by {forth}",
                     changed == [forth.replace("forth", "happened")], changed)
                 before = live
-            said = browser.run("const had = $(args[0]).firstChild; " + again + " return had === $(args[0]).firstChild;",
+            said = browser.run("const had = $(args[0]).firstChild; " + again
+                + " return had === $(args[0]).firstChild;",
                 forth.replace("forth", "happened"))
             self.see(f"{name}: what is drawn again is not announced again by {forth}", said)
 
     def spoken(self, browser, name):
         """Chromium's tree for screen readers, in every state of the page."""
-        controls = {"button", "combobox", "spinbutton", "slider", "checkbox", "textbox", "DisclosureTriangle"}
-        for state in ("show(RUNS['The worst start'], 'x', 6);", "show(RUNS['The worst start of capacity two'], 'x', 20);",
-                "show(readJob(args[0]), 'x', 9);", "proofTo(20);", "$('tasks').children[3].click();",
+        controls = {"button", "combobox", "spinbutton", "slider", "checkbox", "textbox",
+            "DisclosureTriangle"}
+        for state in ("show(RUNS['The worst start'], 'x', 6);",
+            "show(RUNS['The worst start of capacity two'], 'x', 20);",
+                "show(readJob(args[0]), 'x', 9);", "proofTo(20);",
+                    "$('tasks').children[3].click();",
                 "$('asks').checked = true; show(RUNS['The worst start'], 'x', 1); $('forth').click();",
                 "document.querySelectorAll('details').forEach(e => { e.open = true; });",
                 "showTree(TREES['A clean tree'], 'x', 20);", "$('t-tasks').children[1].click();",
                 "showTree(TREES['A clean chain, nothing done yet'], 'x'); $('t-rest').click(); $('t-strike').click();"):
             browser.run(state, long_job())
             tree = browser.spoken()
-            nameless = [one for one in tree if one[0] in controls | {"image", "region", "columnheader"} and not one[1]]
+            nameless = [one for one in tree
+                if one[0] in controls | {"image", "region", "columnheader"} and not one[1]]
             self.see(f"{name}: all has a name after {state[:50]}", not nameless, nameless)
             roleless = [one for one in tree if one[3].get("focusable") and one[0] not in controls
                         | {"RootWebArea", "option", "region", "list", "group"}]
@@ -845,21 +879,27 @@ class Checks:
             self.see(f"{name}: nothing is said twice after {state[:50]}", not twice, twice)
             texts = [one[1] for one in tree]
             self.see(f"{name}: the picture has a text after {state[:50]}",
-                any(text.startswith(("The run as a picture: ", "The tree: ")) for text in texts), texts)
+                any(text.startswith(("The run as a picture: ", "The tree: ")) for text in texts),
+                    texts)
         browser.run("$('asks').checked = false; show(RUNS['The worst start'], 'x', 6);"
             "document.querySelectorAll('details').forEach(e => { e.open = false; });")
         tree = browser.spoken()
         named = lambda role: [one[1] for one in tree if one[0] == role]
-        # after six events: no message is on the line, the receiver remembers 2, and 99 was delivered
+        # after six events: no message is on the line, the receiver remembers 2, and 99 was
+        # delivered
         items = named("listitem")
-        self.see(f"{name}: the labels and items are said", sorted(filter(None, items)) == ["0: nowhere",
+        self.see(f"{name}: the labels and items are said",
+            sorted(filter(None, items)) == ["0: nowhere",
             "10: acknowledged and missing", "11: acknowledged and missing", "1: nowhere",
-            "2: in the link, the sender's", "3: nowhere", "99: a stray, from place 0 of the start's frames"], items)
+            "2: in the link, the sender's", "3: nowhere",
+            "99: a stray, from place 0 of the start's frames"], items)
         browser.run("go(0);")
         tree = browser.spoken()
-        self.see(f"{name}: the messages are said", [name for name in named("button") if "label" in name] == [
+        self.see(f"{name}: the messages are said",
+            [name for name in named("button") if "label" in name] == [
             "front: label 2, item 99, from the start",
-            "front: label 0, from the start, the sender's label, but not from its item"], named("button"))
+            "front: label 0, from the start, the sender's label, but not from its item"],
+            named("button"))
 
     def lab(self, browser, name):
         """Runs of wrong ends, as lab/check_ends.py writes them into an address."""
@@ -946,11 +986,14 @@ class Checks:
                     'button, input, select, textarea, summary')].filter(e =>
                 e.checkVisibility() && !e.classList.contains('msg')).length""")
             self.see(f"{name}: no control is printed", said == 0, said)
-            said = browser.run("""return ['.table', '.table thead th'].map(s => getComputedStyle(document.querySelector(s)))
+            said = browser.run("""return ['.table',
+                '.table thead th'].map(s => getComputedStyle(document.querySelector(s)))
                 .map((style, i) => i ? style.position : style.maxHeight)""")
-            self.see(f"{name}: the table is printed whole, its head where it begins", said == ["none", "static"], said)
+            self.see(f"{name}: the table is printed whole, its head where it begins",
+                said == ["none", "static"], said)
             said = browser.run("proofTo(7); return [$('proof-name'), $('proof-says'), $('proof-forth')].map(e => e.checkVisibility())")
-            self.see(f"{name}: the sentence of the proof is printed", said == [True, True, False], said)
+            self.see(f"{name}: the sentence of the proof is printed", said == [True, True, False],
+                said)
             browser.ask("Emulation.setEmulatedMedia", media="")
 
     def faults(self, browser, name):
