@@ -68,8 +68,8 @@ def text_of(names, parents, capacities, hold, items, received, places):
         if fault is None:
             continue
         if fault == "strays":
-            head = (f"{name}: it received more strays than C + E = {strays}, or published items out "
-                    f"of order or twice\n")
+            head = (f"{name}: it received more strays than C + E = {strays}, or published items "
+                    f"out of order or twice\n")
         else:
             head = (f"{name}: published items before its last one are missing, not only among the "
                     f"first M = {missing}\n")
