@@ -206,6 +206,23 @@ stab tree: accepted
 backlogs: null; the backlogs are a list of lists of items, one for each node
 stab tree: accepted
 """),
+    ('"items"', '"received":[[],8,[9,-1]],"from":[0,1],"items"', """\
+received[1]: 8; a log is a list of items, which its node received
+received[2][1]: -1; an item is a whole number from 0 to 4294967295
+from: 2 places for 3 nodes; there is one for each node, in their order
+stab tree: accepted
+"""),
+    ('"items"', '"received":[[]],"from":[0,"1",4294967296],"items"', """\
+received: 1 lists for 3 nodes; there is one for each node, in their order
+from[1]: the text "1"; a place is a whole number from 0 to 4294967295
+from[2]: 4294967296; a place is a whole number from 0 to 4294967295
+stab tree: accepted
+"""),
+    ('"items"', '"received":{},"from":"0","items"', """\
+received: an object; the logs are a list of lists of items, one for each node
+from: the text "0"; the places where counts begin are a list of whole numbers, one for each node
+stab tree: accepted
+"""),
 ]
 
 SHAPES = [
@@ -352,7 +369,8 @@ ROWS = [
         replaced(JOB, '"items"',
                  '"steps":[["site-a","offer"],["rack_1","lose_ack",0],["publish",[3]],'
                  '["strike","rack_1",{"frames":[[1,2]],"send":0,"recv":1}],["restart","hub",[4]],'
-                 '["rounds",2],["reading_rounds",0]],"backlogs":[[],[7],[]],"items"'),
+                 '["rounds",2],["reading_rounds",0]],"backlogs":[[],[7],[]],'
+                 '"received":[[],[7],[]],"from":[],"items"'),
         out="stab tree: accepted\n"),
     Row("explains a file", ["explain", "job"], files={"job": JOB}, out="stab tree: accepted\n"),
 ]

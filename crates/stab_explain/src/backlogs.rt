@@ -27,33 +27,60 @@ pub(crate) fn look_at_backlogs(
 
 /// Looks at each backlog, and how many there are.
 fn look_at_all(notes: &mut Notes, lists: &[Value], tree: &Tree) -> Result<(), AllocError> {
-    for (i, list) in lists.iter().enumerate() {
-        if notes.is_done() {
-            break;
-        }
-        look_at_one(notes, Place::member("backlogs").entry(i), list)?;
-    }
+    look_at_lists(notes, "backlogs", lists, BACKLOG)?;
     if lists.len() != usize::from(tree.len()) {
-        return notes.add(
-            Matter::Command,
-            &Place::member("backlogs"),
-            &[
-                Piece::Number(lists.len() as u64),
-                Piece::Words(" lists for "),
-                Piece::Number(u64::from(tree.len())),
-                Piece::Words(" nodes; there is one for each node, in their order"),
-            ],
-        );
+        return add_number(notes, "backlogs", lists.len(), " lists for ", tree);
     }
     look_at_root(notes, lists, tree)
 }
 
-/// Looks whether a backlog is a list of items.
-fn look_at_one(notes: &mut Notes, place: Place<'_>, list: &Value) -> Result<(), AllocError> {
+/// Looks whether each entry of a member is a list of items.
+pub(crate) fn look_at_lists(
+    notes: &mut Notes,
+    member: &str,
+    lists: &[Value],
+    want: &str,
+) -> Result<(), AllocError> {
+    for (i, list) in lists.iter().enumerate() {
+        if notes.is_done() {
+            break;
+        }
+        look_at_one(notes, Place::member(member).entry(i), list, want)?;
+    }
+    Ok(())
+}
+
+/// Looks whether an entry is a list of items.
+fn look_at_one(
+    notes: &mut Notes,
+    place: Place<'_>,
+    list: &Value,
+    want: &str,
+) -> Result<(), AllocError> {
     match list {
         Value::Array(items) => look_at_list(notes, place, items.as_slice()),
-        _ => add_found(notes, place, list, BACKLOG),
+        _ => add_found(notes, place, list, want),
     }
+}
+
+/// Says that a member has another number of entries than there are nodes.
+pub(crate) fn add_number(
+    notes: &mut Notes,
+    member: &str,
+    entries: usize,
+    words: &str,
+    tree: &Tree,
+) -> Result<(), AllocError> {
+    notes.add(
+        Matter::Command,
+        &Place::member(member),
+        &[
+            Piece::Number(entries as u64),
+            Piece::Words(words),
+            Piece::Number(u64::from(tree.len())),
+            Piece::Words(" nodes; there is one for each node, in their order"),
+        ],
+    )
 }
 
 /// Looks whether the root has a backlog.

@@ -5,6 +5,7 @@ use crate::links::{
     look_at_count, look_at_link_params, look_at_lists_of_links, look_at_members_of_links,
     look_at_starts,
 };
+use crate::logs::look_at_logs;
 use crate::openings::{look_at_opening_lists, look_at_openings};
 use crate::schedule::{look_at_root_steps, look_at_schedule};
 use crate::scripts::look_at_made_scripts;
@@ -49,7 +50,7 @@ const FIRST_MEMBERS: Known = Known {
     what: "a job",
     names: &[
         "version", "capacity", "labels", "tree", "items", "links", "starts", "scripts", "turns",
-        "schedule", "steps", "backlogs",
+        "schedule", "steps", "backlogs", "received", "from",
     ],
     idle: &["h", "openings"],
     reason: "without \"version\": 2",
@@ -60,7 +61,7 @@ const SECOND_MEMBERS: Known = Known {
     what: "a job",
     names: &[
         "version", "capacity", "labels", "tree", "items", "links", "starts", "scripts", "turns",
-        "schedule", "steps", "backlogs", "h", "openings",
+        "schedule", "steps", "backlogs", "received", "from", "h", "openings",
     ],
     idle: &[],
     reason: "",
@@ -169,7 +170,8 @@ fn look_over_tree(
     look_at_starts(notes, value, tree)?;
     look_at_root_steps(notes, value.get("schedule"), tree)?;
     look_at_steps(notes, value, tree)?;
-    look_at_backlogs(notes, value.get("backlogs"), tree)
+    look_at_backlogs(notes, value.get("backlogs"), tree)?;
+    look_at_logs(notes, value, tree)
 }
 
 /// Looks at how many items and steps there are.

@@ -14,6 +14,7 @@ mod backlogs;
 mod explained;
 mod job;
 mod links;
+mod logs;
 mod openings;
 mod reader;
 mod schedule;
