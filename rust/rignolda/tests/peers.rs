@@ -122,6 +122,9 @@ struct Net {
     agents: BTreeMap<String, Agent>,
     now: Instant,
     lives: u64,
+    made: u64,
+    /// Those that act in one step of so many.
+    slow: BTreeMap<String, u64>,
 }
 
 fn parent(name: &str, address: Option<&str>) -> Parent<String> {
@@ -154,6 +157,8 @@ impl Net {
             agents: BTreeMap::new(),
             now: Instant::now(),
             lives: 0,
+            made: 0,
+            slow: BTreeMap::new(),
         };
         setups.into_iter().for_each(|setup| net.start(setup));
         net
@@ -179,13 +184,17 @@ impl Net {
     /// Each agent does all that it can do now.
     fn step(&mut self) {
         self.now += STEP;
+        self.made += 1;
         let now = self.now;
         let names: Vec<String> = self.agents.keys().cloned().collect();
         for name in names {
+            if self.slow.get(&name).map_or(false, |of| self.made % of != 0) {
+                continue;
+            }
             let agent = self.agent(&name);
-            agent.peers.tick(now, &mut agent.said);
             let ids: Vec<u64> = agent.peers.lines().map(|(id, ..)| id).collect();
             agent.peers.read(ids, now, &mut agent.said);
+            agent.peers.tick(now, &mut agent.said);
             agent.peers.write(now, &mut agent.said);
             while let Some(call) = {
                 let agent = self.agent(&name);
@@ -202,6 +211,7 @@ impl Net {
                     .ok_or_else(|| "nobody is there".into());
                 let agent = self.agent(&name);
                 agent.peers.called(call, made, now, &mut agent.said);
+                agent.peers.write(now, &mut agent.said);
             }
         }
     }
@@ -552,6 +562,24 @@ fn who_does_not_answer_is_left() {
         net.agent("root").peers.relay().child("a").unwrap().timeouts,
         1
     );
+}
+
+/// A child that needs three times as long for an answer as it may take: it is given more, and not
+/// left again and again.
+#[test]
+fn who_is_slow_gets_everything() {
+    for way in WAYS {
+        let mut net = path(way);
+        net.slow.insert("a".into(), 150);
+        net.publish("root", "T0");
+        (1..20).for_each(|at| net.publish("root", &at.to_string()));
+        net.steps(150 * 60);
+        let all = net.agent("root").said.items.clone();
+        assert_eq!(net.agent("a").said.items, all, "{way:?}");
+        assert_eq!(net.agent("b").said.items, all, "{way:?}");
+        let timeouts = net.agent("root").peers.relay().child("a").unwrap().timeouts;
+        assert!((1..10).contains(&timeouts), "{way:?}: {timeouts}");
+    }
 }
 
 #[test]

@@ -52,7 +52,9 @@ pub struct Setup<A> {
     pub parents: Vec<Parent<A>>,
     /// Those below.
     pub children: Children<A>,
-    /// How long the answer to a frame, or a hello, may take before the connection is left.
+    /// How long the answer to a frame, or a hello, may take before the connection is left. Who was
+    /// late is given twice the time at each try, and a child twice what its last answer took, but at
+    /// most 32 times this: so one that is slow is served slowly, and not again and again in vain.
     pub ack_timeout: Duration,
     /// How long a child may be away before its backlog is dropped.
     pub evict: Duration,
@@ -366,7 +368,7 @@ impl<L: Line, A: Clone + PartialEq + fmt::Display> Peers<L, A> {
     /// Takes a line that was accepted. Of those whose hello has not come, one too many drives the
     /// oldest one out.
     pub fn accept(&mut self, line: L, now: Instant, to: &mut dyn Handler) {
-        self.open(line, None, now);
+        self.open(line, None, now + self.setup.ack_timeout);
         let greeting = self.conns.iter().filter(|(_, conn)| conn.whom.is_none());
         let greeting: Vec<u64> = greeting.map(|(id, _)| *id).collect();
         if greeting.len() > GREETING {
@@ -374,7 +376,7 @@ impl<L: Line, A: Clone + PartialEq + fmt::Display> Peers<L, A> {
         }
     }
 
-    fn open(&mut self, line: L, whom: Option<(Whom, Connection)>, now: Instant) -> u64 {
+    fn open(&mut self, line: L, whom: Option<(Whom, Connection)>, until: Instant) -> u64 {
         self.made += 1;
         let conn = Conn {
             line,
@@ -384,7 +386,7 @@ impl<L: Line, A: Clone + PartialEq + fmt::Display> Peers<L, A> {
             input: Vec::new(),
             output: VecDeque::new(),
             written: 0,
-            until: Some(now + self.setup.ack_timeout),
+            until: Some(until),
         };
         self.conns.insert(self.made, conn);
         self.made
@@ -479,7 +481,8 @@ impl<L: Line, A: Clone + PartialEq + fmt::Display> Peers<L, A> {
         if let Some(dial) = self.dials.get_mut(&call.whom) {
             dial.under_way = true;
         }
-        let id = self.open(line, Some((call.whom.clone(), number)), now);
+        let patience = self.setup.ack_timeout * (1 << call.failed.min(5));
+        let id = self.open(line, Some((call.whom.clone(), number)), now + patience);
         if call.whom == Whom::Parent {
             self.above = Some(id);
         }
@@ -610,10 +613,10 @@ impl<L: Line, A: Clone + PartialEq + fmt::Display> Peers<L, A> {
         for id in late {
             let whom = self.conns.get(&id).filter(|conn| conn.greeted.is_some());
             if let Some((Whom::Child(name), _)) = whom.and_then(|conn| conn.whom.clone()) {
-                self.relay
-                    .child_mut(&name)
-                    .into_iter()
-                    .for_each(|link| link.timeouts += 1);
+                if let Some(link) = self.relay.child_mut(&name) {
+                    link.timeouts += 1;
+                    link.late = link.late.saturating_add(1);
+                }
             }
             self.close(id, "nothing came in time", now, to);
         }
@@ -732,6 +735,13 @@ impl<L: Line, A: Clone + PartialEq + fmt::Display> Peers<L, A> {
                     // (else whoever acknowledges without end would be sent to without end)
                     if conn.until.take().is_none() || !conn.output.is_empty() {
                         return Err("it acknowledges what was not sent");
+                    }
+                    // (the first one after a hello may be no answer)
+                    if let Some(link) = self.relay.child_mut(&name) {
+                        if let Some(sent) = link.sent {
+                            link.late = 0;
+                            link.took = now - sent;
+                        }
                     }
                     self.relay.on_ack(&name, number, label);
                     self.poll(&name, now);
@@ -867,9 +877,10 @@ impl<L: Line, A: Clone + PartialEq + fmt::Display> Peers<L, A> {
         to.on_fact("connected", format_args!("{name}{count}"));
         self.children.insert(name.into(), id);
         self.begins(id, Whom::Child(name.into()), number, now);
+        let patience = self.patience(name);
         match self.conns.get_mut(&id) {
             // (a child that accepted has the first turn)
-            Some(conn) if made.is_some() => conn.until = Some(now + self.setup.ack_timeout),
+            Some(conn) if made.is_some() => conn.until = Some(now + patience),
             _ => self.say_hello(id, name.into()),
         }
         self.poll(name, now);
@@ -944,8 +955,19 @@ impl<L: Line, A: Clone + PartialEq + fmt::Display> Peers<L, A> {
         names.iter().for_each(|name| self.poll(name, now));
     }
 
+    /// How long a child's next answer may take.
+    fn patience(&self, name: &str) -> Duration {
+        let most = self.setup.ack_timeout * 32;
+        let link = self.relay.child(name);
+        let usual = link.map_or(Duration::ZERO, |link| link.took.saturating_mul(2));
+        let late = link.map_or(0, |link| link.late.min(5));
+        let patience = self.setup.ack_timeout.max(usual).saturating_mul(1 << late);
+        patience.min(most)
+    }
+
     /// Sends a child what is to be sent to it now.
     fn poll(&mut self, name: &str, now: Instant) {
+        let patience = self.patience(name);
         let conn = self
             .children
             .get(name)
@@ -957,7 +979,7 @@ impl<L: Line, A: Clone + PartialEq + fmt::Display> Peers<L, A> {
         if let Some((label, body)) = self.relay.poll(name, now) {
             let length = body.bytes.len();
             let takes = Duration::from_secs(length as u64 / SLOWEST);
-            conn.until = Some(now + self.setup.ack_timeout + takes);
+            conn.until = Some(now + patience + takes);
             let mut head = wire::frame(label, &body);
             if length <= JOINED {
                 head.extend_from_slice(&body.bytes);

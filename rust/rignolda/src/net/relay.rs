@@ -72,8 +72,11 @@ pub struct Link {
     pub sent: Option<Instant>,
     /// How many connections it had.
     pub connections: u64,
-    /// How many were left since nothing came in time. It is counted by the caller.
+    /// How many were left since nothing came in time. It is counted by the caller, and so are those
+    /// since the last answer, and how long that took.
     pub timeouts: u64,
+    pub late: u32,
+    pub took: Duration,
     /// What was counted in earlier counts of the link.
     acknowledged: u64,
     ignored: u64,
@@ -305,6 +308,8 @@ impl Relay {
                 sent: None,
                 connections: 0,
                 timeouts: 0,
+                late: 0,
+                took: Duration::ZERO,
                 acknowledged: 0,
                 ignored: 0,
             };
