@@ -20,6 +20,10 @@ use crate::net::{is_plain, Body, BODY_BYTES};
 use std::collections::{BTreeMap, BTreeSet};
 use std::sync::Arc;
 
+mod waiting;
+
+pub use waiting::{Change, Value, Waiting};
+
 /// The longest key of a setting, in bytes.
 pub const KEY_BYTES: usize = 128;
 /// The longest value of a setting, in bytes.

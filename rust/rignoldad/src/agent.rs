@@ -1,7 +1,7 @@
 //! The loop of an agent: its sockets, timers and files. One thread does all of it but hooks and the
 //! look-up of names, and never waits for anything else than for all of them at once.
 use crate::apply::Applier;
-use crate::config::{Address, Config};
+use crate::config::{Address, Config, Fault};
 use crate::control::{self, ChildStatus, Request, Response, Status};
 use crate::fact;
 use crate::line::{Line, Listener, Maker};
@@ -67,13 +67,8 @@ struct State {
     traces: bool,
 }
 
-/// Runs the agent of this file until it is told to end.
-pub fn run(path: &Path) -> Result<(), String> {
-    let config = Config::read(path).map_err(|faults| {
-        let said: Vec<String> =
-            faults.iter().map(|fault| format!("{}: {fault}", path.display())).collect();
-        said.join("\n")
-    })?;
+/// Runs the agent that this file configures until it is told to end.
+pub fn run(path: &Path, config: Config) -> Result<(), String> {
     let signals = Signals::new().map_err(|e| format!("signals: {e}"))?;
     let mut agent = Agent::new(path, config)?;
     let watchdog = std::env::var("WATCHDOG_USEC").ok().and_then(|text| text.parse().ok());
@@ -92,7 +87,12 @@ pub fn run(path: &Path) -> Result<(), String> {
         let now = Instant::now();
         if fired.contains(&signals.reload.as_raw_fd()) {
             let _ = (&signals.reload).read(&mut [0; 64]);
-            agent.reload(now);
+            match agent.reload(now) {
+                Ok(()) => fact!("reload", "done"),
+                Err(whys) => {
+                    whys.iter().for_each(|why| fact!("reload", "nothing changes: {why}"));
+                }
+            }
         }
         agent.turn(&fired, now);
         if watchdog.is_some_and(|part| now >= watched + part) {
@@ -121,14 +121,11 @@ impl Signals {
 
 /// Tells systemd, where it asked for that.
 fn notify(text: &str) {
-    use std::os::linux::net::SocketAddrExt;
+    use std::os::{linux::net::SocketAddrExt, unix::ffi::OsStrExt};
     let Some(path) = std::env::var_os("NOTIFY_SOCKET") else { return };
-    let path = path.into_encoded_bytes();
-    let address = match path.strip_prefix(b"@") {
+    let address = match path.as_bytes().strip_prefix(b"@") {
         Some(name) => std::os::unix::net::SocketAddr::from_abstract_name(name),
-        None => std::os::unix::net::SocketAddr::from_pathname(std::ffi::OsStr::new(
-            &*String::from_utf8_lossy(&path),
-        )),
+        None => std::os::unix::net::SocketAddr::from_pathname(&path),
     };
     if let (Ok(address), Ok(socket)) = (address, UnixDatagram::unbound()) {
         let _ = socket.send_to_addr(text.as_bytes(), &address);
@@ -164,7 +161,7 @@ impl Handler for State {
             self.round_at = now;
         }
         if let Some(applier) = &mut self.applier {
-            applier.take(meaning, sequence);
+            applier.take(&meaning, sequence);
         }
         is_table
     }
@@ -247,11 +244,9 @@ impl Agent {
         let served = served.chain(self.metrics.iter().flat_map(metrics::Server::descriptors));
         // (a descriptor of theirs may be another one's since)
         wanted.extend(served.map(|(fd, writes)| (fd, (None, writes))));
-        wanted.extend(
-            self.peers
-                .lines()
-                .map(|(id, line, has)| (line.as_raw_fd(), (Some(id), line.wants_write(has)))),
-        );
+        for (id, line, has_output) in self.peers.lines() {
+            wanted.insert(line.as_raw_fd(), (Some(id), line.wants_write(has_output)));
+        }
         for fd in self.watched.keys().filter(|fd| !wanted.contains_key(fd)) {
             // (where it was closed, the system has forgotten it already)
             let _ = self.poller.delete(*fd);
@@ -453,10 +448,8 @@ impl Agent {
         }
         let asked = self.control.as_mut().map(|server| server.ready(fired, now));
         for (ticket, request) in asked.into_iter().flatten() {
-            let response = match request {
-                Ok(request) => self.request(ticket, request, now),
-                Err(why) => Some(Response::Refused(why)),
-            };
+            let response = request.and_then(|request| self.request(ticket, request, now));
+            let response = response.unwrap_or_else(|why| Some(Response::Refused(why)));
             if let (Some(server), Some(response)) = (&mut self.control, response) {
                 control::answer(server, ticket, &response);
             }
@@ -464,76 +457,60 @@ impl Agent {
     }
 
     /// Does what an operator asks for. Nothing where the answer comes later.
-    fn request(&mut self, ticket: Ticket, request: Request, now: Instant) -> Option<Response> {
-        let done = match (request, &mut self.root) {
-            (Request::Status, _) => return Some(Response::Status(Box::new(self.status(now)))),
-            (Request::Tree, _) => {
-                return Some(Response::Tree(self.state.below.tree(&self.status(now), now)));
+    fn request(
+        &mut self,
+        ticket: Ticket,
+        request: Request,
+        now: Instant,
+    ) -> Result<Option<Response>, String> {
+        match (request, &mut self.root) {
+            (Request::Status, _) => {
+                return Ok(Some(Response::Status(Box::new(self.status(now)))));
             }
-            (Request::ChildAdd { name }, _) => self.child_add(&name, now),
-            (Request::ChildRemove { name }, _) => self.peers.remove(&name, now, &mut self.state),
-            (_, None) => Err("it is not the root"),
+            (Request::Tree, _) => {
+                return Ok(Some(Response::Tree(self.state.below.tree(&self.status(now), now))));
+            }
+            (Request::ChildAdd { .. }, _) if self.listeners.is_empty() => {
+                return Err("nobody can connect: there is no `listen`".into());
+            }
+            (Request::ChildAdd { name }, _) => {
+                self.peers.add(&name, None, now)?;
+                self.state.changed = true;
+            }
+            (Request::ChildRemove { name }, _) => self.peers.remove(&name, now, &mut self.state)?,
+            (_, None) => return Err("it is not the root".into()),
+            // (who asked for a change is answered when it is published)
             (Request::Publish { key, value }, Some(root)) => {
-                let done = root.change(&key, Some(&value));
-                return self.later(ticket, key, done);
+                root.change(&key, Some(&value))?;
+                self.asked.push((ticket, key));
+                return Ok(None);
             }
             (Request::Unset { key }, Some(root)) => {
-                let done = root.change(&key, None);
-                return self.later(ticket, key, done);
+                root.change(&key, None)?;
+                self.asked.push((ticket, key));
+                return Ok(None);
             }
-            (Request::Drain, Some(root)) => {
-                root.draining = true;
-                Ok(())
-            }
+            (Request::Drain, Some(root)) => root.draining = true,
             (Request::Resume, Some(root)) => {
                 root.draining = false;
                 root.begin_round(now);
-                Ok(())
             }
-            (Request::Round, Some(root)) => {
-                root.begin_round(now);
-                Ok(())
-            }
-        };
-        Some(done.map_or_else(|why| Response::Refused(why.into()), |()| Response::Done))
-    }
-
-    /// Who asked for a change that was made is answered when it is published.
-    fn later(&mut self, by: Ticket, key: String, made: Result<(), String>) -> Option<Response> {
-        match made {
-            Ok(()) => self.asked.push((by, key)),
-            Err(why) => return Some(Response::Refused(why)),
+            (Request::Round, Some(root)) => root.begin_round(now),
         }
-        None
-    }
-
-    fn child_add(&mut self, name: &str, now: Instant) -> Result<(), &'static str> {
-        if self.listeners.is_empty() {
-            return Err("nobody can connect: there is no `listen`");
-        }
-        self.peers.add(name, None, now)?;
-        self.state.changed = true;
-        Ok(())
+        Ok(Some(Response::Done))
     }
 
     /// Reads the configuration again, and takes what may change while the agent runs.
-    fn reload(&mut self, now: Instant) {
-        let new = match Config::read(&self.path) {
-            Ok(new) => new,
-            Err(faults) => {
-                return faults.iter().for_each(|fault| fact!("reload", "nothing changes: {fault}"));
-            }
-        };
+    fn reload(&mut self, now: Instant) -> Result<(), Vec<String>> {
+        let whys = |faults: Vec<Fault>| faults.iter().map(Fault::to_string).collect::<Vec<_>>();
+        let new = Config::read(&self.path).map_err(whys)?;
         for key in self.config.at_a_start_alone(&new) {
             fact!("reload", "{key} counts from a start alone");
         }
         if new.root.is_some() != self.root.is_some() {
-            return fact!("reload", "nothing changes: a root is one from its start alone");
+            return Err(vec!["a root is one from its start alone".into()]);
         }
-        match maker(&new) {
-            Ok(maker) => self.maker = maker,
-            Err(why) => return fact!("reload", "nothing changes: {why}"),
-        }
+        self.maker = maker(&new).map_err(|why| vec![why])?;
         self.config.take(new);
         if let (Some(applier), Some(apply)) = (&mut self.state.applier, &self.config.apply) {
             applier.reload(apply);
@@ -543,7 +520,7 @@ impl Agent {
         }
         self.peers.set_up(self.config.peers.clone(), now, &mut self.state);
         self.state.changed = true;
-        fact!("reload", "done");
+        Ok(())
     }
 }
 

@@ -5,16 +5,15 @@
 //! until it ended well, which an empty file in `.pending` says; so it is run again after a failure,
 //! at the next round, and after a crash. Nothing in the folder has to be right: what is wrong or
 //! lacking is made anew by the next round.
-use crate::config::{is_key, Apply};
-use rignolda::settings::Meaning;
-use std::collections::{BTreeMap, BTreeSet};
+use crate::config::{is_key, read_file, Apply};
+use rignolda::settings::{Change, Meaning, Waiting};
+use std::collections::BTreeSet;
 use std::fs::{self, File, OpenOptions, Permissions};
-use std::io::{self, Read, Seek, Write};
-use std::ops::Range;
+use std::io::{self, Seek, Write};
 use std::os::unix::fs::{OpenOptionsExt, PermissionsExt};
 use std::path::{Path, PathBuf};
 use std::process::{Command, Stdio};
-use std::sync::{Arc, Condvar, Mutex, MutexGuard};
+use std::sync::{Arc, Condvar, Mutex, MutexGuard, PoisonError};
 use std::thread;
 
 /// The folder of the hooks that are due, in the folder of the settings.
@@ -57,38 +56,16 @@ struct Shared {
     wake: Wake,
 }
 
-/// A part of some bytes: those of a whole table are kept together, and given back together.
-#[derive(Clone)]
-struct Value(Arc<Vec<u8>>, Range<usize>);
-
-impl std::ops::Deref for Value {
-    type Target = [u8];
-
-    fn deref(&self) -> &[u8] {
-        &self.0[self.1.clone()]
-    }
-}
-
-/// A change that waits: what the setting is to be, and the sequence numbers of the first and of the
-/// last change of this key that wait.
-#[derive(Clone)]
-struct Change {
-    value: Option<Value>,
-    first: u64,
-    last: u64,
-}
-
 #[derive(Default)]
 struct State {
     config: Apply,
-    /// What waits for its file, and the sequence number of the whole table that it is, if one.
-    files: BTreeMap<String, Change>,
-    whole: Option<u64>,
+    /// What waits for its file.
+    files: Waiting,
     /// The first sequence number of what the thread for files has in hand.
     writing: Option<u64>,
     /// The key whose file is being written.
     key: Option<String>,
-    hooks: BTreeMap<String, Change>,
+    hooks: Waiting,
     /// The first sequence number of the change whose hook runs.
     running: Option<u64>,
     /// Keys whose file or hook has failed, or whose hook was due when the agent started.
@@ -123,51 +100,8 @@ impl Applier {
     }
 
     /// Makes the files what this body says.
-    pub fn take(&mut self, meaning: Meaning<'_>, sequence: u64) {
-        match meaning {
-            Meaning::Changes(entries) => {
-                entries.iter().for_each(|(key, value)| self.change(key, *value, sequence));
-            }
-            Meaning::Table(entries) => {
-                let entries = entries.into_iter();
-                self.table(entries.filter_map(|(key, value)| Some((key, value?))), sequence);
-            }
-            Meaning::Harmless => (),
-        }
-    }
-
-    /// Makes a setting's file; without a value, removes it.
-    pub fn change(&mut self, key: &str, value: Option<&[u8]>, sequence: u64) {
-        if !is_key(key) {
-            return;
-        }
-        let value = value.map(|value| Value(Arc::new(value.into()), 0..value.len()));
-        put(&mut self.shared.lock().files, key, value, sequence, sequence);
-        self.shared.changed.notify_all();
-    }
-
-    /// Makes the folder what a whole table says: what it does not name is removed.
-    pub fn table<'a>(
-        &mut self,
-        entries: impl IntoIterator<Item = (&'a str, &'a [u8])>,
-        sequence: u64,
-    ) {
-        let mut all = Vec::new();
-        let entries = entries.into_iter().filter(|(key, _)| is_key(key));
-        let places: Vec<(&str, Range<usize>)> = entries
-            .map(|(key, value)| {
-                all.extend_from_slice(value);
-                (key, all.len() - value.len()..all.len())
-            })
-            .collect();
-        let all = Arc::new(all);
-        let mut state = self.shared.lock();
-        let first = state.files.values().map(|change| change.first).min().unwrap_or(sequence);
-        state.files.clear();
-        for (key, place) in places {
-            put(&mut state.files, key, Some(Value(all.clone(), place)), first, sequence);
-        }
-        state.whole = Some(sequence);
+    pub fn take(&mut self, meaning: &Meaning<'_>, sequence: u64) {
+        self.shared.lock().files.take(sequence, meaning);
         self.shared.changed.notify_all();
     }
 
@@ -180,8 +114,8 @@ impl Applier {
     /// `sequence` were handed over. What failed counts as applied, and is in `failing`.
     pub fn applied(&self, sequence: u64) -> u64 {
         let state = self.shared.lock();
-        let waiting = state.files.values().chain(state.hooks.values()).map(|change| change.first);
-        let oldest = waiting.chain(state.whole).chain(state.writing).chain(state.running).min();
+        let waiting = state.files.first().into_iter().chain(state.hooks.first());
+        let oldest = waiting.chain(state.writing).chain(state.running).min();
         oldest.map_or(sequence, |oldest| sequence.min(oldest.saturating_sub(1)))
     }
 
@@ -205,11 +139,19 @@ impl Drop for Applier {
 
 impl Shared {
     fn lock(&self) -> MutexGuard<'_, State> {
-        self.state.lock().unwrap_or_else(|poisoned| poisoned.into_inner())
+        self.state.lock().unwrap_or_else(PoisonError::into_inner)
     }
 
-    fn wait<'a>(&self, state: MutexGuard<'a, State>) -> MutexGuard<'a, State> {
-        self.changed.wait(state).unwrap_or_else(|poisoned| poisoned.into_inner())
+    /// Takes what there is to do, and waits for it where there is nothing. Nothing at the end.
+    fn next<T>(&self, take: fn(&mut State) -> Option<T>) -> Option<T> {
+        let mut state = self.lock();
+        while !state.closed {
+            match take(&mut state) {
+                Some(work) => return Some(work),
+                None => state = self.changed.wait(state).unwrap_or_else(PoisonError::into_inner),
+            }
+        }
+        None
     }
 
     fn report(&self, state: &mut State, key: &str, sequence: u64, status: Outcome) {
@@ -226,18 +168,6 @@ impl Shared {
     }
 }
 
-/// Puts a change of a key in the place of the one that waits.
-fn put(
-    waiting: &mut BTreeMap<String, Change>,
-    key: &str,
-    value: Option<Value>,
-    first: u64,
-    last: u64,
-) {
-    let first = waiting.get(key).map_or(first, |before| before.first.min(first));
-    waiting.insert(key.into(), Change { value, first, last });
-}
-
 /// The names of the files in a folder.
 fn names(folder: &Path) -> Vec<String> {
     let entries = fs::read_dir(folder).into_iter().flatten().flatten();
@@ -246,39 +176,25 @@ fn names(folder: &Path) -> Vec<String> {
 
 /// The thread that keeps the files.
 fn keep_files(shared: &Shared) {
-    let mut state = shared.lock();
-    loop {
-        if state.closed {
-            return;
-        }
-        if state.files.is_empty() && state.whole.is_none() {
-            state = shared.wait(state);
-            continue;
-        }
-        let mut changes = std::mem::take(&mut state.files);
-        let whole = std::mem::take(&mut state.whole);
-        state.writing = changes.values().map(|change| change.first).chain(whole).min();
-        let due = std::mem::take(&mut state.due);
-        let config = state.config.clone();
-        drop(state);
-        if let Some(last) = whole {
+    let take = |state: &mut State| {
+        state.writing = state.files.first();
+        state.writing?;
+        let (files, due) = (std::mem::take(&mut state.files), std::mem::take(&mut state.due));
+        Some((files, due, state.config.clone()))
+    };
+    while let Some((mut files, mut due, config)) = shared.next(take) {
+        if files.is_whole() {
             // (another folder is no setting, and may be somebody's)
-            let there = names(&shared.folder)
-                .into_iter()
-                .filter(|name| is_key(name) && !shared.folder.join(name).is_dir());
-            for key in there.chain(due.iter().cloned()) {
-                changes.entry(key).or_insert(Change { value: None, first: last, last });
-            }
+            let there = names(&shared.folder).into_iter();
+            let there = there.filter(|name| !shared.folder.join(name).is_dir());
+            files.unset_others(there.chain(due.iter().cloned()));
         }
-        let mut in_order: Vec<(String, Change)> = changes.into_iter().collect();
-        in_order.sort_by_key(|(_, change)| change.last);
-        let mut left = due;
-        for (key, change) in in_order {
-            let was_due = left.remove(&key);
+        for (key, change) in files.in_order() {
+            let was_due = due.remove(&key);
             keep_file(shared, &config, &key, change, was_due);
         }
-        state = shared.lock();
-        state.due.append(&mut left);
+        let mut state = shared.lock();
+        state.due.append(&mut due);
         state.writing = None;
         (shared.wake)();
     }
@@ -310,7 +226,7 @@ fn keep_file(shared: &Shared, config: &Apply, key: &str, change: Change, was_due
             shared.report(&mut state, key, change.last, Outcome::Done);
         }
         Ok(()) => {
-            put(&mut state.hooks, key, change.value, change.first, change.last);
+            state.hooks.put(key, change);
             shared.changed.notify_all();
         }
     }
@@ -323,10 +239,7 @@ fn is_as(path: &Path, value: Option<&[u8]>, mode: u32) -> bool {
     is.is_file()
         && is.permissions().mode() & 0o7777 == mode
         && is.len() == value.len() as u64
-        && File::open(path).is_ok_and(|file| {
-            let mut there = Vec::with_capacity(value.len() + 1);
-            file.take(value.len() as u64 + 1).read_to_end(&mut there).is_ok() && there == value
-        })
+        && read_file(path, value.len(), "it").is_ok_and(|there| there == value)
 }
 
 /// Says in the folder that the hook of this key is due.
@@ -349,10 +262,7 @@ fn make(folder: &Path, path: &Path, value: Option<&[u8]>, mode: u32) -> io::Resu
     let Some(value) = value else { return clear(path) };
     fs::create_dir_all(folder)?;
     let new = folder.join(NEW);
-    clear(&new)?;
-    let mut file = OpenOptions::new().write(true).create_new(true).mode(0o600).open(&new)?;
-    file.write_all(value)?;
-    file.set_permissions(Permissions::from_mode(mode))?;
+    new_file(&new, value)?.set_permissions(Permissions::from_mode(mode))?;
     if path.is_dir() && !path.is_symlink() {
         fs::remove_dir_all(path)?;
     }
@@ -371,29 +281,21 @@ fn clear(path: &Path) -> io::Result<()> {
 
 /// The thread that runs hooks, one at a time, the oldest change first.
 fn run_hooks(shared: &Shared) {
-    let mut state = shared.lock();
-    loop {
-        if state.closed {
-            return;
-        }
-        let oldest = state.hooks.iter().min_by_key(|(_, change)| change.first);
-        let oldest = oldest.map(|(key, _)| key.clone());
-        let Some((key, change)) = oldest.and_then(|key| state.hooks.remove_entry(&key)) else {
-            state = shared.wait(state);
-            continue;
-        };
+    let take = |state: &mut State| {
+        let (key, change) = state.hooks.pop()?;
         state.running = Some(change.first);
-        let config = state.config.clone();
-        drop(state);
+        Some((key, change, state.config.clone()))
+    };
+    while let Some((key, change, config)) = shared.next(take) {
         let status = match &config.hook {
             Some(hook) => run_hook(&shared.folder, hook, &config, &key, &change),
             None => Ok(()),
         };
-        state = shared.lock();
+        let mut state = shared.lock();
         state.running = None;
         let outcome = match status {
             Ok(()) => {
-                let again = state.hooks.contains_key(&key) || state.key.as_ref() == Some(&key);
+                let again = state.hooks.has(&key) || state.key.as_ref() == Some(&key);
                 if !again {
                     let _ = fs::remove_file(shared.pending(&key));
                 }
@@ -441,11 +343,17 @@ fn run_hook(
 /// A file without a name that has these bytes.
 fn input(folder: &Path, value: &[u8]) -> io::Result<File> {
     let path = folder.join(".input");
-    clear(&path)?;
-    let mut file =
-        OpenOptions::new().read(true).write(true).create_new(true).mode(0o600).open(&path)?;
+    let mut file = new_file(&path, value)?;
     fs::remove_file(&path)?;
-    file.write_all(value)?;
     file.rewind()?;
+    Ok(file)
+}
+
+/// A file with these bytes in place of whatever is there.
+fn new_file(path: &Path, value: &[u8]) -> io::Result<File> {
+    clear(path)?;
+    let mut options = OpenOptions::new();
+    let mut file = options.read(true).write(true).create_new(true).mode(0o600).open(path)?;
+    file.write_all(value)?;
     Ok(file)
 }

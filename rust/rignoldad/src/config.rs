@@ -6,6 +6,8 @@ pub use rignolda::net::{is_name, Address, Children, Parent, Setup, NAME_BYTES};
 pub use rignolda::settings::is_key;
 use std::collections::BTreeMap;
 use std::fmt;
+use std::fs::File;
+use std::io::{self, Read};
 use std::net::SocketAddr;
 use std::ops::RangeInclusive;
 use std::path::{Path, PathBuf};
@@ -13,7 +15,7 @@ use std::time::Duration;
 use toml::value::{Table, Value};
 
 /// The longest configuration file, in bytes.
-const FILE_BYTES: u64 = 1 << 20;
+const FILE_BYTES: usize = 1 << 20;
 const CHILDREN: usize = 10_000;
 /// How deep brackets may nest in a text of TOML, and of how many parts a name may be.
 const DEPTH: usize = 32;
@@ -72,6 +74,13 @@ pub struct Fault {
     pub text: String,
 }
 
+impl Fault {
+    /// One that is of no key.
+    fn of(line: usize, text: impl Into<String>) -> Fault {
+        Fault { line, key: String::new(), text: text.into() }
+    }
+}
+
 impl fmt::Display for Fault {
     fn fmt(&self, f: &mut fmt::Formatter<'_>) -> fmt::Result {
         if self.line > 0 {
@@ -87,27 +96,21 @@ impl fmt::Display for Fault {
 impl Config {
     /// Reads a file, and checks it.
     pub fn read(path: &Path) -> Result<Config, Vec<Fault>> {
-        let fault = |text: String| vec![Fault { line: 0, key: String::new(), text }];
-        let file = std::fs::File::open(path).map_err(|e| fault(e.to_string()))?;
-        let mut text = String::new();
-        std::io::Read::read_to_string(&mut std::io::Read::take(file, FILE_BYTES + 1), &mut text)
-            .map_err(|e| fault(e.to_string()))?;
-        match text.len() as u64 > FILE_BYTES {
-            true => Err(fault(format!("the file has more than {FILE_BYTES} bytes"))),
-            false => Config::parse(&text),
-        }
+        let text = read_file(path, FILE_BYTES, "the file")
+            .and_then(|bytes| io::read_to_string(&bytes[..]))
+            .map_err(|e| vec![Fault::of(0, e.to_string())])?;
+        Config::parse(&text)
     }
 
     /// Reads a text, and checks it: the configuration, or every fault that was found.
     pub fn parse(text: &str) -> Result<Config, Vec<Fault>> {
         if let Some(line) = too_deep(text) {
-            return Err(vec![Fault { line, key: String::new(), text: TOO_DEEP.into() }]);
+            return Err(vec![Fault::of(line, TOO_DEEP)]);
         }
         let table: Table = toml::from_str(text).map_err(|e| {
             let line = e.line_col().map_or(0, |(line, _)| line + 1);
             let said = e.to_string();
-            let end = said.rfind(" at line ").unwrap_or(said.len());
-            vec![Fault { line, key: String::new(), text: said[..end].into() }]
+            vec![Fault::of(line, said.rsplit_once(" at line ").map_or(&*said, |(said, _)| said))]
         })?;
         let mut check = Check { text, table: &table, faults: Vec::new() };
         check.unknown(&table, "");
@@ -166,27 +169,36 @@ struct Check<'a> {
 }
 
 impl<'a> Check<'a> {
-    /// Reports a key, at its line where it is written as is usual.
+    /// Reports a key, at its line where it is written as is usual; and what is lacking in a table
+    /// where the table begins.
     fn fault(&mut self, key: &str, text: impl Into<String>) {
+        let at = self.line_of(key).or_else(|| self.line_of(key.split_once('.')?.0));
+        let line = at.map_or(0, |at| at + 1);
+        self.faults.push(Fault { line, key: key.into(), text: text.into() });
+    }
+
+    fn line_of(&self, key: &str) -> Option<usize> {
         let mut table = String::new();
-        let at = self.text.lines().position(|line| {
-            let line = line.trim();
+        self.text.lines().map(str::trim).position(|line| {
             if let Some((name, _)) = line.strip_prefix('[').and_then(|rest| rest.split_once(']')) {
                 table = format!("{}.", name.trim());
                 return name.trim() == key;
             }
             line.split_once('=').is_some_and(|(word, _)| format!("{table}{}", word.trim()) == key)
-        });
-        // (what is lacking in a table is reported where the table begins)
-        let line = match (at, key.split_once('.')) {
-            (Some(at), _) => at + 1,
-            (None, Some((table, _))) => {
-                let head = format!("[{table}]");
-                self.text.lines().position(|line| line.trim() == head).map_or(0, |at| at + 1)
-            }
-            (None, None) => 0,
-        };
-        self.faults.push(Fault { line, key: key.into(), text: text.into() });
+        })
+    }
+
+    /// Reports a key where something is wrong with it.
+    fn refuse(&mut self, key: &str, is_wrong: bool, text: impl Into<String>) {
+        if is_wrong {
+            self.fault(key, text);
+        }
+    }
+
+    /// Reports a key whose value is not as it has to be.
+    fn expect<T>(&mut self, key: &str, value: Option<T>, text: impl Into<String>) -> Option<T> {
+        self.refuse(key, value.is_none(), text);
+        value
     }
 
     fn unknown(&mut self, table: &Table, before: &str) {
@@ -216,11 +228,8 @@ impl<'a> Check<'a> {
     }
 
     fn text(&mut self, key: &str) -> Option<&'a str> {
-        let text = self.get(key)?.as_str();
-        if text.is_none() {
-            self.fault(key, "a text is expected");
-        }
-        text
+        let value = self.get(key)?;
+        self.expect(key, value.as_str(), "a text is expected")
     }
 
     /// A list of texts, or one text.
@@ -231,50 +240,41 @@ impl<'a> Check<'a> {
             Some(Value::Array(all)) => all.iter().map(Value::as_str).collect(),
             Some(_) => None,
         };
-        match texts {
-            Some(texts) if texts.len() <= most => return texts,
-            Some(_) => self.fault(key, format!("there are more than {most}")),
-            None => self.fault(key, "a list of texts is expected"),
+        let texts = self.expect(key, texts, "a list of texts is expected").unwrap_or_default();
+        if texts.len() > most {
+            self.fault(key, format!("there are more than {most}"));
+            return Vec::new();
         }
-        Vec::new()
+        texts
     }
 
     fn path(&mut self, key: &str) -> Option<PathBuf> {
         let path = PathBuf::from(self.text(key)?);
-        if !path.is_absolute() {
-            self.fault(key, "the path has to be absolute");
-        }
+        self.refuse(key, !path.is_absolute(), "the path has to be absolute");
         Some(path)
     }
 
     /// A path that has to be there.
     fn needed(&mut self, key: &str) -> PathBuf {
-        if self.get(key).is_none() {
-            self.fault(key, "it is missing");
-        }
+        self.expect(key, self.get(key), "it is missing");
         self.path(key).unwrap_or_default()
     }
 
     fn number(&mut self, key: &str, usual: u64, bounds: RangeInclusive<u64>) -> u64 {
         let Some(value) = self.get(key) else { return usual };
-        match value.as_integer().and_then(|number| u64::try_from(number).ok()) {
-            Some(number) if bounds.contains(&number) => return number,
-            _ => self.fault(key, format!("a number of {} to {}", bounds.start(), bounds.end())),
-        }
-        usual
+        let number = value.as_integer().and_then(|number| u64::try_from(number).ok());
+        let number = number.filter(|number| bounds.contains(number));
+        let text = format!("a number of {} to {}", bounds.start(), bounds.end());
+        self.expect(key, number, text).unwrap_or(usual)
     }
 
     /// A time, with its bounds in milliseconds.
     fn time(&mut self, key: &str, usual: u64, bounds: RangeInclusive<u64>) -> Duration {
         let Some(text) = self.text(key) else { return Duration::from_millis(usual) };
-        match milliseconds(text) {
-            Some(time) if bounds.contains(&time) => return Duration::from_millis(time),
-            _ => {
-                let (least, most) = (bounds.start(), bounds.end() / 1_000);
-                self.fault(key, format!("a time of {least}ms to {most}s, as \"500ms\" or \"10m\""));
-            }
-        }
-        Duration::from_millis(usual)
+        let time = milliseconds(text).filter(|time| bounds.contains(time));
+        let (least, most) = (bounds.start(), bounds.end() / 1_000);
+        let text = format!("a time of {least}ms to {most}s, as \"500ms\" or \"10m\"");
+        Duration::from_millis(self.expect(key, time, text).unwrap_or(usual))
     }
 
     fn name(&mut self, key: &str, name: &str) -> String {
@@ -291,14 +291,11 @@ impl<'a> Check<'a> {
 
     fn address(&mut self, key: &str, text: &str) -> Option<Address> {
         let is_safe = self.has("tls") || self.insecure();
-        match Address::parse(text) {
-            Err(error) => self.fault(key, error),
-            Ok(address) if is_safe || address.is_local() => return Some(address),
-            Ok(_) => {
-                self.fault(key, format!("`{text}` is on the network: set [tls], or `insecure`"))
-            }
-        }
-        None
+        let address = Address::parse(text).and_then(|it| match is_safe || it.is_local() {
+            true => Ok(it),
+            false => Err(format!("`{text}` is on the network: set [tls], or `insecure`")),
+        });
+        address.map_err(|why| self.fault(key, why)).ok()
     }
 
     fn insecure(&self) -> bool {
@@ -306,12 +303,9 @@ impl<'a> Check<'a> {
     }
 
     fn config(&mut self) -> Config {
-        if self.get("name").is_none() {
-            self.fault("name", "it is missing");
-        }
-        if self.get("insecure").is_some_and(|value| !value.is_bool()) {
-            self.fault("insecure", "true or false is expected");
-        }
+        self.expect("name", self.get("name"), "it is missing");
+        let is_wrong = self.get("insecure").is_some_and(|value| !value.is_bool());
+        self.refuse("insecure", is_wrong, "true or false is expected");
         let name = self.text("name").map_or(String::new(), |name| self.name("name", name));
         let children = self.children(&name);
         let parents = self.texts("parents", ADDRESSES);
@@ -352,40 +346,33 @@ impl<'a> Check<'a> {
             Children::Any => (true, true),
         };
         let parent_comes = peers.parents.iter().any(|parent| parent.address.is_none());
-        if child_comes && listen.is_empty() {
-            self.fault("children", "children connect to an address of `listen`");
-        }
-        if parent_comes && listen.is_empty() {
-            self.fault("parents", "a parent without an address connects to one of `listen`");
-        }
-        if !has_children && !parent_comes && !listen.is_empty() {
-            self.fault("listen", "nobody may connect: there are no `children`");
-        }
+        let (is_root, nowhere) = (config.root.is_some(), listen.is_empty());
+        let text = "children connect to an address of `listen`";
+        self.refuse("children", child_comes && nowhere, text);
+        let text = "a parent without an address connects to one of `listen`";
+        self.refuse("parents", parent_comes && nowhere, text);
+        let nobody = !has_children && !parent_comes;
+        self.refuse("listen", nobody && !nowhere, "nobody may connect: there are no `children`");
         for parent in peers.parents.iter().filter_map(|parent| parent.name.as_deref()) {
             if matches!(&peers.children, Children::Named(names) if names.contains_key(parent)) {
                 self.fault("children", format!("`{parent}` is a parent"));
             }
         }
-        if config.root.is_some() && !parents.is_empty() {
-            self.fault("root", "the root has no `parents`");
-        }
-        if config.root.is_none() && parents.is_empty() {
-            self.fault("parents", "an agent without [root] has a parent");
-        }
+        self.refuse("root", is_root && !parents.is_empty(), "the root has no `parents`");
+        let text = "an agent without [root] has a parent";
+        self.refuse("parents", !is_root && parents.is_empty(), text);
         let least = config.root.as_ref().map_or(0, |root| 4 * (u64::from(root.harmless) + 2));
-        if config.backlog < least {
-            self.fault("link.backlog", format!("at this root it is at least {least}, four rounds"));
-        }
+        let text = format!("at this root it is at least {least}, four rounds");
+        self.refuse("link.backlog", config.backlog < least, text);
         if let Some(apply) = &config.apply {
             // (what no setting names is removed there)
             let is_shallow = apply.folder.components().count() < 3;
-            if is_shallow || config.root.as_ref().is_some_and(|it| it.settings == apply.folder) {
-                self.fault("apply.folder", "it has to be a folder of the agent's own, as /a/b");
-            }
+            let is_truth = config.root.as_ref().is_some_and(|it| it.settings == apply.folder);
+            let text = "it has to be a folder of the agent's own, as /a/b";
+            self.refuse("apply.folder", is_shallow || is_truth, text);
         }
-        if peers.evict <= peers.ack_timeout {
-            self.fault("link.evict", "it has to be longer than `ack_timeout`");
-        }
+        let text = "it has to be longer than `ack_timeout`";
+        self.refuse("link.evict", peers.evict <= peers.ack_timeout, text);
         config
     }
 
@@ -415,13 +402,10 @@ impl<'a> Check<'a> {
             None => (Some(text), None),
         };
         let name = name.map(|name| self.name("parents", name));
-        if self.has("tls") && name.is_none() {
-            let text = "with [tls] it is NAME@ADDRESS: a child's certificate must not do for it";
-            self.fault("parents", text);
-        }
-        if name.as_deref() == Some(own) {
-            self.fault("parents", "the agent is no parent of its own");
-        }
+        let text = "with [tls] it is NAME@ADDRESS: a child's certificate must not do for it";
+        self.refuse("parents", self.has("tls") && name.is_none(), text);
+        let is_own = name.as_deref() == Some(own);
+        self.refuse("parents", is_own, "the agent is no parent of its own");
         let address = match address {
             Some(address) => Some(self.address("parents", address)?),
             None => None,
@@ -431,23 +415,17 @@ impl<'a> Check<'a> {
 
     fn mode(&mut self) -> u32 {
         let Some(text) = self.text("apply.mode") else { return 0o640 };
-        let mode = u32::from_str_radix(text, 8).unwrap_or(0);
-        if mode > 0o777 || mode & 0o400 == 0 {
-            self.fault("apply.mode", "it is octal, as \"0640\", to be read");
-        }
-        mode
+        let mode = u32::from_str_radix(text, 8).ok().filter(|it| (0o400..=0o777).contains(it));
+        self.expect("apply.mode", mode, "it is octal, as \"0640\", to be read").unwrap_or_default()
     }
 
     fn metrics(&mut self) -> Option<SocketAddr> {
         let address = self.text("metrics")?.parse::<SocketAddr>().ok();
-        match address {
-            None => self.fault("metrics", "ADDRESS:PORT is expected, in numbers"),
-            Some(address) if !self.insecure() && !address.ip().is_loopback() => {
-                self.fault("metrics", "anybody may read it: a loopback address, or `insecure`");
-            }
-            _ => (),
-        }
-        address
+        let address = self.expect("metrics", address, "ADDRESS:PORT is expected, in numbers")?;
+        let is_open = !self.insecure() && !address.ip().is_loopback();
+        let text = "anybody may read it: a loopback address, or `insecure`";
+        self.refuse("metrics", is_open, text);
+        Some(address)
     }
 }
 
@@ -464,56 +442,56 @@ pub fn milliseconds(text: &str) -> Option<u64> {
     text[..end].parse::<u64>().ok()?.checked_mul(unit)
 }
 
+/// The bytes of a file, of which there are at most so many.
+pub fn read_file(path: &Path, most: usize, what: &str) -> io::Result<Vec<u8>> {
+    let mut bytes = Vec::new();
+    File::open(path)?.take(most as u64 + 1).read_to_end(&mut bytes)?;
+    match bytes.len() > most {
+        true => Err(io::Error::other(format!("{what} has more than {most} bytes"))),
+        false => Ok(bytes),
+    }
+}
+
 /// The line on which a text of TOML first goes deeper than [`DEPTH`], if one does. Its reader calls
 /// itself for each bracket and each dot of a name, so it has no room for very many. What is inside
 /// texts and comments does not count.
 pub fn too_deep(text: &str) -> Option<usize> {
     let bytes = text.as_bytes();
-    let (mut at, mut line, mut depth, mut dots) = (0, 1, 0, 0);
+    let (mut at, mut depth, mut dots) = (0, 0, 0);
     while let Some(&byte) = bytes.get(at) {
-        let end = match byte {
-            b'#' => at + bytes[at..].iter().take_while(|byte| **byte != b'\n').count(),
-            b'"' | b'\'' => end_of_text(bytes, at),
-            _ => at + 1,
-        };
         match byte {
-            b'[' | b'{' => depth += 1,
-            b']' | b'}' => depth -= depth.min(1),
+            b'[' | b'{' => (depth, dots) = (depth + 1, 0),
+            b']' | b'}' => (depth, dots) = (depth - depth.min(1), 0),
             b'.' => dots += 1,
-            _ => {}
-        }
-        if !matches!(byte, b'.' | b'"' | b'\'' | b'-' | b'_' | b' ' | b'\t')
-            && !byte.is_ascii_alphanumeric()
-        {
-            dots = 0;
+            _ if byte.is_ascii_alphanumeric() || b"\"'-_ \t".contains(&byte) => (),
+            _ => dots = 0,
         }
         if depth > DEPTH || dots > DEPTH {
-            return Some(line);
+            return Some(1 + text[..at].matches('\n').count());
         }
-        line += bytes[at..end].iter().filter(|byte| **byte == b'\n').count();
-        at = end;
+        at += match byte {
+            b'#' => bytes[at..].iter().take_while(|byte| **byte != b'\n').count(),
+            b'"' | b'\'' => length_of_text(&bytes[at..]),
+            _ => 1,
+        };
     }
     None
 }
 
-/// Where a text of TOML ends that begins here: behind its closing marks, or at the end of the line
-/// where one of a single line is not closed.
-fn end_of_text(bytes: &[u8], start: usize) -> usize {
-    let mark = bytes[start];
-    let long = bytes[start..].starts_with(&[mark; 3]);
-    let mut at = start + if long { 3 } else { 1 };
-    while let Some(&byte) = bytes.get(at) {
-        match byte {
-            b'\\' if mark == b'"' => at += 1,
-            b'\n' if !long => return at,
-            _ if byte == mark && !long => return at + 1,
-            // (up to two marks more belong to the text)
-            _ if byte == mark && bytes[at..].starts_with(&[mark; 3]) => {
-                return at + bytes[at..].iter().take(5).take_while(|it| **it == mark).count();
-            }
-            _ => {}
+/// How long the text of TOML is that begins here, its marks with it. One of a single line that is
+/// not closed ends with the line.
+fn length_of_text(bytes: &[u8]) -> usize {
+    let is_long = bytes.starts_with(&[bytes[0]; 3]);
+    let mark = &bytes[..if is_long { 3 } else { 1 }];
+    let mut at = mark.len();
+    while at < bytes.len() && !bytes[at..].starts_with(mark) {
+        match bytes[at] {
+            b'\n' if !is_long => return at,
+            b'\\' if mark[0] == b'"' => at += 2,
+            _ => at += 1,
         }
-        at += 1;
     }
-    bytes.len()
+    // (up to two marks more belong to a long one)
+    let marks = bytes.iter().skip(at).take(2 * mark.len() - 1);
+    at + marks.take_while(|byte| **byte == mark[0]).count()
 }

@@ -1,6 +1,7 @@
 //! `rignoldad FILE` runs the agent that a file configures.
 #![forbid(unsafe_code)]
 use clap::Parser;
+use rignoldad::config::Config;
 use std::path::PathBuf;
 use std::process::ExitCode;
 
@@ -18,21 +19,20 @@ struct Words {
 
 fn main() -> ExitCode {
     let words = Words::parse();
-    if words.check {
-        return match rignoldad::config::Config::read(&words.file) {
-            Ok(_) => ExitCode::SUCCESS,
-            Err(faults) => {
-                for fault in faults {
-                    eprintln!("{}: {fault}", words.file.display());
-                }
-                ExitCode::FAILURE
-            }
-        };
-    }
-    match rignoldad::agent::run(&words.file) {
+    let config = Config::read(&words.file).map_err(|faults| {
+        let faults = faults.iter().map(|fault| format!("{}: {fault}", words.file.display()));
+        faults.collect::<Vec<_>>().join("\n")
+    });
+    let done = match (words.check, config) {
+        (true, config) => config.map(drop),
+        (false, config) => config
+            .and_then(|config| rignoldad::agent::run(&words.file, config))
+            .map_err(|why| format!("rignoldad: {why}")),
+    };
+    match done {
         Ok(()) => ExitCode::SUCCESS,
         Err(why) => {
-            eprintln!("rignoldad: {why}");
+            eprintln!("{why}");
             ExitCode::FAILURE
         }
     }

@@ -58,12 +58,8 @@ pub fn text(status: &Status) -> String {
         head(&mut text, "child_", name, kind, help);
         for child in &status.children {
             // (a name has no character that would have to be escaped)
-            let _ = writeln!(
-                text,
-                "rignolda_child_{name}{{child=\"{}\"}} {}",
-                child.name,
-                value(child)
-            );
+            let (child, value) = (&child.name, value(child));
+            let _ = writeln!(text, "rignolda_child_{name}{{child=\"{child}\"}} {value}");
         }
     }
     text

@@ -1,5 +1,5 @@
 //! The root's settings: a folder is the truth, and what differs from it is published.
-use crate::config::{is_key, too_deep, Root as Config, TOO_DEEP};
+use crate::config::{is_key, read_file, too_deep, Root as Config, TOO_DEEP};
 use crate::fact;
 use inotify::{Inotify, WatchMask};
 use rignolda::net::BODY_BYTES;
@@ -65,7 +65,7 @@ impl Root {
         self.next_scan.get_or_insert(now + SETTLES);
     }
 
-    /// When to come again. `open`: whether [`Root::next`] may be asked for more.
+    /// When to come again.
     pub fn deadline(&self) -> Instant {
         self.next_scan.map_or(self.next_round, |scan| scan.min(self.next_round))
     }
@@ -101,24 +101,19 @@ impl Root {
 
     /// Writes a setting's file and publishes it when its turn comes; without a value, removes it.
     pub fn change(&mut self, key: &str, value: Option<&[u8]>) -> Result<(), String> {
-        if self.config.settings.is_file() {
-            return Err(format!("the settings are kept in {}", self.config.settings.display()));
-        }
-        if self.draining {
-            return Err("it is draining".into());
-        }
-        if !is_key(key) {
-            return Err("it is no key".into());
-        }
-        if value.is_some_and(|value| !self.publisher.has_room(key, value)) {
-            return Err("it is too long".into());
-        }
-        let path = self.config.settings.join(key);
-        let done = match value {
-            Some(value) => write_whole(&path, value),
-            None => fs::remove_file(&path),
-        };
-        done.map_err(|e| format!("{}: {e}", path.display()))?;
+        let settings = &self.config.settings;
+        let path = settings.join(key);
+        let failed = |e: io::Error| format!("{}: {e}", path.display());
+        match value {
+            _ if settings.is_file() => {
+                Err(format!("the settings are kept in {}", settings.display()))
+            }
+            _ if self.draining => Err("it is draining".into()),
+            _ if !is_key(key) => Err("it is no key".into()),
+            Some(value) if !self.publisher.has_room(key, value) => Err("it is too long".into()),
+            Some(value) => write_whole(&path, value).map_err(failed),
+            None => fs::remove_file(&path).map_err(failed),
+        }?;
         // (also where it is as it was: whoever asked for it is told a number)
         match value {
             Some(value) => self.publisher.set(key, value.into()),
@@ -134,7 +129,7 @@ impl Root {
         self.watch();
         let path = self.config.settings.clone();
         let read = match path.is_file() {
-            true => read_file(&path),
+            true => read_settings(&path),
             false => self.read_folder(&path, &mut faults),
         };
         match read {
@@ -142,9 +137,7 @@ impl Root {
                 faults.insert(format!("all settings have more than {BODY_BYTES} bytes"));
             }
             Ok(settings) => self.publisher.replace(settings),
-            Err(error) => {
-                faults.insert(format!("{}: {error}", path.display()));
-            }
+            Err(error) => drop(faults.insert(format!("{}: {error}", path.display()))),
         }
         for fault in faults.difference(&self.faults) {
             fact!("settings", "{fault}");
@@ -179,15 +172,12 @@ impl Root {
                 continue;
             };
             match read_value(&entry.path()) {
-                Ok(value) => {
-                    settings.insert(key.to_owned(), value);
-                }
+                Ok(value) => drop(settings.insert(key.to_owned(), value)),
                 Err(error) if error.kind() == io::ErrorKind::NotFound => (),
                 Err(error) => {
                     faults.insert(format!("{key}: {error}"));
-                    if let Some(value) = self.publisher.settings().get(key) {
-                        settings.insert(key.to_owned(), value.clone());
-                    }
+                    let old = self.publisher.settings().get_key_value(key);
+                    settings.extend(old.map(|(key, value)| (key.clone(), value.clone())));
                 }
             }
         }
@@ -195,53 +185,42 @@ impl Root {
     }
 }
 
-fn bad(text: impl Into<String>) -> io::Error {
-    io::Error::new(io::ErrorKind::InvalidData, text.into())
-}
-
 fn read_value(path: &Path) -> io::Result<Vec<u8>> {
     // (a pipe or a device would never end)
-    if !fs::metadata(path)?.is_file() {
-        return Err(bad("it is no file"));
-    }
-    let mut value = Vec::new();
-    let most = VALUE_BYTES as u64;
-    io::Read::read_to_end(&mut io::Read::take(fs::File::open(path)?, most + 1), &mut value)?;
-    match value.len() > VALUE_BYTES {
-        true => Err(bad(format!("it has more than {VALUE_BYTES} bytes"))),
-        false => Ok(value),
+    match fs::metadata(path)?.is_file() {
+        true => read_file(path, VALUE_BYTES, "it"),
+        false => Err(io::Error::other("it is no file")),
     }
 }
 
-/// All settings in one file: JSON by its name, else TOML. A text is taken as it is, and any other
-/// value as it is written.
-fn read_file(path: &Path) -> io::Result<BTreeMap<String, Vec<u8>>> {
-    let mut text = String::new();
-    let most = BODY_BYTES as u64;
-    io::Read::read_to_string(&mut io::Read::take(fs::File::open(path)?, most + 1), &mut text)?;
-    if text.len() > BODY_BYTES {
-        return Err(bad(format!("the file has more than {BODY_BYTES} bytes")));
-    }
-    let plain = |text: Option<&str>, written: String| text.map_or(written, str::to_owned);
-    let values: Vec<(String, String)> = if path.extension().is_some_and(|it| it == "json") {
-        let all: serde_json::Map<String, serde_json::Value> =
-            serde_json::from_str(&text).map_err(|e| bad(e.to_string()))?;
-        let all = all.into_iter();
-        all.map(|(key, value)| (key, plain(value.as_str(), value.to_string()))).collect()
+/// All settings in one file: JSON by its name, else TOML.
+fn read_settings(path: &Path) -> io::Result<BTreeMap<String, Vec<u8>>> {
+    let text = io::read_to_string(&read_file(path, BODY_BYTES, "the file")?[..])?;
+    if path.extension().is_some_and(|it| it == "json") {
+        let all: serde_json::Map<_, serde_json::Value> = serde_json::from_str(&text)?;
+        values(all, |value| value.as_str())
+    } else if let Some(line) = too_deep(&text) {
+        Err(io::Error::other(format!("line {line}: {TOO_DEEP}")))
     } else {
-        if let Some(line) = too_deep(&text) {
-            return Err(bad(format!("line {line}: {TOO_DEEP}")));
-        }
-        let all: toml::value::Table = toml::from_str(&text).map_err(|e| bad(e.to_string()))?;
-        let all = all.into_iter();
-        all.map(|(key, value)| (key, plain(value.as_str(), value.to_string()))).collect()
-    };
-    for (key, value) in &values {
-        if !is_key(key) || value.len() > VALUE_BYTES {
-            return Err(bad(format!("{key}: it is no key, or its value is too long")));
-        }
+        values(toml::from_str::<toml::value::Table>(&text)?, |value| value.as_str())
     }
-    Ok(values.into_iter().map(|(key, value)| (key, value.into_bytes())).collect())
+}
+
+/// The bytes of values: a text is taken as it is, and any other one as it is written.
+fn values<V: ToString>(
+    all: impl IntoIterator<Item = (String, V)>,
+    text: fn(&V) -> Option<&str>,
+) -> io::Result<BTreeMap<String, Vec<u8>>> {
+    let bytes = |(key, value): (String, V)| {
+        let bytes = text(&value).map_or_else(|| value.to_string(), str::to_owned).into_bytes();
+        match is_key(&key) && bytes.len() <= VALUE_BYTES {
+            true => Ok((key, bytes)),
+            false => {
+                Err(io::Error::other(format!("{key}: it is no key, or its value is too long")))
+            }
+        }
+    };
+    all.into_iter().map(bytes).collect()
 }
 
 /// Writes a file beside the place and moves it there, so that nobody reads a part of it.

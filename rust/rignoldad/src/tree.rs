@@ -68,8 +68,8 @@ impl Below {
         self.0.remove(child);
     }
 
-    /// The list of an agent with this status, itself first. What a child says of a name that is this
-    /// agent's own, a child's, or one that a child before it has reported, is left out.
+    /// The list of an agent with this status, itself first. What a child says of a name that is
+    /// this agent's own, a child's, or one that a child before it has reported, is left out.
     pub fn tree(&self, status: &crate::control::Status, now: Instant) -> Vec<Seen> {
         let mut list = vec![status.seen()];
         let mut taken: BTreeSet<&str> = status.children.iter().map(|it| &*it.name).collect();

@@ -1,4 +1,5 @@
 //! The files of settings and their hooks.
+use rignolda::settings::Meaning;
 use rignoldad::apply::{Applied, Applier, Outcome};
 use rignoldad::config::Apply;
 use std::collections::BTreeMap;
@@ -66,19 +67,25 @@ impl Drop for Place {
 
 const LOG: &str = "echo \"$1 $2 $(cat) $RIGNOLDA_SEQUENCE\" >>calls";
 
-/// The changes of one setting.
-trait Changes {
+/// What bodies say.
+trait Bodies {
     fn set(&mut self, key: &str, value: &[u8], sequence: u64);
     fn unset(&mut self, key: &str, sequence: u64);
+    fn table<const N: usize>(&mut self, entries: [(&str, &[u8]); N], sequence: u64);
 }
 
-impl Changes for Applier {
+impl Bodies for Applier {
     fn set(&mut self, key: &str, value: &[u8], sequence: u64) {
-        self.change(key, Some(value), sequence);
+        self.take(&Meaning::Changes(vec![(key, Some(value))]), sequence);
     }
 
     fn unset(&mut self, key: &str, sequence: u64) {
-        self.change(key, None, sequence);
+        self.take(&Meaning::Changes(vec![(key, None)]), sequence);
+    }
+
+    fn table<const N: usize>(&mut self, entries: [(&str, &[u8]); N], sequence: u64) {
+        let entries = entries.map(|(key, value)| (key, Some(value)));
+        self.take(&Meaning::Table(entries.into()), sequence);
     }
 }
 

@@ -1,0 +1,137 @@
+//! Changes that wait to be applied.
+use super::{is_key, Meaning};
+use std::collections::BTreeMap;
+use std::ops::{Deref, Range};
+use std::sync::Arc;
+
+/// Changes that wait to be applied: of those of one key, the last alone.
+///
+/// So whoever applies settings more slowly than they come ends with what they are now. Sequence
+/// numbers say how far that is: nothing waits that is older than [`Waiting::first`].
+///
+/// ```
+/// use rignolda::settings::{Meaning, Waiting};
+///
+/// let mut waiting = Waiting::default();
+/// waiting.take(7, &Meaning::Changes(vec![("colour", Some(b"red")), ("size", None)]));
+/// waiting.take(8, &Meaning::Changes(vec![("colour", Some(b"blue"))]));
+/// let (key, change) = waiting.pop().expect("a change waits");
+/// assert_eq!((&*key, change.value.as_deref()), ("colour", Some(&b"blue"[..])));
+/// assert_eq!((change.first, change.last), (7, 8));
+/// assert_eq!(waiting.first(), Some(7));
+/// ```
+#[derive(Debug, Default)]
+pub struct Waiting {
+    changes: BTreeMap<String, Change>,
+    /// The first and the last number that wait for the whole table, if one waits.
+    whole: Option<(u64, u64)>,
+}
+
+/// A change that waits.
+#[derive(Clone, Debug)]
+pub struct Change {
+    /// What the setting is to be, unless it is unset.
+    pub value: Option<Value>,
+    /// The sequence number of the first change that waits for this one.
+    pub first: u64,
+    /// Its own.
+    pub last: u64,
+}
+
+/// The bytes of a value. Those of a whole table are kept together, and given back together.
+#[derive(Clone, Debug)]
+pub struct Value(Arc<Vec<u8>>, Range<usize>);
+
+impl Deref for Value {
+    type Target = [u8];
+
+    fn deref(&self) -> &[u8] {
+        &self.0[self.1.clone()]
+    }
+}
+
+impl Waiting {
+    /// Takes what a body with this number says. A key that is none is left out.
+    pub fn take(&mut self, sequence: u64, meaning: &Meaning<'_>) {
+        match meaning {
+            Meaning::Changes(entries) => {
+                for (key, value) in entries {
+                    let value = value.map(|it| Value(Arc::new(it.to_vec()), 0..it.len()));
+                    let (first, last) = (sequence, sequence);
+                    self.put(key, Change { value, first, last });
+                }
+            }
+            Meaning::Table(entries) => {
+                let values: Vec<&[u8]> = entries.iter().filter_map(|(_, value)| *value).collect();
+                let (all, mut end) = (Arc::new(values.concat()), 0);
+                // (whatever waited waits for this table now)
+                let first = self.first().map_or(sequence, |first| first.min(sequence));
+                self.changes.clear();
+                self.whole = Some((first, sequence));
+                for (key, value) in entries {
+                    let start = end;
+                    end += value.map_or(0, <[u8]>::len);
+                    let value = value.map(|_| Value(all.clone(), start..end));
+                    let last = sequence;
+                    self.put(key, Change { value, first, last });
+                }
+            }
+            Meaning::Harmless => (),
+        }
+    }
+
+    /// Puts a change in the place of the one of its key that waits.
+    pub fn put(&mut self, key: &str, mut change: Change) {
+        if let Some(before) = self.changes.get(key) {
+            change.first = change.first.min(before.first);
+        }
+        if is_key(key) {
+            self.changes.insert(key.into(), change);
+        }
+    }
+
+    /// Whether a whole table waits.
+    pub fn is_whole(&self) -> bool {
+        self.whole.is_some()
+    }
+
+    /// Where a whole table waits: what is there, and nothing names, is to be unset.
+    pub fn unset_others(&mut self, there: impl IntoIterator<Item = String>) {
+        if let Some((first, last)) = self.whole {
+            for key in there.into_iter().filter(|key| is_key(key)) {
+                let value = None;
+                let unset = Change { value, first, last };
+                self.changes.entry(key).or_insert(unset);
+            }
+        }
+    }
+
+    /// The oldest number that waits.
+    pub fn first(&self) -> Option<u64> {
+        let whole = self.whole.map(|(first, _)| first);
+        self.changes
+            .values()
+            .map(|change| change.first)
+            .chain(whole)
+            .min()
+    }
+
+    /// Whether a change of this key waits.
+    pub fn has(&self, key: &str) -> bool {
+        self.changes.contains_key(key)
+    }
+
+    /// Takes out the change that has waited longest.
+    pub fn pop(&mut self) -> Option<(String, Change)> {
+        let oldest = self.changes.iter().min_by_key(|(_, change)| change.first);
+        let key = oldest?.0.clone();
+        self.changes.remove_entry(&key)
+    }
+
+    /// All changes, in the order in which they were published.
+    pub fn in_order(self) -> Vec<(String, Change)> {
+        let mut all: Vec<_> = self.changes.into_iter().collect();
+        all.sort_by_key(|(_, change)| change.last);
+        all
+    }
+}

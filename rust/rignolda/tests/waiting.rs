@@ -1,0 +1,124 @@
+//! Changes that wait: what is left of them, and from which number on.
+#![cfg(feature = "net")]
+use rignolda::settings::{Meaning, Waiting};
+
+type Left<'a> = (&'a str, Option<&'a [u8]>, u64, u64);
+
+fn changes(waiting: &mut Waiting, sequence: u64, entries: &[(&str, Option<&[u8]>)]) {
+    waiting.take(sequence, &Meaning::Changes(entries.to_vec()));
+}
+
+fn table(waiting: &mut Waiting, sequence: u64, entries: &[(&str, Option<&[u8]>)]) {
+    waiting.take(sequence, &Meaning::Table(entries.to_vec()));
+}
+
+fn are_left(waiting: Waiting, expected: &[Left<'_>]) {
+    let all = waiting.in_order();
+    let all = all.iter().map(|(key, change)| {
+        let value = change.value.as_deref();
+        (key.as_str(), value, change.first, change.last)
+    });
+    assert_eq!(all.collect::<Vec<Left<'_>>>(), expected);
+}
+
+#[test]
+fn of_one_key_the_last_change_waits_for_all() {
+    let mut waiting = Waiting::default();
+    assert_eq!(waiting.first(), None);
+    changes(&mut waiting, 3, &[("a", Some(b"1")), ("b", Some(b"2"))]);
+    changes(&mut waiting, 4, &[("c", None)]);
+    waiting.take(5, &Meaning::Harmless);
+    changes(&mut waiting, 6, &[("a", None)]);
+    assert!(waiting.has("a") && !waiting.has("d") && !waiting.is_whole());
+    assert_eq!(waiting.first(), Some(3));
+    are_left(
+        waiting,
+        &[
+            ("b", Some(b"2"), 3, 3),
+            ("c", None, 4, 4),
+            ("a", None, 3, 6),
+        ],
+    );
+}
+
+#[test]
+fn what_waited_longest_comes_first() {
+    let mut waiting = Waiting::default();
+    changes(&mut waiting, 1, &[("z", Some(b"1"))]);
+    changes(&mut waiting, 2, &[("a", Some(b"2"))]);
+    changes(&mut waiting, 3, &[("z", Some(b"3"))]);
+    let (key, change) = waiting.pop().unwrap();
+    assert_eq!(
+        (key.as_str(), change.value.as_deref()),
+        ("z", Some(&b"3"[..]))
+    );
+    assert_eq!((change.first, change.last), (1, 3));
+    assert_eq!(waiting.first(), Some(2));
+    // (what failed may be put again, and waits as long as it did)
+    waiting.put(&key, change);
+    assert_eq!(waiting.pop().unwrap().0, "z");
+    assert_eq!(waiting.pop().unwrap().0, "a");
+    assert!(waiting.pop().is_none());
+}
+
+#[test]
+fn a_table_takes_the_place_of_all_and_unsets_the_others() {
+    let mut waiting = Waiting::default();
+    changes(
+        &mut waiting,
+        7,
+        &[("a", Some(b"old")), ("gone", Some(b"x"))],
+    );
+    table(
+        &mut waiting,
+        9,
+        &[("a", Some(b"one")), ("b", Some(b"")), ("c", Some(b"two"))],
+    );
+    changes(&mut waiting, 10, &[("c", None), ("d", Some(b"new"))]);
+    assert!(waiting.is_whole());
+    assert_eq!(waiting.first(), Some(7));
+    waiting.unset_others(["b", "gone", "../etc"].map(String::from));
+    are_left(
+        waiting,
+        &[
+            ("a", Some(b"one"), 7, 9),
+            ("b", Some(b""), 7, 9),
+            ("gone", None, 7, 9),
+            ("c", None, 7, 10),
+            ("d", Some(b"new"), 10, 10),
+        ],
+    );
+}
+
+#[test]
+fn an_empty_table_waits_too() {
+    let mut waiting = Waiting::default();
+    table(&mut waiting, 5, &[]);
+    assert_eq!(waiting.first(), Some(5));
+    table(&mut waiting, 8, &[]);
+    assert_eq!(waiting.first(), Some(5));
+    waiting.unset_others(["a".to_owned()]);
+    are_left(waiting, &[("a", None, 5, 8)]);
+    // (the root's clock may have been set back)
+    let mut waiting = Waiting::default();
+    table(&mut waiting, 8, &[]);
+    table(&mut waiting, 2, &[("a", Some(b"1"))]);
+    assert_eq!(waiting.first(), Some(2));
+    // (without a whole table, nothing is known of others)
+    let mut waiting = Waiting::default();
+    changes(&mut waiting, 1, &[("a", None)]);
+    waiting.unset_others(["b".to_owned()]);
+    are_left(waiting, &[("a", None, 1, 1)]);
+}
+
+#[test]
+fn what_is_no_key_is_left_out() {
+    let mut waiting = Waiting::default();
+    changes(&mut waiting, 1, &[("../a", Some(b"1")), ("", None)]);
+    table(
+        &mut waiting,
+        2,
+        &[(".hidden", Some(b"12")), ("b", Some(b"3"))],
+    );
+    are_left(waiting, &[("b", Some(b"3"), 2, 2)]);
+}
