@@ -1,11 +1,12 @@
 //! What the fuzzer calls: each target reads bytes as the daemon does, and compares what comes out
 //! with what the format says, read here by other means. It panics where they differ.
-use rignoldad::body::{Body, Meaning, BODY_BYTES};
-use rignoldad::config::{is_key, is_name, Config};
-use rignoldad::control::{ChildStatus, Request, Response, Server, Status};
-use rignoldad::table::Table;
-use rignoldad::tree::{Below, REPORT_BYTES};
-use rignoldad::wire::{take, Expect, Hello, Message};
+use rignolda::net::wire::{take, Expect, Hello, Message, REPORT_BYTES};
+use rignolda::net::{is_name, Body, BODY_BYTES};
+use rignolda::settings::{is_key, Meaning, Table};
+use rignoldad::config::Config;
+use rignoldad::control::{self, ChildStatus, Request, Response, Server, Status};
+use rignoldad::serve::Ticket;
+use rignoldad::tree::Below;
 use std::cell::RefCell;
 use std::collections::BTreeMap;
 use std::io::{Read, Write};
@@ -35,7 +36,7 @@ pub extern "C" fn rignolda_fuzz_run(target: u32) {
         2 => answers(&input),
         3 => body(&input),
         4 => configuration(&input),
-        _ => control(&input),
+        _ => requests(&input),
     }
 }
 
@@ -220,8 +221,8 @@ fn configuration(bytes: &[u8]) {
     let Ok(text) = std::str::from_utf8(bytes) else { return };
     match Config::parse(text) {
         Ok(config) => {
-            assert!(is_name(&config.name));
-            assert_eq!(config.root.is_some(), config.parents.is_empty());
+            assert!(is_name(&config.peers.name));
+            assert_eq!(config.root.is_some(), config.peers.parents.is_empty());
             assert!(config.at_a_start_alone(&config).is_empty());
         }
         Err(faults) => {
@@ -234,14 +235,20 @@ fn configuration(bytes: &[u8]) {
     }
 }
 
+/// What has come at the control socket.
+fn ready(server: &mut Server) -> Vec<(Ticket, Result<Request, String>)> {
+    let fired = server.descriptors().map(|(descriptor, _)| descriptor).collect();
+    server.ready(&fired, Instant::now())
+}
+
 /// A client of the control socket, that sends these bytes and no more.
-fn control(bytes: &[u8]) {
+fn requests(bytes: &[u8]) {
     CONTROL.with(|control| {
         let mut control = control.borrow_mut();
         let (server, path) = control.get_or_insert_with(|| {
             let name = format!("rignolda-fuzz-{}", std::process::id());
             let path = std::env::temp_dir().join(name);
-            (Server::new(&path).expect("a socket"), path)
+            (control::server(&path).expect("a socket"), path)
         });
         let mut client = UnixStream::connect(path).expect("a connection");
         client.write_all(bytes).expect("the socket takes it");
@@ -250,23 +257,28 @@ fn control(bytes: &[u8]) {
         let mut answers = String::new();
         for line in bytes[..end].split_inclusive(|byte| *byte == b'\n') {
             let expected = serde_json::from_slice::<Request>(line).ok();
-            let requests = server.ready(Instant::now());
-            assert_eq!(
-                requests.iter().map(|(_, it)| it).collect::<Vec<_>>(),
-                expected.iter().collect::<Vec<_>>()
-            );
+            let requests = ready(server);
+            assert_eq!(requests.len(), 1);
             for (ticket, request) in requests {
-                let again = serde_json::to_vec(&request).expect("a request is JSON");
-                assert_eq!(serde_json::from_slice::<Request>(&again).ok(), Some(request));
-                server.answer(ticket, &Response::Done);
+                let request = request.map_err(Response::Refused);
+                assert_eq!(request.as_ref().ok(), expected.as_ref());
+                let response = request.map_or_else(
+                    |refused| refused,
+                    |request| {
+                        let again = serde_json::to_vec(&request).expect("a request is JSON");
+                        assert_eq!(serde_json::from_slice::<Request>(&again).ok(), Some(request));
+                        Response::Done
+                    },
+                );
+                control::answer(server, ticket, &response);
             }
         }
         for _ in 0..2 {
-            assert!(server.ready(Instant::now()).is_empty());
+            assert!(ready(server).is_empty());
         }
         client.read_to_string(&mut answers).expect("answers, and the end");
         let lines = bytes[..end].split_inclusive(|byte| *byte == b'\n').count();
         assert_eq!(answers.lines().count(), lines);
-        assert_eq!(server.descriptors().len(), 1);
+        assert_eq!(server.descriptors().count(), 1);
     });
 }
