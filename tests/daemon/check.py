@@ -5,6 +5,7 @@
     tests/daemon/check.py NAME..     the tests whose names contain a word
 """
 import concurrent.futures
+import json
 import os
 import pathlib
 import random
@@ -21,6 +22,7 @@ import zlib
 
 from daemons import PATIENCE, Agent, Tree, binaries, chain, free_port, until
 from relay import Relay
+from reverse import parents_may_connect_to_their_children
 
 TESTS = []
 LONG = []
@@ -34,6 +36,9 @@ def test(function):
 def long_test(function):
     LONG.append(function)
     return test(function)
+
+
+long_test(parents_may_connect_to_their_children)
 
 
 def sure(holds, *words):
@@ -475,6 +480,30 @@ def what_a_false_parent_sends_is_bounded_and_checked():
         fill(tree)
         tree.root.start()
         sure(tree.right(10), tree.wrong())
+
+
+@test
+def what_a_child_reports_of_others_harms_nobody():
+    with Tree() as tree:
+        fill(tree)
+        others = [agent for agent in tree if agent.name != "left1"]
+        for agent in others:
+            agent.start()
+        sure(until(lambda: all(agent.up() for agent in others)), "the tree is not ready")
+        of_others = ["left2", "left", "root", "right"]
+        report = [{"name": "left1", "strays": 77}]
+        report += [{"name": name, "parent": "left1", "strays": 78} for name in of_others]
+        said = json.dumps(report).encode()
+        with socket.create_connection(("127.0.0.1", tree["left"].port)) as sock:
+            sock.sendall(hello("left1", "left"))
+            sock.sendall(b"R" + struct.pack(">I", len(said)) + said)
+            # (what it says of itself comes up to the root, over the agent between)
+            sure(until(lambda: any(it["strays"] == 77 for it in tree.root.ask("tree"))),
+                 tree.root.ask("tree"))
+        sure(not tree.root.said("closed left:"), "the root closed an honest agent's connection")
+        seen = [(it["name"], it["parent"], it["strays"]) for it in tree.root.ask("tree")]
+        sure(sorted(seen) == sorted((agent.name, agent.parent.name if agent.parent else "",
+                                     77 if agent.name == "left1" else 0) for agent in tree), seen)
 
 
 @test
