@@ -49,7 +49,8 @@ class Relay:
                     _, to, piece = waiting.pop(0)
                     # (of the last piece only a part gets through, if the connection ends now)
                     to.sendall(piece)
-                times = [at - now for at in ([end] if end and not self.calm else []) + [w[0] for w in waiting[:1]]]
+                due = [end] if end and not self.calm else []
+                times = [at - now for at in due + [it[0] for it in waiting[:1]]]
                 ready = select.select([near, far], [], [], max(0.0, min(times + [0.2])))[0]
                 for sock in ready:
                     piece = sock.recv(1 << 16)
