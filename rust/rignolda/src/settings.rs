@@ -1,8 +1,9 @@
 //! Settings that travel down a tree: a key, which is a text, and a value, which is bytes.
 //!
 //! The root has a [`Publisher`]: changes that wait are merged, and a round brings all settings
-//! anew. Every agent has a [`Table`], which says of each body whether it is to be applied. So after
-//! any fault of any agents the settings are right after two rounds: one under way, and a whole one.
+//! anew. Every agent has a [`Table`], which says of each body whether it is to be applied; where
+//! that takes longer than they come, [`Waiting`] merges them. So after any fault of any agents the
+//! settings are right after two rounds: one under way, and a whole one.
 //!
 //! ```
 //! use rignolda::settings::{Meaning, Publisher, Table};

@@ -1,7 +1,7 @@
 //! What the fuzzer calls: each target reads bytes as the daemon does, and compares what comes out
 //! with what the format says, read here by other means. It panics where they differ.
 use rignolda::net::wire::{take, Expect, Hello, Message, REPORT_BYTES};
-use rignolda::net::{is_name, Body, BODY_BYTES};
+use rignolda::net::{Body, BODY_BYTES};
 use rignolda::settings::{is_key, Meaning, Table};
 use rignoldad::config::Config;
 use rignoldad::control::{self, ChildStatus, Request, Response, Server, Status};
@@ -44,6 +44,13 @@ pub extern "C" fn rignolda_fuzz_run(target: u32) {
 fn number(bytes: &[u8], at: usize, length: usize) -> Option<u64> {
     let bytes = bytes.get(at..at + length)?;
     Some(bytes.iter().fold(0, |number, byte| number * 256 + u64::from(*byte)))
+}
+
+/// Whether a text is the name of an agent.
+fn is_name(text: &str) -> bool {
+    let good = |c| matches!(c, 'a'..='z' | 'A'..='Z' | '0'..='9' | '.' | '_' | '-');
+    let first = text.chars().next();
+    text.chars().all(good) && !matches!(first, None | Some('.' | '-')) && text.len() <= 64
 }
 
 /// The hello at the front of these bytes, and its length, if it is whole and good.
