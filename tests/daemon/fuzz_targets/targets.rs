@@ -1,7 +1,7 @@
 //! What the fuzzer calls: each target reads bytes as the daemon does, and compares what comes out
 //! with what the format says, read here by other means. It panics where they differ.
 use rignolda::net::wire::{take, Expect, Hello, Message, REPORT_BYTES};
-use rignolda::net::{Body, BODY_BYTES};
+use rignolda::net::{Body, Children, BODY_BYTES};
 use rignolda::settings::{is_key, Meaning, Table};
 use rignoldad::config::Config;
 use rignoldad::control::{self, ChildStatus, Request, Response, Server, Status};
@@ -228,8 +228,15 @@ fn configuration(bytes: &[u8]) {
     let Ok(text) = std::str::from_utf8(bytes) else { return };
     match Config::parse(text) {
         Ok(config) => {
-            assert!(is_name(&config.peers.name));
-            assert_eq!(config.root.is_some(), config.peers.parents.is_empty());
+            let peers = &config.peers;
+            let parents = peers.parents.iter().filter_map(|parent| parent.name.as_ref());
+            let children = match &peers.children {
+                Children::Named(children) => children.keys().collect(),
+                Children::Any => Vec::new(),
+            };
+            let mut names = parents.chain(children).chain([&peers.name]);
+            assert!(names.all(|name| is_name(name)));
+            assert_eq!(config.root.is_some(), peers.parents.is_empty());
             assert!(config.at_a_start_alone(&config).is_empty());
         }
         Err(faults) => {
