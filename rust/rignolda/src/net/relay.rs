@@ -72,10 +72,11 @@ pub struct Link {
     pub sent: Option<Instant>,
     /// How many connections it had.
     pub connections: u64,
-    /// How many were left since nothing came in time. It is counted by the caller, and so are those
-    /// since the last answer, and how long that took.
+    /// How many were left since nothing came in time. It is counted by the caller.
     pub timeouts: u64,
+    /// How many of these came after the last answer to a frame. It is counted by the caller.
     pub late: u32,
+    /// How long that answer took, as the caller measures it.
     pub took: Duration,
     /// What was counted in earlier counts of the link.
     acknowledged: u64,
