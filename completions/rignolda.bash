@@ -3,7 +3,7 @@ _rignolda() {
     local word=${COMP_WORDS[COMP_CWORD]} flags='' files=''
     COMPREPLY=()
     if [ "$COMP_CWORD" -eq 1 ]; then
-        mapfile -t COMPREPLY < <(compgen -W 'bounds check draw explain random scenario worst help --help --version' -- "$word")
+        mapfile -t COMPREPLY < <(compgen -W 'bounds check draw explain judge random scenario worst help --help --version' -- "$word")
         return
     fi
     case ${COMP_WORDS[1]} in
@@ -20,6 +20,10 @@ _rignolda() {
             files=yes
             ;;
         explain)
+            flags='--help'
+            files=yes
+            ;;
+        judge)
             flags='--help'
             files=yes
             ;;
@@ -41,7 +45,7 @@ _rignolda() {
                 --capacity|--labels) return ;;
             esac
             ;;
-        help) flags='bounds check draw explain random scenario worst help' ;;
+        help) flags='bounds check draw explain judge random scenario worst help' ;;
     esac
     mapfile -t COMPREPLY < <(compgen -W "$flags" -- "$word")
     if [ -n "$files" ] && [[ $word != -* ]]; then

@@ -15,6 +15,9 @@ complete -c rignolda -n '__fish_seen_subcommand_from draw' -F
 complete -c rignolda -n __fish_use_subcommand -a explain -d 'Says what is wrong with a link job or a job of a tree, and where'
 complete -c rignolda -n '__fish_seen_subcommand_from explain' -l help -d 'Print help'
 complete -c rignolda -n '__fish_seen_subcommand_from explain' -F
+complete -c rignolda -n __fish_use_subcommand -a judge -d 'Says whether logs since a fault obey the laws, or at which node they do not'
+complete -c rignolda -n '__fish_seen_subcommand_from judge' -l help -d 'Print help'
+complete -c rignolda -n '__fish_seen_subcommand_from judge' -F
 complete -c rignolda -n __fish_use_subcommand -a random -d 'Prints a job of a tree with random garbage in it, the same for the same options'
 complete -c rignolda -n '__fish_seen_subcommand_from random' -l seed -x -d 'Where the generator begins [default: 1]'
 complete -c rignolda -n '__fish_seen_subcommand_from random' -l items -x -d 'How many items the root publishes, up to 10000 [default: 10]'

@@ -208,7 +208,7 @@ stab tree: accepted
 """),
     ('"items"', '"received":[[],8,[9,-1]],"from":[0,1],"items"', """\
 received[1]: 8; a log is a list of items, which its node received
-received[2][1]: -1; an item is a whole number from 0 to 4294967295
+received[2][1]: a number that is not a whole one; an item is a whole number from 0 to 4294967295
 from: 2 places for 3 nodes; there is one for each node, in their order
 stab tree: accepted
 """),
