@@ -57,25 +57,66 @@ build() {
         { cat -- "$work/log" >&2; fail "the module was not linked"; }
 }
 
-# Writes the page with the module $1 to standard output, without empty lines, lines of comments,
-# the spaces before other lines, and those that a style does not need.
+# Writes the page with the module $1 to standard output, without empty lines, lines of comments, and
+# the spaces before other lines. It also leaves out spaces that a style does not need, and of the
+# script spaces beside a sign and semicolons before a brace, but not those in texts and patterns.
 page() {
-    local line module is_style=
-    module=$(gzip -9n <"$1" | base64 -w 0)
-    while IFS= read -r line || [ -n "$line" ]; do
-        if [[ $line == *'{{MODULE}}'* ]]; then
-            line=${line%%'{{MODULE}}'*}$module${line#*'{{MODULE}}'}
-        fi
-        line=${line#"${line%%[! ]*}"}
-        case $line in
-        '<style>') is_style=1 ;;
-        '</style>') is_style= ;;
-        esac
-        if [ -n "$is_style" ]; then
-            line=${line//: /:} line=${line//; /;} line=${line// \{/\{} line=${line//\{ /\{}
-        fi
-        [[ -z $line || $line == '// '* ]] || printf '%s\n' "$line"
-    done <"$top/page/page.html"
+    MODULE=$(gzip -9n <"$1" | base64 -w 0) LC_ALL=C awk '
+        # The part of a line of the script that is code: what follows it is in `rest`, and `mode` says
+        # what that is.
+        function code(line,    i, c, out, gap, last) {
+            out = ""
+            for (i = 1; i <= length(line); i++) {
+                c = substr(line, i, 1)
+                if (c == " ") { gap = 1; continue }
+                last = substr(out, length(out))
+                if (gap && (last c ~ /^[A-Za-z0-9_$][A-Za-z0-9_$]$/ || last c == "++" || last c == "--"))
+                    out = out " "
+                gap = 0
+                if (c == "}" && last == ";") out = substr(out, 1, length(out) - 1)
+                out = out c
+                if (c == "{") depth[level]++
+                if (c == "}" && depth[level]-- == 0) { level--; mode = "`"; break }
+                if (c ~ /["\047`]/ || c == "/" && (last ~ /^[(,=:[!&|?{};]?$/ || out ~ /return\/$/)) {
+                    mode = c
+                    break
+                }
+            }
+            rest = substr(line, i + 1)
+            return out
+        }
+        # The part that is a text or a pattern, up to its end, or up to code inside it.
+        function text(line,    i, c, set) {
+            for (i = 1; i <= length(line); i++) {
+                c = substr(line, i, 1)
+                if (c == "\\") { i++; continue }
+                if (mode == "/" && (c == "[" || c == "]")) set = c == "["
+                if (c == mode && !set) { mode = ""; break }
+                if (mode == "`" && substr(line, i, 2) == "${") { i++; depth[++level] = 0; mode = ""; break }
+            }
+            rest = substr(line, i + 1)
+            return substr(line, 1, i)
+        }
+        BEGIN { level = 0 }
+        { if (mode == "") sub(/^ +/, "") }
+        /^<style>/ { style = 1 }
+        /^<\/style>/ { style = 0 }
+        /^<script>/ { script = 1; print; next }
+        /^<\/script>/ { script = 0 }
+        script {
+            if (mode == "" && (/^\/\/ / || $0 == "")) next
+            made = ""
+            for (rest = $0; rest != "";) made = made (mode == "" ? code(rest) : text(rest))
+            at = index(made, "{{MODULE}}")
+            if (at) made = substr(made, 1, at - 1) ENVIRON["MODULE"] substr(made, at + 10)
+            print made
+            next
+        }
+        style {
+            gsub(/: /, ":"); gsub(/; /, ";"); gsub(/ ?{ ?/, "{"); gsub(/ ?} ?/, "}"); gsub(/, /, ",")
+            gsub(/;}/, "}")
+        }
+        $0 != ""' "$top/page/page.html"
 }
 
 work=$(mktemp -d)

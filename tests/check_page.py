@@ -3,7 +3,7 @@
 
     tests/check_page.py [--jobs N] [--seed N] [--pictures FOLDER] [chromium|firefox]..
 
-It takes the commands `chromium` and `firefox-esr` (Debian's packages), and the program by ./stab.
+It takes the commands `chromium` and `firefox-esr` (Debian's packages), and the program stab.
 In each browser it looks that
 
 - the page is at most 120 kB, and ready in less than 200 ms;
@@ -20,7 +20,8 @@ In each browser it looks that
   docs/PROTOCOL.md;
 - rounds are counted as docs/PROTOCOL.md counts them;
 - the hint, the live check and the solution of an exercise come when they should;
-- what follows a fault in a tree is what the program says of the job that is saved;
+- what follows a fault in a tree is what the program says of the job that is saved, and backlogs go
+  down, are marked and are counted as it was worked out by hand;
 - a run that the lab writes into an address is drawn as it was, and a spoiled one is refused;
 - the proof steps through states that were worked out by hand, marks what it speaks of, and can be
   played, left, and opened by an address;
@@ -37,6 +38,7 @@ and with --pictures it keeps pictures, light and dark, wide and narrow. The last
 """
 import argparse
 import base64
+import functools
 import json
 import os
 import pathlib
@@ -50,6 +52,9 @@ import tempfile
 import time
 
 TOP = pathlib.Path(__file__).resolve().parent.parent
+sys.path.insert(0, str(TOP / "tools"))
+from programs import built  # noqa: E402
+
 PAGE = TOP / "page" / "index.html"
 DATA = TOP / "crates" / "stab_checks" / "data"
 MOST_BYTES = 120_000
@@ -221,10 +226,17 @@ class Firefox:
         self.process.wait()
 
 
+@functools.lru_cache(None)
+def stab():
+    """The program, and the folder that it may lie in."""
+    room = tempfile.TemporaryDirectory()
+    return built("stab", room.name), room
+
+
 def program(job, *words):
     """What `stab link --trace` answers, or `stab` with these words: its text, or None where it
     refuses."""
-    done = subprocess.run([TOP / "stab", *(words or ["link", "--trace"])], input=job,
+    done = subprocess.run([stab()[0], *(words or ["link", "--trace"])], input=job,
         capture_output=True)
     return done.stdout.decode() if done.returncode == 0 else None
 
@@ -265,8 +277,9 @@ def long_job():
     return json.dumps({"capacity": 64, "labels": 130, "start": start, "events": events})
 
 
-# the published items of a drawn tree begin here, and what is in its links is below
-PUBLISHED = 1000
+# the published items of a drawn tree begin here, and those of its openings; what is in its links is
+# below
+PUBLISHED, OPENED = 1000, 5000
 
 
 def drawn_tree(draw):
@@ -301,6 +314,12 @@ def drawn_tree(draw):
                 for _ in range(draw.randint(0, own))],
                                   "acks": [label() for _ in range(draw.randint(0,
                                       own))], "send": label(), "recv": label()})
+    if draw.random() < 0.5:
+        hold = draw.choice([0, 1, 3, 8, 64])
+        inner = [name in above and name in above.values() for name in order]
+        job |= {"version": 2, "h": hold, "openings": [
+            [OPENED + 100 * i + k for k in range(draw.randint(0, min(hold, 8)) if is_inner else 0)]
+            for i, is_inner in enumerate(inner)]}
     words = ["offer", "send_frame", "recv_frame", "send_ack", "recv_ack"] * 5
     words += ["recv_frame_keep", "recv_ack_keep", "lose_frame", "lose_ack"]
     schedule = []
@@ -318,36 +337,46 @@ def fits_page(job):
     """Whether a tree that the program takes fits the page."""
     job = json.loads(job)
     wide = [job["capacity"]] + [own["capacity"] for own in job.get("links", []) if own]
-    held = job.get("version") == 2 and any(job.get("openings", []))
+    held = job.get("version") == 2 and any(len(own) > 8 for own in job.get("openings", []))
     return len(job["tree"]) <= 8 and len(job.get("schedule",
         [])) <= 256 and len(job["items"]) <= 256 and max(wide) <= 8 and not held
 
 
 def standing(job, text):
-    """Of each node its strays, its missing items and their bounds, counted in the text of the
-    program. No published item may be in a link at its start, and each is published once."""
+    """Of each node its strays of links, its strays of openings, its missing items and the bound of
+    each, counted in the text of the program. No published item may be in a link at its start or in
+    an opening, none of an opening in a link, and each is published once."""
     job, rows = json.loads(job), []
     lists = [[int(word) for word in line.split()[1:]] for line in text.splitlines()[1::2]]
     above = {node["name"]: node.get("parent") for node in job["tree"]}
     own = iter(job.get("links", [{"capacity": job["capacity"]} for _ in job["tree"]]))
     capacity = {name: (next(own) or job)["capacity"] for name, parent in above.items()
         if parent is not None}
+    hold, opened = 0, set()
+    if job.get("version") == 2:
+        hold, opened = job["h"], {item for own in job.get("openings", []) for item in own}
     for name, items in zip(above, lists):
         places = [job["items"].index(item) for item in items if item in job["items"]]
-        path = []
+        path, most_held = [], 0
         while above[name] is not None:
             path.append(capacity[name])
+            most_held += hold if name in above.values() else 0
             name = above[name]
+        held = len([item for item in items if item in opened])
         missing = len(set(range(max(places, default=0))) - set(places))
-        rows.append([len(items) - len(places), sum(path), missing, sum(2 * c + 1 for c in path)])
+        rows.append([len(items) - len(places) - held, sum(path), held, most_held, missing,
+            sum(2 * c + 1 for c in path)])
     return rows
 
 
 def tells_apart(job):
-    """Whether each published item is published once and is in no link at its start."""
+    """Whether each published item is published once and is in no link at its start and no opening,
+    and no item of an opening is in a link."""
     job = json.loads(job)
-    strays = [item for start in job.get("starts", []) for _, item in start.get("frames", [])]
-    return len(set(job["items"])) == len(job["items"]) and not set(strays) & set(job["items"])
+    strays = {item for start in job.get("starts", []) for _, item in start.get("frames", [])}
+    opened = {item for own in job.get("openings", []) for item in own}
+    return len(set(job["items"])) == len(job["items"]) and not (strays | opened) & set(
+        job["items"]) and not strays & opened
 
 
 def offered(item):
@@ -403,6 +432,8 @@ SOLVED_TREES = [
     [[A, word] for word in ROUND] + [[B, word] for word in ROUND[:3]],
     [[A, "recv_frame"], [B, "recv_frame"]] + [[B, word] for word in ROUND[:3]],
     [[A, word] for word in WORST_ON + ROUND * 3] + [[B, word] for word in WORST_ON + ROUND[:3]],
+    [[B, "recv_ack"], [B, "recv_frame"], *([B, word] for word in ROUND * 2), [A, "recv_ack"],
+     [A, "recv_frame"], *([B, word] for word in ROUND[:3])],
 ]
 
 # Of each step of the proof, worked out by hand: how many events have happened, the labels that are
@@ -453,7 +484,8 @@ TREES = """return args[0].map(text => {
     if (treeText(readTree(treeJobText(job))) !== text_) return ["another tree is saved"];
     if (nodes.some(node => node.list.length !== node.origins.length))
       return ["an item has no origin"];
-    return [text_, nodes.map(n => [n.strays, n.mostStrays, n.missing, n.mostMissing])];
+    return [text_, nodes.map(n => [n.strays, n.mostStrays, n.held, n.mostHeld, n.missing,
+        n.mostMissing])];
   } catch (error) { return error instanceof TooLarge ? ["too large"] : error instanceof Fault ?
       [null] : ["error: " + error]; }
 });"""
@@ -515,7 +547,8 @@ class Checks:
                         [row[1::2] for row in answer[1]] == [row[1::2]
                         for row in counts], answer)
                     self.see(f"{name}: within bounds of {job}",
-                        all(a <= b and c <= d for a, b, c, d in answer[1]), answer)
+                        all(a <= b and c <= d and e <= f
+                            for a, b, c, d, e, f in answer[1]), answer)
                     if tells_apart(data):
                         self.see(f"{name}: counts of {job}", answer[1] == counts,
                             f"{answer[1]} and not {counts}")
@@ -688,7 +721,7 @@ class Checks:
         solved = """return [TASKS.map((task, i) =>
             checkTask(i, { ...task.job, events: task.solution })),
             TREE_TASKS.map((task, i) => checkTree(i, { ...task.job, events: task.solution }))]"""
-        self.see(f"{name}: all solutions solve", browser.run(solved) == [[""] * 6, [""] * 3],
+        self.see(f"{name}: all solutions solve", browser.run(solved) == [[""] * 6, [""] * 4],
             browser.run(solved))
 
         ask = ("return [$('ask').hidden, at, $('ask').innerText, $('happened').textContent, "
@@ -866,6 +899,7 @@ class Checks:
                 "$('asks').checked = true; show(RUNS['The worst start'], 'x', 1); $('forth').click();",
                 "document.querySelectorAll('details').forEach(e => { e.open = true; });",
                 "showTree(TREES['A clean tree'], 'x', 20);", "$('t-tasks').children[1].click();",
+                "showTree(TREES['Backlogs at two nodes'], 'x', 6);",
                 "showTree(TREES['A clean chain, nothing done yet'], 'x'); $('t-rest').click(); $('t-strike').click();"):
             browser.run(state, long_job())
             tree = browser.spoken()
@@ -972,6 +1006,7 @@ class Checks:
         browser.size(360, 800, False)
         for view in ("show(RUNS['The worst start of capacity two'], 'x', 8);",
             "$('tasks').children[4].click();", "$('see-tree').click();",
+            "showTree(TREES['Backlogs at two nodes'], 'x', 10);", "$('t-tasks').children[3].click();",
                      "show(readJob(args[0]), 'x', 9);"):
             browser.run(view, long_job())
             said = browser.run("return [document.documentElement.scrollWidth, innerWidth, "
@@ -1031,13 +1066,13 @@ class Checks:
             text = browser.run("return treeJobText(tree)")
             want = program(text.encode(), "tree")
             said = browser.run("return [treeText(tree), treeAfter(tree, "
-                "tree.events.length).nodes.map(n => [n.strays, n.mostStrays, n.missing, "
-                "n.mostMissing]), $('t-since').textContent];")
+                "tree.events.length).nodes.map(n => [n.strays, n.mostStrays, n.held, n.mostHeld, "
+                "n.missing, n.mostMissing]), $('t-since').textContent];")
             self.see(f"{name}: the tree after {press} at {node}", said[0] == want
                 and said[1] == standing(text, want), f"{said} and not {want}")
-            lost = [[0, 0], [1, 3], [1, 3]] if press == "t-strike" and node == 1 else [[0, 0],
-                [0, 0],
-                [1, 3]] if node == 2 else [[0, 0], [0, 1], [0, 2]]
+            lost = [[0, 0, 0], [1, 0, 3], [1, 0, 3]] if press == "t-strike" and node == 1 else [
+                [0, 0, 0], [0, 0, 0],
+                [1, 0, 3]] if node == 2 else [[0, 0, 0], [0, 0, 1], [0, 0, 2]]
             self.see(f"{name}: what {press} at {node} costs", [row[::2] for row in said[1]] == lost,
                 said[1])
             self.see(f"{name}: it is said", "All numbers count from there" in said[2], said)
@@ -1045,6 +1080,120 @@ class Checks:
             json.dumps({"capacity": 1, "labels": 4, "items": [1],
             "tree": [{"name": "r"}]}))
         self.see(f"{name}: a lone root has no link", browser.run("return $('t-one').hidden"))
+
+    def backlogs(self, browser, name):
+        """Inner nodes that begin or come back with a backlog."""
+        # the four items of this chain have the labels 0 to 3; then a comes back with 50 and 51, and
+        # the root publishes 14 to 18, the first of which has the label 0 that a remembers
+        state = """return [treeAfter(tree, treeAt).nodes.map(n => [n.strays, n.mostStrays, n.held,
+                n.mostHeld, n.missing, n.mostMissing]),
+            [...$('t-bounds').children].map(e => e.querySelector('b').textContent)];"""
+        press = "for (const word of args[0]) document.querySelector(`[data-act=${word}]`).click();"
+        browser.run("""showTree(TREES['A clean chain, nothing done yet'], 'x');
+            $('t-rest').click(); pick(1); $('t-hold').value = 2;
+            $('t-hold').dispatchEvent(new Event('change'));""")
+        said = browser.run("return [$('t-held').value, $('t-held-of').textContent];")
+        self.see(f"{name}: a backlog is filled in", said == ["710 711", "backlog of a"], said)
+        for typed, why in (("50 51 52", "This backlog has 3 items, and h is 2."),
+            ("50 x", "A backlog is a row of whole numbers"), ("1.5", "A backlog is a row")):
+            said = browser.run("$('t-held').value = args[0]; $('t-restart').click(); "
+                "return [$('t-why').textContent, tree.since ?? ''];", typed)
+            self.see(f"{name}: the backlog {typed} is refused", said[0].startswith(why)
+                and said[1] == "", said)
+        browser.run("$('t-held').value = '50, 51'; $('t-restart').click();")
+        saved = json.loads(browser.run("return treeJobText(tree)"))
+        self.see(f"{name}: the job after a restart with a backlog",
+            [saved.get(key) for key in ("version", "h", "openings", "items", "starts")] == [2, 2,
+            [[], [50, 51], []], [14, 15, 16, 17, 18],
+            [{"frames": [], "acks": [], "send": 0, "recv": 0},
+             {"frames": [], "acks": [], "send": 0, "recv": 3}]], saved)
+        said = browser.run(state)
+        none, some = [0] * 6, [0, 1, 2, 2, 0, 3]
+        self.see(f"{name}: just after the restart", said == [[none, some, [0, 2, 0, 2, 0, 6]],
+            ["Strays of links at a: 0 of at most C = 1", "Strays of backlogs: 2 of at most E = 2",
+             "Missing: 0 of at most M = 3"]], said)
+        self.see(f"{name}: it is said that a has a backlog",
+            "with a backlog: 50 51. All numbers count from there" in browser.run(
+                "return $('t-since').textContent"))
+        browser.run("pick(2);" + press, ["offer", "send_frame"])
+        said = browser.run("""const button = $('t-frames').querySelector('button');
+            return [button.className, button.getAttribute('aria-label'),
+                [...$('t-nodes').rows][2].cells[4].textContent,
+                [...$('t-drawn').querySelectorAll('text')].map(e => e.textContent),
+                $('t-sender').textContent, $('t-held').hidden, isDim($('t-begin'))];""")
+        self.see(f"{name}: an item of a backlog on its way", said[0] == "msg held own"
+            and said[1].startswith("front: label 0, item 50, of the backlog of a")
+            and said[2] == "0=50◆" and "1◆ ↓" in said[3] and "2 items, 2◆" in said[3]
+            and "holds50 ◆" in said[4], said)
+        self.see(f"{name}: a leaf has no backlog", said[5:] == [True, True], said)
+        browser.run(press, ["recv_frame"])
+        said = browser.run("return $('t-happened').textContent")
+        self.see(f"{name}: an item of a backlog arrives",
+            said.endswith("so 50 is delivered, item number 0. It is a stray of the backlog of a."),
+            said)
+        browser.run(press, ROUND[3:] + ROUND)
+        browser.run("pick(1);" + press, ROUND * 2)
+        browser.run("pick(2);" + press, ROUND)
+        said = browser.run(state)
+        wanted = [none, [0, 1, 2, 2, 1, 3], [0, 2, 2, 2, 1, 6]]
+        self.see(f"{name}: both of the backlog arrive, and one item is missing",
+            said == [wanted, ["Strays of links at b: 0 of at most C = 2",
+            "Strays of backlogs: 2 of at most E = 2", "Missing: 1 of at most M = 6"]], said)
+        said = browser.run("""return [treeText(tree), treeJobText(tree),
+            [...$('t-nodes').rows[2].cells[1].querySelectorAll('li')].map(e =>
+                [e.className, e.textContent])];""")
+        self.see(f"{name}: the program says the same",
+            said[0] == program(said[1].encode(), "tree") and standing(said[1], said[0]) == wanted
+            and "items: 50 51 15\n" in said[0], said)
+        self.see(f"{name}: the marks of the list", said[2][1:] == [
+            ["held", "50: a stray of the backlog of a"], ["held", "51: a stray of the backlog of a"],
+            ["sent", "15: published item number 1"]], said)
+        # the address has the backlogs, and one that has none is read as before
+        own = "return [tree.hold, tree.openings, treeAt, tree.events.length, $('fault').textContent];"
+        browser.go(browser.run("goTree(7); share(); return location.href"))
+        self.wait(browser)
+        said = browser.run(own)
+        self.see(f"{name}: backlogs in the address", said == [2, [[], [50, 51], []], 7, 25, ""], said)
+        old = {"capacity": 1, "labels": 4, "tree": [{"name": "r"}, {"name": "a", "parent": "r"}],
+            "items": [7], "links": [{"capacity": 1, "labels": 4}],
+            "starts": [{"frames": [], "acks": [], "send": 0, "recv": 65535}],
+            "schedule": [["a", "offer"]]}
+        packed = base64.urlsafe_b64encode(json.dumps(old).encode()).decode().rstrip("=")
+        browser.go(PAGE.as_uri() + f"#tree={packed}&at=1")
+        self.wait(browser)
+        said = browser.run(own)
+        self.see(f"{name}: an address without backlogs", said == [0, [[], []], 1, 1, ""], said)
+        # of this tree a and c are inner nodes, numbers 1 and 3; h counts once for each leaf below
+        browser.run("""showTree(TREES['A clean tree'], 'x'); $('t-hold').value = 3;
+            $('t-hold').dispatchEvent(new Event('change')); $('t-begin-all').click(); pick(3);
+            $('t-held').value = '5'; $('t-begin').click();""")
+        said = browser.run("return [tree.openings, tree.events.length]") + browser.run(state)
+        self.see(f"{name}: all begin with backlogs, and one with another",
+            said[:2] == [[[], [710, 711, 712], [], [5], [], []], 0]
+            and [row[2:4] for row in said[2]] == [[0, 0], [3, 3], [0, 3], [1, 3], [0, 3], [0, 3]],
+            said)
+        browser.run("$('t-hold').value = 1; $('t-hold').dispatchEvent(new Event('change'));")
+        self.see(f"{name}: h is at least what the longest backlog has",
+            browser.run("return [tree.hold, $('t-hold').value]") == [3, "3"])
+        # below two inner nodes E is h twice, and c gets all: 98 is of the link into b
+        browser.run("showTree(TREES['Backlogs at two nodes'], 'x', 1e9); pick(3);")
+        said = browser.run("return treeText(tree)"), browser.run(state)
+        self.see(f"{name}: backlogs of two nodes",
+            said[0].splitlines()[7] == "items: 720 721 98 710 711 10"
+            and said[1] == [[none, [0, 1, 2, 2, 0, 3], [1, 2, 4, 4, 0, 6], [1, 3, 4, 4, 0, 9]],
+            ["Strays of links at c: 1 of at most C = 3", "Strays of backlogs: 4 of at most E = 4",
+             "Missing: 0 of at most M = 9"]], said)
+        for job, why in (({"h": 2, "openings": [[], [1, 2, 3], []]}, "3 items are more than h"),
+            ({"h": 2, "openings": [[], [], [1]]}, "b is no inner node"),
+            ({"h": 9, "openings": [[], list(range(9)), []]}, "this page takes at most 8 items"),
+            ({"h": 2, "openings": [[], [1]]}, "there are 3 nodes, and 2 entries")):
+            text = json.dumps(json.loads(browser.run(
+                "return treeJobText(TREES['A clean chain, nothing done yet'])")) | job
+                | {"version": 2})
+            said = browser.run("tryJob(args[0]); return $('fault').textContent", text)
+            self.see(f"{name}: the openings {job} are refused", why in said, said)
+            self.see(f"{name}: by the program too", (program(text.encode(), "tree") is None)
+                == ("page takes" not in why))
 
     def exercises(self, browser, name):
         for i, events in enumerate(SOLVED):
@@ -1152,7 +1301,8 @@ def pictures(browser, name, folder, dark):
         pathlib.Path(folder, kind + ".png").write_bytes(browser.picture())
         wider = browser.run("return document.documentElement.scrollWidth - innerWidth")
         yield kind, wider
-        for title, at in (("Two links under one schedule", 40), ("A clean tree", 30)):
+        for title, at in (("Two links under one schedule", 40), ("A clean tree", 30),
+            ("Backlogs at two nodes", 9)):
             browser.run("showTree(TREES[args[0]], args[0], args[1]);", title, at)
             time.sleep(0.6)
             pathlib.Path(folder, f"{kind}-{title.split()[0].lower()}-tree.png").write_bytes(
@@ -1231,6 +1381,7 @@ def main():
                     checks.tree_exercises(browser, name)
                     checks.tree_hands(browser, name)
                     checks.faults(browser, name)
+                    checks.backlogs(browser, name)
                     checks.narrow(browser, name)
                 if words.pictures:
                     os.makedirs(words.pictures, exist_ok=True)

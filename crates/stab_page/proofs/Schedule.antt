@@ -1,5 +1,5 @@
 -- The whole tree of the page without its origins is the whole tree of the schedule, step by step.
-use Rattle.std.proofs.Common.{◌≡◌, ℕ, zero, suc, List, [], ◌∷◌, ◌++◌, map, length, replicate, get_or, set, Option, Some, None, option_map, option_and_then, refl, ap, sym, subst, ◌∙◌, slice_get, arith}
+use Rattle.std.proofs.Common.{◌≡◌, ℕ, zero, suc, List, [], ◌∷◌, ◌++◌, map, length, get_or, set, Option, Some, None, option_map, option_and_then, refl, ap, sym, subst, ◌∙◌, slice_get, arith}
 use Rattle.std.specs.Option.{option_map_or}
 use Rattle.std.proofs.lemmas.Grind.{common_steps}
 use Rattle.std.proofs.lemmas.List.{map-set}
@@ -12,6 +12,7 @@ use Rattle.stab_core.specs.LinkSetup.{LinkSetup}
 use Rattle.stab_core.specs.Step.{step}
 use Rattle.stab_core.specs.Trace.{Traced, traced_step}
 use Rattle.stab_core.specs.Tracer.{TracerValue}
+use Rattle.stab_tree.specs.NodeOpenings.{OpeningsValue, opening_at}
 use Rattle.stab_tree.specs.Nodes.{Nodes, parent_at}
 use Rattle.stab_tree.proofs.ForCallers.{map-by_child}
 use Rattle.stab_treecore.specs.declared.event.TreeEvent.{TreeEvent}
@@ -22,7 +23,7 @@ use Rattle.stab_treecore.specs.TreeLaw.{TreeLaw}
 use Rattle.stab_treecore.specs.TreeReplay.{initial_tree, tree_replay}
 use Rattle.stab_treecore.specs.TreeStep.{event_on, link_after, next_item, tree_step}
 use Rattle.stab_treecore.specs.WholeTree.{link_into, received, source}
-use Rattle.stab_page.specs.TracedTree.{TracedTree, event_at, list_above, list_at, next_at, no_openings, page_network}
+use Rattle.stab_page.specs.TracedTree.{TracedTree, event_at, list_above, list_at, next_at, page_network}
 use Rattle.stab_page.specs.TracedTree.{traced_after, traced_into, traced_link, traced_initial_tree, traced_tree_replay}
 use Rattle.stab_page.specs.TracedTree.{traced_tree_step, untraced, whole}
 
@@ -32,28 +33,22 @@ read_mapped f [] i d = refl
 read_mapped f (x ∷ xs) zero d = refl
 read_mapped f (x ∷ xs) (suc i) d = read_mapped f xs i d
 
--- each of these lists is empty
-all_empty : (n i : ℕ) → get_or {A = List ℕ} (replicate n []) i [] ≡ []
-all_empty zero i = refl
-all_empty (suc n) zero = refl
-all_empty (suc n) (suc i) = all_empty n i
-
 -- the link into a node, without its origins
 link_there : (t : TracedTree) (node : ℕ) → link_into (whole t) node ≡ option_map untraced (traced_into t node)
 link_there t node = read_mapped (option_map untraced) t.links node None
 
 -- what a node has, from the link into it
-list_of_link : (opening published : List ℕ) (link : Option TracerValue) → opening ≡ []
+list_of_link : (opening published : List ℕ) (link : Option TracerValue)
     → option_map_or (λ (l : LinkValue). opening ++ l.state.delivered) (option_map untraced link) published
-    ≡ option_map_or (λ (l : TracerValue). l.traced.state.delivered) link published
-list_of_link opening published None empty = refl
-list_of_link opening published (Some link) empty = ap (λ xs. xs ++ link.traced.state.delivered) empty
+    ≡ option_map_or (λ (l : TracerValue). opening ++ l.traced.state.delivered) link published
+list_of_link opening published None = refl
+list_of_link opening published (Some link) = refl
 
 pub same_list : (t : TracedTree) (node : ℕ) → received (whole t) node ≡ list_at t node
 same_list t node =
-    let opening = get_or (no_openings t.parents) node [] in
+    let opening = opening_at t.openings.lists node in
     ap (λ link. option_map_or (λ (l : LinkValue). opening ++ l.state.delivered) link t.published) (link_there t node)
-    ∙ list_of_link opening t.published (traced_into t node) (all_empty (length t.parents) node)
+    ∙ list_of_link opening t.published (traced_into t node)
 
 -- what the parent of a node has
 list_of_parent : (t : TracedTree) (parent : Option ℕ)
@@ -101,17 +96,17 @@ same_step t e =
     (after_event (event_at t e) (traced_into t e.child)
     ∙ ap (λ event. option_map (link_after event) (option_map untraced (traced_into t e.child))) (sym (same_event t e))
     ∙ ap (λ link. option_map (link_after (event_on (whole t) e)) link) (sym (link_there t e.child))) in
-    ap (λ (ls : List (Option LinkValue)). record { published = t.published; openings = no_openings t.parents; parents = t.parents; links = ls }) links
+    ap (λ (ls : List (Option LinkValue)). record { published = t.published; openings = t.openings.lists; parents = t.parents; links = ls }) links
 
 pub same_replay : (t : TracedTree) (events : List TreeEvent) → whole (traced_tree_replay t events) ≡ tree_replay (whole t) events
 same_replay t [] = refl
 same_replay t (e ∷ events) =
     same_replay (traced_tree_step t e) events ∙ ap (λ now. tree_replay now events) (same_step t e)
 
-pub same_opening : (tree : Nodes) (links : List LinkSetup) (published : List ℕ)
-    → whole (traced_initial_tree tree.parents links published) ≡ initial_tree (page_network tree links published)
-same_opening tree links published =
-    ap (λ (ls : List (Option LinkValue)). record { published = published; openings = no_openings tree.parents; parents = tree.parents; links = ls })
+pub same_opening : (tree : Nodes) (openings : OpeningsValue) (links : List LinkSetup) (published : List ℕ)
+    → whole (traced_initial_tree tree.parents openings links published) ≡ initial_tree (page_network tree openings links published)
+same_opening tree openings links published =
+    ap (λ (ls : List (Option LinkValue)). record { published = published; openings = openings.lists; parents = tree.parents; links = ls })
     (map-by_child untraced tree.parents (map traced_link links) ∙ ap (by_child tree.parents) (map-map untraced traced_link links))
 
 -- the law of all nodes speaks of their lists alone

@@ -1,8 +1,8 @@
 -- A whole tree whose links have origins, its step and its replay. Without the origins it is the
 -- whole tree of `stab_treecore`, and its steps are those of the schedule
--- (`laws::every_tree_state_is_that_of_the_schedule`). No node has an opening.
+-- (`laws::every_tree_state_is_that_of_the_schedule`).
 -- Source: this project's own.
-use Rattle.std.specs.Prelude.{ℕ, ◌≤◌, List, [], ◌∷◌, length, map, replicate, slice_get}
+use Rattle.std.specs.Prelude.{ℕ, ◌≤◌, List, [], ◌∷◌, ◌++◌, length, map, slice_get}
 use Rattle.std.specs.Prelude.{slice_index_or, slice_set, Option, Some, None, option_map}
 use Rattle.std.specs.Prelude.{option_and_then}
 use Rattle.std.specs.Option.{option_map_or}
@@ -18,12 +18,15 @@ use Rattle.stab_core.specs.Tracer.{TracerValue, tracer_at}
 use Rattle.stab_tree.specs.Nodes.{Nodes, parent_at}
 use Rattle.stab_treecore.specs.declared.event.TreeEvent.{TreeEvent}
 use Rattle.stab_tree.specs.ByChild.{by_child}
+use Rattle.stab_tree.specs.NodeOpenings.{OpeningsValue, opening_at}
 use Rattle.stab_treecore.specs.Network.{Network}
 use Rattle.stab_treecore.specs.WholeTree.{WholeTree}
 
 pub record TracedTree : Type 0 where
   -- the items that the root publishes
   pub published : List ℕ
+  -- what each node begins with that nobody published, and how many items that is at most
+  pub openings : OpeningsValue
   -- the parent of each node, and nothing at the root
   pub parents : List (Option ℕ)
   -- the link into each node with its origins, and nothing at the root
@@ -33,27 +36,23 @@ pub record TracedTree : Type 0 where
 abbrev pub untraced : TracerValue → LinkValue
 untraced link = link_at link.params link.traced.state
 
--- an empty opening for each node
-abbrev pub no_openings : List (Option ℕ) → List (List ℕ)
-no_openings parents = replicate (length parents) []
-
 -- the whole tree without origins
 abbrev pub whole : TracedTree → WholeTree
 whole t =
     record {
       published = t.published;
-      openings = no_openings t.parents;
+      openings = t.openings.lists;
       parents = t.parents;
       links = map (option_map untraced) t.links;
     }
 
--- the network of these parts; no node has an opening
-abbrev pub page_network : Nodes → List LinkSetup → List ℕ → Network
-page_network tree links published =
+-- the network of these parts
+abbrev pub page_network : Nodes → OpeningsValue → List LinkSetup → List ℕ → Network
+page_network tree openings links published =
     record {
       tree = tree;
       links = links;
-      openings = record { hold = 0; lists = no_openings tree.parents };
+      openings = openings;
       published = published;
     }
 
@@ -62,10 +61,12 @@ abbrev pub traced_link : LinkSetup → TracerValue
 traced_link link = tracer_at link.params (traced_initial link.start)
 
 -- the whole tree with each link at its start
-abbrev pub traced_initial_tree : List (Option ℕ) → List LinkSetup → List ℕ → TracedTree
-traced_initial_tree parents links published =
+abbrev pub traced_initial_tree : List (Option ℕ) → OpeningsValue → List LinkSetup → List ℕ
+    → TracedTree
+traced_initial_tree parents openings links published =
     record {
       published = published;
+      openings = openings;
       parents = parents;
       links = by_child parents (map traced_link links);
     }
@@ -74,10 +75,12 @@ traced_initial_tree parents links published =
 abbrev pub traced_into : TracedTree → ℕ → Option TracerValue
 traced_into t node = slice_index_or t.links node None
 
--- what a node received: what the link into it delivered; at the root each published item
+-- what a node received: its opening, and then what the link into it delivered; at the root each
+-- published item
 abbrev pub list_at : TracedTree → ℕ → List ℕ
 list_at t node =
-    option_map_or (λ link. link.traced.state.delivered) (traced_into t node) t.published
+    option_map_or (λ link. opening_at t.openings.lists node ++ link.traced.state.delivered)
+    (traced_into t node) t.published
 
 -- what the parent of a node received
 abbrev pub list_above : TracedTree → ℕ → List ℕ

@@ -1,8 +1,8 @@
 //! One link and a small tree for a page in a browser: the states of a replay, with no heap, as
 //! numbers.
 //!
-//! Contracts see a tree as its published items, its parents and its links with their origins. The
-//! two exports answer the report of the replay that `stab_core` defines of a link, and of the
+//! Contracts see a tree as its published items, its openings, its parents and its links with their
+//! origins. The two exports answer the report of the replay that `stab_core` defines of a link, and of the
 //! replay of a schedule, which `stab_treecore` defines of a tree. A page only fills arrays with
 //! what is to happen, and shows the numbers of the report.
 #![tactic(auto)]
@@ -18,7 +18,7 @@ mod tree_standing;
 
 pub use export::stab_page_report;
 pub use stab_page_link::code::{EventCode, FrameCode};
-pub use tree_code::{LinkCode, TreeEventCode};
+pub use tree_code::{LinkCode, OpeningCode, TreeEventCode};
 pub use tree_export::stab_page_tree_report;
 
 #[cfg(test)]

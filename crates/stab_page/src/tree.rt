@@ -2,17 +2,18 @@
 
 ghost use Rattle.std.specs.List.{list_all};
 ghost use Rattle.std.specs.Option.{option_map_or};
-ghost use Rattle.std.specs.Prelude.{◌≡◌, ℕ, ◌+◌, ◌≤◌, All, IsTrue, length, map, option_copied};
-ghost use Rattle.std.specs.Prelude.{option_map};
+ghost use Rattle.std.specs.Prelude.{◌≡◌, ℕ, ◌+◌, ◌<◌, ◌≤◌, All, IfSome, IsTrue, length, map};
+ghost use Rattle.std.specs.Prelude.{option_copied, option_map, slice_get};
 ghost use Rattle.stab_tree.specs.Nodes.{parent_at};
 ghost use Rattle.stab_tree.specs.ByChild.{by_child};
+ghost use Rattle.stab_tree.specs.NodeOpenings.{has_child, hold_at, opening_at};
 ghost use Rattle.stab_page.specs.TracedTree.{HasAtMost, effect_after, list_above, list_at, next_at};
 ghost use Rattle.stab_page.specs.TracedTree.{traced_after, traced_into, traced_link};
 ghost use Rattle.stab_page.specs.TracedTree.{traced_tree_effect, traced_initial_tree};
 ghost use Rattle.stab_page.specs.TracedTree.{traced_tree_step};
-ghost use Rattle.stab_page.specs.TreeCodes.{fits, parent_of, setup_of};
+ghost use Rattle.stab_page.specs.TreeCodes.{fits, openings_of, parent_of, setup_of};
 
-use crate::tree_code::{self, LinkCode};
+use crate::tree_code::{self, LinkCode, MAX_HELD, OpeningCode};
 use arrayvec::ArrayVec;
 use stab_core::{Effect, Event};
 use stab_frames::Item;
@@ -34,38 +35,52 @@ type Parents = ArrayVec<Option<NodeId>, MAX_NODES>;
 type Links = ArrayVec<Option<PageLink>, MAX_NODES>;
 
 /// All links of a tree in arrays, with the items that its root publishes. Contracts see the
-/// published items and, of each node, its parent and the link into it with its origins.
+/// published items and, of each node, its opening, its parent and the link into it with its
+/// origins.
 #[derive(Drop)]
 pub struct PageTree<'a> {
     published: &'a [Item],
+    hold: u16,
+    openings: &'a [OpeningCode],
     parents: Parents,
     links: Links,
 }
 
 impl<'a> Model for PageTree<'a> {
     ghost use Rattle.stab_page.specs.TracedTree.{TracedTree};
+    ghost use Rattle.stab_page.specs.TreeCodes.{openings_of};
 
     ghost Value = { TracedTree };
 
     ghost view = { λ t. record {
       published = t.published.now;
+      openings = openings_of t.hold t.openings.now;
       parents = t.parents.items;
       links = t.links.items;
     } };
 }
 
 impl<'a> PageTree<'a> {
-    /// The tree with each link at its start. The links are in the file order of their children.
-    pub fn new(parents: &[u16], links: &[LinkCode], published: &'a [Item]) -> PageTree<'a>
+    /// The tree with each link at its start, and each node with its opening, which has at most
+    /// `hold` items. The links are in the file order of their children.
+    pub fn new(
+        parents: &[u16],
+        hold: u16,
+        openings: &'a [OpeningCode],
+        links: &[LinkCode],
+        published: &'a [Item],
+    ) -> PageTree<'a>
         requires few { length parents.now ≤ MAX_NODES }
         requires fit { IsTrue (list_all fits links.now) }
         ensures { result ≡ traced_initial_tree (map parent_of parents.now)
-            (map setup_of links.now) published.now }
+            (openings_of hold openings.now) (map setup_of links.now) published.now }
     {
         let parents = parents_of(parents);
         let links = links_by_child(parents.as_slice(), links);
         PageTree {
             published,
+            hold,
+            openings,
             parents,
             links,
         }
@@ -105,7 +120,8 @@ impl<'a> PageTree<'a> {
 
     /// The link into a node; the root and what is no node have none.
     pub fn link(&self, node: NodeId) -> Option<&PageLink>
-        ensures { option_copied result ≡ traced_into self.now node }
+        ensures link { option_copied result ≡ traced_into self.now node }
+        ensures there { IfSome result (λ link. node < MAX_NODES) }
     {
         self.links.as_slice().get(node.index())?.as_ref()
     }
@@ -117,24 +133,58 @@ impl<'a> PageTree<'a> {
         self.published.len()
     }
 
-    /// What a node received: what the link into it delivered; at the root each published item.
-    fn list_at(&self, node: NodeId) -> &[Item]
-        ensures { result.now ≡ list_at self.now node }
+    /// What a node begins with that nobody published.
+    pub fn opening(&self, node: NodeId) -> &[Item]
+        ensures opening { result.now ≡ opening_at self.now.openings.lists node }
+        ensures few { length result.now ≤ MAX_HELD }
     {
-        match self.link(node) {
-            Some(link) => link.delivered(),
-            None => self.published,
+        match self.openings.get(node.index()) {
+            Some(code) => code.items(),
+            None => &[],
         }
     }
 
-    /// What the parent of a node received.
-    fn list_above(&self, child: NodeId) -> &[Item]
-        ensures { result.now ≡ list_above self.now child }
+    /// How many items an opening of this node has at most: none at the root and at a leaf.
+    pub fn hold_at(&self, node: NodeId) -> u16
+        ensures { result ≡ hold_at self.now.parents self.now.openings.hold node }
     {
-        match self.parent(child) {
-            Some(parent) => self.list_at(parent),
-            None => &[],
+        if self.parent(node).is_some() && self.has_child(node) {
+            self.hold
+        } else {
+            0
         }
+    }
+
+    /// Whether a link leads from a node.
+    fn has_child(&self, node: NodeId) -> bool
+        ensures { result ≡ has_child self.now.parents node }
+    {
+        self.parents
+            .as_slice()
+            .iter()
+            .any(|parent| *parent == Some(node))
+    }
+
+    /// The item at this place of what a node received: its opening, and then what the link into it
+    /// delivered; at the root each published item.
+    fn item_at(&self, node: NodeId, place: usize) -> Option<Item>
+        ensures { result ≡ slice_get (list_at self.now node) place }
+    {
+        let Some(link) = self.link(node) else {
+            return self.published.get(place).copied();
+        };
+        let opening = self.opening(node);
+        if place < opening.len() {
+            return Some(opening[place]);
+        }
+        link.delivered().get(place - opening.len()).copied()
+    }
+
+    /// The item at this place of what the parent of a node received.
+    fn item_above(&self, child: NodeId, place: usize) -> Option<Item>
+        ensures { result ≡ slice_get (list_above self.now child) place }
+    {
+        self.item_at(self.parent(child)?, place)
     }
 
     /// The item that the link into a node is to be offered next.
@@ -142,7 +192,7 @@ impl<'a> PageTree<'a> {
         ensures { result ≡ next_at self.now child }
     {
         let link = self.link(child)?;
-        self.list_above(child).get(link.offered().len()).copied()
+        self.item_above(child, link.offered().len())
     }
 }
 

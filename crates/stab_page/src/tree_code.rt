@@ -1,11 +1,11 @@
 //! What a page writes of a tree into the module's memory.
 
-ghost use Rattle.std.specs.Prelude.{◌≡◌, IsTrue};
+ghost use Rattle.std.specs.Prelude.{◌≡◌, ◌≤◌, IsTrue, length};
 ghost use Rattle.stab_page.specs.TracedTree.{traced_link};
-ghost use Rattle.stab_page.specs.TreeCodes.{fits, parent_of, setup_of, tree_event_of};
+ghost use Rattle.stab_page.specs.TreeCodes.{fits, opening_of, parent_of, setup_of, tree_event_of};
 
 use stab_core::LinkAct;
-use stab_frames::Label;
+use stab_frames::{Item, Label};
 use stab_page_link::code::{self, FrameCode};
 use stab_page_link::link::PageLink;
 use stab_tree::NodeId;
@@ -13,6 +13,9 @@ use stab_treecore::TreeEvent;
 
 /// The most entries of a queue of a tree.
 pub const MAX_TREE_QUEUED: usize = 8;
+
+/// The most items that a node begins with.
+pub const MAX_HELD: usize = 8;
 
 /// What stands for the parent of the root.
 const NO_NODE: u16 = 65535;
@@ -98,6 +101,28 @@ impl LinkCode {
             self.send_label,
             self.recv_label,
         )
+    }
+}
+
+/// What a node begins with that nobody published: as many of the items as the count says.
+#[repr(C)]
+#[derive(Clone, Copy)]
+pub struct OpeningCode {
+    pub count: u32,
+    pub items: [Item; MAX_HELD],
+}
+
+impl OpeningCode {
+    /// The items that count. Where the count is more than 8, there are none.
+    pub fn items(&self) -> &[Item]
+        ensures items { result.now ≡ opening_of self.now }
+        ensures few { length result.now ≤ MAX_HELD }
+    {
+        let count = self.count as usize;
+        if count > MAX_HELD {
+            return &[];
+        }
+        &self.items[..count]
     }
 }
 

@@ -7,10 +7,9 @@ ghost use Rattle.stab_page.specs.TreeReport.{numbers_to, standing_numbers, tree_
 ghost use Rattle.stab_page.specs.TreeStanding.{node_origins};
 
 use crate::tree::{MAX_NODES, MAX_STEPS, PageTree};
-use crate::tree_standing::passed_over;
+use crate::tree_standing::{passed_over, strays_of};
 use stab_page_link::entry::{EffectEntry, OriginEntry};
 use stab_page_link::numbers::{self, Numbers};
-use stab_page_link::standing;
 use stab_tree::NodeId;
 
 /// The report of a tree and of the effects so far.
@@ -68,14 +67,17 @@ fn push_origins(out: &mut Numbers, origins: &[OriginEntry])
 /// Adds where a node stands.
 fn push_standing(out: &mut Numbers, tree: &PageTree<'_>, node: NodeId, origins: &[OriginEntry])
     requires origins { origins.now ≡ node_origins tree.now node }
-    requires room { length out.old.items + 4 ≤ 32768 }
+    requires room { length out.old.items + 6 ≤ 32768 }
     ensures numbers { out.new.items ≡ out.old.items ++ standing_numbers tree.now node }
-    ensures len { length out.new.items ≡ length out.old.items + 4 }
+    ensures len { length out.new.items ≡ length out.old.items + 6 }
 {
     let most_strays = tree.strays_at_most(node);
+    let most_held = tree.held_at_most(node);
     let most_missing = tree.missing_at_most(node);
-    out.push(standing::strays_in(origins));
+    out.push(strays_of(false, origins));
     out.push(most_strays);
+    out.push(strays_of(true, origins));
+    out.push(most_held);
     out.push(passed_over(origins));
     out.push(most_missing);
 }

@@ -1,20 +1,29 @@
 //! Where a node stands between the bounds of its law.
 
-ghost use Rattle.std.specs.Prelude.{◌≡◌, ◌+◌, ◌*◌, ◌<◌, ◌≤◌, All, IfSome, length, map};
+ghost use Rattle.std.specs.Prelude.{◌≡◌, ◌+◌, ◌*◌, ◌++◌, ◌<◌, ◌≤◌, All, IfSome, length, map};
+ghost use Rattle.stab_tree.specs.NodeOpenings.{hold_at};
 ghost use Rattle.stab_tree.specs.Steps.{depth_of, steps_below};
 ghost use Rattle.stab_treecore.specs.Paths.{sum_above};
 ghost use Rattle.stab_page.specs.TracedTree.{HasAtMost};
-ghost use Rattle.stab_page.specs.TreeStanding.{capacity_at, last_place, missing_at_most};
-ghost use Rattle.stab_page.specs.TreeStanding.{node_origins, origins_above, passed_over, place_or};
-ghost use Rattle.stab_page.specs.TreeStanding.{sent_to, strays_at_most, through};
+ghost use Rattle.stab_page.specs.TreeStanding.{capacity_at, held_at_most, is_stray_of, last_place};
+ghost use Rattle.stab_page.specs.TreeStanding.{missing_at_most, node_origins, opened_to};
+ghost use Rattle.stab_page.specs.TreeStanding.{origins_above, passed_over, place_or, sent_to};
+ghost use Rattle.stab_page.specs.TreeStanding.{strays_at_most, strays_of, through};
 
-use crate::tree::{MAX_STEPS, PageTree};
+use crate::tree::{MAX_NODES, MAX_STEPS, PageTree};
+use crate::tree_code::MAX_HELD;
 use arrayvec::ArrayVec;
 use stab_core::Origin;
 use stab_page_link::entry::OriginEntry;
 use stab_page_link::link::MAX_EVENTS;
 use stab_page_link::standing;
 use stab_tree::NodeId;
+
+/// The most items of a node.
+pub const MAX_LIST: usize = 264;
+
+/// From this place on a stray is of an opening: `OPENED` places for each node.
+const OPENED: u16 = 64;
 
 /// Where each item of a node comes from.
 pub type Origins = ArrayVec<OriginEntry, MAX_EVENTS>;
@@ -25,7 +34,7 @@ impl<'a> PageTree<'a> {
         requires published { length self.now.published ≤ MAX_STEPS }
         requires few { All (HasAtMost MAX_STEPS) self.now.links }
         ensures origins { result.items ≡ node_origins self.now node }
-        ensures few { length result.items ≤ MAX_STEPS }
+        ensures few { length result.items ≤ MAX_LIST }
     {
         self.origins_above(self.len(), node)
     }
@@ -35,7 +44,7 @@ impl<'a> PageTree<'a> {
         requires published { length self.now.published ≤ MAX_STEPS }
         requires few { All (HasAtMost MAX_STEPS) self.now.links }
         ensures origins { result.items ≡ origins_above self.now count node }
-        ensures few { length result.items ≤ MAX_STEPS }
+        ensures few { length result.items ≤ MAX_LIST }
     {
         if count == 0 {
             return ArrayVec::new();
@@ -47,14 +56,23 @@ impl<'a> PageTree<'a> {
             Some(parent) => self.origins_above(count - 1, parent),
             None => ArrayVec::new(),
         };
-        all_through(above.as_slice(), link.origins())
+        let mut out = opened_to(node, self.opening(node).len());
+        push_through(&mut out, above.as_slice(), link.origins());
+        out
     }
 
-    /// The most strays at a node.
+    /// The most strays of links at a node.
     pub fn strays_at_most(&self, node: NodeId) -> u64
         ensures { result ≡ strays_at_most self.now node }
     {
         self.strays_above(self.depth(node), node)
+    }
+
+    /// The most strays of openings at a node.
+    pub fn held_at_most(&self, node: NodeId) -> u64
+        ensures { result ≡ held_at_most self.now node }
+    {
+        self.held_above(self.depth(node), node)
     }
 
     /// The most missing items before the last of a node.
@@ -102,6 +120,23 @@ impl<'a> PageTree<'a> {
         self.capacity_at(node) + above
     }
 
+    /// What this many nodes may begin with, from a node upwards, added.
+    fn held_above(&self, count: usize, node: NodeId) -> u64
+        requires { count ≤ 8 }
+        ensures sum { result ≡ sum_above self.now.parents
+            (hold_at self.now.parents self.now.openings.hold) count node }
+        ensures small { result ≤ 65535 * count }
+    {
+        if count == 0 {
+            return 0;
+        }
+        let above = match self.parent(node) {
+            Some(parent) => self.held_above(count - 1, parent),
+            None => 0,
+        };
+        u64::from(self.hold_at(node)) + above
+    }
+
     /// What may be missing for each of this many links, from the one into a node upwards, added.
     fn missing_above(&self, count: usize, node: NodeId) -> u64
         requires { count ≤ 8 }
@@ -146,17 +181,31 @@ fn sent_to(count: usize) -> Origins
     origins
 }
 
-/// Where the items of a link come from, whose parent has these origins.
-fn all_through(above: &[OriginEntry], origins: &[OriginEntry]) -> Origins
-    requires { length origins.now ≤ MAX_EVENTS }
-    ensures origins { result.items ≡ map (through above.now) origins.now }
-    ensures len { length result.items ≡ length origins.now }
+/// The origins of this many items of the opening of a node.
+fn opened_to(node: NodeId, count: usize) -> Origins
+    requires node { node < MAX_NODES }
+    requires few { count ≤ MAX_HELD }
+    ensures origins { result.items ≡ opened_to node count }
+    ensures len { length result.items ≡ count }
 {
-    let mut out = ArrayVec::new();
+    let mut origins = ArrayVec::new();
+    for place in 0..count {
+        origins.push(OriginEntry {
+            origin: Origin::Stray(OPENED * (node.index() as u16 + 1) + place as u16),
+        });
+    }
+    origins
+}
+
+/// Adds where the items of a link come from, whose parent has these origins.
+fn push_through(out: &mut Origins, above: &[OriginEntry], origins: &[OriginEntry])
+    requires { length out.old.items + length origins.now ≤ MAX_EVENTS }
+    ensures origins { out.new.items ≡ out.old.items ++ map (through above.now) origins.now }
+    ensures len { length out.new.items ≡ length out.old.items + length origins.now }
+{
     for entry in origins {
         out.push(through(above, *entry));
     }
-    out
 }
 
 /// Where an item comes from that a parent with these origins handed on.
@@ -168,6 +217,30 @@ fn through(above: &[OriginEntry], entry: OriginEntry) -> OriginEntry
         Origin::Sent(place) => above.get(place as usize).copied().unwrap_or(OriginEntry {
             origin: Origin::Stray(0),
         }),
+    }
+}
+
+/// How many strays of openings or of links there are among these.
+pub fn strays_of(opened: bool, origins: &[OriginEntry]) -> u64
+    ensures { result ≡ strays_of opened origins.now }
+{
+    let mut count = 0;
+    for entry in origins {
+        if is_stray_of(opened, *entry) {
+            count += 1;
+        }
+    }
+    count
+}
+
+/// Whether this is a stray, of an opening or of a link.
+fn is_stray_of(opened: bool, entry: OriginEntry) -> bool
+    ensures { result ≡ is_stray_of opened entry }
+{
+    match entry.origin {
+        Origin::Stray(place) if opened => OPENED <= place,
+        Origin::Stray(place) => place < OPENED,
+        Origin::Sent(_) => false,
     }
 }
 

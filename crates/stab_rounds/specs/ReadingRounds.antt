@@ -1,9 +1,9 @@
--- A reading round of a link of capacity c: a round in which each end reads all that is queued
--- before it sends. An item is offered, c frames are taken, a frame is sent, and one is taken; c
--- acknowledgements are taken, one is sent, and one is taken. A queue has c entries at most, so all
--- that was queued is read; where nothing is queued, taking changes nothing, and counts. Anything
--- else may happen between. A loss between a message that is sent and the one that is taken begins
--- at the sending anew.
+-- A reading round of a link of capacity c: a round in which c messages are taken off a queue before
+-- one is sent there. An item is offered, c frames are taken, a frame is sent, and one is taken; c
+-- acknowledgements are taken, one is sent, and one is taken. A queue has c entries at most, so what
+-- was queued as the taking began is read by then; where nothing is queued, taking changes nothing,
+-- and counts. Anything else may happen between. A loss between a message that is sent and the one
+-- that is taken begins at the sending anew.
 -- Example: with c = 1, an offer, `recv_frame`, `send_frame`, `recv_frame`, `recv_ack`, `send_ack`
 -- and `recv_ack` are one reading round. Without the first `recv_frame` they are none.
 -- Source: this project's own.

@@ -49,8 +49,8 @@ pub fn rounds_bring_items()
     stab_core::laws::every_replay_obeys_the_link_law();
 }
 
-/// While an item waits: once `c + 1` frames were received and after them `c + 1` acknowledgements,
-/// it is acknowledged, whatever else happened, and whatever was lost.
+/// While an item waits: once `c + 1` frames were received and not kept, and after them `c + 1` such
+/// acknowledgements, it is acknowledged, whatever else happened, and whatever was lost.
 pub fn receipts_bring_an_acknowledgement()
     ensures { (p : Parameters) (s : LinkState) (first second : List Event)
         → IsWithin p s → length s.offered ≡ s.acked + 1
@@ -69,8 +69,7 @@ pub fn few_acknowledgements_are_ignored()
         → ignored_among p s events ≤ 2 * p.capacity }
 {}
 
-/// Where each end reads all that is there before it sends, one round acknowledges an item, from any
-/// state.
+/// A round in which `c` messages are taken before one is sent acknowledges an item, from any state.
 pub fn reading_rounds_bring_acknowledgements()
     ensures { (p : Parameters) (s : LinkState) (events : List Event)
         → 1 ≤ p.capacity → IsWithin p s → (replay p s events).closed ≡ false
