@@ -1,7 +1,8 @@
 //! The command `check`: whether a report, or the text of a link, obeys the laws of its job.
 
 ghost use Rattle.std.specs.Prelude.{◌≡◌, ◌≢◌, ℕ, List, string_bytes, Err, IfErr, IfOk, IfSome};
-ghost use Rattle.std.specs.Prelude.{Some, Ok, length, option_map};
+ghost use Rattle.std.specs.Prelude.{Some, Ok, codes, length};
+ghost use Rattle.serde_json.specs.Find.{get};
 ghost use Rattle.serde_json.specs.View.{view};
 ghost use Rattle.stab_json.specs.Values.{value_of};
 ghost use Rattle.std.specs.Io.KnownBytes.{Appends, Keeps};
@@ -16,12 +17,11 @@ ghost use Rattle.stab_moment.specs.Backlogs.{backlogs};
 use crate::answer::write_text;
 use crate::draw::kind_of_bytes;
 use crate::fault::{CheckFault, unread, unread_link};
-use crate::job::{begun_job, begun_link_job};
+use crate::job::{begun_job_and_members, begun_link_job};
 use serde_json::Value;
 use stab_findings::Kind;
 use stab_frames::{Item, Sequence};
 use stab_job::Job;
-use stab_json::read_value;
 use stab_moment::{BacklogFault, read_backlogs, verdict_since};
 use stab_reports::read_text;
 use stab_script::LinkJob;
@@ -152,39 +152,33 @@ fn check_tree(alloc: Global, bytes: &[u8], text: &[u8]) -> Result<(String, bool)
     ensures loaded { (fault : CliFault) → result ≢ Err (CheckFault.Unloaded fault) }
     ensures no_write { IfErr result (λ fault. fault ≢ CheckFault.Job CliFault.Write) }
 {
-    let job = begun_job(alloc, bytes)?;
-    let said = check_job(alloc, &job, bytes, text)?;
+    let (job, members) = begun_job_and_members(alloc, bytes)?;
+    let said = check_job(alloc, &job, &members, bytes, text)?;
     Ok(said)
 }
 
 /// What is said of the report that this text is, of the job that these bytes are: by the backlogs
-/// that they have, or as of a whole run.
+/// that are among its members, or as of a whole run.
 fn check_job(
     alloc: Global,
     job: &Job,
+    members: &Value,
     bytes: &[u8],
     text: &[u8],
 ) -> Result<(String, bool), CheckFault>
     requires begun { IsBegun bytes.now job.now }
+    requires backlogs { given_backlogs (value_of bytes.now)
+        ≡ get (codes "backlogs") (view members.now) }
     ensures checked { IfOk result (λ said. IsJudgedBy (given_backlogs (value_of bytes.now)) job.now
         text.now said.1 (string_bytes said.0)) }
     ensures fault { IfErr result (IsUncheckedTree bytes.now) }
     ensures loaded { (fault : CliFault) → result ≢ Err (CheckFault.Unloaded fault) }
     ensures no_write { IfErr result (λ fault. fault ≢ CheckFault.Job CliFault.Write) }
 {
-    let value = read_value(alloc, bytes)?;
-    match backlogs_given(value.as_ref()) {
+    match members.get("backlogs") {
         None => check_text(alloc, job, text),
         Some(given) => check_since(alloc, job, bytes, given, text),
     }
-}
-
-/// The backlogs of a value, where it has some.
-fn backlogs_given<'v>(value: Option<&'v Value>) -> Option<&'v Value>
-    ensures { option_map (λ given. view given.now) result
-        ≡ given_backlogs (option_map (λ lent. view lent.now) value.entry) }
-{
-    value?.get("backlogs")
 }
 
 /// What is said of the report that this text is, by the backlogs that this value means.

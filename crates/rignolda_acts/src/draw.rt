@@ -2,9 +2,9 @@ ghost use Rattle.std.specs.Prelude.{◌≡◌, ◌≢◌, ℕ, List, false, Some
 ghost use Rattle.std.specs.Prelude.{All, IfErr, IfOk, IfSome, OnOk};
 ghost use Rattle.std.specs.Io.KnownBytes.{Appends, Keeps};
 ghost use Rattle.serde_json.specs.View.{view};
-ghost use Rattle.rignolda_acts.specs.Drawn.{IsDrawn, IsDrawnAs, IsDrawnBy, IsDrawnJob, IsDrawnLink};
+ghost use Rattle.rignolda_acts.specs.Drawn.{IsDrawn, IsDrawnAs, IsDrawnBy, IsDrawnLink};
 ghost use Rattle.rignolda_acts.specs.Drawn.{IsDrawnScenario, IsDrawnTree, IsUndrawn, IsUndrawnBy};
-ghost use Rattle.rignolda_acts.specs.Drawn.{IsUndrawnJob, has_steps, task_of};
+ghost use Rattle.rignolda_acts.specs.Drawn.{has_steps, task_of};
 ghost use Rattle.rignolda_acts.specs.Told.{IsUntold};
 ghost use Rattle.stab_core.specs.Link.{IsReason};
 ghost use Rattle.stab_core.specs.Replay.{IsLawful};
@@ -28,11 +28,13 @@ use stab_core::StartFault;
 use stab_draw::{run_text, schedule_run_text};
 use stab_draw_scenario::scenario_run_text;
 use stab_findings::Kind;
-use stab_job::{Job, read_job};
+use stab_job::Job;
+use stab_job_stream::read_job;
 use stab_json::read_value;
 use stab_picture::{link_picture, scenario_picture, schedule_picture};
 use stab_scenario::{Scenario, ScenarioFault, read_scenario};
-use stab_script::{LinkJob, read_link_job};
+use stab_script::LinkJob;
+use stab_stream::read_link_job;
 use stab_task::{CliFault, load};
 use stab_treecore::TreeStartFault;
 use std::alloc::{AllocError, Global};
@@ -86,18 +88,20 @@ fn draw_bytes(alloc: Global, is_picture: bool, bytes: &[u8]) -> Result<String, S
     ensures fault { IfErr result (IsUndrawn bytes.now) }
     ensures no_write { IfErr result (λ fault. fault ≢ StepsFault.Job CliFault.Write) }
 {
-    let is_scenario = bytes_have_steps(alloc, bytes)?;
-    let text = draw_by(alloc, is_scenario, is_picture, bytes)?;
+    let (kind, is_scenario) = looks_of_bytes(alloc, bytes)?;
+    let text = draw_by(alloc, is_scenario, kind, is_picture, bytes)?;
     Ok(text)
 }
 
-/// Whether these bytes are an object with the members `tree` and `steps`.
-fn bytes_have_steps(alloc: Global, bytes: &[u8]) -> Result<bool, CliFault>
-    ensures has { IfOk result (λ has. has ≡ has_steps (value_of bytes.now)) }
+/// What these bytes are read as, and whether they are an object with the members `tree` and
+/// `steps`.
+fn looks_of_bytes(alloc: Global, bytes: &[u8]) -> Result<(Kind, bool), CliFault>
+    ensures kind { IfOk result (λ looks. looks.0 ≡ chosen None (value_of bytes.now)) }
+    ensures has { IfOk result (λ looks. looks.1 ≡ has_steps (value_of bytes.now)) }
     ensures memory { IfErr result (λ fault. fault ≡ CliFault.Memory) }
 {
     let value = read_value(alloc, bytes)?;
-    Ok(has_steps(value.as_ref()))
+    Ok((kind_of(value.as_ref()), has_steps(value.as_ref())))
 }
 
 /// Whether there is a value, and it is an object with the members `tree` and `steps`.
@@ -110,13 +114,15 @@ fn has_steps(value: Option<&Value>) -> bool
     }
 }
 
-/// The run of bytes that have steps, or of others.
+/// The run of bytes that have steps, or of others of this kind.
 fn draw_by(
     alloc: Global,
     is_scenario: bool,
+    kind: Kind,
     is_picture: bool,
     bytes: &[u8],
 ) -> Result<String, StepsFault>
+    requires { kind ≡ chosen None (value_of bytes.now) }
     ensures drawn { IfOk result (λ text.
         IsDrawnBy is_scenario is_picture bytes.now (string_bytes text)) }
     ensures fault { IfErr result (IsUndrawnBy is_scenario bytes.now) }
@@ -125,7 +131,7 @@ fn draw_by(
     if is_scenario {
         draw_scenario(alloc, is_picture, bytes)
     } else {
-        let text = draw_job(alloc, is_picture, bytes)?;
+        let text = draw_kind(alloc, kind, is_picture, bytes)?;
         Ok(text)
     }
 }
@@ -157,17 +163,6 @@ fn scenario_run(
     } else {
         scenario_run_text(alloc, scenario)
     }
-}
-
-/// The run of the job that these bytes are, whether or not it has steps.
-fn draw_job(alloc: Global, is_picture: bool, bytes: &[u8]) -> Result<String, CliFault>
-    ensures drawn { IfOk result (λ text. IsDrawnJob is_picture bytes.now (string_bytes text)) }
-    ensures fault { IfErr result (IsUndrawnJob bytes.now) }
-    ensures no_write { IfErr result (λ fault. fault ≢ CliFault.Write) }
-{
-    let kind = kind_of_bytes(alloc, bytes)?;
-    let text = draw_kind(alloc, kind, is_picture, bytes)?;
-    Ok(text)
 }
 
 /// The run of the job of this kind that these bytes are.

@@ -1,17 +1,24 @@
 //! The job of a tree, or of a link, that a command reads.
 
-ghost use Rattle.std.specs.Prelude.{◌≢◌, false, IfErr, IfOk, OnOk};
+ghost use Rattle.std.specs.Prelude.{◌≡◌, ◌≢◌, codes, false, IfErr, IfOk, OnOk};
 ghost use Rattle.rignolda_acts.specs.Begun.{IsBegun, IsBegunLink};
+ghost use Rattle.rignolda_acts.specs.Checked.{given_backlogs};
+ghost use Rattle.serde_json.specs.Find.{get};
+ghost use Rattle.serde_json.specs.View.{view};
 ghost use Rattle.stab_core.specs.Link.{IsReason};
 ghost use Rattle.stab_core.specs.Replay.{IsLawful};
 ghost use Rattle.stab_job.specs.JobValues.{network};
+ghost use Rattle.stab_json.specs.Values.{value_of};
 ghost use Rattle.stab_task.specs.Answers.{IsFault};
 ghost use Rattle.stab_treecore.specs.Network.{IsNetwork};
 ghost use Rattle.stab_treecore.specs.Refusals.{IsScheduleReason};
 
+use serde_json::Value;
 use stab_core::{Link, StartFault};
-use stab_job::{Job, read_job};
-use stab_script::{LinkJob, read_link_job};
+use stab_job::Job;
+use stab_job_stream::{read_job, read_job_and_members};
+use stab_script::LinkJob;
+use stab_stream::read_link_job;
 use stab_task::{CliFault, Task};
 use stab_treecore::{TreeStartFault, run_schedule};
 use std::alloc::Global;
@@ -26,6 +33,19 @@ pub(crate) fn begun_job(alloc: Global, bytes: &[u8]) -> Result<Job, CliFault>
     let job = read_job(alloc, bytes)?;
     begin(alloc, &job)?;
     Ok(job)
+}
+
+/// The same, and a value that has the backlogs of the bytes.
+pub(crate) fn begun_job_and_members(alloc: Global, bytes: &[u8]) -> Result<(Job, Value), CliFault>
+    ensures begun { IfOk result (λ read. IsBegun bytes.now read.0) }
+    ensures backlogs { IfOk result (λ read. given_backlogs (value_of bytes.now)
+        ≡ get (codes "backlogs") (view read.1)) }
+    ensures fault { IfErr result (IsFault Task.Tree bytes.now) }
+    ensures no_write { IfErr result (λ fault. fault ≢ CliFault.Write) }
+{
+    let read = read_job_and_members(alloc, bytes)?;
+    begin(alloc, &read.0)?;
+    Ok(read)
 }
 
 /// Sees that each link of a job can begin.

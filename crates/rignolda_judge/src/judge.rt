@@ -4,13 +4,16 @@ ghost use Rattle.std.specs.Prelude.{◌≡◌, ◌≢◌, ℕ, List, string_byte
 ghost use Rattle.std.specs.Prelude.{length};
 ghost use Rattle.std.specs.Io.KnownBytes.{Appends, Keeps};
 ghost use Rattle.rignolda_judge.specs.Judged.{IsJob, IsJudged, IsUnjudged, logs_in};
+ghost use Rattle.serde_json.specs.View.{view};
 ghost use Rattle.stab_json.specs.Values.{value_of};
+ghost use Rattle.stab_logs.specs.Logs.{logs};
 ghost use Rattle.stab_task.specs.Answers.{IsFault};
 ghost use Rattle.stab_task.specs.declared.command.Task.{Task};
 
 use crate::fault::JudgeFault;
-use stab_job::{Job, read_job};
-use stab_json::read_value;
+use serde_json::Value;
+use stab_job::Job;
+use stab_job_stream::read_job_and_members;
 use stab_logs::{Logs, LogsFault, read_logs, verdict_of_logs};
 use stab_task::{CliFault, load};
 use std::alloc::Global;
@@ -56,35 +59,34 @@ fn judge_bytes(alloc: Global, bytes: &[u8]) -> Result<(String, bool), JudgeFault
     ensures fault { IfErr result (IsUnjudged bytes.now) }
     ensures no_write { IfErr result (λ fault. fault ≢ JudgeFault.Job CliFault.Write) }
 {
-    let job = job_of(alloc, bytes)?;
-    let logs = logs_of(alloc, &job, bytes)?;
+    let (job, members) = job_of(alloc, bytes)?;
+    let logs = logs_of(alloc, &job, &members)?;
     let said = verdict_of_logs(alloc, &job, &logs)?;
     Ok(said)
 }
 
-/// The job that these bytes are.
-fn job_of(alloc: Global, bytes: &[u8]) -> Result<Job, CliFault>
-    ensures read { IfOk result (IsJob bytes.now) }
+/// The job that these bytes are, and a value that has their logs.
+fn job_of(alloc: Global, bytes: &[u8]) -> Result<(Job, Value), CliFault>
+    ensures read { IfOk result (λ read. IsJob bytes.now read.0) }
+    ensures logs { IfOk result (λ read. logs_in read.0.tree (value_of bytes.now)
+        ≡ logs read.0.tree (view read.1)) }
     ensures fault { IfErr result (IsFault Task.Tree bytes.now) }
     ensures no_write { IfErr result (λ fault. fault ≢ CliFault.Write) }
 {
-    let job = read_job(alloc, bytes)?;
-    Ok(job)
+    let read = read_job_and_members(alloc, bytes)?;
+    Ok(read)
 }
 
-/// The logs of this job, which these bytes are.
-fn logs_of(alloc: Global, job: &Job, bytes: &[u8]) -> Result<Logs, JudgeFault>
-    requires read { IsJob bytes.now job.now }
-    ensures has { IfOk result (λ logs. logs_in job.now.tree (value_of bytes.now) ≡ Ok logs) }
-    ensures per_node { IfOk result (λ logs.
-        length logs.received ≡ length job.now.tree.parents) }
-    ensures fault { IfErr result (IsUnjudged bytes.now) }
+/// The logs that this value has for the nodes of a job.
+fn logs_of(alloc: Global, job: &Job, members: &Value) -> Result<Logs, JudgeFault>
+    ensures has { IfOk result (λ its. logs job.now.tree (view members.now) ≡ Ok its) }
+    ensures per_node { IfOk result (λ its. length its.received ≡ length job.now.tree.parents) }
+    ensures fault { IfErr result (λ fault. (input : List ℕ) → IsJob input job.now
+        → logs_in job.now.tree (value_of input) ≡ logs job.now.tree (view members.now)
+        → IsUnjudged input fault) }
     ensures no_write { IfErr result (λ fault. fault ≢ JudgeFault.Job CliFault.Write) }
 {
-    let Some(value) = read_value(alloc, bytes)? else {
-        return Err(JudgeFault::Logs(LogsFault::Shape));
-    };
-    match read_logs(alloc, job.tree(), &value) {
+    match read_logs(alloc, job.tree(), members) {
         Ok(logs) => Ok(logs),
         Err(LogsFault::Memory) => Err(JudgeFault::Job(CliFault::Memory)),
         Err(fault) => Err(JudgeFault::Logs(fault)),

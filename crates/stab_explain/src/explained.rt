@@ -1,4 +1,4 @@
-ghost use Rattle.std.specs.Prelude.{◌≡◌, IfOk, IfSome, IsSome, IsTrue, None, Some, false};
+ghost use Rattle.std.specs.Prelude.{◌≡◌, IfOk, IfSome, IsSome, IsTrue, Some};
 ghost use Rattle.stab_json.specs.Values.{value_of};
 ghost use Rattle.stab_explain.specs.Findings.{LedBy};
 ghost use Rattle.stab_explain.specs.Kinds.{chosen};
@@ -22,8 +22,7 @@ pub fn explain(alloc: Global, given: Option<Kind>, bytes: &[u8]) -> Result<Expla
     ensures refusal { IfOk result (λ its. its.refusal ≡ refusal_of its.kind bytes.now) }
     ensures first { IfOk result (λ its. LedBy its.refusal its.findings.items) }
 {
-    let (kind, notes, is_json) = walked(alloc, given, bytes)?;
-    let refusal = refusal_of(alloc, kind, bytes, is_json)?;
+    let (kind, notes, refusal) = walked(alloc, given, bytes)?;
     let (findings, omitted) = notes.into_parts();
     let findings = led_by(alloc, &refusal, findings)?;
     Ok(Explanation {
@@ -34,20 +33,21 @@ pub fn explain(alloc: Global, given: Option<Kind>, bytes: &[u8]) -> Result<Expla
     })
 }
 
-/// The kind of the bytes, what is found in them, and whether they are JSON.
+/// The kind of the bytes, what is found in them, and why the reader of that kind refuses them.
 fn walked(
     alloc: Global,
     given: Option<Kind>,
     bytes: &[u8],
-) -> Result<(Kind, Notes, bool), AllocError>
+) -> Result<(Kind, Notes, Option<Refusal>), AllocError>
     ensures kind { IfOk result (λ all. all.0 ≡ chosen given (value_of bytes.now)) }
-    ensures is_json { IfOk result (λ all. all.2 ≡ false → value_of bytes.now ≡ None) }
+    ensures refusal { IfOk result (λ all. all.2 ≡ refusal_of all.0 bytes.now) }
 {
     let value = read_value(alloc, bytes)?;
     let kind = chosen(given, value.as_ref());
     let mut notes = Notes::new(alloc, kind);
     look(&mut notes, kind, value.as_ref(), bytes)?;
-    Ok((kind, notes, value.is_some()))
+    let refusal = refusal_of(alloc, kind, bytes, value.as_ref())?;
+    Ok((kind, notes, refusal))
 }
 
 /// Adds what is found in the value of these bytes, or that they have none.

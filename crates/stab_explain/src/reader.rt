@@ -1,7 +1,7 @@
-ghost use Rattle.std.specs.Prelude.{◌≡◌, ℕ, List, Some, None, false, codes, is_some};
+ghost use Rattle.std.specs.Prelude.{◌≡◌, ℕ, List, Some, None, codes, is_some};
 ghost use Rattle.std.specs.Prelude.{option_map, IfOk};
 ghost use Rattle.serde_json.specs.View.{view};
-ghost use Rattle.stab_job.specs.Jobs.{job};
+ghost use Rattle.stab_job.specs.Jobs.{job_of_data};
 ghost use Rattle.stab_json.specs.Values.{value_of};
 ghost use Rattle.stab_script.specs.LinkJobs.{link_job};
 ghost use Rattle.stab_explain.specs.Kinds.{chosen, kind_of};
@@ -9,8 +9,9 @@ ghost use Rattle.stab_explain.specs.Refusals.{refusal_of, refused};
 
 use serde_json::Value;
 use stab_findings::{Kind, Refusal};
-use stab_job::{JobFault, read_job};
-use stab_script::{LinkJobFault, read_link_job};
+use stab_job::{JobFault, job_of_value};
+use stab_script::LinkJobFault;
+use stab_stream::read_link_job;
 use std::alloc::{AllocError, Global};
 
 /// The kind that is given, or the one that the value looks like: an object with a member `tree` is
@@ -34,23 +35,21 @@ fn kind_of(value: Option<&Value>) -> Kind
     }
 }
 
-/// The fault that the reader of that kind finds in the bytes, where it finds one; only memory can
-/// be refused. Bytes that are known to be no JSON are not read again.
+/// The fault that the reader of that kind finds in the bytes of this value, or in bytes that have
+/// none; only memory can be refused. The value of a job of a tree is not read again.
 pub(crate) fn refusal_of(
     alloc: Global,
     kind: Kind,
     bytes: &[u8],
-    is_json: bool,
+    value: Option<&Value>,
 ) -> Result<Option<Refusal>, AllocError>
-    requires { is_json ≡ false → value_of bytes.now ≡ None }
+    requires { option_map (λ lent. view lent.now) value ≡ value_of bytes.now }
     ensures { IfOk result (λ refusal. refusal ≡ refusal_of kind bytes.now) }
 {
-    if !is_json {
-        return Ok(Some(not_json(kind)));
-    }
-    match kind {
-        Kind::LinkJob => link_job_refusal(alloc, bytes),
-        Kind::Job => job_refusal(alloc, bytes),
+    match (value, kind) {
+        (None, _) => Ok(Some(not_json(kind))),
+        (Some(_), Kind::LinkJob) => link_job_refusal(alloc, bytes),
+        (Some(value), Kind::Job) => job_refusal(alloc, value),
     }
 }
 
@@ -75,11 +74,12 @@ fn link_job_refusal(alloc: Global, bytes: &[u8]) -> Result<Option<Refusal>, Allo
     }
 }
 
-/// The fault that `read_job` finds.
-fn job_refusal(alloc: Global, bytes: &[u8]) -> Result<Option<Refusal>, AllocError>
-    ensures { IfOk result (λ refusal. refusal ≡ refused Refusal.Job (job bytes.now)) }
+/// The fault that `read_job` finds in bytes of this value.
+fn job_refusal(alloc: Global, value: &Value) -> Result<Option<Refusal>, AllocError>
+    ensures { IfOk result (λ refusal. refusal
+        ≡ refused Refusal.Job (job_of_data (view value.now))) }
 {
-    let Err(fault) = read_job(alloc, bytes) else {
+    let Err(fault) = job_of_value(alloc, value) else {
         return Ok(None);
     };
     if fault == JobFault::Memory {

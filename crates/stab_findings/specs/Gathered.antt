@@ -2,7 +2,7 @@
 -- Example: After 100 findings two more are counted, so there are 100 and 2 omitted; what was found
 -- before is as it was.
 -- Source: this project's own.
-use Rattle.std.specs.Prelude.{◌≡◌, ◌<◌, ◌≤◌, ◌++◌, ℕ, List, [], ◌∷◌, length}
+use Rattle.std.specs.Prelude.{◌≡◌, ◌<◌, ◌≤◌, ◌++◌, ℕ, suc, List, [], ◌∷◌, length}
 use Rattle.stab_findings.specs.declared.explanation.Finding.{Finding}
 use Rattle.stab_findings.specs.declared.explanation.Matter.{Matter}
 use Rattle.stab_findings.specs.declared.refusal.Kind.{Kind}
@@ -30,3 +30,10 @@ pub record Adds (matter : Matter) (before after : Gathered) : Type 0 where
   pub finding : Finding
   pub of_matter : finding.matter ≡ matter
   pub behind : after.findings ≡ before.findings ++ finding ∷ []
+  pub same_omitted : after.omitted ≡ before.omitted
+
+-- one finding more is only counted, and not even this where as many are counted as ever are
+pub record Counts (before after : Gathered) : Type 0 where
+  pub same_findings : after.findings ≡ before.findings
+  pub one_more : before.omitted < most_counted → after.omitted ≡ suc before.omitted
+  pub no_more : most_counted ≤ before.omitted → after.omitted ≡ before.omitted

@@ -1,6 +1,6 @@
 ghost use Rattle.std.specs.Prelude.{◌≡◌, ◌↔◌, ◌<◌, ◌≤◌, ◌++◌, IsTrue, OnErr, OnOk, decimal};
 ghost use Rattle.std.specs.Prelude.{length, string_bytes};
-ghost use Rattle.stab_findings.specs.Gathered.{Adds, most_counted, most_findings, nothing};
+ghost use Rattle.stab_findings.specs.Gathered.{Adds, Counts, most_counted, most_findings, nothing};
 ghost use Rattle.stab_findings.specs.Shapes.{of_json, of_shape};
 
 use crate::explanation::{Finding, Matter};
@@ -138,9 +138,9 @@ impl Notes {
     ) -> Result<(), AllocError>
         ensures added { OnOk result (length self.old.findings < most_findings
             → Adds (Matter.Refused (Refusal.Job fault)) self.old self.new) }
-        ensures full { most_findings ≤ length self.old.findings
-            → self.new.findings ≡ self.old.findings }
+        ensures full { most_findings ≤ length self.old.findings → Counts self.old self.new }
         ensures kind { self.new.kind ≡ self.old.kind }
+        ensures unchanged { OnErr result (self.new ≡ self.old) }
     {
         self.add(Matter::Refused(Refusal::Job(fault)), place, pieces)
     }
@@ -154,13 +154,14 @@ impl Notes {
     ) -> Result<(), AllocError>
         ensures added { OnOk result (length self.old.findings < most_findings
             → Adds matter self.old self.new) }
-        ensures full { most_findings ≤ length self.old.findings
-            → self.new.findings ≡ self.old.findings }
+        ensures full { most_findings ≤ length self.old.findings → Counts self.old self.new }
         ensures kind { self.new.kind ≡ self.old.kind }
         ensures unchanged { OnErr result (self.new ≡ self.old) }
     {
         if self.is_full() {
-            self.omitted = self.omitted.saturating_add(1);
+            if !self.is_done() {
+                self.omitted += 1;
+            }
             return Ok(());
         }
         let line = line_of(self.alloc, place, pieces)?;

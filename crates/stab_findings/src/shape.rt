@@ -1,10 +1,13 @@
 //! Whether values have the shapes that the readers want.
 
-ghost use Rattle.std.specs.Prelude.{◌≡◌, IfOk, unwrap_or};
+ghost use Rattle.std.specs.Prelude.{◌≡◌, ◌<◌, ◌≤◌, IfOk, OnErr, OnOk, length, unwrap_or};
 ghost use Rattle.serde_json.specs.Data.{no_items};
 ghost use Rattle.serde_json.specs.Find.{as_array};
 ghost use Rattle.serde_json.specs.View.{items_view, view};
+ghost use Rattle.stab_findings.specs.Gathered.{Adds, Counts, most_findings};
+ghost use Rattle.stab_findings.specs.Shapes.{of_shape};
 
+use crate::explanation::Matter;
 use crate::notes::{Notes, Piece};
 use crate::place::Place;
 use serde_json::Value;
@@ -40,7 +43,13 @@ const START: &str = "a start has \"send\" and \"recv\", whole numbers from 0 to 
 
 impl Notes {
     /// Adds that a member is missing.
-    pub fn missing(&mut self, place: &Place<'_>, want: &str) -> Result<(), AllocError> {
+    pub fn missing(&mut self, place: &Place<'_>, want: &str) -> Result<(), AllocError>
+        ensures added { OnOk result (length self.old.findings < most_findings
+            → Adds (Matter.Refused (of_shape self.old.kind)) self.old self.new) }
+        ensures full { most_findings ≤ length self.old.findings → Counts self.old self.new }
+        ensures kind { self.new.kind ≡ self.old.kind }
+        ensures unchanged { OnErr result (self.new ≡ self.old) }
+    {
         self.add(
             self.of_shape(),
             place,
@@ -54,7 +63,13 @@ impl Notes {
         place: &Place<'_>,
         value: &'x Value,
         want: &'x str,
-    ) -> Result<(), AllocError> {
+    ) -> Result<(), AllocError>
+        ensures added { OnOk result (length self.old.findings < most_findings
+            → Adds (Matter.Refused (of_shape self.old.kind)) self.old self.new) }
+        ensures full { most_findings ≤ length self.old.findings → Counts self.old self.new }
+        ensures kind { self.new.kind ≡ self.old.kind }
+        ensures unchanged { OnErr result (self.new ≡ self.old) }
+    {
         self.add(
             self.of_shape(),
             place,

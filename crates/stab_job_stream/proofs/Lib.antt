@@ -2,3 +2,4 @@ pub mod Lists
 pub mod Steps
 pub mod Parts
 pub mod Named
+pub mod ForCallers

@@ -25,7 +25,7 @@ holds_on meaning name k d ms (Some x) other h = ap (λ o. o >>= meaning) (get_me
 
 -- nothing was read so far
 pub no_parts : HasParts no_members None no_members
-no_parts = (λ name other. refl, refl, tt)
+no_parts = (λ name other. refl, refl, tt, λ none. refl)
 
 -- another member than the schedule
 pub one_more_other : (others ms : Members) (steps : Option (List NamedAct)) (k : List ℕ) (d : Data) → k ≢ the_schedule → HasParts others steps ms → HasParts (put k d others) steps (put k d ms)
@@ -34,6 +34,7 @@ one_more_other others ms steps k d other has =
       λ name is_other. put_any name is_other,
       get_member-put_other the_schedule k d others apart ∙ has.1,
       holds_on (list_of named_act) the_schedule k d ms steps apart has.2,
+      λ none. ap (put k d) (has.3 none),
     )
   where
     put_any : (name : List ℕ) → name ≢ the_schedule → get_member name (put k d others) ≡ get_member name (put k d ms)
@@ -46,4 +47,5 @@ the_steps others ms steps d acts is has = (
   λ name other. has.0 name other ∙ sym (get_member-put_other name the_schedule d ms other),
   has.1,
   ap (λ o. o >>= list_of named_act) (get_member-put the_schedule d ms) ∙ is,
+  λ none. absurd (cc),
 )

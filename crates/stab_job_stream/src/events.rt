@@ -1,32 +1,26 @@
-ghost use Rattle.std.specs.Prelude.{◌≡◌, Some, IfOk, IfSome};
-ghost use Rattle.stab_job.specs.ScheduleEntries.{events_of};
+ghost use Rattle.std.specs.Prelude.{◌≡◌, ◌<◌, length, map, All, IfOk};
+ghost use Rattle.stab_job_stream.specs.Steps.{event_over};
 
-use crate::finder::Finder;
-use crate::step::Step;
 use stab_frames::Sequence;
-use stab_tree::Tree;
+use stab_tree::NodeId;
 use stab_treecore::TreeEvent;
 use std::alloc::{AllocError, Global};
 
-/// The events of these steps over the nodes of a tree, where each name in them is that of a node.
-pub(crate) fn events_of(
+/// The events of these steps over the nodes that have the names of their table.
+pub(crate) fn events_over(
     alloc: Global,
-    tree: &Tree,
-    steps: &[Step<'_>],
-) -> Result<Option<Sequence<TreeEvent>>, AllocError>
-    ensures { IfOk result (λ found. IfSome found (λ events.
-        events_of tree.now.names steps.now ≡ Some events)) }
+    nodes: &[NodeId],
+    steps: &[TreeEvent],
+) -> Result<Sequence<TreeEvent>, AllocError>
+    requires { All (λ step. step.child < length nodes.now) steps.now }
+    ensures { IfOk result (λ events. events ≡ map (event_over nodes.now) steps.now) }
 {
-    let finder = Finder::new(tree);
     let mut events = Sequence::with_capacity(alloc, steps.len())?;
-    for step in steps {
-        let Some(child) = finder.find(step.child) else {
-            return Ok(None);
-        };
+    'each: for step in steps {
         events.push(TreeEvent {
-            child,
+            child: nodes[step.child.index()],
             act: step.act,
         })?;
     }
-    Ok(Some(events))
+    Ok(events)
 }

@@ -2,17 +2,20 @@
 //!
 //! [`read_job`] has the contract of the function of that name in `stab_job`, clause by clause,
 //! which is the one fact that the layer above uses. Only the schedule of a job is long. So its
-//! steps are read token by token, straight into a list, in which the name of a node is lent by the
-//! text; the other members are read as values, and `stab_job` makes the job of them. Then the name
-//! of each step is looked up in the tree. A job that fails a check, or whose schedule has not the
-//! plain form, is read by `stab_job` from its bytes, so each refusal and their order are its own.
+//! steps are read token by token, and each takes no more memory than the event that it becomes:
+//! the names of nodes, which the text lends, are in a table beside them. The other members are read
+//! as values, and `stab_job` makes the job of them. Then each name of the table is looked up in the
+//! tree. A job that fails a check, or whose schedule has not the plain form, is read by `stab_job`
+//! from its bytes, so each refusal and their order are its own. [`read_job_and_members`] hands out
+//! those values as well, for a caller to whom another member says something.
 #![tactic(auto)]
 
 mod events;
-mod finder;
 mod members;
+mod names;
 mod read;
+mod schedule;
 mod step;
 mod value;
 
-pub use read::read_job;
+pub use read::{read_job, read_job_and_members};

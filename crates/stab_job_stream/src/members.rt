@@ -6,18 +6,18 @@ ghost use Rattle.stab_stream.specs.Members.{in_job, in_member};
 ghost use Rattle.stab_stream.specs.Standing.{Stands, MembersMake};
 ghost use Rattle.stab_job_stream.specs.Parts.{HasParts};
 
-use crate::step::{Step, read_steps};
+use crate::schedule::Schedule;
+use crate::step::read_steps;
 use crate::value::read_member as read_other;
 use json::{Reader, Scratch, Token};
 use serde_json::{Map, Value};
-use stab_frames::Sequence;
 use std::alloc::{AllocError, Global};
 
 /// What was read of a job so far: the steps of its schedule, and the other members.
 #[derive(Drop)]
 pub(crate) struct JobParts<'t> {
     pub(crate) others: Map<String, Value>,
-    pub(crate) steps: Option<Sequence<Step<'t>>>,
+    pub(crate) steps: Option<Schedule<'t>>,
 }
 
 /// Reads the member of that name, whose value comes next; false where it has not the plain form.

@@ -1,16 +1,17 @@
 ghost use Rattle.std.specs.Prelude.{◌≡◌, ◌≢◌, ◌<◌, length, Some, None, Ok, Err};
 ghost use Rattle.std.specs.Prelude.{MatchResult, IfOk, IfSome, OnErr};
-ghost use Rattle.serde_json.specs.Data.{Members, object};
-ghost use Rattle.serde_json.specs.View.{members_view};
+ghost use Rattle.serde_json.specs.Data.{Data, Members, object};
+ghost use Rattle.serde_json.specs.View.{view, members_view};
 ghost use Rattle.stab_json.specs.Values.{value_of};
 ghost use Rattle.stab_job.specs.Jobs.{job, job_of_data};
-ghost use Rattle.stab_job_stream.specs.Parts.{HasParts};
+ghost use Rattle.stab_job_stream.specs.Parts.{HasParts, SameMembers};
 
-use crate::events::events_of;
 use crate::members::{JobParts, read_text};
+use crate::schedule::Schedule;
 use json::Scratch;
 use serde_json::{Map, Value};
 use stab_job::{Job, JobFault, job_of_value};
+use stab_json::read_value;
 use stab_script::{MAX_EVENTS, ScriptFault};
 use stab_tree::TreeFault;
 use std::alloc::{AllocError, Global};
@@ -30,16 +31,50 @@ pub fn read_job(alloc: Global, bytes: &[u8]) -> Result<Job, JobFault>
     ensures script_memory { result ≢ Err (JobFault.Script ScriptFault.Memory) }
 {
     match read_plain(alloc, bytes) {
-        Ok(Some(job)) => Ok(job),
+        Ok(Some((job, _))) => Ok(job),
         Ok(None) => stab_job::read_job(alloc, bytes),
         Err(_) => Err(JobFault::Memory),
     }
 }
 
-/// The job that these bytes mean, where they have the plain form and pass each check; nothing is
-/// said of them where there is none.
-fn read_plain(alloc: Global, bytes: &[u8]) -> Result<Option<Job>, AllocError>
-    ensures job { IfOk result (λ found. IfSome found (λ its_job. job bytes.now ≡ Ok its_job)) }
+/// The job that these bytes mean, and a value with the members that they have, where that of the
+/// name `schedule` may be missing; or the first check that they fail. Memory may be refused before
+/// a later check.
+pub fn read_job_and_members(alloc: Global, bytes: &[u8]) -> Result<(Job, Value), JobFault>
+    ensures job { MatchResult result
+        (λ read. job bytes.now ≡ Ok read.0)
+        (λ fault. fault ≢ JobFault.Memory → job bytes.now ≡ Err fault) }
+    ensures members { IfOk result (λ read. (d : Data)
+        × (value_of bytes.now ≡ Some d) × SameMembers d (view read.1)) }
+{
+    match read_plain(alloc, bytes) {
+        Ok(Some(read)) => Ok(read),
+        Ok(None) => read_by_value(alloc, bytes),
+        Err(_) => Err(JobFault::Memory),
+    }
+}
+
+/// The same, read as one value.
+fn read_by_value(alloc: Global, bytes: &[u8]) -> Result<(Job, Value), JobFault>
+    ensures job { MatchResult result
+        (λ read. job bytes.now ≡ Ok read.0)
+        (λ fault. fault ≢ JobFault.Memory → job bytes.now ≡ Err fault) }
+    ensures members { IfOk result (λ read. (d : Data)
+        × (value_of bytes.now ≡ Some d) × SameMembers d (view read.1)) }
+{
+    let Some(value) = read_value(alloc, bytes)? else {
+        return Err(JobFault::Json);
+    };
+    let job = job_of_value(alloc, &value)?;
+    Ok((job, value))
+}
+
+/// The job that these bytes mean, and its members but the schedule, where they have the plain form
+/// and pass each check; nothing is said of them where there is none.
+fn read_plain(alloc: Global, bytes: &[u8]) -> Result<Option<(Job, Value)>, AllocError>
+    ensures job { IfOk result (λ found. IfSome found (λ read. job bytes.now ≡ Ok read.0)) }
+    ensures members { IfOk result (λ found. IfSome found (λ read. (d : Data)
+        × (value_of bytes.now ≡ Some d) × SameMembers d (view read.1))) }
     ensures memory { OnErr result (0 < length bytes.now) }
 {
     let Ok(text) = std::str::from_utf8(bytes) else {
@@ -49,42 +84,57 @@ fn read_plain(alloc: Global, bytes: &[u8]) -> Result<Option<Job>, AllocError>
     let Some(parts) = read_text(alloc, text, &mut scratch)? else {
         return Ok(None);
     };
-    let Some(job) = whole_job(alloc, parts)? else {
+    let Some(read) = whole_job(alloc, parts)? else {
         return Ok(None);
     };
-    Ok(Some(job))
+    Ok(Some(read))
 }
 
-/// The job of these parts, where they pass each check.
-fn whole_job(alloc: Global, parts: JobParts<'_>) -> Result<Option<Job>, AllocError>
-    ensures { IfOk result (λ found. IfSome found (λ job. (ms : Members)
+/// The job of these parts, where they pass each check, and its members but the schedule.
+fn whole_job(alloc: Global, parts: JobParts<'_>) -> Result<Option<(Job, Value)>, AllocError>
+    ensures job { IfOk result (λ found. IfSome found (λ read. (ms : Members)
         → HasParts (members_view parts.entry.others.entries) parts.entry.steps ms
-        → job_of_data (object ms) ≡ Ok job)) }
+        → job_of_data (object ms) ≡ Ok read.0)) }
+    ensures members { IfOk result (λ found. IfSome found (λ read.
+        view read.1 ≡ object (members_view parts.entry.others.entries))) }
 {
     let JobParts { others, steps } = parts;
+    let members = Value::Object(others);
+    let Some(job) = job_of_others(alloc, &members)? else {
+        return Ok(None);
+    };
     let Some(steps) = steps else {
+        return Ok(Some((job, members)));
+    };
+    let Some(job) = with_steps(alloc, job, steps)? else {
         return Ok(None);
     };
-    if steps.len() > MAX_EVENTS {
-        return Ok(None);
-    }
-    let Some(job) = job_of_others(alloc, others)? else {
-        return Ok(None);
-    };
-    let Some(events) = events_of(alloc, job.tree(), steps.as_slice())? else {
-        return Ok(None);
-    };
-    Ok(Some(job.with_schedule(events)))
+    Ok(Some((job, members)))
 }
 
 /// The job of the members but the schedule, where they pass each check.
-fn job_of_others(alloc: Global, others: Map<String, Value>) -> Result<Option<Job>, AllocError>
+fn job_of_others(alloc: Global, others: &Value) -> Result<Option<Job>, AllocError>
     ensures { IfOk result (λ found. IfSome found (λ job.
-        job_of_data (object (members_view others.entries)) ≡ Ok job)) }
+        job_of_data (view others.now) ≡ Ok job)) }
 {
-    match job_of_value(alloc, &Value::Object(others)) {
+    match job_of_value(alloc, others) {
         Ok(job) => Ok(Some(job)),
         Err(JobFault::Memory) => Err(AllocError),
         Err(_) => Ok(None),
     }
+}
+
+/// The job of the members with their schedule, where it passes each check, by that without one.
+fn with_steps(alloc: Global, job: Job, steps: Schedule<'_>) -> Result<Option<Job>, AllocError>
+    ensures { IfOk result (λ found. IfSome found (λ whole. (others ms : Members)
+        → HasParts others (Some steps.entry) ms → job_of_data (object others) ≡ Ok job
+        → job_of_data (object ms) ≡ Ok whole)) }
+{
+    if steps.len() > MAX_EVENTS {
+        return Ok(None);
+    }
+    let Some(events) = steps.into_events(alloc, job.tree())? else {
+        return Ok(None);
+    };
+    Ok(Some(job.with_schedule(events)))
 }

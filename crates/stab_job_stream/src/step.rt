@@ -7,9 +7,9 @@ ghost use Rattle.stab_job.specs.ScheduleEntries.{named_act};
 ghost use Rattle.stab_stream.specs.Members.{in_member};
 ghost use Rattle.stab_stream.specs.Standing.{Means, MeansWithin, EntriesMean};
 
+use crate::schedule::Schedule;
 use json::{Reader, Token};
 use stab_core::LinkAct;
-use stab_frames::Sequence;
 use stab_stream::whole_of;
 use std::alloc::{AllocError, Global};
 use std::marker::Model;
@@ -125,27 +125,29 @@ fn next_step<'t>(reader: &mut Reader<'t>) -> Option<Step<'t>>
 fn read_entries<'t>(
     alloc: Global,
     reader: &mut Reader<'t>,
-) -> Result<Option<Vec<Step<'t>>>, AllocError>
-    ensures value { IfOk result (λ found. IfSome found (λ list. (depth : ℕ) → 0 < depth
-        → EntriesMean depth named_act (length reader.old) reader.old list.items reader.new)) }
+) -> Result<Option<Schedule<'t>>, AllocError>
+    ensures value { IfOk result (λ found. IfSome found (λ steps. (depth : ℕ) → 0 < depth
+        → EntriesMean depth named_act (length reader.old) reader.old steps reader.new)) }
     ensures shorter { IfOk result (λ found. IfSome found (λ _.
         length reader.new < length reader.old)) }
 {
-    let mut list = Vec::new(alloc);
+    let mut steps = Schedule::new(alloc);
     'entries: while !reader.take_end_array() {
         let Some(step) = next_step(reader) else {
             return Ok(None);
         };
-        list.push(step)?;
+        if !steps.push(step)? {
+            return Ok(None);
+        }
     }
-    Ok(Some(list))
+    Ok(Some(steps))
 }
 
 /// The schedule that comes next, where each entry of it is a step.
 pub(crate) fn read_steps<'t>(
     alloc: Global,
     reader: &mut Reader<'t>,
-) -> Result<Option<Sequence<Step<'t>>>, AllocError>
+) -> Result<Option<Schedule<'t>>, AllocError>
     ensures value { IfOk result (λ found. IfSome found (λ steps.
         MeansWithin in_member (list_of named_act) reader.old steps reader.new)) }
     ensures shorter { IfOk result (λ found. IfSome found (λ _.
@@ -154,8 +156,8 @@ pub(crate) fn read_steps<'t>(
     let Some(Token::BeginArray) = reader.next() else {
         return Ok(None);
     };
-    let Some(list) = read_entries(alloc, reader)? else {
+    let Some(steps) = read_entries(alloc, reader)? else {
         return Ok(None);
     };
-    Ok(Some(Sequence::from_vec(list)))
+    Ok(Some(steps))
 }

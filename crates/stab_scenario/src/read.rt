@@ -1,6 +1,7 @@
-ghost use Rattle.std.specs.Prelude.{◌≡◌, ◌≢◌, MatchResult, Ok, Err, Some, None, IfErr, option_map};
+ghost use Rattle.std.specs.Prelude.{◌≡◌, ◌≢◌, MatchResult, Ok, Err, Some, None, IfErr, IfOk, option_map};
 ghost use Rattle.serde_json.specs.View.{view, items_view};
 ghost use Rattle.stab_job.specs.JobValues.{JobValue};
+ghost use Rattle.stab_job.specs.Jobs.{job};
 ghost use Rattle.stab_scenario.specs.Scenarios.{listed_steps, numbered, scenario, steps_after};
 ghost use Rattle.stab_scenario.specs.Scenarios.{steps_of, steps_of_bytes};
 
@@ -9,8 +10,8 @@ use crate::fault::{ScenarioFault, StepFault};
 use crate::step::Step;
 use serde_json::Value;
 use stab_frames::{Params, Sequence};
-use stab_job::{Job, read_job};
-use stab_json::read_value;
+use stab_job::{Job, JobFault};
+use stab_job_stream::read_job_and_members;
 use stab_tree::Tree;
 use std::alloc::Global;
 
@@ -36,21 +37,22 @@ pub fn read_scenario(alloc: Global, bytes: &[u8]) -> Result<Scenario, ScenarioFa
         (λ its_scenario. scenario bytes.now ≡ Ok its_scenario)
         (λ fault. fault ≢ ScenarioFault.Memory → scenario bytes.now ≡ Err fault) }
 {
-    let job = read_job(alloc, bytes)?;
-    let steps = read_steps(alloc, &job, bytes)?;
+    let (job, members) = read_members(alloc, bytes)?;
+    let steps = steps_of_value(alloc, &job, &members)?;
     Ok(Scenario { job, steps })
 }
 
-/// The steps of these bytes, for their job.
-fn read_steps(alloc: Global, job: &Job, bytes: &[u8]) -> Result<Sequence<Step>, ScenarioFault>
-    ensures { MatchResult result
-        (λ steps. steps_of_bytes job.now bytes.now ≡ Ok steps)
-        (λ fault. fault ≢ ScenarioFault.Memory → steps_of_bytes job.now bytes.now ≡ Err fault) }
+/// The job that these bytes mean, or the first check that they fail; and a value that has their
+/// steps.
+fn read_members(alloc: Global, bytes: &[u8]) -> Result<(Job, Value), JobFault>
+    ensures job { MatchResult result
+        (λ read. job bytes.now ≡ Ok read.0)
+        (λ fault. fault ≢ JobFault.Memory → job bytes.now ≡ Err fault) }
+    ensures steps { IfOk result (λ read.
+        steps_of_bytes read.0 bytes.now ≡ steps_of read.0 (view read.1)) }
 {
-    match read_value(alloc, bytes)? {
-        Some(value) => steps_of_value(alloc, job, &value),
-        None => Err(ScenarioFault::Steps),
-    }
+    let read = read_job_and_members(alloc, bytes)?;
+    Ok(read)
 }
 
 /// The list of steps of a value.

@@ -18,10 +18,9 @@ use crate::command::Task;
 use crate::fault::CliFault;
 use crate::file::load;
 use stab_core::{Link, StartFault, link_text, push_origins_text, run_link, run_traced};
+use stab_job_stream::read_job;
 use stab_node::Free;
-use stab_run::{
-    Job, Links, Report, RunFault, read_job, report_text, run_locked, run_mixed, run_words,
-};
+use stab_run::{Job, Links, Report, RunFault, report_text, run_locked, run_mixed, run_words};
 use stab_script::LinkJob;
 use stab_stream::read_link_job;
 use stab_treecore::{TreeStartFault, TreeState, run_schedule, schedule_text};
@@ -166,7 +165,7 @@ fn answer_tree(alloc: Global, bytes: &[u8]) -> Result<String, CliFault>
     ensures answer { IfOk result (λ text. IsTreeAnswer bytes.now (string_bytes text)) }
     ensures fault { IfErr result (IsFault Task.Tree bytes.now) }
 {
-    match stab_job_stream::read_job(alloc, bytes) {
+    match read_job(alloc, bytes) {
         Ok(job) => schedule_answer(alloc, &job),
         Err(fault) => Err(CliFault::Job(fault)),
     }

@@ -1,23 +1,20 @@
-use Rattle.std.proofs.Common.{◌≡◌, ◌≤◌, length, Some, Ok, sym, ap, ◌∙◌, subst, arith}
+use Rattle.std.proofs.Common.{◌≡◌, Some, Ok, sym, ap, ◌∙◌, subst}
 use Rattle.serde_json.specs.Data.{object}
-use Rattle.serde_json.specs.View.{members_view}
-use Rattle.stab_script.specs.LinkJobs.{most_events}
+use Rattle.serde_json.specs.View.{view, members_view}
+use Rattle.serde_json.proofs.Views.{view-Object}
 use Rattle.stab_job.specs.Jobs.{job_of_data}
-use Rattle.stab_job.specs.ScheduleEntries.{events_of}
-use Rattle.stab_job.proofs.Rescheduled.{job_with_schedule}
 use Rattle.stab_job_stream.specs.Parts.{HasParts}
 use Rattle.stab_job_stream.proofs.read.whole_job.Goals as goal
 
-pub returns : goal.returns
-returns c =
+pub returns-in_default-steps-clause-job : goal.returns-in_default-steps-clause-job
+returns-in_default-steps-clause-job c =
     let others = members_view c.args.parts.others.entries in
-    let steps = c.in-Some.steps in
-    let j = c.in-Some-2.job in
-    let events = c.in-Some-3.events in
-    let first : job_of_data (object others) ≡ Ok j = rw c.in-Some-2.is at c.in_ok-job.ensures in
-    let found = rw c.in-Some-3.is at c.in_ok-events.ensures in
-    let named : events_of j.tree.names steps ≡ Some events = rw (c.tree.ensures.tree, c.as_slice.ensures) at found in
-    let few : length steps ≤ most_events = omega arith in
-    λ ms has.
-    let its : HasParts others (Some steps) ms = subst (λ o. HasParts others o ms) c.in-Some.is has in
-    job_with_schedule others ms steps events j its.0 its.1 its.2 few first named ∙ ap Ok (sym c.with_schedule.ensures)
+    let first = rw (c.in-Some.is, view-Object c.args.parts.others) at c.in_ok-job.ensures in
+    λ ms has. rw (← has.3 c.in_default-steps.is) first
+
+pub returns-clause-job : goal.returns-clause-job
+returns-clause-job c =
+    let others = members_view c.args.parts.others.entries in
+    let first = rw (c.in-Some.is, view-Object c.args.parts.others) at c.in_ok-job.ensures in
+    let whole = rw c.in-Some-2.is at c.in_ok-job-2.ensures in
+    λ ms has. whole others ms (subst (λ o. HasParts others o ms) c.in-Some-steps.is has) first

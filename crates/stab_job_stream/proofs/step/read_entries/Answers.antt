@@ -20,13 +20,13 @@ entries-preserved c =
       omega (arith, l.invariant.2, less),
       λ depth some.
           let first : MeansWithin depth named_act l.reader step r = rw (← same) (c.in-Some.ensures.value depth some) in
-          subst (λ read. ReadBefore depth named_act all whole read (n - 1) r) (sym c.in_ok-push.ensures.items)
-          (read_one depth named_act all n whole l.reader r l.list.items step (omega (arith, l.invariant.1, less)) (l.invariant.3 depth some) first),
+          subst (λ read. ReadBefore depth named_act all whole read (n - 1) r) (sym (c.in_ok-push.ensures c.if-not-branch.false))
+          (read_one depth named_act all n whole l.reader r l.steps step (omega (arith, l.invariant.1, less)) (l.invariant.3 depth some) first),
     )
 
 pub returns-clause-value : goal.returns-clause-value
 returns-clause-value c =
     let l = c.entries in
     let r = c.take_end_array.new.self in
-    λ depth some. subst (λ list. EntriesMean depth named_act (length c.args.reader.now) c.args.reader.now list r) (append-nil l.list.items)
+    λ depth some. subst (λ list. EntriesMean depth named_act (length c.args.reader.now) c.args.reader.now list r) (append-nil l.steps)
     (l.invariant.3 depth some [] r (no_entries depth named_act l.invariant.0 l.reader r l.invariant.1 c.entries-test.ensures))

@@ -10,5 +10,5 @@ pub returns-clause-value : goal.returns-clause-value
 returns-clause-value c =
     let ts = c.next.new.self in
     let is : c.args.reader.now ≡ Token.begin_array ∷ ts = c.in-Some-BeginArray.ensures.value ∙ ap (λ k. token_of k ∷ ts) c.in-Some-BeginArray.field-0-is in
-    let inside = rw c.in-Some.is at c.in_ok-list.ensures.value in
-    rw c.from_vec.ensures (rw is (a_list in_member named_act ts c.read_entries.new.reader c.in-Some.list.items (omega arith) (inside (in_member - 1) (omega arith))))
+    let inside = rw c.in-Some.is at c.in_ok-steps.ensures.value in
+    rw is (a_list in_member named_act ts c.read_entries.new.reader c.in-Some.steps (omega arith) (inside (in_member - 1) (omega arith)))

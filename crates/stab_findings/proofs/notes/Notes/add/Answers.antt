@@ -8,4 +8,5 @@ returns-clause-added c room =
       finding = record { matter = c.args.matter; line = c.in_ok-line.line };
       of_matter = refl;
       behind = search rules;
+      same_omitted = search rules;
     }
