@@ -23,30 +23,32 @@ adds() {
 }
 
 cargo_tests() {
-    (cd rust && cargo test --offline --locked --quiet -p rignoldad)
+    (cd rust && cargo test --offline --locked --quiet -p rignoldad -p rignolda_redis)
 }
 
 lints() {
-    (cd rust && cargo clippy --offline --locked --quiet -p rignoldad --all-targets -- -D warnings)
+    (cd rust && cargo clippy --offline --locked --quiet -p rignoldad -p rignolda_redis --all-targets \
+        -- -D warnings)
 }
 
 formatted() {
-    (cd rust && cargo fmt -p rignoldad --check)
+    (cd rust && cargo fmt -p rignoldad -p rignolda_redis --check)
 }
 
 short_enough() {
-    ! grep -nE '^.{101}' rust/rignoldad/{src,tests}/*.rs rust/rignoldad/src/bin/*.rs
+    ! grep -nE '^.{101}' rust/rignoldad/{src,tests}/*.rs rust/rignoldad/src/bin/*.rs \
+        rust/rignolda_redis/src/*.rs
 }
 
 tools/build_daemon --check >"$work/built" 2>&1
-status=$?
+ended=$?
 cat -- "$work/built"
-if [ "$status" -eq 3 ]; then
+if [ "$ended" -eq 3 ]; then
     printf 'the daemon is not built here, so not tested: its kept programs are tried\n'
     works 'the kept programs' tools/build_daemon --unpack "$work"
     export RIGNOLDAD_BIN=$work
 else
-    works 'the kept programs are those of the sources' [ "$status" -eq 0 ]
+    works 'the kept programs are those of the sources' [ "$ended" -eq 0 ]
     works 'unit tests, and drawn bytes' cargo_tests
     ! type -P cargo-clippy >/dev/null || works 'the linter' lints
     ! type -P cargo-fmt >/dev/null || works 'the form' formatted

@@ -16,7 +16,6 @@ import json
 import random
 import subprocess
 import sys
-import tempfile
 from concurrent.futures import ThreadPoolExecutor
 from pathlib import Path
 
@@ -24,10 +23,10 @@ from pathlib import Path
 sys.dont_write_bytecode = True
 
 TOP = Path(__file__).resolve().parent.parent
-sys.path.insert(0, str(TOP / "tests/faults"))
+sys.path[:0] = [str(TOP / "tests/faults"), str(TOP / "tools")]
 
 from logs import sums, text_of
-from tables.program import program
+from programs import run_with
 
 TREE = [{"name": "r"}, {"name": "a", "parent": "r"}]
 JOB = {"capacity": 1, "labels": 4, "tree": TREE, "items": [10, 11]}
@@ -123,16 +122,6 @@ def drawn(draw, is_spoiled):
     return made, text_of(names, parents, capacities, hold, items, received, places)
 
 
-def main():
-    with tempfile.TemporaryDirectory() as room:
-        file = program("rignolda", room)
-        if file is None:
-            print("logs: no rignolda was built of these sources: run ./release.sh, or ./gate")
-            print("0 passed, 1 failed")
-            return 1
-        return tried(file)
-
-
 def tried(file):
     """Tries all logs with this program."""
     count = int(sys.argv[1]) if len(sys.argv) > 1 else 2000
@@ -155,4 +144,4 @@ def tried(file):
 
 
 if __name__ == "__main__":
-    sys.exit(main())
+    sys.exit(run_with(tried, "rignolda"))

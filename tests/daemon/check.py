@@ -23,6 +23,7 @@ import zlib
 from daemons import PATIENCE, Agent, Tree, binaries, chain, free_port, until
 from relay import Relay
 from reverse import parents_may_connect_to_their_children
+import store
 
 TESTS = []
 LONG = []
@@ -39,6 +40,12 @@ def long_test(function):
 
 
 long_test(parents_may_connect_to_their_children)
+# (by hand store.py installs what these need)
+if store.is_there():
+    for function in store.TESTS:
+        long_test(function)
+else:
+    print("the links in a store are not tried: see tests/daemon/store.py")
 
 
 def sure(holds, *words):
@@ -203,10 +210,11 @@ def a_dead_leaf_harms_nobody_and_is_served_when_it_is_back():
         dead = tree["left1"]
         dead.kill()
         others = [agent for agent in tree if agent is not dead]
-        for at in range(400):
-            tree.root.ask("publish", f"key{at % 20}", str(at)) if at % 10 == 0 else \
-                tree.write(f"key{at % 20}", at)
-            time.sleep(0.004)
+        # (changes of one file that come together are one item, so what has to
+        # fill the backlog is published: each one is answered before the next)
+        for at in range(150):
+            tree.root.ask("publish", f"key{at % 20}", str(at))
+            tree.write(f"file{at % 20}", at)
         sure(tree.right(5, others), tree.wrong(others))
         sure(until(lambda: tree["left"].said("evicted left1"), 5), "its backlog was kept")
         tree.write("last", "one")
@@ -587,6 +595,48 @@ def the_control_socket_is_bounded():
             sock.close()
         sure(until(lambda: tree.root.ask("status", check=False).get("name") == "root", 5))
         sure(memory(tree.root) < before + 8_000, before, memory(tree.root))
+
+
+@test
+def what_is_answered_is_in_the_folder():
+    draw = random.Random(13)
+    with Tree({}) as tree:
+        root, asked, answered = tree.root, dict.fromkeys(range(8), 0), dict.fromkeys(range(8), 0)
+
+        def ask(at, sock):
+            """Asks for one change after the other, until the root is killed."""
+            try:
+                lines = sock.makefile("rb")
+                while True:
+                    asked[at] += 1
+                    value = (f"{asked[at]:08}" * 1_000).encode().hex()
+                    words = {"do": "publish", "key": f"key{at}", "value": value}
+                    sock.sendall(json.dumps(words).encode() + b"\n")
+                    if b"published" not in lines.readline():
+                        return
+                    answered[at] = asked[at]
+            except OSError:
+                pass
+
+        for turn in range(6):
+            root.start()
+            sure(until(root.up), "the root does not start")
+            socks = [socket.socket(socket.AF_UNIX) for _ in asked]
+            with concurrent.futures.ThreadPoolExecutor(len(asked)) as threads:
+                for at, sock in enumerate(socks):
+                    sock.connect(str(root.socket))
+                    threads.submit(ask, at, sock)
+                enough = sum(answered.values()) + draw.randrange(8, 80)
+                came = until(lambda: sum(answered.values()) >= enough)
+                root.kill()
+            for sock in socks:
+                sock.close()
+            sure(came, "changes are not answered")
+            for at in asked:
+                value = tree.truth().get(f"key{at}", b"0" * 8_000)
+                sure(len(value) == 8_000 and value == value[:8] * 1_000, turn, at, value[:80])
+                sure(answered[at] <= int(value[:8]) <= asked[at], turn, at, value[:8],
+                     answered[at], asked[at])
 
 
 # ---- Operation

@@ -9,13 +9,12 @@ The program is the one of tests/check_tables.py. `job_of` makes a job of the log
 import json
 import subprocess
 import sys
-import tempfile
 from pathlib import Path
 
 sys.dont_write_bytecode = True
-sys.path.insert(0, str(Path(__file__).resolve().parent.parent))
+sys.path.insert(0, str(Path(__file__).resolve().parents[2] / "tools"))
 
-from tables.program import program
+from programs import run_with
 
 GARBAGE = 2 ** 32 - 1       # an item that nobody publishes
 
@@ -105,26 +104,19 @@ def judge(file, cuts, texts, above, hold):
     return wrong, judged, left_out
 
 
-def main():
+def main(file):
     import long
     passed = failed = 0
-    with tempfile.TemporaryDirectory() as room:
-        file = program("rignolda", room)
-        if file is None:
-            print("judge: no rignolda was built of these sources: run ./release.sh, or ./gate")
-            print("0 passed, 1 failed")
-            return 1
-        for name in sys.argv[1:]:
-            kept = json.loads(Path(name).read_text())
-            wrong, judged, left_out = judge(file, kept["cuts"], kept["logs"], kept["above"],
-                                            long.LIMIT)
-            for at, agent, text in wrong:
-                print(f"{name}: part {at}: {text.splitlines()[0]}")
-            print(f"{name}: {judged} counts judged, {left_out} left out")
-            passed, failed = passed + judged - len(wrong), failed + len(wrong)
+    for name in sys.argv[1:]:
+        kept = json.loads(Path(name).read_text())
+        wrong, judged, left_out = judge(file, kept["cuts"], kept["logs"], kept["above"], long.LIMIT)
+        for at, agent, text in wrong:
+            print(f"{name}: part {at}: {text.splitlines()[0]}")
+        print(f"{name}: {judged} counts judged, {left_out} left out")
+        passed, failed = passed + judged - len(wrong), failed + len(wrong)
     print(f"{passed} passed, {failed} failed")
     return 1 if failed or not passed else 0
 
 
 if __name__ == "__main__":
-    sys.exit(main())
+    sys.exit(run_with(main, "rignolda"))

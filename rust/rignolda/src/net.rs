@@ -5,18 +5,22 @@
 //! connection, byte for byte; a [`Relay`] is a node with the bodies of its items and with children
 //! that have names; [`Peers`] are all the connections of an agent: who connects to whom, what each
 //! end says first, who is waited for, and what is sent when. Its caller has the sockets,
-//! certificates and clocks.
+//! certificates and clocks. A link may lie in a [`Store`] in place of a connection.
 //!
 //! Each step of a link is a call that is proved. That a body lies beside its item, and all that is
 //! done about connections, is tested alone.
 mod address;
 mod peers;
 mod relay;
+#[cfg(unix)]
+pub mod serve;
+mod store;
 pub mod wire;
 
 pub use address::Address;
 pub use peers::{Call, Children, Handler, Line, Parent, Peers, Setup, Whom};
 pub use relay::{Link, Relay};
+pub use store::{Store, Turn, Worker};
 
 /// The longest body, in bytes.
 pub const BODY_BYTES: usize = 16 << 20;

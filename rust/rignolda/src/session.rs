@@ -101,6 +101,12 @@ impl<End> Session<End> {
     pub fn end(&self) -> &End {
         &self.end
     }
+
+    /// Whether the end has no connection, so that its link may lie in words of a store.
+    fn is_free(&self) -> bool {
+        // SAFETY: the call only reads.
+        !unsafe { calls::rignolda_session_has(&self.raw, self.raw.number) }
+    }
 }
 
 impl Session<Sender> {
@@ -199,6 +205,21 @@ impl Session<Child> {
         unsafe { calls::rignolda_session_child_on_ack(child, &mut self.raw, params, number, label) }
     }
 
+    /// For a link in [words](crate::word) of a store: offers the child the node's next item, if its
+    /// sender has none, and gives the frame to set, as [`Node::poll`]. Nothing while the end has a
+    /// connection: where a link changes its way, a new count of it begins.
+    pub fn poll_word(&mut self, node: &Node) -> Option<Frame> {
+        match self.is_free() {
+            true => node.poll(&mut self.end),
+            false => None,
+        }
+    }
+
+    /// Handles an acknowledgement that a word shows, as [`Child::on_ack`], under the same condition.
+    pub fn on_word(&mut self, label: u16) -> bool {
+        self.is_free() && self.end.on_ack(label)
+    }
+
     /// Closes this link for good.
     pub fn close(&mut self) {
         self.end.close();
@@ -244,6 +265,13 @@ impl Session<Node> {
     /// The label to write now to the parent, as [`Session::ack`].
     pub fn ack(&mut self) -> Option<u16> {
         ack(&self.end.raw.above, &mut self.raw)
+    }
+
+    /// For a link in [words](crate::word) of a store: handles a frame that a word shows, as
+    /// [`Node::on_frame`]. The label to set is that of [`Node::ack`]. Nothing changes while the end
+    /// has a connection: where a link changes its way, a new count of it begins.
+    pub fn on_word(&mut self, frame: Frame) -> bool {
+        self.is_free() && self.end.on_frame(frame)
     }
 
     /// Closes the link from above for good.

@@ -21,8 +21,16 @@ use crate::net::{is_plain, Body, BODY_BYTES};
 use std::collections::{BTreeMap, BTreeSet};
 use std::sync::Arc;
 
+mod batch;
+mod depth;
+#[cfg(unix)]
+mod folder;
 mod waiting;
 
+pub use batch::Batch;
+pub use depth::{too_deep, TOO_DEEP};
+#[cfg(unix)]
+pub use folder::{remove, Folder};
 pub use waiting::{Change, Value, Waiting};
 
 /// The longest key of a setting, in bytes.
@@ -307,6 +315,15 @@ impl Publisher {
     pub fn unset(&mut self, key: &str) {
         self.changed.insert(key.into());
         self.settings.remove(key);
+    }
+
+    /// Makes a setting, or, without a value, removes it, as [`set`](Publisher::set) and
+    /// [`unset`](Publisher::unset) do.
+    pub fn put(&mut self, key: &str, value: Option<Vec<u8>>) {
+        match value {
+            Some(value) => self.set(key, value),
+            None => self.unset(key),
+        }
     }
 
     /// Takes all settings anew: what differs is published.

@@ -148,6 +148,7 @@ fn setup(name: &str, parents: Vec<Parent<String>>, children: Children<String>) -
         children,
         ack_timeout: ACK_TIMEOUT,
         evict,
+        poll: Duration::from_millis(100),
     }
 }
 

@@ -329,10 +329,10 @@ fn drawn(seed: u64, restarts: bool, steps: usize) -> Tree {
     tree
 }
 
-#[test]
-fn without_restarts_each_agent_is_right_without_a_round() {
+/// Draws trees, with restarts or without, of which each agent is right once nothing is under way.
+fn each_agent_is_right(restarts: bool) {
     for seed in 1..300 {
-        let mut tree = drawn(seed, false, 3_000);
+        let mut tree = drawn(seed, restarts, 3_000);
         tree.settle();
         assert!(tree.all_are_right(), "seed {seed}");
         for agent in &tree.agents {
@@ -345,19 +345,14 @@ fn without_restarts_each_agent_is_right_without_a_round() {
 }
 
 #[test]
+fn without_restarts_each_agent_is_right_without_a_round() {
+    each_agent_is_right(false);
+}
+
+#[test]
 fn restarts_lose_nothing_either() {
     // (a child begins anew at the last whole table, with a label that it does not remember)
-    for seed in 1..300 {
-        let mut tree = drawn(seed, true, 3_000);
-        tree.settle();
-        assert!(tree.all_are_right(), "seed {seed}");
-        for agent in &tree.agents {
-            assert!(
-                agent.applied.windows(2).all(|two| two[0] < two[1]),
-                "seed {seed}"
-            );
-        }
-    }
+    each_agent_is_right(true);
 }
 
 #[test]

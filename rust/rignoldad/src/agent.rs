@@ -1,19 +1,22 @@
 //! The loop of an agent: its sockets, timers and files. One thread does all of it but hooks and the
 //! look-up of names, and never waits for anything else than for all of them at once.
-use crate::apply::Applier;
+use crate::apply::{Applied, Applier};
 use crate::config::{Address, Config, Fault};
 use crate::control::{self, ChildStatus, Request, Response, Status};
 use crate::fact;
+use crate::journal;
 use crate::line::{Line, Listener, Maker};
 use crate::metrics;
 use crate::root::Root;
 use crate::serve::Ticket;
 use crate::tree::Below;
-use polling::{Event, Poller};
+use mio::unix::SourceFd;
+use mio::{Events, Interest, Poll, Registry, Token, Waker};
 use rignolda::net::{Body, Call, Handler, Peers};
 use rignolda::settings::{Meaning, Table};
+use rignolda_redis::Stores;
 use socket2::SockAddr;
-use std::collections::{HashMap, HashSet};
+use std::collections::HashSet;
 use std::io::{self, ErrorKind, Read};
 use std::net::{SocketAddr, ToSocketAddrs};
 use std::os::unix::io::{AsRawFd, RawFd};
@@ -28,6 +31,14 @@ const ACCEPTS: usize = 64;
 const REPORTS: Duration = Duration::from_millis(100);
 const SAYS_AGAIN: Duration = Duration::from_secs(10);
 
+/// How soon the loop asks again what was done about files.
+const ASKS_AGAIN: Duration = Duration::from_millis(20);
+/// How many events are taken in one turn.
+const EVENTS: usize = 256;
+/// An event of a line has its number; that of another descriptor has this bit and the descriptor.
+const OTHER: usize = 1 << (usize::BITS - 1);
+const WAKE: Token = Token(usize::MAX);
+
 /// What a look-up of a host's name brought.
 type Found = (Call<Address>, io::Result<Vec<SocketAddr>>);
 
@@ -35,14 +46,23 @@ pub struct Agent {
     path: PathBuf,
     config: Config,
     maker: Maker,
-    poller: Arc<Poller>,
-    /// What is waited for: whose descriptor it is, and whether until it can be written too.
-    watched: HashMap<RawFd, (Option<u64>, bool)>,
+    poll: Poll,
+    events: Events,
+    waker: Arc<Waker>,
+    /// The lines that are waited for, and whether until they can be written too, in their order.
+    lines: Vec<(u64, RawFd, bool)>,
+    /// The lines that can be read or written.
+    ready: Vec<u64>,
+    /// Whether there is anything else to do.
+    is_due: bool,
+    /// The other descriptors that are waited for, each with its number.
+    others: Vec<(RawFd, u64, bool)>,
     listeners: Vec<Listener>,
     /// Until when nobody is accepted, since no descriptor was left.
     full_until: Instant,
     found: (mpsc::Sender<Found>, mpsc::Receiver<Found>),
     peers: Peers<Line, Address>,
+    stores: Stores,
     root: Option<Root>,
     state: State,
     control: Option<control::Server>,
@@ -63,6 +83,8 @@ struct State {
     round_at: Instant,
     /// Whether there is something new to say upwards.
     changed: bool,
+    /// Whether files are being applied.
+    applying: bool,
     /// Whether each body is a fact of the journal, for trials.
     traces: bool,
 }
@@ -138,6 +160,19 @@ fn random() -> io::Result<u64> {
     Ok(u64::from_ne_bytes(bytes))
 }
 
+impl State {
+    /// Takes up what was done about settings.
+    fn applied(&mut self) {
+        let Some(applier) = &mut self.applier else { return };
+        let done = applier.done();
+        let applying = applier.is_busy();
+        self.changed |= !done.is_empty() || self.applying != applying;
+        self.applying = applying;
+        let words = |it: &Applied| format!("{} {} {:?}", it.sequence, it.key, it.status);
+        journal::lines("applied", done.iter().map(words));
+    }
+}
+
 impl Handler for State {
     fn on_item(&mut self, body: &Arc<Body>, now: Instant) -> bool {
         self.received += 1;
@@ -147,21 +182,23 @@ impl Handler for State {
             fact!("garbage", "item {:08x} with {} bytes", body.item, body.bytes.len());
             return false;
         };
-        match (self.traces, self.is_root) {
-            (true, true) => fact!("published", "{sequence}"),
-            (true, false) => fact!("received", "{sequence}"),
-            (false, _) => (),
+        let takes = self.table.takes(sequence, &meaning);
+        // (before a line is written, so that the files wait for nothing)
+        if let (true, Some(applier)) = (takes, &mut self.applier) {
+            applier.take(&meaning, sequence);
+            self.applying = true;
         }
-        if !self.table.takes(sequence, &meaning) {
+        if self.traces {
+            let fact = if self.is_root { "published" } else { "received" };
+            journal::lines(fact, [sequence.to_string()]);
+        }
+        if !takes {
             fact!("stray", "{sequence}");
             return false;
         }
         let is_table = matches!(meaning, Meaning::Table(_));
         if is_table {
             self.round_at = now;
-        }
-        if let Some(applier) = &mut self.applier {
-            applier.take(&meaning, sequence);
         }
         is_table
     }
@@ -178,7 +215,7 @@ impl Handler for State {
 
     fn on_fact(&mut self, fact: &'static str, words: std::fmt::Arguments<'_>) {
         self.changed = true;
-        crate::journal::line(fact, words);
+        journal::lines(fact, [words.to_string()]);
     }
 }
 
@@ -195,20 +232,30 @@ impl Agent {
         let metrics = config.metrics.map(|address| {
             metrics::server(address).map_err(|e| format!("metrics: {address}: {e}"))
         });
-        let poller = Arc::new(Poller::new().map_err(|e| format!("poll: {e}"))?);
+        let poll = Poll::new().map_err(|e| format!("poll: {e}"))?;
+        let waker = Waker::new(poll.registry(), WAKE).map_err(|e| format!("poll: {e}"))?;
+        let waker = Arc::new(waker);
+        let wakes = waker.clone();
+        let wake: Arc<dyn Fn() + Send + Sync> = Arc::new(move || drop(wakes.wake()));
         let applier = config.apply.as_ref().map(|apply| {
-            let wakes = poller.clone();
-            Applier::new(apply, Arc::new(move || drop(wakes.notify())))
+            Applier::new(apply, wake.clone())
                 .map_err(|e| format!("apply: its threads cannot be started: {e}"))
         });
         Ok(Agent {
             path: path.into(),
             maker: maker(&config)?,
-            watched: HashMap::new(),
+            poll,
+            events: Events::with_capacity(EVENTS),
+            waker,
+            lines: Vec::new(),
+            ready: Vec::new(),
+            is_due: true,
+            others: Vec::new(),
             listeners: config.listen.iter().map(listen).collect::<Result<_, _>>()?,
             full_until: now,
             found: mpsc::channel(),
             peers: Peers::new(config.peers.clone(), life, config.backlog, now),
+            stores: Stores::new(config.store.clone(), silence(&config), wake.clone()),
             root: config.root.as_ref().map(|root| Root::new(root, now)),
             state: State {
                 is_root: config.root.is_some(),
@@ -219,54 +266,65 @@ impl Agent {
                 garbage: 0,
                 round_at: now,
                 changed: true,
+                applying: false,
                 traces: std::env::var_os("RIGNOLDA_TRACE").is_some(),
             },
             control: control.transpose()?,
             metrics: metrics.transpose()?,
             asked: Vec::new(),
             reported: now,
-            poller,
             config,
         })
     }
 
     // ---- The loop
 
-    /// Waits until something can be done: the descriptors that can be read or written.
+    /// Waits until something can be done: the descriptors besides lines for which it can.
     fn wait(&mut self, signals: &Signals, most: Duration) -> io::Result<HashSet<RawFd>> {
         let now = Instant::now();
         let listeners = self.listeners.iter().filter(|_| now >= self.full_until);
         let reads = [signals.reload.as_raw_fd(), signals.end.as_raw_fd()].into_iter();
         let reads = reads.chain(listeners.map(|it| it.socket.as_raw_fd()));
         let reads = reads.chain(self.root.as_ref().and_then(Root::descriptor));
-        let mut wanted: HashMap<RawFd, _> = reads.map(|fd| (fd, (Some(0), false))).collect();
         let served = self.control.iter().flat_map(control::Server::descriptors);
         let served = served.chain(self.metrics.iter().flat_map(metrics::Server::descriptors));
-        // (a descriptor of theirs may be another one's since)
-        wanted.extend(served.map(|(fd, writes)| (fd, (None, writes))));
-        for (id, line, has_output) in self.peers.lines() {
-            wanted.insert(line.as_raw_fd(), (Some(id), line.wants_write(has_output)));
-        }
-        for fd in self.watched.keys().filter(|fd| !wanted.contains_key(fd)) {
+        let others: Vec<_> = reads.map(|fd| (fd, 0, false)).chain(served).collect();
+        let line = |(id, it, has): (u64, &Line, bool)| (id, it.as_raw_fd(), it.wants_write(has));
+        let lines: Vec<_> = self.peers.lines().map(line).collect();
+        let registry = self.poll.registry();
+        for (fd, ..) in self.others.iter().filter(|(fd, ..)| others.iter().all(|it| it.0 != *fd)) {
             // (where it was closed, the system has forgotten it already)
-            let _ = self.poller.delete(*fd);
+            let _ = registry.deregister(&mut SourceFd(fd));
         }
-        for (fd, (id, writable)) in &wanted {
-            if id.is_none() || self.watched.get(fd) != Some(&(*id, *writable)) {
-                let event = Event { key: *fd as usize, readable: true, writable: *writable };
-                self.poller.modify(*fd, event).or_else(|_| self.poller.add(*fd, event))?;
-            }
+        for line in lines.iter().filter(|line| self.lines.binary_search(line).is_err()) {
+            watch(registry, line.1, Token(line.0 as usize), line.2)?;
         }
-        self.watched = wanted;
-        let until = self.deadline(now).saturating_duration_since(Instant::now()).min(most);
-        let mut events = Vec::new();
-        match self.poller.wait(&mut events, Some(until)) {
+        for it in others.iter().filter(|it| !self.others.contains(it)) {
+            watch(registry, it.0, Token(OTHER | it.0 as usize), it.2)?;
+        }
+        (self.lines, self.others) = (lines, others);
+        let deadline = self.deadline(now);
+        let until = deadline.saturating_duration_since(Instant::now()).min(most).as_micros();
+        // (rounded up, since the system counts in milliseconds)
+        let until = Duration::from_millis(until.div_ceil(1_000) as u64);
+        match self.poll.poll(&mut self.events, Some(until)) {
             Err(e) if e.kind() != ErrorKind::Interrupted => return Err(e),
             _ => (),
         }
-        // (each event is told once, until it is asked for again)
-        let fired: HashSet<RawFd> = events.iter().map(|event| event.key as RawFd).collect();
-        self.watched.retain(|fd, _| !fired.contains(fd));
+        let mut fired = HashSet::new();
+        self.is_due = Instant::now() >= deadline;
+        for token in self.events.iter().map(|event| event.token()) {
+            match token {
+                Token(line) if line & OTHER == 0 => self.ready.push(line as u64),
+                WAKE => self.is_due = true,
+                Token(other) => drop(fired.insert((other & !OTHER) as RawFd)),
+            }
+        }
+        self.is_due |= !fired.is_empty();
+        // (of these, all need not be read at once: so the system is asked again)
+        for it in self.others.iter_mut().filter(|it| fired.contains(&it.0)) {
+            it.1 = u64::MAX;
+        }
         Ok(fired)
     }
 
@@ -277,31 +335,31 @@ impl Agent {
         let served = self.control.as_ref().and_then(control::Server::deadline);
         let counted = self.metrics.as_ref().and_then(metrics::Server::deadline);
         let full = Some(self.full_until).filter(|at| *at > now);
-        let all = [self.peers.deadline(now), root, report, served, counted, full];
+        let files = self.state.applying.then(|| now + ASKS_AGAIN);
+        let all = [self.peers.deadline(now), root, report, served, counted, full, files];
         all.into_iter().flatten().min().unwrap_or(now + SAYS_AGAIN)
     }
 
-    /// Does all that can be done now.
+    /// Does all that can be done now. Mostly there is something to read, and nothing else.
     fn turn(&mut self, fired: &HashSet<RawFd>, now: Instant) {
-        let ready = self.peers.lines().filter(|(_, line, _)| fired.contains(&line.as_raw_fd()));
-        let ready: Vec<u64> = ready.map(|(id, ..)| id).collect();
-        self.peers.read(ready, now, &mut self.state);
-        self.accept(fired, now);
-        self.peers.tick(now, &mut self.state);
-        self.connect(now);
-        if let Some(root) = &mut self.root {
-            if root.descriptor().is_some_and(|fd| fired.contains(&fd)) {
-                root.notified(now);
+        self.peers.read(self.ready.drain(..), now, &mut self.state);
+        if self.is_due {
+            self.stores.done(&mut self.peers, now, &mut self.state);
+            self.accept(fired, now);
+            self.peers.tick(now, &mut self.state);
+            self.connect(now);
+            if let Some(root) = &mut self.root {
+                if root.descriptor().is_some_and(|fd| fired.contains(&fd)) {
+                    root.notified(now);
+                }
+                root.tick(now);
             }
-            root.tick(now);
+            self.state.applied();
+            self.serve(fired, now);
+            self.report(now);
         }
-        for done in self.state.applier.iter_mut().flat_map(Applier::done) {
-            self.state.changed = true;
-            fact!("applied", "{} {} {:?}", done.sequence, done.key, done.status);
-        }
-        self.serve(fired, now);
         self.publish(now);
-        self.report(now);
+        self.stores.go_on(&mut self.peers, now, &mut self.state);
         self.peers.write(now, &mut self.state);
     }
 
@@ -335,6 +393,10 @@ impl Agent {
         }
         while let Some(call) = self.peers.next_call(now, &mut self.state) {
             let line = match &call.address {
+                Address::Redis { .. } => {
+                    self.peers.in_store(call, now);
+                    continue;
+                }
                 Address::Unix(path) => SockAddr::unix(path).and_then(|it| self.maker.connect(&it)),
                 Address::Tcp(text) => match text.parse::<SocketAddr>() {
                     Ok(address) => self.maker.connect(&address.into()),
@@ -350,33 +412,38 @@ impl Agent {
 
     /// Looks a host's name up. That waits, so another thread does it.
     fn look_up(&self, call: Call<Address>) -> io::Result<()> {
-        let (to, poller) = (self.found.0.clone(), self.poller.clone());
+        let (to, waker) = (self.found.0.clone(), self.waker.clone());
         let look_up = move || {
             let found = call.address.to_string().to_socket_addrs().map(Iterator::collect);
             let _ = to.send((call, found));
-            let _ = poller.notify();
+            let _ = waker.wake();
         };
         std::thread::Builder::new().spawn(look_up).map(drop)
     }
 
     /// At the root: publishes what waits, as fast as the quickest child takes it.
     fn publish(&mut self, now: Instant) {
-        while self.peers.relay().least_backlog().is_none_or(|backlog| backlog <= 1) {
-            let limit = self.config.backlog / 2;
-            let Some(published) = self.root.as_mut().and_then(|root| root.next(limit)) else {
+        while let Some(root) = self.root.as_mut().filter(|root| root.waits()) {
+            if self.peers.relay().least_backlog().is_some_and(|backlog| backlog > 1) {
                 return;
-            };
+            }
+            let Some(published) = root.next(self.config.backlog / 2) else { return };
             self.peers.publish(&published.body, now, &mut self.state);
             let response = Response::Published(self.state.table.sequence);
-            let control = &mut self.control;
-            self.asked.retain(|(ticket, key)| {
-                let done = published.keys.contains(key);
-                if let (true, Some(control)) = (done, control.as_mut()) {
-                    control::answer(control, *ticket, &response);
-                }
-                !done
-            });
+            self.answer(|key| published.keys.contains(key), &response);
         }
+    }
+
+    /// Answers those who asked for changes of these keys.
+    fn answer(&mut self, is: impl Fn(&String) -> bool, response: &Response) {
+        let control = &mut self.control;
+        self.asked.retain(|(ticket, key)| {
+            let done = is(key);
+            if let (true, Some(control)) = (done, control.as_mut()) {
+                control::answer(control, *ticket, response);
+            }
+            !done
+        });
     }
 
     // ---- Watching and control
@@ -454,6 +521,9 @@ impl Agent {
                 control::answer(server, ticket, &response);
             }
         }
+        for (key, why) in self.root.iter_mut().flat_map(Root::commit).collect::<Vec<_>>() {
+            self.answer(|asked| *asked == key, &Response::Refused(why));
+        }
     }
 
     /// Does what an operator asks for. Nothing where the answer comes later.
@@ -481,12 +551,12 @@ impl Agent {
             (_, None) => return Err("it is not the root".into()),
             // (who asked for a change is answered when it is published)
             (Request::Publish { key, value }, Some(root)) => {
-                root.change(&key, Some(&value))?;
+                root.ask(&key, Some(&value))?;
                 self.asked.push((ticket, key));
                 return Ok(None);
             }
             (Request::Unset { key }, Some(root)) => {
-                root.change(&key, None)?;
+                root.ask(&key, None)?;
                 self.asked.push((ticket, key));
                 return Ok(None);
             }
@@ -524,7 +594,19 @@ impl Agent {
     }
 }
 
+/// Waits for a descriptor from now on, and at once if it can be read or written already.
+fn watch(registry: &Registry, fd: RawFd, token: Token, writes: bool) -> io::Result<()> {
+    let (mut it, reads) = (SourceFd(&fd), Interest::READABLE);
+    let interest = if writes { reads | Interest::WRITABLE } else { reads };
+    let again = registry.reregister(&mut it, token, interest);
+    again.or_else(|_| registry.register(&mut it, token, interest))
+}
+
+/// How long another machine may be silent before it counts as gone.
+fn silence(config: &Config) -> Duration {
+    (config.peers.ack_timeout * 5).max(Duration::from_secs(5))
+}
+
 fn maker(config: &Config) -> Result<Maker, String> {
-    let timeout = (config.peers.ack_timeout * 5).max(Duration::from_secs(5));
-    Maker::new(config.tls.as_ref(), timeout).map_err(|e| format!("tls: {e}"))
+    Maker::new(config.tls.as_ref(), silence(config)).map_err(|e| format!("tls: {e}"))
 }

@@ -5,12 +5,12 @@
 //! until it ended well, which an empty file in `.pending` says; so it is run again after a failure,
 //! at the next round, and after a crash. Nothing in the folder has to be right: what is wrong or
 //! lacking is made anew by the next round.
-use crate::config::{is_key, read_file, Apply};
-use rignolda::settings::{Change, Meaning, Waiting};
+use crate::config::{is_key, Apply};
+use rignolda::settings::{remove, Change, Folder, Meaning, Waiting};
 use std::collections::BTreeSet;
-use std::fs::{self, File, OpenOptions, Permissions};
+use std::fs::{self, File, OpenOptions};
 use std::io::{self, Seek, Write};
-use std::os::unix::fs::{OpenOptionsExt, PermissionsExt};
+use std::os::unix::fs::OpenOptionsExt;
 use std::path::{Path, PathBuf};
 use std::process::{Command, Stdio};
 use std::sync::{Arc, Condvar, Mutex, MutexGuard, PoisonError};
@@ -18,8 +18,6 @@ use std::thread;
 
 /// The folder of the hooks that are due, in the folder of the settings.
 const PENDING: &str = ".pending";
-/// The file that is written before it takes the place of a setting.
-const NEW: &str = ".new";
 const STACK_BYTES: usize = 128 << 10;
 
 /// What was done about a setting.
@@ -41,7 +39,7 @@ pub enum Outcome {
     Hook(String),
 }
 
-/// Wakes the loop when something was done.
+/// Wakes the loop when a hook has ended. What was done about files, it asks for.
 pub type Wake = Arc<dyn Fn() + Send + Sync>;
 
 /// Keeps the files of a folder as the settings are, and runs the hook beside the link.
@@ -52,7 +50,9 @@ pub struct Applier {
 struct Shared {
     folder: PathBuf,
     state: Mutex<State>,
-    changed: Condvar,
+    /// What the thread for files waits for, and that for hooks.
+    files: Condvar,
+    hooks: Condvar,
     wake: Wake,
 }
 
@@ -81,10 +81,11 @@ impl Applier {
     /// Starts the threads. Where one cannot be started, the other one ends, and nothing was done.
     pub fn new(config: &Apply, wake: Wake) -> io::Result<Applier> {
         let folder = config.folder.clone();
-        let due = names(&folder.join(PENDING)).into_iter().filter(|name| is_key(name)).collect();
-        let state = State { config: config.clone(), due, ..State::default() };
-        let changed = Condvar::new();
-        let shared = Arc::new(Shared { folder, state: Mutex::new(state), changed, wake });
+        let due = Folder::new(folder.join(PENDING)).names();
+        let due = due.into_iter().filter(|name| is_key(name)).collect();
+        let state = Mutex::new(State { config: config.clone(), due, ..State::default() });
+        let (files, hooks) = (Condvar::new(), Condvar::new());
+        let shared = Arc::new(Shared { folder, state, files, hooks, wake });
         let applier = Applier { shared };
         for (name, work) in [("files", keep_files as fn(&Shared)), ("hooks", run_hooks)] {
             let shared = applier.shared.clone();
@@ -102,12 +103,18 @@ impl Applier {
     /// Makes the files what this body says.
     pub fn take(&mut self, meaning: &Meaning<'_>, sequence: u64) {
         self.shared.lock().files.take(sequence, meaning);
-        self.shared.changed.notify_all();
+        self.shared.files.notify_one();
     }
 
     /// What was done since it was asked last: changes, and what failed.
     pub fn done(&mut self) -> Vec<Applied> {
         std::mem::take(&mut self.shared.lock().done)
+    }
+
+    /// Whether files wait or are written, or something was done: then ask again soon.
+    pub fn is_busy(&self) -> bool {
+        let state = self.shared.lock();
+        state.writing.is_some() || state.files.first().is_some() || !state.done.is_empty()
     }
 
     /// The sequence number up to which everything is applied, hooks included, where bodies up to
@@ -133,7 +140,8 @@ impl Applier {
 impl Drop for Applier {
     fn drop(&mut self) {
         self.shared.lock().closed = true;
-        self.shared.changed.notify_all();
+        self.shared.files.notify_one();
+        self.shared.hooks.notify_one();
     }
 }
 
@@ -143,12 +151,12 @@ impl Shared {
     }
 
     /// Takes what there is to do, and waits for it where there is nothing. Nothing at the end.
-    fn next<T>(&self, take: fn(&mut State) -> Option<T>) -> Option<T> {
+    fn next<T>(&self, on: &Condvar, take: fn(&mut State) -> Option<T>) -> Option<T> {
         let mut state = self.lock();
         while !state.closed {
             match take(&mut state) {
                 Some(work) => return Some(work),
-                None => state = self.changed.wait(state).unwrap_or_else(PoisonError::into_inner),
+                None => state = on.wait(state).unwrap_or_else(PoisonError::into_inner),
             }
         }
         None
@@ -160,18 +168,11 @@ impl Shared {
             _ => state.failing.insert(key.into()),
         };
         state.done.push(Applied { key: key.into(), sequence, status });
-        (self.wake)();
     }
 
     fn pending(&self, key: &str) -> PathBuf {
         self.folder.join(PENDING).join(key)
     }
-}
-
-/// The names of the files in a folder.
-fn names(folder: &Path) -> Vec<String> {
-    let entries = fs::read_dir(folder).into_iter().flatten().flatten();
-    entries.filter_map(|entry| entry.file_name().into_string().ok()).collect()
 }
 
 /// The thread that keeps the files.
@@ -182,36 +183,40 @@ fn keep_files(shared: &Shared) {
         let (files, due) = (std::mem::take(&mut state.files), std::mem::take(&mut state.due));
         Some((files, due, state.config.clone()))
     };
-    while let Some((mut files, mut due, config)) = shared.next(take) {
+    let mut folder = Folder::new(shared.folder.clone());
+    while let Some((mut files, mut due, config)) = shared.next(&shared.files, take) {
         if files.is_whole() {
             // (another folder is no setting, and may be somebody's)
-            let there = names(&shared.folder).into_iter();
-            let there = there.filter(|name| !shared.folder.join(name).is_dir());
-            files.unset_others(there.chain(due.iter().cloned()));
+            files.unset_others(folder.names().into_iter().chain(due.iter().cloned()));
         }
         for (key, change) in files.in_order() {
             let was_due = due.remove(&key);
-            keep_file(shared, &config, &key, change, was_due);
+            keep_file(shared, &mut folder, &config, &key, change, was_due);
         }
         let mut state = shared.lock();
         state.due.append(&mut due);
         state.writing = None;
-        (shared.wake)();
     }
 }
 
 /// Makes one file what it should be, and lets its hook wait if it changed or is due.
-fn keep_file(shared: &Shared, config: &Apply, key: &str, change: Change, was_due: bool) {
-    let path = shared.folder.join(key);
+fn keep_file(
+    shared: &Shared,
+    folder: &mut Folder,
+    config: &Apply,
+    key: &str,
+    change: Change,
+    was_due: bool,
+) {
     let value = change.value.as_deref();
-    let differs = !is_as(&path, value, config.mode);
+    let differs = folder.differs(key, value, config.mode);
     if !differs && !was_due {
         return;
     }
     shared.lock().key = Some(key.into());
     let kept = if differs {
         let announced = config.hook.as_ref().map_or(Ok(()), |_| announce(shared, key));
-        announced.and_then(|()| make(&shared.folder, &path, value, config.mode))
+        announced.and_then(|()| folder.put(key, value, config.mode))
     } else {
         Ok(())
     };
@@ -227,56 +232,24 @@ fn keep_file(shared: &Shared, config: &Apply, key: &str, change: Change, was_due
         }
         Ok(()) => {
             state.hooks.put(key, change);
-            shared.changed.notify_all();
+            shared.hooks.notify_one();
         }
     }
-}
-
-/// Whether a file is what it should be: not there, or a plain file with this value and mode.
-fn is_as(path: &Path, value: Option<&[u8]>, mode: u32) -> bool {
-    let Ok(is) = fs::symlink_metadata(path) else { return value.is_none() };
-    let Some(value) = value else { return false };
-    is.is_file()
-        && is.permissions().mode() & 0o7777 == mode
-        && is.len() == value.len() as u64
-        && read_file(path, value.len(), "it").is_ok_and(|there| there == value)
 }
 
 /// Says in the folder that the hook of this key is due.
 fn announce(shared: &Shared, key: &str) -> io::Result<()> {
     let folder = shared.folder.join(PENDING);
     if !folder.is_dir() {
-        clear(&folder)?;
+        remove(&folder)?;
         fs::create_dir_all(&folder)?;
     }
     let path = shared.pending(key);
     if !path.is_file() {
-        clear(&path)?;
+        remove(&path)?;
         File::create(&path)?;
     }
     Ok(())
-}
-
-/// Makes or removes a setting's file, at once.
-fn make(folder: &Path, path: &Path, value: Option<&[u8]>, mode: u32) -> io::Result<()> {
-    let Some(value) = value else { return clear(path) };
-    fs::create_dir_all(folder)?;
-    let new = folder.join(NEW);
-    new_file(&new, value)?.set_permissions(Permissions::from_mode(mode))?;
-    if path.is_dir() && !path.is_symlink() {
-        fs::remove_dir_all(path)?;
-    }
-    fs::rename(&new, path)
-}
-
-/// Removes whatever is there.
-fn clear(path: &Path) -> io::Result<()> {
-    match fs::symlink_metadata(path) {
-        Err(error) if error.kind() == io::ErrorKind::NotFound => Ok(()),
-        Err(error) => Err(error),
-        Ok(is) if is.is_dir() => fs::remove_dir_all(path),
-        Ok(_) => fs::remove_file(path),
-    }
 }
 
 /// The thread that runs hooks, one at a time, the oldest change first.
@@ -286,7 +259,7 @@ fn run_hooks(shared: &Shared) {
         state.running = Some(change.first);
         Some((key, change, state.config.clone()))
     };
-    while let Some((key, change, config)) = shared.next(take) {
+    while let Some((key, change, config)) = shared.next(&shared.hooks, take) {
         let status = match &config.hook {
             Some(hook) => run_hook(&shared.folder, hook, &config, &key, &change),
             None => Ok(()),
@@ -308,6 +281,7 @@ fn run_hooks(shared: &Shared) {
             }
         };
         shared.report(&mut state, &key, change.last, outcome);
+        (shared.wake)();
     }
 }
 
@@ -343,17 +317,11 @@ fn run_hook(
 /// A file without a name that has these bytes.
 fn input(folder: &Path, value: &[u8]) -> io::Result<File> {
     let path = folder.join(".input");
-    let mut file = new_file(&path, value)?;
+    remove(&path)?;
+    let mut options = OpenOptions::new();
+    let mut file = options.read(true).write(true).create_new(true).mode(0o600).open(&path)?;
+    file.write_all(value)?;
     fs::remove_file(&path)?;
     file.rewind()?;
-    Ok(file)
-}
-
-/// A file with these bytes in place of whatever is there.
-fn new_file(path: &Path, value: &[u8]) -> io::Result<File> {
-    clear(path)?;
-    let mut options = OpenOptions::new();
-    let mut file = options.read(true).write(true).create_new(true).mode(0o600).open(path)?;
-    file.write_all(value)?;
     Ok(file)
 }

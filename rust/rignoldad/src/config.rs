@@ -3,7 +3,8 @@
 //! Every fault is reported with its line and its key. Nothing here opens another file, except that
 //! [`Config::read`] reads the one that it is given.
 pub use rignolda::net::{is_name, Address, Children, Parent, Setup, NAME_BYTES};
-pub use rignolda::settings::is_key;
+pub use rignolda::settings::{is_key, too_deep, TOO_DEEP};
+pub use rignolda_redis::Login;
 use std::collections::BTreeMap;
 use std::fmt;
 use std::fs::File;
@@ -17,10 +18,6 @@ use toml::value::{Table, Value};
 /// The longest configuration file, in bytes.
 const FILE_BYTES: usize = 1 << 20;
 const CHILDREN: usize = 10_000;
-/// How deep brackets may nest in a text of TOML, and of how many parts a name may be.
-const DEPTH: usize = 32;
-/// What is said of a text that goes deeper.
-pub const TOO_DEEP: &str = "brackets nest more than 32 deep, or a name has more than 32 dots";
 const ADDRESSES: usize = 64;
 
 /// What an agent is set up with.
@@ -32,6 +29,8 @@ pub struct Config {
     pub backlog: u64,
     pub root: Option<Root>,
     pub tls: Option<Tls>,
+    /// How it logs in to stores.
+    pub store: Login,
     /// Whether plain TCP may leave this machine, where there is no `tls`.
     pub insecure: bool,
     pub apply: Option<Apply>,
@@ -132,6 +131,7 @@ impl Config {
             ("listen", self.listen != new.listen),
             ("root.settings", settings(self) != settings(new)),
             ("link.backlog", self.backlog != new.backlog),
+            ("store", self.store != new.store),
             ("apply.folder", folder(self) != folder(new)),
             ("control", self.control != new.control),
             ("metrics", self.metrics != new.metrics),
@@ -145,7 +145,7 @@ impl Config {
     pub fn take(&mut self, new: Config) {
         let old = std::mem::replace(self, new);
         self.peers.name = old.peers.name;
-        (self.listen, self.backlog) = (old.listen, old.backlog);
+        (self.listen, self.backlog, self.store) = (old.listen, old.backlog, old.store);
         (self.control, self.metrics) = (old.control, old.metrics);
         if let (Some(new), Some(old)) = (&mut self.root, old.root) {
             new.settings = old.settings;
@@ -159,6 +159,7 @@ impl Config {
 /// All keys that there are, those of a table behind its name.
 const KEYS: &str = "name listen children parents insecure control metrics \
     root.settings root.round root.harmless link.ack_timeout link.backlog link.evict \
+    store.user store.password store.database store.poll \
     tls.certificate tls.key tls.authority apply.folder apply.mode apply.hook apply.hook_timeout";
 
 /// The checks of one text, and the faults that they found.
@@ -290,10 +291,16 @@ impl<'a> Check<'a> {
     }
 
     fn address(&mut self, key: &str, text: &str) -> Option<Address> {
-        let is_safe = self.has("tls") || self.insecure();
-        let address = Address::parse(text).and_then(|it| match is_safe || it.is_local() {
-            true => Ok(it),
-            false => Err(format!("`{text}` is on the network: set [tls], or `insecure`")),
+        let (insecure, tls) = (self.insecure(), self.has("tls"));
+        let address = Address::parse(text).and_then(|it| match &it {
+            Address::Redis { .. } if key == "listen" => Err("nobody can listen in a store".into()),
+            Address::Redis { .. } if !insecure && !it.is_local() => {
+                Err(format!("`{text}` is on the network without TLS: set `insecure`"))
+            }
+            Address::Tcp(_) if !insecure && !tls && !it.is_local() => {
+                Err(format!("`{text}` is on the network: set [tls], or `insecure`"))
+            }
+            _ => Ok(it),
         });
         address.map_err(|why| self.fault(key, why)).ok()
     }
@@ -316,6 +323,7 @@ impl<'a> Check<'a> {
                 parents: parents.iter().filter_map(|text| self.parent(&name, text)).collect(),
                 ack_timeout: self.time("link.ack_timeout", 2_000, 100..=600_000),
                 evict: self.time("link.evict", 60_000, 200..=86_400_000),
+                poll: self.time("store.poll", 100, 5..=60_000),
                 name,
                 children,
             },
@@ -336,6 +344,11 @@ impl<'a> Check<'a> {
                 hook: self.path("apply.hook"),
                 hook_timeout: self.time("apply.hook_timeout", 30_000, 100..=3_600_000),
             }),
+            store: Login {
+                user: self.text("store.user").unwrap_or_default().into(),
+                password: self.path("store.password"),
+                database: self.number("store.database", 0, 0..=65_535) as u32,
+            },
             insecure: self.insecure(),
             control: self.path("control"),
             metrics: self.metrics(),
@@ -410,6 +423,8 @@ impl<'a> Check<'a> {
             Some(address) => Some(self.address("parents", address)?),
             None => None,
         };
+        let is_nobody = name.is_none() && matches!(address, Some(Address::Redis { .. }));
+        self.refuse("parents", is_nobody, "one in a store is NAME@redis://HOST:PORT/PREFIX");
         Some(Parent { name, address })
     }
 
@@ -450,48 +465,4 @@ pub fn read_file(path: &Path, most: usize, what: &str) -> io::Result<Vec<u8>> {
         true => Err(io::Error::other(format!("{what} has more than {most} bytes"))),
         false => Ok(bytes),
     }
-}
-
-/// The line on which a text of TOML first goes deeper than [`DEPTH`], if one does. Its reader calls
-/// itself for each bracket and each dot of a name, so it has no room for very many. What is inside
-/// texts and comments does not count.
-pub fn too_deep(text: &str) -> Option<usize> {
-    let bytes = text.as_bytes();
-    let (mut at, mut depth, mut dots) = (0, 0, 0);
-    while let Some(&byte) = bytes.get(at) {
-        match byte {
-            b'[' | b'{' => (depth, dots) = (depth + 1, 0),
-            b']' | b'}' => (depth, dots) = (depth - depth.min(1), 0),
-            b'.' => dots += 1,
-            _ if byte.is_ascii_alphanumeric() || b"\"'-_ \t".contains(&byte) => (),
-            _ => dots = 0,
-        }
-        if depth > DEPTH || dots > DEPTH {
-            return Some(1 + text[..at].matches('\n').count());
-        }
-        at += match byte {
-            b'#' => bytes[at..].iter().take_while(|byte| **byte != b'\n').count(),
-            b'"' | b'\'' => length_of_text(&bytes[at..]),
-            _ => 1,
-        };
-    }
-    None
-}
-
-/// How long the text of TOML is that begins here, its marks with it. One of a single line that is
-/// not closed ends with the line.
-fn length_of_text(bytes: &[u8]) -> usize {
-    let is_long = bytes.starts_with(&[bytes[0]; 3]);
-    let mark = &bytes[..if is_long { 3 } else { 1 }];
-    let mut at = mark.len();
-    while at < bytes.len() && !bytes[at..].starts_with(mark) {
-        match bytes[at] {
-            b'\n' if !is_long => return at,
-            b'\\' if mark[0] == b'"' => at += 2,
-            _ => at += 1,
-        }
-    }
-    // (up to two marks more belong to a long one)
-    let marks = bytes.iter().skip(at).take(2 * mark.len() - 1);
-    at + marks.take_while(|byte| **byte == mark[0]).count()
 }

@@ -146,7 +146,7 @@ impl Status {
 }
 
 /// The control socket. What comes is a request, or says why it is none.
-pub type Server = serve::Server<Result<Request, String>>;
+pub type Server = serve::Server<Result<Request, String>, Listener>;
 
 /// Listens at a socket of this path, for whom its file lets in.
 pub fn server(path: &Path) -> io::Result<Server> {

@@ -13,5 +13,6 @@ pub mod journal;
 pub mod line;
 pub mod metrics;
 pub mod root;
-pub mod serve;
 pub mod tree;
+
+pub use rignolda::net::serve;

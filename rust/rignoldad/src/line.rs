@@ -1,5 +1,6 @@
 //! A connection that never makes its caller wait: TCP, a Unix socket, or TLS over TCP.
 use crate::config::{Address, Tls};
+use crate::serve;
 use openssl::ssl::{
     ErrorCode, Ssl, SslContext, SslFiletype, SslMethod, SslMode, SslOptions, SslSessionCacheMode,
     SslStream, SslVerifyMode, SslVersion,
@@ -64,7 +65,7 @@ impl Maker {
 
     /// Takes the next connection of a listener.
     pub fn accept(&self, listener: &Listener) -> io::Result<Line> {
-        self.line(listener.accept()?, listener.path.is_some(), true)
+        self.line(serve::Listener::accept(listener)?, listener.path.is_some(), true)
     }
 
     fn line(&self, socket: Socket, is_unix: bool, accepted: bool) -> io::Result<Line> {
@@ -119,6 +120,7 @@ impl Listener {
     pub fn new(address: &Address) -> io::Result<Listener> {
         let (socket, path) = match address {
             Address::Tcp(address) => (TcpListener::bind(address)?.into(), None),
+            Address::Redis { .. } => return Err(ErrorKind::Unsupported.into()),
             Address::Unix(path) => {
                 if UnixStream::connect(path).is_ok() {
                     let why = "another process listens there";
@@ -134,9 +136,19 @@ impl Listener {
         listener.socket.set_nonblocking(true)?;
         Ok(listener)
     }
+}
+
+impl AsRawFd for Listener {
+    fn as_raw_fd(&self) -> RawFd {
+        self.socket.as_raw_fd()
+    }
+}
+
+impl serve::Listener for Listener {
+    type Socket = Socket;
 
     /// Takes the next connection, without TLS.
-    pub fn accept(&self) -> io::Result<Socket> {
+    fn accept(&self) -> io::Result<Socket> {
         let socket = self.socket.accept()?.0;
         socket.set_nonblocking(true)?;
         Ok(socket)

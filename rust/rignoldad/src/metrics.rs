@@ -71,7 +71,7 @@ fn head(text: &mut String, whose: &str, name: &str, kind: &str, help: &str) {
 }
 
 /// The server. What comes is whether a request is for the counts.
-pub type Server = serve::Server<bool>;
+pub type Server = serve::Server<bool, Listener>;
 
 /// Listens at an address.
 pub fn server(address: SocketAddr) -> io::Result<Server> {

@@ -3,10 +3,10 @@ use crate::config::{is_key, read_file, too_deep, Root as Config, TOO_DEEP};
 use crate::fact;
 use inotify::{Inotify, WatchMask};
 use rignolda::net::BODY_BYTES;
-use rignolda::settings::{Published, Publisher, VALUE_BYTES};
+use rignolda::settings::{Batch, Published, Publisher, VALUE_BYTES};
 use std::collections::{BTreeMap, BTreeSet};
 use std::fs;
-use std::io::{self, Write};
+use std::io;
 use std::os::unix::io::{AsRawFd, RawFd};
 use std::path::Path;
 use std::time::{Duration, Instant, SystemTime, UNIX_EPOCH};
@@ -21,6 +21,16 @@ pub struct Root {
     pub draining: bool,
     next_round: Instant,
     next_scan: Option<Instant>,
+    /// The keys whose files may have changed, where that is all; else the whole folder is read.
+    touched: Option<BTreeSet<String>>,
+    /// Changes whose files are not in their places yet.
+    batch: Batch,
+    /// Their keys, and what these settings were before.
+    asked: Vec<(String, Option<Vec<u8>>)>,
+    /// Those whose files could not be written, and why.
+    failed: Vec<(String, String)>,
+    /// Whether it was time for a round while one was under way.
+    overdue: bool,
     /// What was wrong with the folder when it was read last.
     faults: BTreeSet<String>,
 }
@@ -36,6 +46,11 @@ impl Root {
             draining: false,
             next_round: now,
             next_scan: None,
+            touched: Some(BTreeSet::new()),
+            batch: Batch::default(),
+            asked: Vec::new(),
+            failed: Vec::new(),
+            overdue: false,
             faults: BTreeSet::new(),
         };
         root.read();
@@ -59,10 +74,31 @@ impl Root {
     /// The folder may have changed: when it is read is said by [`Root::deadline`].
     pub fn notified(&mut self, now: Instant) {
         let mut space = [0; 4_096];
-        if let Some(notify) = &mut self.notify {
-            while notify.read_events(&mut space).is_ok_and(|mut events| events.next().is_some()) {}
+        let (mut keys, mut came) = (BTreeSet::new(), 0);
+        let mut all = !self.config.settings.is_dir();
+        while let Some(Ok(events)) = self.notify.as_mut().map(|it| it.read_events(&mut space)) {
+            let before = came;
+            for event in events {
+                came += 1;
+                match event.name.and_then(|name| name.to_str()) {
+                    Some(name) if is_key(name) => drop(keys.insert(name.to_owned())),
+                    // (its own, before they are moved to their places)
+                    Some(name) if name.starts_with(".rignolda") => (),
+                    _ => all = true,
+                }
+            }
+            if came == before {
+                break;
+            }
         }
-        self.next_scan.get_or_insert(now + SETTLES);
+        all |= came == 0;
+        if all || !keys.is_empty() {
+            self.next_scan.get_or_insert(now + SETTLES);
+        }
+        match &mut self.touched {
+            Some(touched) if !all => touched.append(&mut keys),
+            touched => *touched = None,
+        }
     }
 
     /// When to come again.
@@ -73,9 +109,13 @@ impl Root {
     /// Reads the folder and begins a round, where it is time for that.
     pub fn tick(&mut self, now: Instant) {
         if self.next_scan.is_some_and(|scan| now >= scan) {
-            self.read();
+            match self.touched.take() {
+                Some(keys) if keys.iter().all(|key| self.read_key(key)) => self.is_read(),
+                _ => self.read(),
+            }
         }
         if now >= self.next_round {
+            self.overdue = self.publisher.is_in_a_round();
             self.begin_round(now);
         }
     }
@@ -96,14 +136,25 @@ impl Root {
 
     /// The next body to publish. `limit`: how many items may follow a table at most.
     pub fn next(&mut self, limit: u64) -> Option<Published> {
-        self.waits().then(|| self.publisher.next(limit))?
+        let next = self.waits().then(|| self.publisher.next(limit))?;
+        if self.overdue && !self.publisher.is_in_a_round() {
+            self.overdue = false;
+            self.read();
+            self.publisher.begin_round(self.config.harmless);
+        }
+        next
     }
 
     /// Writes a setting's file and publishes it when its turn comes; without a value, removes it.
     pub fn change(&mut self, key: &str, value: Option<&[u8]>) -> Result<(), String> {
+        self.ask(key, value)?;
+        self.commit().pop().map_or(Ok(()), |(_, why)| Err(why))
+    }
+
+    /// The same up to [`Root::commit`], which is to be called before anything is published.
+    pub fn ask(&mut self, key: &str, value: Option<&[u8]>) -> Result<(), String> {
         let settings = &self.config.settings;
         let path = settings.join(key);
-        let failed = |e: io::Error| format!("{}: {e}", path.display());
         match value {
             _ if settings.is_file() => {
                 Err(format!("the settings are kept in {}", settings.display()))
@@ -111,20 +162,43 @@ impl Root {
             _ if self.draining => Err("it is draining".into()),
             _ if !is_key(key) => Err("it is no key".into()),
             Some(value) if !self.publisher.has_room(key, value) => Err("it is too long".into()),
-            Some(value) => write_whole(&path, value).map_err(failed),
-            None => fs::remove_file(&path).map_err(failed),
+            _ => Ok(()),
         }?;
-        // (also where it is as it was: whoever asked for it is told a number)
-        match value {
-            Some(value) => self.publisher.set(key, value.into()),
-            None => self.publisher.unset(key),
+        if self.batch.has(&path) {
+            self.sync();
         }
+        let done = match value {
+            Some(value) => self.batch.write(path.clone(), value),
+            None => fs::remove_file(&path),
+        };
+        done.map_err(|e| format!("{}: {e}", path.display()))?;
+        if value.is_some() {
+            self.asked.push((key.into(), self.publisher.settings().get(key).cloned()));
+        }
+        // (also where it is as it was: whoever asked for it is told a number)
+        self.publisher.put(key, value.map(Vec::from));
         Ok(())
+    }
+
+    /// Waits until the disk has what was asked for: the changes that failed, and why.
+    pub fn commit(&mut self) -> Vec<(String, String)> {
+        self.sync();
+        std::mem::take(&mut self.failed)
+    }
+
+    fn sync(&mut self) {
+        let failed = self.batch.commit();
+        for (key, before) in std::mem::take(&mut self.asked) {
+            let path = self.config.settings.join(&key);
+            let Some((_, error)) = failed.iter().find(|(it, _)| *it == path) else { continue };
+            self.failed.push((key.clone(), format!("{}: {error}", path.display())));
+            self.publisher.put(&key, before);
+        }
     }
 
     /// Reads the settings, and notes what differs. What cannot be read stays as it was.
     fn read(&mut self) {
-        self.next_scan = None;
+        self.is_read();
         let mut faults = BTreeSet::new();
         self.watch();
         let path = self.config.settings.clone();
@@ -143,6 +217,30 @@ impl Root {
             fact!("settings", "{fault}");
         }
         self.faults = faults;
+    }
+
+    fn is_read(&mut self) {
+        self.next_scan = None;
+        self.touched = Some(BTreeSet::new());
+    }
+
+    /// Reads one setting's file. Whether that is enough; else the whole folder is to be read.
+    fn read_key(&mut self, key: &str) -> bool {
+        let settings = &self.config.settings;
+        match read_value(&settings.join(key)) {
+            Ok(value) if self.publisher.settings().get(key) == Some(&value) => true,
+            Ok(value) if self.publisher.has_room(key, &value) => {
+                self.publisher.put(key, Some(value));
+                true
+            }
+            Err(e) if e.kind() == io::ErrorKind::NotFound && settings.is_dir() => {
+                if self.publisher.settings().contains_key(key) {
+                    self.publisher.put(key, None);
+                }
+                true
+            }
+            _ => false,
+        }
     }
 
     fn watch(&mut self) {
@@ -221,13 +319,4 @@ fn values<V: ToString>(
         }
     };
     all.into_iter().map(bytes).collect()
-}
-
-/// Writes a file beside the place and moves it there, so that nobody reads a part of it.
-fn write_whole(path: &Path, value: &[u8]) -> io::Result<()> {
-    let beside = path.with_file_name(".rignolda.new");
-    let mut file = fs::File::create(&beside)?;
-    file.write_all(value)?;
-    file.sync_all()?;
-    fs::rename(&beside, path)
 }

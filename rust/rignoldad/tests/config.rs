@@ -209,6 +209,45 @@ fn plain_tcp_stays_on_the_machine_unless_it_is_asked_for() {
 }
 
 #[test]
+fn a_link_in_a_store_has_an_address_at_both_ends() {
+    let text = "name = \"a\"\nparents = [\"hub@redis://127.0.0.1:6379/tree\"]\n\
+                children = [\"leaf@redis://[::1]:6379/tree\"]\n\
+                [store]\nuser = \"agent\"\npassword = \"/p\"\ndatabase = 2\npoll = \"1s\"\n";
+    let config = Config::parse(text).unwrap();
+    let place =
+        |server: &str| Some(Address::Redis { server: server.into(), prefix: "tree".into() });
+    assert_eq!(config.peers.parents[0].address, place("127.0.0.1:6379"));
+    let leaf = [("leaf".to_string(), place("[::1]:6379"))];
+    assert_eq!(config.peers.children, Children::Named(leaf.into()));
+    assert_eq!((&*config.store.user, config.store.database), ("agent", 2));
+    assert_eq!(config.store.password.as_deref(), Some(std::path::Path::new("/p")));
+    assert_eq!(config.peers.poll.as_millis(), 1_000);
+    let other = Config::parse(&text.replace("database = 2", "database = 3")).unwrap();
+    assert_eq!(config.at_a_start_alone(&other), ["store"]);
+    // (TLS is of connections alone)
+    let tls = "[tls]\ncertificate = \"/c\"\nkey = \"/k\"\nauthority = \"/a\"\n";
+    for (address, is_good) in [
+        ("hub@redis://store.example:6379/tree", false),
+        ("redis://127.0.0.1:6379/tree", false),
+        ("hub@redis://127.0.0.1:6379", false),
+        ("hub@redis://127.0.0.1:6379/", false),
+        ("hub@redis://127.0.0.1:6379/a/b", false),
+        ("hub@redis://127.0.0.1/tree", false),
+        ("hub@redis://unix:/a/tree", false),
+        ("hub@redis://localhost:6379/tree", true),
+    ] {
+        let text = format!("name = \"a\"\nparents = [\"{address}\"]\n");
+        assert_eq!(Config::parse(&text).is_ok(), is_good, "{address}");
+        assert_eq!(Config::parse(&(text.clone() + tls)).is_ok(), is_good, "{address}");
+        let insecure = address.contains("store.example") || is_good;
+        assert_eq!(Config::parse(&(text + "insecure = true")).is_ok(), insecure, "{address}");
+    }
+    let listens = "name = \"a\"\nlisten = \"redis://127.0.0.1:1/t\"\nchildren = \"any\"\n[root]\n\
+                   settings = \"/s\"\n";
+    assert!(Config::parse(listens).unwrap_err()[0].text.contains("nobody can listen"));
+}
+
+#[test]
 fn times_have_units() {
     for (text, time) in
         [("0ms", 0), ("250ms", 250), ("2s", 2_000), ("3m", 180_000), ("1h", 3_600_000)]

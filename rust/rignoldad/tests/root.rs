@@ -163,6 +163,110 @@ fn what_is_asked_for_is_in_the_folder() {
 }
 
 #[test]
+fn changes_that_are_asked_for_together_come_to_their_places_together() {
+    let folder = Folder::new("together");
+    let (mut root, now) = root(&folder.0, true);
+    let names = || {
+        let names = fs::read_dir(&folder.0).unwrap().map(|it| it.unwrap().file_name());
+        let mut names: Vec<_> = names.map(|name| name.into_string().unwrap()).collect();
+        names.retain(|name| !name.starts_with('.'));
+        names.sort();
+        names
+    };
+    for key in ["a", "b", "c"] {
+        root.ask(key, Some(key.as_bytes())).unwrap();
+    }
+    assert!(names().is_empty());
+    assert_eq!(root.commit(), []);
+    assert_eq!(names(), ["a", "b", "c"]);
+    let all = ["a", "b", "c"].map(|key| entry(key, Some(key)));
+    assert_eq!(next(&mut root), Some(('C', all.to_vec())));
+    // (of one key the last one counts, and what it unsets is gone)
+    root.ask("a", Some(b"1")).unwrap();
+    root.ask("a", Some(b"2")).unwrap();
+    root.ask("b", Some(b"3")).unwrap();
+    root.ask("b", None).unwrap();
+    assert_eq!(root.commit(), []);
+    assert_eq!(
+        (names(), fs::read(folder.0.join("a")).unwrap()),
+        (vec!["a".into(), "c".into()], b"2".into())
+    );
+    assert_eq!(next(&mut root), Some(('C', vec![entry("a", Some("2")), entry("b", None)])));
+    // (all of it is its own, so there is nothing new in the folder)
+    root.notified(now);
+    root.tick(root.deadline());
+    assert_eq!(next(&mut root), None);
+    assert!(names() == ["a", "c"] && fs::read_dir(&folder.0).unwrap().count() == 2);
+}
+
+#[test]
+fn a_change_that_cannot_be_written_is_refused_and_is_as_it_was() {
+    let folder = Folder::new("refused");
+    fs::write(folder.0.join("a"), "1").unwrap();
+    let (mut root, _) = root(&folder.0, true);
+    fs::remove_file(folder.0.join("a")).unwrap();
+    fs::create_dir_all(folder.0.join("a/b")).unwrap();
+    root.ask("a", Some(b"2")).unwrap();
+    root.ask("c", Some(b"3")).unwrap();
+    let failed = root.commit();
+    assert!(matches!(&failed[..], [(key, _)] if key == "a"), "{failed:?}");
+    // (what cannot be read stays as it was too)
+    let changes = vec![entry("a", Some("1")), entry("c", Some("3"))];
+    assert_eq!(next(&mut root), Some(('C', changes)));
+    assert!(root.change("a", Some(b"2")).is_err());
+}
+
+#[test]
+fn a_round_that_is_due_while_one_is_under_way_begins_after_it() {
+    let folder = Folder::new("overdue");
+    let (mut root, now) = root(&folder.0, false);
+    let kinds = |root: &mut Root, most: usize| -> String {
+        (0..most).map_while(|_| next(root)).map(|(kind, _)| kind).collect()
+    };
+    root.tick(now);
+    assert_eq!(kinds(&mut root, 2), "TH");
+    // (one that is asked for is the one under way)
+    root.begin_round(now);
+    root.tick(now + ROUND);
+    root.tick(now + 2 * ROUND);
+    assert_eq!(kinds(&mut root, 20), "HHTHHHT");
+    assert_eq!(root.deadline(), now + 3 * ROUND);
+    root.tick(now + 3 * ROUND);
+    root.begin_round(now + 3 * ROUND);
+    assert_eq!(kinds(&mut root, 20), "HHHT");
+}
+
+#[test]
+fn of_a_folder_what_changed_is_seen_whoever_changed_it() {
+    let folder = Folder::new("seen");
+    let (mut root, now) = root(&folder.0, true);
+    let mut seen = |change: &dyn Fn(&Path), expected: Said| {
+        change(&folder.0);
+        root.notified(now);
+        root.tick(root.deadline());
+        let next = next(&mut root);
+        assert_eq!(next, Some(('C', expected)).filter(|(_, said)| !said.is_empty()));
+    };
+    seen(&|it| fs::write(it.join("a"), "1").unwrap(), vec![entry("a", Some("1"))]);
+    let moved = |it: &Path| {
+        fs::write(it.join(".b.new"), "2").unwrap();
+        fs::rename(it.join(".b.new"), it.join("b")).unwrap();
+        fs::rename(it.join("a"), it.join("c")).unwrap();
+    };
+    let changes = vec![entry("a", None), entry("b", Some("2")), entry("c", Some("1"))];
+    seen(&moved, changes);
+    // (a name with a dot in front may be where others point to)
+    std::os::unix::fs::symlink(".data/d", folder.0.join("d")).unwrap();
+    fs::create_dir(folder.0.join(".other")).unwrap();
+    fs::write(folder.0.join(".other/d"), "4").unwrap();
+    let points = |it: &Path| fs::rename(it.join(".other"), it.join(".data")).unwrap();
+    seen(&points, vec![entry("d", Some("4"))]);
+    seen(&|it| fs::write(it.join("a"), [0; VALUE_BYTES + 1]).unwrap(), vec![]);
+    seen(&|it| fs::write(it.join("a"), "5").unwrap(), vec![entry("a", Some("5"))]);
+    seen(&|it| fs::remove_file(it.join("c")).unwrap(), vec![entry("c", None)]);
+}
+
+#[test]
 fn what_cannot_be_read_unsets_nothing() {
     let folder = Folder::new("unread");
     fs::write(folder.0.join("a"), "1").unwrap();

@@ -13,6 +13,8 @@ use std::path::PathBuf;
 /// assert!(!address.is_local() && Address::parse("[::1]:7464")?.is_local());
 /// assert!(Address::parse("unix:/run/link")?.is_local());
 /// assert!(Address::parse("::1:7464").is_err());
+/// let store = Address::parse("redis://store.example:6379/prefix")?;
+/// assert_eq!(store.to_string(), "redis://store.example:6379/prefix");
 /// # Ok::<(), String>(())
 /// ```
 #[derive(Clone, Debug, PartialEq, Eq, Hash, PartialOrd, Ord)]
@@ -21,6 +23,14 @@ pub enum Address {
     Tcp(String),
     /// `unix:/PATH`.
     Unix(PathBuf),
+    /// `redis://HOST:PORT/PREFIX`, where a [link in a store](super::Store) has its words. (None
+    /// listens there.)
+    Redis {
+        /// `HOST:PORT`.
+        server: String,
+        /// What the names of the tree's keys begin with: it is as the name of an agent.
+        prefix: String,
+    },
 }
 
 impl Address {
@@ -37,9 +47,21 @@ impl Address {
                 false => Err("after `unix:` comes an absolute path of at most 107 bytes".into()),
             };
         }
+        if let Some(rest) = text.strip_prefix("redis://") {
+            let (server, prefix) = rest.split_once('/').unwrap_or((rest, ""));
+            if !super::is_name(prefix) {
+                return Err("it is redis://HOST:PORT/PREFIX, and the prefix as a name".into());
+            }
+            Address::parse(server).and_then(|it| match it {
+                Address::Tcp(_) => Ok(()),
+                _ => Err("after `redis://` comes HOST:PORT".into()),
+            })?;
+            let (server, prefix) = (server.into(), prefix.into());
+            return Ok(Address::Redis { server, prefix });
+        }
         let (host, port) = text
             .rsplit_once(':')
-            .ok_or("HOST:PORT or unix:/PATH is expected")?;
+            .ok_or("HOST:PORT, unix:/PATH or redis://HOST:PORT/PREFIX is expected")?;
         if port.parse::<u16>().map_or(true, |port| port == 0) {
             return Err(format!("the port is from 1 to 65535, not `{port}`"));
         }
@@ -65,6 +87,7 @@ impl Address {
         let text = match self {
             Address::Tcp(text) => text,
             Address::Unix(_) => return true,
+            Address::Redis { server, .. } => server,
         };
         let host = text.rsplit_once(':').map_or("", |(host, _)| host);
         let host = host.trim_start_matches('[').trim_end_matches(']');
@@ -77,6 +100,7 @@ impl fmt::Display for Address {
         match self {
             Address::Tcp(text) => f.write_str(text),
             Address::Unix(path) => write!(f, "unix:{}", path.display()),
+            Address::Redis { server, prefix } => write!(f, "redis://{server}/{prefix}"),
         }
     }
 }

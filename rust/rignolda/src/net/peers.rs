@@ -8,6 +8,9 @@ use std::io::{ErrorKind, Read, Write};
 use std::sync::Arc;
 use std::time::{Duration, Instant};
 
+mod shown;
+mod words;
+
 /// How many connections there are at most whose hello has not come.
 const GREETING: usize = 64;
 /// How many children there are at most where any may connect.
@@ -18,6 +21,8 @@ const SLOWEST: u64 = 64 << 10;
 const UNREAD: usize = 16;
 /// How much is read from one connection before the others have their turn.
 const TURN_BYTES: usize = 1 << 20;
+/// How much is read at once: as much as TLS has in one record.
+const READ_BYTES: usize = 16 << 10;
 /// Up to this length a body is written together with its head.
 const JOINED: usize = 16 << 10;
 /// How long a connection has to stand to count as one that did.
@@ -58,6 +63,8 @@ pub struct Setup<A> {
     pub ack_timeout: Duration,
     /// How long a child may be away before its backlog is dropped.
     pub evict: Duration,
+    /// How often a [store](super::Store) is looked at where nothing changes there.
+    pub poll: Duration,
 }
 
 /// A parent. It has a name, an address or both.
@@ -171,6 +178,8 @@ pub struct Peers<L, A> {
     again: Vec<u64>,
     dials: BTreeMap<Whom, Dial>,
     children: BTreeMap<String, u64>,
+    /// The links that lie in stores.
+    stores: Vec<words::Place<A>>,
     /// Which parent is tried or connected, its connection, and its life.
     parent: usize,
     above: Option<u64>,
@@ -178,6 +187,8 @@ pub struct Peers<L, A> {
     reconnects: u64,
     refused: u64,
     said_refused: Option<Instant>,
+    /// Where what is read comes first.
+    space: Box<[u8]>,
 }
 
 impl<L: Line, A: Clone + PartialEq + fmt::Display> Peers<L, A> {
@@ -194,12 +205,14 @@ impl<L: Line, A: Clone + PartialEq + fmt::Display> Peers<L, A> {
             again: Vec::new(),
             dials: BTreeMap::new(),
             children: BTreeMap::new(),
+            stores: Vec::new(),
             parent: 0,
             above: None,
             above_life: None,
             reconnects: 0,
             refused: 0,
             said_refused: None,
+            space: vec![0; READ_BYTES].into_boxed_slice(),
         };
         peers.dial_all(now);
         peers
@@ -230,6 +243,7 @@ impl<L: Line, A: Clone + PartialEq + fmt::Display> Peers<L, A> {
                 self.dials.remove(&Whom::Parent);
             }
         }
+        self.keep_stores(now);
         self.dial_all(now);
     }
 
@@ -310,6 +324,7 @@ impl<L: Line, A: Clone + PartialEq + fmt::Display> Peers<L, A> {
         for id in ids {
             self.close(id, "it was removed", now, to);
         }
+        self.keep_stores(now);
         self.relay.remove(name);
         to.on_gone(name);
         Ok(())
@@ -324,8 +339,16 @@ impl<L: Line, A: Clone + PartialEq + fmt::Display> Peers<L, A> {
 
     /// The parent that it is connected to, and since when.
     pub fn parent(&self) -> Option<(&Parent<A>, Instant)> {
-        let conn = self.conns.get(&self.above?)?;
-        Some((self.setup.parents.get(self.parent)?, conn.greeted?))
+        let since = match self.above {
+            Some(id) => self.conns.get(&id)?.greeted,
+            None => self.stored(&Whom::Parent)?.since,
+        };
+        Some((self.setup.parents.get(self.parent)?, since?))
+    }
+
+    /// The agent's own name.
+    pub fn name(&self) -> &str {
+        &self.setup.name
     }
 
     /// The number that the process drew when it began.
@@ -360,7 +383,13 @@ impl<L: Line, A: Clone + PartialEq + fmt::Display> Peers<L, A> {
             .filter(|(whom, dial)| self.is_idle(whom, dial));
         let dials = dials.map(|(_, dial)| dial.next);
         let evicts = self.relay.evicts_at(self.setup.evict);
-        conns.chain(dials).chain(evicts).chain(again).min()
+        let stores = self.stores.iter().filter_map(words::Place::due);
+        conns
+            .chain(dials)
+            .chain(evicts)
+            .chain(again)
+            .chain(stores)
+            .min()
     }
 
     // ---- Connections
@@ -580,24 +609,37 @@ impl<L: Line, A: Clone + PartialEq + fmt::Display> Peers<L, A> {
                 }
             }
         }
-        let all = self.all(&whom);
-        let dial = match self.dials.get_mut(&whom) {
+        self.redial(&whom, conn.made, conn.greeted, why, now, to);
+    }
+
+    /// Who was left is called again after a while, or the next one is.
+    fn redial(
+        &mut self,
+        whom: &Whom,
+        made: bool,
+        greeted: Option<Instant>,
+        why: &str,
+        now: Instant,
+        to: &mut dyn Handler,
+    ) {
+        let all = self.all(whom);
+        let dial = match self.dials.get_mut(whom) {
             Some(dial) => dial,
             None => return,
         };
-        dial.under_way &= !conn.made;
-        if conn.greeted.map_or(false, |since| now >= since + SHORT) {
+        dial.under_way &= !made;
+        if greeted.map_or(false, |since| now >= since + SHORT) {
             dial.failed = 0;
             dial.next = now + Duration::from_millis(self.life % 50);
-            if whom == Whom::Parent {
+            if *whom == Whom::Parent {
                 self.parent = 0;
             }
         } else {
             // (after a short one it waits too, but never long)
-            if conn.greeted.is_some() {
+            if greeted.is_some() {
                 dial.failed = dial.failed.min(all);
             }
-            self.failed(&whom, why, now, to);
+            self.failed(whom, why, now, to);
         }
     }
 
@@ -639,7 +681,9 @@ impl<L: Line, A: Clone + PartialEq + fmt::Display> Peers<L, A> {
         now: Instant,
         to: &mut dyn Handler,
     ) {
-        let ready: BTreeSet<u64> = ready.into_iter().chain(self.again.drain(..)).collect();
+        let mut ready: Vec<u64> = ready.into_iter().chain(self.again.drain(..)).collect();
+        ready.sort_unstable();
+        ready.dedup();
         for id in ready {
             match self.read_one(id, now, to) {
                 Ok(()) => self.write_one(id, now, to),
@@ -649,14 +693,13 @@ impl<L: Line, A: Clone + PartialEq + fmt::Display> Peers<L, A> {
     }
 
     fn read_one(&mut self, id: u64, now: Instant, to: &mut dyn Handler) -> Result<(), String> {
-        let mut space = [0; 16_384];
         let mut total = 0;
         while let Some(conn) = self.conns.get_mut(&id) {
-            match conn.line.read(&mut space) {
+            match conn.line.read(&mut self.space) {
                 Ok(0) => return Err("the other end closed it".into()),
                 Ok(count) => {
                     total += count;
-                    conn.input.extend_from_slice(&space[..count]);
+                    conn.input.extend_from_slice(&self.space[..count]);
                     self.messages(id, now, to)?;
                 }
                 Err(e) if e.kind() == ErrorKind::WouldBlock => break,
@@ -828,10 +871,11 @@ impl<L: Line, A: Clone + PartialEq + fmt::Display> Peers<L, A> {
         now: Instant,
         to: &mut dyn Handler,
     ) -> Result<(), &'static str> {
+        if made.is_none() && at != self.parent && self.parent().is_some() {
+            return Err("another parent is connected");
+        }
+        self.leave_store_of_parent(now);
         if let (None, Some(above)) = (made, self.above) {
-            if at != self.parent && self.parent().is_some() {
-                return Err("another parent is connected");
-            }
             self.close(above, "it connected anew", now, to);
         }
         let number = made
@@ -906,15 +950,26 @@ impl<L: Line, A: Clone + PartialEq + fmt::Display> Peers<L, A> {
         now: Instant,
         to: &mut dyn Handler,
     ) {
-        let (fresh, left) = self.relay.on_frame(number, label, body);
-        self.left_behind(left, now, to);
-        if fresh && to.on_item(body, now) {
-            self.relay.last_is_a_table();
-        }
+        let came = self.relay.on_frame(number, label, body);
+        self.came(came, body, now, to);
         let label = self.relay.ack();
         label
             .into_iter()
             .for_each(|label| self.send(id, wire::ack(label)));
+    }
+
+    /// A frame came from above, and brought an item or not; and who was left behind for it.
+    fn came(
+        &mut self,
+        (fresh, left): (bool, Vec<String>),
+        body: &Arc<Body>,
+        now: Instant,
+        to: &mut dyn Handler,
+    ) {
+        self.left_behind(left, now, to);
+        if fresh && to.on_item(body, now) {
+            self.relay.last_is_a_table();
+        }
         self.poll_all(now);
     }
 
@@ -930,6 +985,9 @@ impl<L: Line, A: Clone + PartialEq + fmt::Display> Peers<L, A> {
 
     /// Says this to the parent, for watching alone: whether there is one that takes it now.
     pub fn report(&mut self, report: &[u8]) -> bool {
+        if self.store_report(report) {
+            return true;
+        }
         let conn = self.above.and_then(|id| self.conns.get_mut(&id));
         // (what waits there already is not added to)
         match conn.filter(|conn| conn.greeted.is_some() && conn.output.is_empty()) {

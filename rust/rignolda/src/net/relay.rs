@@ -55,6 +55,8 @@ pub struct Relay {
     /// A child that is never sent to: its place is the last whole table.
     table: Option<Child>,
     children: BTreeMap<String, Link>,
+    /// Whether a child's place has changed since what is needed by none was forgotten.
+    moved: bool,
 }
 
 /// The link to a child.
@@ -66,6 +68,8 @@ pub struct Link {
     /// The life of the child's process with which this link began; none where it never began.
     life: Option<u64>,
     left: bool,
+    /// Whether it lies in words of a store, and the child's is there.
+    words: bool,
     /// Since when it is connected, or away.
     pub since: Instant,
     /// When its frame was sent.
@@ -84,9 +88,9 @@ pub struct Link {
 }
 
 impl Link {
-    /// Whether the child has a connection.
+    /// Whether the child has a connection, or its word lies in a store that answers.
     pub fn is_connected(&self) -> bool {
-        self.connection.is_some()
+        self.connection.is_some() || self.words
     }
 
     /// How many acknowledgements were taken.
@@ -97,6 +101,25 @@ impl Link {
     /// How many acknowledgements changed nothing.
     pub fn ignored(&self) -> u64 {
         self.ignored + self.session.ignored()
+    }
+
+    /// The frame that its sender gave, and the body: of a new item that of its place.
+    fn hold(
+        &mut self,
+        frame: Frame,
+        before: u64,
+        node: &Node,
+        bodies: &VecDeque<Arc<Body>>,
+        now: Instant,
+    ) -> Option<(u16, Arc<Body>)> {
+        if self.session.offered() != before {
+            self.held = bodies.get((before - node.forgotten()) as usize).cloned();
+            self.sent = None;
+        }
+        self.sent = self.sent.or(Some(now));
+        let body = self.held.clone()?;
+        debug_assert_eq!(body.item, frame.item);
+        Some((frame.label, body))
     }
 }
 
@@ -119,6 +142,7 @@ impl Relay {
             bytes: 0,
             table: None,
             children: BTreeMap::new(),
+            moved: false,
         }
     }
 
@@ -180,6 +204,22 @@ impl Relay {
         label: u16,
         body: &Arc<Body>,
     ) -> (bool, Vec<String>) {
+        self.take(label, body, |session, frame| {
+            session.on_frame(connection, frame)
+        })
+    }
+
+    /// The same for a frame that the parent's word in a store shows.
+    pub fn on_word(&mut self, label: u16, body: &Arc<Body>) -> (bool, Vec<String>) {
+        self.take(label, body, Session::<Node>::on_word)
+    }
+
+    fn take(
+        &mut self,
+        label: u16,
+        body: &Arc<Body>,
+        give: impl FnOnce(&mut Session<Node>, Frame) -> bool,
+    ) -> (bool, Vec<String>) {
         let left = self.make_room();
         let frame = Frame {
             label,
@@ -187,7 +227,7 @@ impl Relay {
         };
         let fresh = match &mut self.above {
             Above::Root(_) => false,
-            Above::Below(session) => session.on_frame(connection, frame),
+            Above::Below(session) => give(session, frame),
         };
         if fresh {
             self.keep(body);
@@ -233,6 +273,7 @@ impl Relay {
 
     /// Forgets what neither a child lacks nor a table has to be kept for.
     fn forget(&mut self) {
+        self.moved = false;
         let lacking = self.children.values().filter(|link| !link.left);
         let lacking = lacking.map(|link| link.session.end()).chain(&self.table);
         match &mut self.above {
@@ -305,6 +346,7 @@ impl Relay {
                 held: None,
                 life: None,
                 left: true,
+                words: false,
                 since: now,
                 sent: None,
                 connections: 0,
@@ -328,6 +370,7 @@ impl Relay {
     pub fn made_to(&mut self, name: &str) -> Option<Connection> {
         let link = self.children.get_mut(name)?;
         link.connection = None;
+        link.words = false;
         link.session.made()
     }
 
@@ -342,23 +385,11 @@ impl Relay {
         made: Option<Connection>,
         now: Instant,
     ) -> Option<(Connection, bool)> {
-        let link = self.children.get(name)?;
-        let anew = link.life != Some(life) || link.left;
-        let end = anew.then(|| {
-            // (the receiver takes the first frame of a sender with another label as fresh)
-            let other = if label < LABELS - 1 { label + 1 } else { 0 };
-            self.node().child(self.params, other, self.since_table())
-        });
+        // (the receiver takes the first frame of a sender with another label as fresh)
+        let other = if label < LABELS - 1 { label + 1 } else { 0 };
+        let anew = self.begin(name, life, other)?;
         let link = self.children.get_mut(name)?;
-        if let Some(end) = end {
-            // (numbers of connections go on, so that an old one is never taken for a new one)
-            let before = link.session.renew(end);
-            link.acknowledged += before.acknowledged();
-            link.ignored += before.ignored();
-            link.held = None;
-            link.life = Some(life);
-            link.left = false;
-        }
+        link.words = false;
         link.connection = match made {
             None => link.session.accepted(),
             Some(_) if anew => link.session.made(),
@@ -368,6 +399,27 @@ impl Relay {
         link.sent = None;
         link.connections += u64::from(link.connection.is_some());
         link.connection.map(|number| (number, anew))
+    }
+
+    /// The link goes on where the child's process has this life and was not left behind. Else it
+    /// begins anew at the last whole table, with this label. Whether it did.
+    fn begin(&mut self, name: &str, life: u64, label: u16) -> Option<bool> {
+        let link = self.children.get(name)?;
+        let anew = link.life != Some(life) || link.left;
+        let end = anew.then(|| self.node().child(self.params, label, self.since_table()));
+        let link = self.children.get_mut(name)?;
+        if let Some(end) = end {
+            // (numbers of connections go on, so that an old one is never taken for a new one)
+            let before = link.session.renew(end);
+            link.acknowledged += before.acknowledged();
+            link.ignored += before.ignored();
+            link.held = None;
+            link.sent = None;
+            link.life = Some(life);
+            link.left = false;
+            self.moved = true;
+        }
+        Some(anew)
     }
 
     /// Leaves a connection of a child.
@@ -385,22 +437,14 @@ impl Relay {
     /// The frame to write to a child now, and its body.
     pub fn poll(&mut self, name: &str, now: Instant) -> Option<(u16, Arc<Body>)> {
         let link = self.children.get_mut(name)?;
-        let before = link.session.offered();
         let node = match &self.above {
             Above::Root(node) => node,
             Above::Below(session) => session.end(),
         };
+        let before = link.session.offered();
         let frame = link.session.poll(node)?;
-        if link.session.offered() != before {
-            link.held = self
-                .bodies
-                .get((before - node.forgotten()) as usize)
-                .cloned();
-        }
-        link.sent = Some(now);
-        let body = link.held.clone()?;
-        debug_assert_eq!(body.item, frame.item);
-        Some((frame.label, body))
+        self.moved |= link.session.offered() != before;
+        link.hold(frame, before, node, &self.bodies, now)
     }
 
     /// Takes an acknowledgement of a child.
@@ -410,8 +454,67 @@ impl Relay {
                 link.held = None;
             }
             link.sent = None;
-            self.forget();
+            if self.moved {
+                self.forget();
+            }
         }
+    }
+
+    // ---- Links below that lie in a store
+
+    /// The word of a child shows this life and label, and was not seen before, or not for a while,
+    /// or the child was left behind: as [`Relay::greeted`]. Whether the link began anew.
+    pub fn word_seen(&mut self, name: &str, life: u64, label: u16, now: Instant) -> Option<bool> {
+        // (the child may have a frame of an earlier sender in hand: of this one, or of one before
+        // it, which had the label after the child's)
+        let own = self.children.get(name)?.session.end().label();
+        let other = (label.min(LABELS - 1) + 2) % LABELS;
+        let other = if other == own {
+            (other + 1) % LABELS
+        } else {
+            other
+        };
+        let anew = self.begin(name, life, other)?;
+        let link = self.children.get_mut(name)?;
+        link.connections += u64::from(!link.words);
+        link.words = true;
+        link.since = now;
+        Some(anew)
+    }
+
+    /// The store does not answer, or the child does not.
+    pub fn word_away(&mut self, name: &str, now: Instant) {
+        if let Some(link) = self.children.get_mut(name).filter(|link| link.words) {
+            link.words = false;
+            link.since = now;
+        }
+    }
+
+    /// The frame to set for a child now, and its body: as [`Relay::poll`].
+    pub fn poll_word(&mut self, name: &str, now: Instant) -> Option<(u16, Arc<Body>)> {
+        let link = self.children.get_mut(name).filter(|link| !link.left)?;
+        let node = match &self.above {
+            Above::Root(node) => node,
+            Above::Below(session) => session.end(),
+        };
+        let before = link.session.offered();
+        let frame = link.session.poll_word(node)?;
+        link.hold(frame, before, node, &self.bodies, now)
+    }
+
+    /// Takes an acknowledgement that a child's word shows: whether it is that of the sender's item.
+    pub fn on_word_ack(&mut self, name: &str, label: u16) -> bool {
+        let link = self.children.get_mut(name).filter(|link| !link.left);
+        let taken = link.map_or(false, |link| {
+            let taken = link.session.on_word(label);
+            if taken {
+                link.held = None;
+                link.sent = None;
+            }
+            taken
+        });
+        self.forget();
+        taken
     }
 
     /// Drops the backlog of a child: it begins anew when it connects again.
@@ -419,6 +522,7 @@ impl Relay {
         if let Some(link) = self.children.get_mut(name) {
             link.left = true;
             link.held = None;
+            self.moved = true;
         }
     }
 

@@ -30,7 +30,7 @@ pub const VERSION: u8 = 1;
 /// The longest report, in bytes.
 pub const REPORT_BYTES: usize = 1 << 20;
 const MAGIC: &[u8; 4] = b"RGND";
-const FRAME_HEAD: usize = 11;
+pub(super) const FRAME_HEAD: usize = 11;
 
 /// What an end says first.
 #[derive(Clone, Debug, PartialEq, Eq)]
@@ -82,6 +82,14 @@ impl Hello {
         }
         bytes
     }
+}
+
+/// The label of the frame that begins here, if its head is there.
+pub(super) fn label(bytes: &[u8]) -> Option<u16> {
+    let is_one = bytes.first() == Some(&b'F') && bytes.len() >= FRAME_HEAD;
+    number(bytes, 1, 2)
+        .filter(|_| is_one)
+        .map(|label| label as u16)
 }
 
 /// The head of a frame: its body follows.

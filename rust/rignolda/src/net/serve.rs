@@ -1,0 +1,226 @@
+//! A small server for an agent's loop: it never waits, and its clients, what they send and how long
+//! they may take are bounded.
+//!
+//! ```
+//! use rignolda::net::serve::Server;
+//! use std::collections::HashSet;
+//! use std::io::{Read, Write};
+//! use std::os::unix::net::{UnixListener, UnixStream};
+//! use std::time::{Duration, Instant};
+//!
+//! let path = std::env::temp_dir().join(format!("rignolda-serve-{}", std::process::id()));
+//! let listener = UnixListener::bind(&path)?;
+//! listener.set_nonblocking(true)?;
+//! let parse = |bytes: &[u8]| Some((*bytes.first()?, 1));
+//! let mut server = Server::new(listener, 8, Duration::from_secs(9), parse);
+//! let mut client = UnixStream::connect(&path)?;
+//! client.write_all(b"?")?;
+//! // (here a loop waits until one of the descriptors can be read or written)
+//! let fired: HashSet<_> = server.descriptors().map(|(fd, ..)| fd).collect();
+//! for (ticket, request) in server.ready(&fired, Instant::now()) {
+//!     assert_eq!(request, b'?');
+//!     server.answer(ticket, b"!", true);
+//! }
+//! let mut answer = String::new();
+//! client.read_to_string(&mut answer)?;
+//! assert_eq!(answer, "!");
+//! std::fs::remove_file(path)?;
+//! # Ok::<(), std::io::Error>(())
+//! ```
+use std::collections::HashSet;
+use std::io::{self, ErrorKind, Read, Write};
+use std::os::unix::io::{AsRawFd, RawFd};
+use std::os::unix::net::{UnixListener, UnixStream};
+use std::sync::atomic::{AtomicU64, Ordering};
+use std::time::{Duration, Instant};
+
+/// How many clients there are at most. One more is refused.
+const CLIENTS: usize = 16;
+
+/// Where clients are accepted.
+pub trait Listener: AsRawFd {
+    /// The connection to a client, of which neither reading nor writing waits.
+    type Socket: Read + Write + AsRawFd;
+
+    /// Takes the next one, and never waits for it.
+    ///
+    /// # Errors
+    ///
+    /// `WouldBlock` where there is none; else that none can be taken now.
+    fn accept(&self) -> io::Result<Self::Socket>;
+}
+
+impl Listener for UnixListener {
+    type Socket = UnixStream;
+
+    fn accept(&self) -> io::Result<UnixStream> {
+        let socket = UnixListener::accept(self)?.0;
+        socket.set_nonblocking(true)?;
+        Ok(socket)
+    }
+}
+
+/// How many clients any server had, and 1 more.
+static MADE: AtomicU64 = AtomicU64::new(1);
+
+/// A request that is to be answered.
+#[derive(Clone, Copy, Debug, PartialEq, Eq)]
+pub struct Ticket(u64);
+
+/// Reads the first request of some bytes, and how many it took; nothing where more has to come.
+pub type Parse<T> = fn(&[u8]) -> Option<(T, usize)>;
+
+struct Client<S> {
+    number: u64,
+    socket: S,
+    input: Vec<u8>,
+    output: Vec<u8>,
+    /// Whether a request of it waits for its answer. Then nothing more is read.
+    asked: bool,
+    last: bool,
+    until: Instant,
+}
+
+/// A server whose clients ask for `T`.
+pub struct Server<T, L: Listener> {
+    listener: L,
+    parse: Parse<T>,
+    clients: Vec<Client<L::Socket>>,
+    most: usize,
+    idle: Duration,
+    /// Until when nobody is accepted, since no descriptor was left.
+    full: Option<Instant>,
+}
+
+impl<T, L: Listener> Server<T, L> {
+    /// A server without clients. `most`: the most bytes of a request; `idle`: how long a client may be without one.
+    pub fn new(listener: L, most: usize, idle: Duration, parse: Parse<T>) -> Server<T, L> {
+        Server {
+            listener,
+            parse,
+            clients: Vec::new(),
+            most,
+            idle,
+            full: None,
+        }
+    }
+
+    /// The descriptors to wait for, each with a number that no other one has had, and whether to
+    /// wait until they can be written too.
+    pub fn descriptors(&self) -> impl Iterator<Item = (RawFd, u64, bool)> + '_ {
+        let client =
+            |it: &Client<L::Socket>| (it.socket.as_raw_fd(), it.number, !it.output.is_empty());
+        let listener = self
+            .full
+            .is_none()
+            .then_some((self.listener.as_raw_fd(), 0, false));
+        listener.into_iter().chain(self.clients.iter().map(client))
+    }
+
+    /// When there is something to do although nothing comes.
+    pub fn deadline(&self) -> Option<Instant> {
+        self.clients
+            .iter()
+            .map(|client| client.until)
+            .chain(self.full)
+            .min()
+    }
+
+    /// Accepts, reads and writes what there is now, where one of these descriptors is its own: the
+    /// requests that came whole. Each ticket is to be answered once.
+    pub fn ready(&mut self, fired: &HashSet<RawFd>, now: Instant) -> Vec<(Ticket, T)> {
+        let is_due = self.deadline().map_or(false, |at| now >= at);
+        if !is_due && !self.descriptors().any(|(fd, ..)| fired.contains(&fd)) {
+            return Vec::new();
+        }
+        self.full = self.full.filter(|until| now < *until);
+        self.accept(now);
+        let mut requests = Vec::new();
+        self.clients.retain_mut(|client| {
+            if now >= client.until || !client.write() || (client.last && client.output.is_empty()) {
+                return false;
+            }
+            if client.asked || !client.output.is_empty() {
+                return true;
+            }
+            let goes_on = client.read(self.most);
+            let (request, taken) = match (self.parse)(&client.input) {
+                Some(request) => request,
+                None => return goes_on && client.input.len() < self.most,
+            };
+            client.input.drain(..taken);
+            client.asked = true;
+            client.until = now + self.idle;
+            requests.push((Ticket(client.number), request));
+            true
+        });
+        requests
+    }
+
+    /// Answers a request. If it is the `last` one, the connection is closed after it.
+    pub fn answer(&mut self, ticket: Ticket, bytes: &[u8], last: bool) {
+        if let Some(client) = self
+            .clients
+            .iter_mut()
+            .find(|c| c.number == ticket.0 && c.asked)
+        {
+            client.asked = false;
+            client.last = last;
+            client.output.extend_from_slice(bytes);
+            let goes_on = client.write() && !(last && client.output.is_empty());
+            if !goes_on {
+                self.clients.retain(|client| client.number != ticket.0);
+            }
+        }
+    }
+
+    fn accept(&mut self, now: Instant) {
+        // (a client that is one too many is closed, and so many at most in one turn)
+        for _ in 0..CLIENTS {
+            match self.listener.accept() {
+                Ok(socket) if self.clients.len() < CLIENTS => {
+                    self.clients.push(Client {
+                        number: MADE.fetch_add(1, Ordering::Relaxed),
+                        socket,
+                        input: Vec::new(),
+                        output: Vec::new(),
+                        asked: false,
+                        last: false,
+                        until: now + self.idle,
+                    });
+                }
+                Ok(_) => (),
+                Err(error) if error.kind() == ErrorKind::WouldBlock => return,
+                Err(_) => {
+                    self.full = Some(now + Duration::from_millis(100));
+                    return;
+                }
+            }
+        }
+    }
+}
+
+impl<S: Read + Write> Client<S> {
+    /// Reads what there is, up to the bound. Whether the connection goes on.
+    fn read(&mut self, most: usize) -> bool {
+        let room = most.saturating_sub(self.input.len()) as u64;
+        match (&mut self.socket).take(room).read_to_end(&mut self.input) {
+            Ok(_) => self.input.len() >= most,
+            Err(error) => error.kind() == ErrorKind::WouldBlock,
+        }
+    }
+
+    /// Writes what it can. Whether the connection goes on.
+    fn write(&mut self) -> bool {
+        while !self.output.is_empty() {
+            match self.socket.write(&self.output) {
+                Ok(0) => return false,
+                Ok(count) => drop(self.output.drain(..count)),
+                Err(error) if error.kind() == ErrorKind::WouldBlock => return true,
+                Err(error) if error.kind() == ErrorKind::Interrupted => (),
+                Err(_) => return false,
+            }
+        }
+        true
+    }
+}

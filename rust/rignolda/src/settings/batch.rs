@@ -1,0 +1,109 @@
+//! Files that are kept on the disk, several at once.
+use std::fs::{self, File};
+use std::io::{self, Write};
+use std::path::{Path, PathBuf};
+use std::thread;
+use std::time::{Duration, Instant};
+
+/// A disk that takes longer than this for one file is given the others at once.
+const QUICK: Duration = Duration::from_micros(500);
+const STACK_BYTES: usize = 64 << 10;
+
+/// New files of a folder, which come to their places together.
+///
+/// Each is written beside its place, synced to the disk, and only then moved there. So a reader
+/// finds it whole, as it was or as it is now, and so does whoever reads it after a loss of power.
+/// Several files wait for the disk at the same time, which takes little longer than one.
+///
+/// ```
+/// use rignolda::settings::Batch;
+///
+/// let folder = std::env::temp_dir().join(format!("rignolda-batch-{}", std::process::id()));
+/// std::fs::create_dir_all(&folder)?;
+/// let mut batch = Batch::default();
+/// batch.write(folder.join("colour"), b"red")?;
+/// batch.write(folder.join("size"), b"9")?;
+/// assert!(!folder.join("colour").exists());
+/// assert!(batch.commit().is_empty());
+/// assert_eq!(std::fs::read(folder.join("colour"))?, b"red");
+/// std::fs::remove_dir_all(folder)?;
+/// # Ok::<(), std::io::Error>(())
+/// ```
+#[derive(Debug, Default)]
+pub struct Batch(Vec<New>);
+
+#[derive(Debug)]
+struct New {
+    file: File,
+    beside: PathBuf,
+    path: PathBuf,
+}
+
+impl Batch {
+    /// Whether a file of this path is in it.
+    pub fn has(&self, path: &Path) -> bool {
+        self.0.iter().any(|new| new.path == path)
+    }
+
+    /// Writes a file beside its place, under a name with a dot in front. A batch has at most one
+    /// file of each path, and a folder one batch.
+    ///
+    /// # Errors
+    ///
+    /// Where the system refuses it; then the file is not in the batch.
+    pub fn write(&mut self, path: PathBuf, value: &[u8]) -> io::Result<()> {
+        // (a few names, so that one which is killed leaves few files)
+        let beside = path.with_file_name(format!(".rignolda{}.new", self.0.len()));
+        let mut file = File::create(&beside)?;
+        if let Err(error) = file.write_all(value) {
+            let _ = fs::remove_file(&beside);
+            return Err(error);
+        }
+        self.0.push(New { file, beside, path });
+        Ok(())
+    }
+
+    /// Waits until the disk has all, and moves them to their places: those that failed, which are
+    /// as they were. The batch is empty then.
+    pub fn commit(&mut self) -> Vec<(PathBuf, io::Error)> {
+        let all = std::mem::take(&mut self.0);
+        let done = sync(&all);
+        let mut failed = Vec::new();
+        for (new, synced) in all.into_iter().zip(done) {
+            if let Err(error) = synced.and_then(|()| fs::rename(&new.beside, &new.path)) {
+                let _ = fs::remove_file(&new.beside);
+                failed.push((new.path, error));
+            }
+        }
+        failed
+    }
+}
+
+/// Waits until the disk has each of these files.
+fn sync(all: &[New]) -> Vec<io::Result<()>> {
+    let (first, others) = match all.split_first() {
+        Some(split) => split,
+        None => return Vec::new(),
+    };
+    let began = Instant::now();
+    let mut done = vec![first.file.sync_all()];
+    if others.is_empty() || began.elapsed() < QUICK {
+        done.extend(others.iter().map(|new| new.file.sync_all()));
+        return done;
+    }
+    thread::scope(|scope| {
+        let start = |file| {
+            let thread = thread::Builder::new().stack_size(STACK_BYTES);
+            thread.spawn_scoped(scope, move || File::sync_all(file))
+        };
+        let threads: Vec<_> = others.iter().map(|new| start(&new.file)).collect();
+        for (thread, new) in threads.into_iter().zip(others) {
+            // (what no thread could be started for is done here)
+            done.push(match thread.map(|thread| thread.join()) {
+                Ok(Ok(synced)) => synced,
+                _ => new.file.sync_all(),
+            });
+        }
+    });
+    done
+}

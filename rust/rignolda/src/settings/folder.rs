@@ -1,0 +1,148 @@
+//! Files of settings.
+use super::is_key;
+use crate::net::checksum;
+use std::collections::BTreeMap;
+use std::fs::{self, File, OpenOptions, Permissions};
+use std::io::{self, ErrorKind, Read, Write};
+use std::os::unix::fs::{OpenOptionsExt, PermissionsExt};
+use std::path::{Path, PathBuf};
+
+/// The file that is written before it takes the place of a setting.
+const NEW: &str = ".new";
+
+/// A folder with a file for each setting: its name is the key, its bytes are the value.
+///
+/// A reader finds each file whole, as it was or as it is now. Nothing in the folder has to be
+/// right: whatever is in the place of a file is replaced. No file is synced to the disk, so after a
+/// loss of power each one is to be put again that [differs](Folder::differs).
+///
+/// ```
+/// use rignolda::settings::Folder;
+///
+/// let path = std::env::temp_dir().join(format!("rignolda-folder-{}", std::process::id()));
+/// let mut folder = Folder::new(path.clone());
+/// folder.put("colour", Some(b"red"), 0o640)?;
+/// assert!(!folder.differs("colour", Some(b"red"), 0o640));
+/// assert!(folder.differs("colour", Some(b"blue"), 0o640));
+/// assert_eq!(folder.names(), ["colour"]);
+/// std::fs::remove_dir_all(path)?;
+/// # Ok::<(), std::io::Error>(())
+/// ```
+#[derive(Debug)]
+pub struct Folder {
+    path: PathBuf,
+    /// The checksums of the values that were put last.
+    put: BTreeMap<String, u32>,
+    /// The mode that a new file of it had by itself, as it was seen last.
+    exact: Option<u32>,
+}
+
+impl Folder {
+    /// The folder at this path. It is made when the first file is put.
+    pub fn new(path: PathBuf) -> Folder {
+        Folder {
+            path,
+            put: BTreeMap::new(),
+            exact: None,
+        }
+    }
+
+    /// The names of all that is there and is no folder.
+    pub fn names(&self) -> Vec<String> {
+        let entries = fs::read_dir(&self.path).into_iter().flatten().flatten();
+        let files = entries.filter(|entry| !entry.path().is_dir());
+        files
+            .filter_map(|entry| entry.file_name().into_string().ok())
+            .collect()
+    }
+
+    /// Whether a setting's file is to be put: it is no plain file with this value and mode, or,
+    /// without a value, something is there; or another value was put last, since then nobody looks.
+    pub fn differs(&mut self, key: &str, value: Option<&[u8]>, mode: u32) -> bool {
+        match (self.put.get(key), value) {
+            (Some(last), Some(value)) if *last != checksum(value) => true,
+            _ => !self.is_as(key, value, mode),
+        }
+    }
+
+    fn is_as(&mut self, key: &str, value: Option<&[u8]>, mode: u32) -> bool {
+        let path = self.path.join(key);
+        let (is, value) = match (fs::symlink_metadata(&path), value) {
+            (Ok(is), Some(value)) => (is, value),
+            (there, value) => return there.is_err() && value.is_none(),
+        };
+        if is.permissions().mode() & 0o7777 != mode {
+            self.exact = None;
+            return false;
+        }
+        let mut there = vec![0; value.len()];
+        is.is_file()
+            && is.len() == value.len() as u64
+            && File::open(&path)
+                .and_then(|mut file| file.read_exact(&mut there))
+                .is_ok()
+            && there == value
+    }
+
+    /// Makes a setting's file, or, without a value, removes it.
+    ///
+    /// # Errors
+    ///
+    /// Where the key is none, or the system refuses it; then the file is as it was.
+    pub fn put(&mut self, key: &str, value: Option<&[u8]>, mode: u32) -> io::Result<()> {
+        if !is_key(key) {
+            return Err(ErrorKind::InvalidInput.into());
+        }
+        self.put.remove(key);
+        let path = self.path.join(key);
+        let value = match value {
+            Some(value) => value,
+            None => return remove(&path),
+        };
+        let new = self.path.join(NEW);
+        let mut file = self.create(&new, mode)?;
+        file.write_all(value)?;
+        if self.exact != Some(mode) {
+            // (else the mask of the process leaves it as it is)
+            let is = file.metadata()?.permissions().mode() & 0o7777;
+            self.exact = Some(is).filter(|is| *is == mode);
+            file.set_permissions(Permissions::from_mode(mode))?;
+        }
+        drop(file);
+        if let Err(error) = fs::rename(&new, &path) {
+            if !path.is_dir() {
+                return Err(error);
+            }
+            remove(&path)?;
+            fs::rename(&new, &path)?;
+        }
+        self.put.insert(key.into(), checksum(value));
+        Ok(())
+    }
+
+    /// A new file at a place in the folder, whatever was there.
+    fn create(&self, at: &Path, mode: u32) -> io::Result<File> {
+        let mut options = OpenOptions::new();
+        options.write(true).create_new(true).mode(mode);
+        match options.open(at) {
+            Err(e) if e.kind() == ErrorKind::AlreadyExists => remove(at)?,
+            Err(e) if e.kind() == ErrorKind::NotFound => fs::create_dir_all(&self.path)?,
+            done => return done,
+        }
+        options.open(at)
+    }
+}
+
+/// Removes whatever is at a path: a file, a folder with all that is in it, or nothing.
+///
+/// # Errors
+///
+/// Where the system refuses it.
+pub fn remove(path: &Path) -> io::Result<()> {
+    match fs::symlink_metadata(path) {
+        Err(error) if error.kind() == ErrorKind::NotFound => Ok(()),
+        Err(error) => Err(error),
+        Ok(is) if is.is_dir() => fs::remove_dir_all(path),
+        Ok(_) => fs::remove_file(path),
+    }
+}

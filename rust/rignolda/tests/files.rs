@@ -1,0 +1,185 @@
+//! Files of settings: each is whole, as it was or as it is now.
+#![cfg(all(feature = "net", unix))]
+use rignolda::settings::{remove, Batch, Folder};
+use std::fs::{self, File, Permissions};
+use std::io::Read;
+use std::os::unix::fs::{symlink, PermissionsExt};
+use std::path::{Path, PathBuf};
+
+/// A folder of one test, removed at its end.
+struct Place(PathBuf);
+
+impl Place {
+    fn new(name: &str) -> Place {
+        let name = format!("rignolda-files-{}-{}", name, std::process::id());
+        let path = std::env::temp_dir().join(name);
+        remove(&path).unwrap();
+        fs::create_dir(&path).unwrap();
+        Place(path)
+    }
+
+    fn names(&self) -> Vec<String> {
+        let all = fs::read_dir(&self.0).unwrap();
+        let mut names: Vec<String> = all
+            .map(|it| it.unwrap().file_name().into_string().unwrap())
+            .collect();
+        names.sort();
+        names
+    }
+}
+
+impl Drop for Place {
+    fn drop(&mut self) {
+        let _ = fs::remove_dir_all(&self.0);
+    }
+}
+
+const MODE: u32 = 0o640;
+
+fn text(path: impl AsRef<Path>) -> String {
+    fs::read_to_string(path).unwrap()
+}
+
+#[test]
+fn who_reads_a_file_while_it_is_put_has_the_old_one_whole() {
+    let place = Place::new("old");
+    let mut folder = Folder::new(place.0.clone());
+    let mut batch = Batch::default();
+    folder.put("a", Some(b"old value"), MODE).unwrap();
+    fs::write(place.0.join("b"), "old value").unwrap();
+    let mut old = ["a", "b"].map(|key| File::open(place.0.join(key)).unwrap());
+    folder.put("a", Some(b"new"), MODE).unwrap();
+    batch.write(place.0.join("b"), b"new").unwrap();
+    assert!(batch.commit().is_empty());
+    for (file, key) in old.iter_mut().zip(["a", "b"]) {
+        let mut read = String::new();
+        file.read_to_string(&mut read).unwrap();
+        assert_eq!(
+            (&*read, &*text(place.0.join(key))),
+            ("old value", "new"),
+            "{key}"
+        );
+    }
+    assert_eq!(place.names(), ["a", "b"]);
+}
+
+#[test]
+fn a_file_has_its_mode_whatever_the_mask_of_the_process_is() {
+    let place = Place::new("mode");
+    let mut folder = Folder::new(place.0.clone());
+    // (each mask takes some bit of one of these away)
+    for mode in [0o666, 0o640, 0o600, 0o777, 0o666] {
+        for value in [&b"1"[..], b"2", b"3"] {
+            folder.put("a", Some(value), mode).unwrap();
+            let is = fs::metadata(place.0.join("a"))
+                .unwrap()
+                .permissions()
+                .mode();
+            assert_eq!(is & 0o7777, mode);
+            assert!(!folder.differs("a", Some(value), mode));
+        }
+    }
+    fs::set_permissions(place.0.join("a"), Permissions::from_mode(0o600)).unwrap();
+    assert!(folder.differs("a", Some(b"3"), 0o666));
+}
+
+#[test]
+fn whatever_is_in_the_way_is_replaced_and_nothing_elsewhere() {
+    let place = Place::new("way");
+    let elsewhere = place.0.join("elsewhere");
+    let path = place.0.join("settings");
+    let mut folder = Folder::new(path.clone());
+    fs::write(&elsewhere, "mine").unwrap();
+    // (the folder is not there yet)
+    folder.put("a", Some(b"1"), MODE).unwrap();
+    let ways: [&dyn Fn(&Path); 3] = [
+        &|at| symlink(&elsewhere, at).unwrap(),
+        &|at| fs::create_dir_all(at.join("x/y")).unwrap(),
+        &|at| fs::write(at, "in the way").unwrap(),
+    ];
+    for (number, way) in ways.iter().enumerate() {
+        for name in ["a", ".new"] {
+            remove(&path.join(name)).unwrap();
+            way(&path.join(name));
+            assert!(name == ".new" || folder.differs("a", Some(b"1"), MODE));
+            folder.put("a", Some(b"1"), MODE).unwrap();
+            assert_eq!(text(path.join("a")), "1", "{number} {name}");
+            assert!(!folder.differs("a", Some(b"1"), MODE));
+        }
+    }
+    assert_eq!(text(&elsewhere), "mine");
+    assert!(folder.put("../elsewhere", Some(b"2"), MODE).is_err());
+    assert!(folder.put(".new", None, MODE).is_err());
+    folder.put("a", None, MODE).unwrap();
+    folder.put("a", None, MODE).unwrap();
+    assert!(folder.names().is_empty() && !folder.differs("a", None, MODE));
+}
+
+#[test]
+fn what_was_put_last_is_looked_at_and_never_believed() {
+    let place = Place::new("looks");
+    let file = place.0.join("a");
+    let mut folder = Folder::new(place.0.clone());
+    folder.put("a", Some(b"one"), MODE).unwrap();
+    let spoil: [&dyn Fn(); 4] = [
+        &|| fs::write(&file, "two").unwrap(),
+        &|| fs::write(&file, "longer").unwrap(),
+        &|| fs::write(&file, "").unwrap(),
+        &|| fs::remove_file(&file).unwrap(),
+    ];
+    for (number, spoil) in spoil.iter().enumerate() {
+        spoil();
+        assert!(folder.differs("a", Some(b"one"), MODE), "{number}");
+        folder.put("a", Some(b"one"), MODE).unwrap();
+    }
+    // (another value is put in any case)
+    assert!(folder.differs("a", Some(b"two"), MODE));
+    assert!(folder.differs("a", None, MODE));
+    // (one that begins anew looks as well)
+    let mut folder = Folder::new(place.0.clone());
+    assert!(!folder.differs("a", Some(b"one"), MODE));
+    assert!(folder.differs("a", Some(b"two"), MODE));
+}
+
+#[test]
+fn a_batch_that_is_not_committed_changes_no_file() {
+    let place = Place::new("killed");
+    let paths: Vec<PathBuf> = (0..40).map(|at| place.0.join(format!("k{at}"))).collect();
+    paths
+        .iter()
+        .for_each(|path| fs::write(path, "old").unwrap());
+    let mut batch = Batch::default();
+    for path in &paths {
+        assert!(!batch.has(path));
+        batch.write(path.clone(), b"new").unwrap();
+        assert!(batch.has(path));
+    }
+    // (so does a process that is killed here)
+    drop(batch);
+    assert!(paths.iter().all(|path| text(path) == "old"));
+    let mut batch = Batch::default();
+    for path in &paths {
+        batch.write(path.clone(), b"new").unwrap();
+    }
+    assert!(batch.commit().is_empty() && paths.iter().all(|path| !batch.has(path)));
+    assert!(paths.iter().all(|path| text(path) == "new"));
+    assert_eq!(place.names().len(), 40, "nothing is left beside them");
+}
+
+#[test]
+fn those_of_a_batch_that_fail_are_named_and_the_others_are_there() {
+    let place = Place::new("failed");
+    let [a, b, c] = ["a", "b", "c"].map(|key| place.0.join(key));
+    fs::create_dir_all(b.join("x")).unwrap();
+    let mut batch = Batch::default();
+    for path in [&a, &b, &c] {
+        batch.write(path.clone(), b"1").unwrap();
+    }
+    let failed = batch.commit();
+    let failed: Vec<&PathBuf> = failed.iter().map(|(path, _)| path).collect();
+    assert_eq!(failed, [&b]);
+    assert_eq!((text(&a), text(&c)), ("1".into(), "1".into()));
+    assert!(batch.write(place.0.join("no/such"), b"1").is_err());
+    assert!(batch.commit().is_empty());
+    assert_eq!(place.names(), ["a", "b", "c"]);
+}

@@ -1,0 +1,594 @@
+//! Agents whose links lie in a store in memory: what is lost, spoiled, late or old there, and what
+//! each agent received then, judged by C, E and M of the links.
+use rignolda::net::wire::{self, Hello};
+use rignolda::net::{Body, Call, Children, Handler, Line, Parent, Peers, Setup, Turn};
+use std::collections::BTreeMap;
+use std::fmt;
+use std::io::{self, Read, Write};
+use std::sync::Arc;
+use std::time::{Duration, Instant};
+
+const STEP: Duration = Duration::from_millis(10);
+
+struct Random(u64);
+
+impl Random {
+    fn below(&mut self, bound: usize) -> usize {
+        self.0 ^= self.0 << 13;
+        self.0 ^= self.0 >> 7;
+        self.0 ^= self.0 << 17;
+        (self.0 % bound as u64) as usize
+    }
+}
+
+/// There are no connections here.
+struct NoLine;
+
+impl Read for NoLine {
+    fn read(&mut self, _: &mut [u8]) -> io::Result<usize> {
+        Ok(0)
+    }
+}
+
+impl Write for NoLine {
+    fn write(&mut self, _: &[u8]) -> io::Result<usize> {
+        Ok(0)
+    }
+
+    fn flush(&mut self) -> io::Result<()> {
+        Ok(())
+    }
+}
+
+impl Line for NoLine {
+    fn may_be(&self, _: &str) -> bool {
+        true
+    }
+}
+
+#[derive(Default)]
+struct Said {
+    items: Vec<String>,
+    facts: Vec<String>,
+}
+
+impl Handler for Said {
+    fn on_item(&mut self, body: &Arc<Body>, _: Instant) -> bool {
+        let text = String::from_utf8_lossy(&body.bytes).into_owned();
+        let is_table = text.starts_with('T');
+        self.items.push(text);
+        is_table
+    }
+
+    fn on_report(&mut self, child: &str, report: &[u8], _: Instant) -> bool {
+        let text = String::from_utf8_lossy(report);
+        self.facts.push(format!("report of {child} {text}"));
+        true
+    }
+
+    fn on_gone(&mut self, child: &str) {
+        self.facts.push(format!("gone {child}"));
+    }
+
+    fn on_fact(&mut self, fact: &'static str, words: fmt::Arguments<'_>) {
+        self.facts.push(format!("{fact} {words}"));
+    }
+}
+
+type Keys = BTreeMap<String, Vec<u8>>;
+
+/// What the store answered, and after how many steps the agent is told.
+type Answer = (usize, Result<Vec<Vec<u8>>, String>);
+
+struct Agent {
+    peers: Peers<NoLine, String>,
+    said: Said,
+    answer: Option<Answer>,
+    /// Whether it has a connection to the store; and what it has set by earlier ones and gave up.
+    is_connected: bool,
+    given_up: Vec<Vec<(String, Vec<u8>)>>,
+}
+
+/// Agents that reach one store alone.
+struct Net {
+    agents: BTreeMap<String, Agent>,
+    keys: Keys,
+    is_up: bool,
+    now: Instant,
+    lives: u64,
+    random: Random,
+    /// How many of a hundred turns fail.
+    fails: usize,
+}
+
+fn parent(name: &str) -> Parent<String> {
+    Parent {
+        name: Some(name.into()),
+        address: Some("store".into()),
+    }
+}
+
+fn setup(name: &str, parents: Vec<Parent<String>>, children: &[&str]) -> Setup<String> {
+    let child = |name: &&str| (name.to_string(), Some("store".to_string()));
+    Setup {
+        name: name.into(),
+        parents,
+        children: Children::Named(children.iter().map(child).collect()),
+        ack_timeout: Duration::from_millis(500),
+        evict: Duration::from_secs(60),
+        poll: Duration::from_millis(50),
+    }
+}
+
+/// The root, `a` below it, and `b` below that.
+fn setup_of(name: &str) -> Setup<String> {
+    match name {
+        "root" => setup("root", vec![], &["a"]),
+        "a" => setup("a", vec![parent("root")], &["b"]),
+        _ => setup("b", vec![parent("a")], &[]),
+    }
+}
+
+const PATH: [&str; 3] = ["root", "a", "b"];
+
+impl Net {
+    fn new(seed: u64) -> Net {
+        let mut net = Net {
+            agents: BTreeMap::new(),
+            keys: Keys::new(),
+            is_up: true,
+            now: Instant::now(),
+            lives: 0,
+            random: Random(seed * 2 + 1),
+            fails: 0,
+        };
+        PATH.iter().for_each(|name| net.start(setup_of(name)));
+        net
+    }
+
+    /// A process begins. What an earlier one of its name has given up may still be done.
+    fn start(&mut self, setup: Setup<String>) {
+        self.lives += 1;
+        let name = setup.name.clone();
+        let before = self.agents.remove(&name);
+        let agent = Agent {
+            peers: Peers::new(setup, self.lives, 64, self.now),
+            said: Said::default(),
+            answer: None,
+            is_connected: false,
+            given_up: before.map_or(Vec::new(), |it| it.given_up),
+        };
+        self.agents.insert(name, agent);
+    }
+
+    fn agent(&mut self, name: &str) -> &mut Agent {
+        self.agents.get_mut(name).unwrap()
+    }
+
+    /// Kills a process, perhaps in the middle of a turn.
+    fn restart(&mut self, name: &str) {
+        self.start(setup_of(name));
+    }
+
+    /// A turn at the store, by the rules of the trait.
+    fn turn(&mut self, name: &str, turn: Turn) -> Answer {
+        let late = self.random.below(3);
+        let fails = !self.is_up || self.random.below(100) < self.fails;
+        let how = self.random.below(3);
+        for (key, _) in &turn.sets {
+            // (each key has one writer)
+            let parts: Vec<&str> = key.split(':').collect();
+            let writer = if parts[2] == "down" {
+                parts[0]
+            } else {
+                parts[1]
+            };
+            assert_eq!(writer, name, "{key}");
+        }
+        let (is_up, agent) = (self.is_up, self.agents.get_mut(name).unwrap());
+        if is_up && !agent.is_connected {
+            // (whoever begins a connection ends what earlier ones had under way)
+            agent.given_up.clear();
+            agent.is_connected = true;
+        }
+        if fails {
+            agent.is_connected = false;
+            match how {
+                0 if is_up => self.keys.extend(turn.sets),
+                1 => agent.given_up.push(turn.sets),
+                _ => (),
+            }
+            return (late, Err("it was cut".into()));
+        }
+        self.keys.extend(turn.sets);
+        let got = turn.gets.iter().map(|(key, most)| {
+            let value = self.keys.get(key).map_or(&[][..], Vec::as_slice);
+            value[..value.len().min(*most)].to_vec()
+        });
+        (late, Ok(got.collect()))
+    }
+
+    /// Each agent does all that it can do now.
+    fn step(&mut self) {
+        self.now += STEP;
+        let now = self.now;
+        let names: Vec<String> = self.agents.keys().cloned().collect();
+        for name in names {
+            if self.random.below(12) == 0 && self.is_up {
+                // (what was given up may be done at any time)
+                let late = self.agent(&name).given_up.pop();
+                self.keys.extend(late.into_iter().flatten());
+            }
+            let agent = self.agent(&name);
+            match &mut agent.answer {
+                Some((late, _)) if *late > 0 => *late -= 1,
+                answer => {
+                    if let Some((_, got)) = answer.take() {
+                        let to = &mut agent.said;
+                        agent.peers.turned(&"store".into(), got, now, to);
+                    }
+                }
+            }
+            agent.peers.tick(now, &mut agent.said);
+            while let Some(call) = agent.peers.next_call(now, &mut agent.said) {
+                let Call { address, .. } = &call;
+                match address.as_str() {
+                    "store" => agent.peers.in_store(call, now),
+                    _ => {
+                        let nobody = Err("nobody is there".into());
+                        agent.peers.called(call, nobody, now, &mut agent.said);
+                    }
+                }
+            }
+            for (_, turn) in agent.peers.turns(now, &mut agent.said) {
+                let answer = self.turn(&name, turn);
+                let agent = self.agent(&name);
+                assert!(agent.answer.replace(answer).is_none(), "one is under way");
+                break;
+            }
+        }
+    }
+
+    fn steps(&mut self, count: usize) {
+        (0..count).for_each(|_| self.step());
+    }
+
+    /// Goes on until all have what was published last, and a while longer.
+    fn settle(&mut self) {
+        for _ in 0..80 {
+            self.steps(50);
+            let last = self.items("root").last().cloned();
+            if PATH.iter().all(|it| self.items(it).last() == last.as_ref()) {
+                break;
+            }
+        }
+        self.steps(100);
+    }
+
+    fn publish(&mut self, text: &str) {
+        let (now, agent) = (self.now, self.agent("root"));
+        let body = Arc::new(Body::of(text.as_bytes().to_vec()));
+        agent.peers.publish(&body, now, &mut agent.said);
+    }
+
+    fn items(&mut self, name: &str) -> Vec<String> {
+        self.agent(name).said.items.clone()
+    }
+
+    fn said(&mut self, name: &str, fact: &str) -> usize {
+        let facts = &self.agent(name).said.facts;
+        facts.iter().filter(|it| it.starts_with(fact)).count()
+    }
+
+    /// A key of the two links, drawn.
+    fn key(&mut self) -> String {
+        let link = ["root:a", "a:b"][self.random.below(2)];
+        format!("{link}:{}", ["down", "up"][self.random.below(2)])
+    }
+
+    /// Something is lost there: a key is deleted, or shows no word, or is cut.
+    fn lose(&mut self) {
+        let (key, how) = (self.key(), self.random.below(4));
+        let length = self.random.below(90);
+        match how {
+            0 => drop(self.keys.remove(&key)),
+            1 => {
+                let bytes = (0..length).map(|_| self.random.below(256) as u8);
+                let bytes = bytes.collect();
+                self.keys.insert(key, bytes);
+            }
+            2 => self.keys.entry(key).or_default().truncate(length),
+            _ => self.keys.entry(key).or_default().push(0),
+        }
+    }
+
+    /// A word that an agent of these names could have set at some time.
+    fn old_word(&mut self) {
+        let key = self.key();
+        let parts: Vec<String> = key.split(':').map(String::from).collect();
+        let (life, label) = (self.random.below(9) as u64, self.random.below(256) as u16);
+        let (mut from, mut to) = (parts[0].clone(), parts[1].clone());
+        if parts[2] == "up" {
+            std::mem::swap(&mut from, &mut to);
+        }
+        let mut bytes = Hello {
+            life,
+            label,
+            from,
+            to,
+        }
+        .bytes();
+        if parts[2] == "up" {
+            bytes.extend(7_u32.to_be_bytes());
+        } else {
+            let body = Body::of(format!("old {}", self.random.below(99)).into_bytes());
+            bytes.extend(wire::frame(label, &body));
+            bytes.extend(&body.bytes);
+        }
+        self.keys.insert(key, bytes);
+    }
+}
+
+/// What is wrong with what an agent received since a moment, where the root published this since:
+/// its strays come first, and of the items before its last one only some among the first are
+/// missing. No two texts are equal.
+fn judge(got: &[String], published: &[String], strays: usize, missing: usize) -> Option<String> {
+    let place = |text: &String| published.iter().position(|it| it == text);
+    let (mut front, mut after) = (got.len(), published.len());
+    while front > 0 && place(&got[front - 1]).map_or(false, |at| at < after) {
+        front -= 1;
+        after = place(&got[front]).unwrap();
+    }
+    let places: Vec<usize> = got[front..].iter().filter_map(place).collect();
+    let end = places.last().copied().unwrap_or(0);
+    let late = (missing..end).find(|at| !places.contains(at));
+    match (front <= strays, late) {
+        (true, None) => None,
+        _ => Some(format!("{front} strays, {late:?} is missing: {got:?}")),
+    }
+}
+
+#[test]
+fn items_travel_through_a_store() {
+    let mut net = Net::new(1);
+    net.publish("T0");
+    for at in 1..40 {
+        net.publish(&format!("{at} {}", "x".repeat(at * 997 % 3_001)));
+        net.steps(1);
+    }
+    net.settle();
+    let all = net.items("root");
+    assert_eq!(all.len(), 40);
+    assert_eq!((net.items("a"), net.items("b")), (all.clone(), all));
+    let root = &net.agents["root"].peers;
+    let link = root.relay().child("a").unwrap();
+    assert_eq!(
+        (link.acknowledged(), link.timeouts, link.connections),
+        (40, 0, 1)
+    );
+    assert_eq!(root.relay().least_backlog(), Some(0));
+    assert_eq!(net.agents["b"].peers.parent().unwrap().0.to_string(), "a");
+    // (what is for watching alone comes up beside it)
+    assert!(net.agent("b").peers.report(b"well"));
+    assert!(!net.agent("root").peers.report(b"well"));
+    net.steps(50);
+    assert_eq!(net.said("a", "report of b well"), 1);
+}
+
+#[test]
+fn what_is_lost_late_or_given_up_loses_no_item() {
+    for seed in 1..40 {
+        let mut net = Net::new(seed);
+        net.publish("T0");
+        net.steps(60);
+        net.fails = [0, 10, 40][seed as usize % 3];
+        for at in 1..40 {
+            let length = net.random.below(2) * net.random.below(3_000);
+            net.publish(&format!("{at} {}", "x".repeat(length)));
+            let pause = net.random.below(25);
+            net.steps(pause);
+            match net.random.below(12) {
+                0..=5 => net.lose(),
+                6 => net.keys.clear(),
+                7 => net.is_up = false,
+                _ => (),
+            }
+            net.steps(3);
+            net.is_up = true;
+        }
+        net.fails = 0;
+        net.settle();
+        let all = net.items("root");
+        assert_eq!(net.items("a"), all, "{seed}");
+        assert_eq!(net.items("b"), all, "{seed}");
+        for (name, other) in [("root", "a"), ("a", "b")] {
+            let fact = format!("connected {other}, a new count");
+            assert_eq!(net.said(name, &fact), 1, "{seed}");
+        }
+    }
+}
+
+#[test]
+fn whatever_a_store_holds_at_first_costs_what_the_laws_say() {
+    for seed in 1..60 {
+        let mut net = Net::new(seed);
+        let words = net.random.below(5);
+        (0..words).for_each(|_| net.old_word());
+        let lost = net.random.below(3);
+        (0..lost).for_each(|_| net.lose());
+        for at in 0..12 {
+            net.publish(&format!("{}{at}", if at % 3 == 0 { "T" } else { "" }));
+            let pause = net.random.below(30);
+            net.steps(pause);
+        }
+        net.settle();
+        let all = net.items("root");
+        for (name, depth) in [("a", 1), ("b", 2)] {
+            let got = net.items(name);
+            assert_eq!(judge(&got, &all, depth, 3 * depth), None, "{seed} {name}");
+            assert_eq!(got.last(), all.last(), "{seed} {name}");
+        }
+    }
+}
+
+#[test]
+fn faults_are_counted_from_the_last_one() {
+    for seed in 1..60 {
+        let mut net = Net::new(seed);
+        net.fails = [0, 20][seed as usize % 2];
+        net.publish("T0");
+        let (mut backup, mut texts) = (net.keys.clone(), 0);
+        for _ in 0..30 {
+            texts += 1;
+            net.publish(&format!("{}{texts}", if texts % 4 == 0 { "T" } else { "" }));
+            let pause = net.random.below(40);
+            net.steps(pause);
+            match net.random.below(9) {
+                0 => backup = net.keys.clone(),
+                1 => net.keys = backup.clone(),
+                2 => net.old_word(),
+                3 => net.restart("a"),
+                4 => net.restart("b"),
+                5 => net.lose(),
+                _ => (),
+            }
+        }
+        // (the last fault, and what each had then)
+        net.keys = backup;
+        let before: BTreeMap<&str, usize> = PATH.map(|it| (it, net.items(it).len())).into();
+        let above = |net: &mut Net, name: &str| match name {
+            "a" => net.agents["root"]
+                .peers
+                .relay()
+                .children()
+                .next()
+                .map(|(_, it)| net.agents["root"].peers.relay().backlog(it)),
+            _ => net.agents["a"]
+                .peers
+                .relay()
+                .children()
+                .next()
+                .map(|(_, it)| net.agents["a"].peers.relay().backlog(it)),
+        };
+        let backlogs = [above(&mut net, "a").unwrap(), above(&mut net, "b").unwrap()];
+        // (what the root still has to send is a backlog too, and so is a table begun anew)
+        let hold = [backlogs[0] + 5, backlogs[0] + backlogs[1] + 10];
+        for at in 0..12 {
+            net.publish(&format!("{}since {at}", if at == 7 { "T" } else { "" }));
+            let pause = net.random.below(30);
+            net.steps(pause);
+        }
+        net.fails = 0;
+        net.settle();
+        let all = net.items("root")[before["root"]..].to_vec();
+        for (name, depth) in [("a", 1), ("b", 2)] {
+            let got = net.items(name)[before[name]..].to_vec();
+            let strays = depth + hold[depth - 1] as usize;
+            assert_eq!(judge(&got, &all, strays, 3 * depth), None, "{seed} {name}");
+            assert_eq!(got.last(), all.last(), "{seed} {name}");
+        }
+    }
+}
+
+#[test]
+fn one_that_begins_anew_gets_the_table_and_what_came_since() {
+    for seed in 1..15 {
+        let mut net = Net::new(seed);
+        for text in ["T0", "1", "T2", "3", "4"] {
+            net.publish(text);
+            net.steps(100);
+        }
+        net.restart("a");
+        net.steps(600);
+        let got = net.items("a");
+        assert!(
+            got.ends_with(&["T2".into(), "3".into(), "4".into()]),
+            "{seed}: {got:?}"
+        );
+        // (its parent's word may still show the last frame)
+        assert!(got.len() <= 4, "{seed}: {got:?}");
+        net.publish("5");
+        net.steps(300);
+        assert_eq!(net.items("b").last().unwrap(), "5", "{seed}");
+        // (the root begins anew, and the others stay)
+        net.restart("root");
+        net.publish("T6");
+        net.steps(600);
+        assert_eq!(net.items("b").last().unwrap(), "T6", "{seed}");
+    }
+}
+
+#[test]
+fn one_that_does_not_answer_stops_nobody_and_is_served_when_it_is_back() {
+    let mut net = Net::new(5);
+    net.publish("T0");
+    net.steps(100);
+    let away = net.agents.remove("b").unwrap();
+    for at in 1..400 {
+        net.publish(&format!("{}{at}", if at % 10 == 0 { "T" } else { "" }));
+        net.steps(20);
+        assert!(net.agents["a"].peers.relay().kept().0 <= 64);
+    }
+    let link = net.agents["a"].peers.relay().child("b").unwrap();
+    let facts = &net.agents["a"].said.facts;
+    assert!(
+        link.timeouts > 2 && !link.is_connected(),
+        "{} {facts:?}",
+        link.timeouts
+    );
+    assert_eq!(net.said("a", "closed b: nothing came in time"), 1);
+    assert_eq!(
+        net.said("a", "left-behind b") + net.said("a", "evicted b"),
+        1
+    );
+    assert_eq!(net.items("a"), net.items("root"));
+    // (the same process goes on where it was: it takes what lies there, and then the last table)
+    net.agents.insert("b".into(), away);
+    net.steps(4_000);
+    assert_eq!(net.said("a", "connected b"), 2);
+    let last: Vec<String> = (390..400).map(|at| format!("{at}")).collect();
+    let got = net.items("b");
+    assert_eq!(
+        got[got.len() - 10..],
+        [&["T390".to_string()], &last[1..]].concat()
+    );
+}
+
+#[test]
+fn the_next_parent_is_tried_where_the_store_has_no_word_of_one() {
+    let mut net = Net::new(3);
+    net.agents.clear();
+    let elsewhere = Parent {
+        name: Some("other".into()),
+        address: Some("elsewhere".into()),
+    };
+    net.start(setup("a", vec![parent("root"), elsewhere], &[]));
+    net.steps(300);
+    assert!(net.said("a", "parent store: its word is not there") > 0);
+    assert!(net.agents["a"].peers.parent().is_none());
+    net.restart("root");
+    net.publish("T0");
+    net.steps(600);
+    assert_eq!(
+        net.agents["a"].peers.parent().unwrap().0.to_string(),
+        "root"
+    );
+    assert_eq!(net.items("a"), ["T0"]);
+    // (where the store is gone it is said once, and it is looked for again)
+    net.is_up = false;
+    net.steps(300);
+    assert!(net.agents["a"].peers.parent().is_none());
+    assert_eq!(net.said("a", "closed the parent: it was cut"), 1);
+    net.is_up = true;
+    net.publish("1");
+    net.steps(600);
+    assert_eq!(net.items("a"), ["T0", "1"]);
+    // (one that is a child no longer has its word no more)
+    let (now, agent) = (net.now, net.agent("root"));
+    let gone = setup("root", vec![], &[]);
+    agent.peers.set_up(gone, now, &mut agent.said);
+    net.publish("2");
+    net.steps(300);
+    assert_eq!(net.items("a"), ["T0", "1"]);
+    assert_eq!(net.said("root", "gone a"), 1);
+}

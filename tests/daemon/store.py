@@ -1,0 +1,338 @@
+#!/usr/bin/env python3
+"""Links that lie in a store of Redis, in a tree of processes on this machine.
+
+    tests/daemon/store.py             the trials that check.py runs too, where Redis is there
+    tests/daemon/store.py --judged [--faults 30] [--seed 1]
+                                      by hand: faults in the store and kills, each count judged
+                                      as long.py does
+
+It needs Debian's redis-server and libhiredis0.14, and by hand installs them where it may; where
+they cannot be had it says so. The last line is 'N passed, M failed'.
+"""
+import argparse
+import ctypes
+import os
+import pathlib
+import random
+import shutil
+import subprocess
+import sys
+import tempfile
+import threading
+import time
+
+sys.dont_write_bytecode = True
+
+from daemons import Tree, free_port, until
+from reverse import sure
+
+PACKAGES = ["redis-server", "libhiredis0.14"]
+IN_STORE = ["left", "left1", "left2", "right2"]      # the others have connections
+
+
+def is_there():
+    """Whether this machine has the server and the client's library."""
+    for version in ("1.1.0", "1.0.0", "0.14"):
+        try:
+            ctypes.CDLL(f"libhiredis.so.{version}")
+            return shutil.which("redis-server") is not None
+        except OSError:
+            pass
+    return False
+
+
+def install():
+    """The same, after they were installed where that may be done."""
+    if not is_there() and os.geteuid() == 0 and shutil.which("apt-get"):
+        command = ["apt-get", "install", "-y", "-q", "--no-install-recommends", *PACKAGES]
+        # (its own service is not what is tried here)
+        environment = {**os.environ, "DEBIAN_FRONTEND": "noninteractive", "RUNLEVEL": "1"}
+        subprocess.run(command, capture_output=True, env=environment)
+    return is_there()
+
+
+class Redis:
+    """A server of its own, in a folder of its own, with a password."""
+
+    def __init__(self):
+        self.home = pathlib.Path(tempfile.mkdtemp(prefix="rignolda-redis-"))
+        self.port = free_port()
+        self.password = self.home / "password"
+        self.password.write_text("a word\n")
+        self.file = self.home / "dump.rdb"
+        self.process = None
+
+    def __enter__(self):
+        self.start()
+        return self
+
+    def __exit__(self, kind, value, trace):
+        self.kill()
+        shutil.rmtree(self.home, ignore_errors=True)
+
+    def start(self):
+        self.process = subprocess.Popen(
+            ["redis-server", "--port", str(self.port), "--bind", "127.0.0.1", "--save", "",
+             "--requirepass", "a word", "--dir", self.home], stdout=subprocess.DEVNULL,
+            stderr=subprocess.DEVNULL, stdin=subprocess.DEVNULL)
+        sure(until(lambda: self.ask("PING") == b"PONG\n", 5), "there is no server")
+
+    def kill(self):
+        if self.process:
+            self.process.kill()
+            self.process.wait()
+            self.process = None
+
+    def ask(self, *words, lines=()):
+        """What it answers to a command, or to one a line."""
+        command = ["redis-cli", "-p", str(self.port), "-n", "2", *words]
+        return subprocess.run(command, input="\n".join(lines).encode(), capture_output=True,
+                              env={**os.environ, "REDISCLI_AUTH": "a word"}).stdout
+
+    def words(self):
+        """The keys that are words of links."""
+        keys = self.ask("KEYS", "tree:*").decode().split()
+        return [key for key in keys if key.endswith((":up", ":down"))]
+
+    def backup(self):
+        """Keeps what it holds now."""
+        self.ask("SAVE")
+        shutil.copy(self.file, self.home / "backup")
+
+    def restore(self):
+        """What it holds when it starts next."""
+        shutil.copy(self.home / "backup", self.file)
+
+    def age(self):
+        """Keeps each word beside it; and makes each what was kept, at another time."""
+        self.ask(lines=[f"COPY {key} old:{key} REPLACE" for key in self.words()])
+
+    def make_old(self):
+        self.ask(lines=[f"COPY old:{key} {key} REPLACE" for key in self.words()])
+
+    def spoil(self, draw):
+        """No word is one any more: random bytes, a list, nothing, or another beginning."""
+        lines = []
+        for key in self.words():
+            how = draw.randrange(4)
+            if how == 0:
+                random_bytes = draw.randbytes(draw.randrange(1, 300))
+                lines.append(f'SET {key} "{"".join(f"{chr(92)}x{it:02x}" for it in random_bytes)}"')
+            elif how == 1:
+                lines += [f"DEL {key}", f"LPUSH {key} none"]
+            elif how == 2:
+                lines.append(f"DEL {key}")
+            else:
+                lines.append(f"SETRANGE {key} 0 spoiled")
+        self.ask(lines=lines)
+
+
+def in_store(redis, names=IN_STORE):
+    """From their start on, these agents and their parents meet in the store."""
+    def before(tree):
+        address = f"redis://127.0.0.1:{redis.port}/tree"
+        # (a round has to be several times longer than it takes by the slowest link)
+        tree.root.tables["root"].update(round="4s", harmless=7)
+        for agent in tree:
+            agent.tables["link"] = {"ack_timeout": "2s", "evict": "20s"}
+            agent.tables["store"] = {"password": str(redis.password), "database": 2}
+            if any(child.name in names for child in agent.children):
+                agent.top["children"] = [
+                    f"{child.name}@{address}" if child.name in names else child.name
+                    for child in agent.children]
+            if agent.name in names:
+                agent.top["parents"] = [f"{agent.parent.name}@{address}"]
+    return before
+
+
+def usual(tree):
+    for at in range(8):
+        tree.write(f"key{at}", f"value {at}")
+    tree.start()
+    sure(tree.ready(), "the tree is not ready", [agent.text()[-300:] for agent in tree])
+    sure(tree.right(), "not the root's settings:", tree.wrong())
+
+
+def settings_travel_through_a_store():
+    """Small and large ones; who has what is known at the root; and one process has one name."""
+    with Redis() as redis, Tree(before=in_store(redis)) as tree:
+        usual(tree)
+        took = []
+        for at in range(5):
+            begun = time.monotonic()
+            number = tree.root.ask("publish", "key1", f"again {at}")["sequence"]
+            sure(tree.right(), tree.wrong())
+            took.append(time.monotonic() - begun)
+            tree.root.ask("wait", "--everywhere", number)
+        print(f"settings came in {min(took):.3f} to {max(took):.3f} s", flush=True)
+        big = random.Random(1).randbytes(1 << 20)
+        number = tree.root.ask("publish", "big", value=big)["sequence"]
+        tree.root.ask("wait", "--everywhere", "--timeout", "60s", number)
+        sure(tree["left1"].files()["big"] == big, "it is another one")
+        # a second process of one name takes the store from the first one, and is told apart
+        leaf = tree["left2"]
+        first, log = leaf.process, leaf.text()
+        leaf.socket = leaf.home / "control2"
+        leaf.start()
+        sure(until(lambda: "another process writes there" in leaf.text(), 10), leaf.text())
+        first.kill()
+        first.wait()
+        sure(until(leaf.up, 10), leaf.text())
+        tree.write("after", "that")
+        sure(tree.right(), tree.wrong())
+        sure(not any(agent.said("panicked") for agent in tree))
+
+
+def losses_in_a_store_lose_nothing():
+    """Words that are gone or spoiled, a store that is away or back empty: no round mends that."""
+    draw = random.Random(3)
+
+    def before(tree):
+        tree.root.tables["root"]["round"] = "1h"
+
+    with Redis() as redis:
+        place = in_store(redis)
+        with Tree(before=lambda tree: (place(tree), before(tree))) as tree:
+            usual(tree)
+            for turn in range(6):
+                tree.write("key1", f"before {turn}")
+                if turn % 2:
+                    redis.kill()
+                    tree.write("key2", f"while it is away {turn}")
+                    redis.start()
+                else:
+                    redis.spoil(draw)
+                    tree.write("key2", f"where it is spoiled {turn}")
+                    redis.spoil(draw)
+                tree.write("key3", f"after {turn}")
+                sure(tree.right(), turn, tree.wrong())
+            statuses = {agent.name: agent.status() for agent in tree}
+            sure(all(it["gaps"] + it["strays"] == 0 for it in statuses.values()), statuses)
+            # (each change of state is one line)
+            sure(tree["left1"].said("closed the parent") == 3, tree["left1"].text())
+            sure(not any(agent.said("panicked") for agent in tree))
+
+
+def faults_of_a_store_are_mended_by_rounds():
+    """Old words, an old backup, and kills: two rounds later all is right."""
+    draw = random.Random(4)
+    with Redis() as redis, Tree(before=in_store(redis)) as tree:
+        usual(tree)
+        redis.backup()
+        redis.age()
+        for turn in range(3):
+            victims = draw.sample(list(tree), turn)
+            for at in range(6):
+                tree.write(f"key{at}", f"{turn} {draw.randrange(99)}")
+            time.sleep(0.2)
+            redis.make_old()
+            for victim in victims:
+                victim.kill()
+            redis.kill()
+            redis.restore()
+            tree.write("key7", f"down {turn}")
+            for victim in victims:
+                victim.start()
+            redis.start()
+            redis.make_old()
+            sure(tree.right(10), turn, tree.wrong())
+        sure(tree.ready(5), "the tree is not ready")
+        sure(not any(agent.said("panicked") for agent in tree))
+
+
+TESTS = [settings_travel_through_a_store, losses_in_a_store_lose_nothing,
+         faults_of_a_store_are_mended_by_rounds]
+
+
+# ---- By hand: each count judged
+
+def judged(faults, seed):
+    """Faults in the store and kills of agents, at moments when all are stopped."""
+    import long
+
+    def before(tree):
+        for agent in tree:
+            agent.tables["link"] = {"ack_timeout": "500ms", "evict": "30s", "backlog": long.LIMIT}
+        tree.root.tables["root"]["harmless"] = 11
+
+    draw = random.Random(seed)
+    with Redis() as redis:
+        place = in_store(redis)
+        with Tree(before=lambda tree: (place(tree), before(tree))) as tree:
+            trial = long.Trial(tree, draw)
+            tree.start()
+            sure(trial.connected(), "the tree is not ready")
+            publisher = threading.Thread(target=trial.publish)
+            publisher.start()
+            try:
+                for turn in range(faults):
+                    trial.cut()
+                    time.sleep(draw.uniform(0.3, 1.0))
+                    strike(redis, tree, trial, draw)
+                    sure(trial.connected(), "not all are connected again after", turn)
+            finally:
+                trial.done.set()
+                publisher.join()
+            trial.cut()
+            good = tree.right(10)
+            time.sleep(0.5)
+            trial.cut()
+            wrong, counts, strays, missing, left_out = trial.judge()
+            print(f"seed {seed}: {faults} faults, {trial.changes} changes: {counts} counts judged, "
+                  f"{left_out} left out; strays {strays}, missing among the first M {missing}, "
+                  f"outside the bounds {wrong[:5]}; right {good} {tree.wrong()}", flush=True)
+            return good and not wrong
+
+
+def strike(redis, tree, trial, draw):
+    """One fault. The store ends first, so that no agent has anything in hand that it has got."""
+    how = draw.randrange(6)
+    if how < 2:
+        victims = draw.sample(list(tree), draw.choice([1, 1, 2]))
+        trial.cut(victims)
+        for victim in victims:
+            victim.start()
+        return
+    if how == 2:
+        redis.backup()
+        redis.age()
+    redis.kill()
+    time.sleep(0.1)
+    living = trial.stop_all()
+    redis.file.unlink(missing_ok=True)
+    if how > 3 and (redis.home / "backup").exists():
+        redis.restore()
+    redis.start()
+    if how == 5:
+        redis.make_old()
+        redis.spoil(draw)
+        redis.make_old()
+    trial.cut()
+    for agent in living:
+        agent.signal(18)        # (SIGCONT)
+
+
+def main():
+    words = argparse.ArgumentParser(description=__doc__.splitlines()[0])
+    words.add_argument("--judged", action="store_true")
+    words.add_argument("--faults", type=int, default=30)
+    words.add_argument("--seed", type=int, default=1)
+    chosen = words.parse_args()
+    if not install():
+        print("the links in a store are not tried: apt-get install", *PACKAGES)
+        print("0 passed, 0 failed")
+        return 0
+    if chosen.judged:
+        good = judged(chosen.faults, chosen.seed)
+        print(f"{int(good)} passed, {int(not good)} failed")
+        return 0 if good else 1
+    for function in TESTS:
+        begun = time.monotonic()
+        function()
+        print(f"{function.__name__}: ok, {time.monotonic() - begun:.1f} s", flush=True)
+    print(f"{len(TESTS)} passed, 0 failed")
+    return 0
+
+
+if __name__ == "__main__":
+    sys.exit(main())
