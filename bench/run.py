@@ -8,7 +8,6 @@ Without --stab it measures the program of ./stab, which builds it if that was no
 sources.
 """
 import argparse
-import glob
 import json
 import os
 import random
@@ -19,7 +18,10 @@ import time
 
 HERE = os.path.dirname(os.path.abspath(__file__))
 BUILD = os.path.join(HERE, "build")
-TOP = os.path.dirname(HERE)
+sys.dont_write_bytecode = True
+sys.path.insert(0, os.path.join(os.path.dirname(HERE), "tools"))
+from programs import built  # noqa: E402
+
 RUNS = 5
 MAX_TREE_STEPS = 900_000  # more do not fit a file of 16,777,216 bytes
 
@@ -107,7 +109,6 @@ def path_of(words, name, count, job):
     """The file of a job, made where it is not there yet."""
     path = os.path.join(BUILD, f"{words[0]} {name} {count}.json".replace(" ", "_").replace(",", ""))
     if not os.path.exists(path):
-        os.makedirs(BUILD, exist_ok=True)
         with open(path, "w", encoding="ascii") as out:
             json.dump(job(), out, separators=(",", ":"))
     return path
@@ -137,21 +138,13 @@ def run(program, words, path):
         time.sleep(0.0002)
 
 
-def built_program():
-    """The program that ./stab runs. ./stab builds it first if needed, and keeps no other."""
-    first_job = os.path.join(TOP, "examples", "worst_start.json")
-    words = [os.path.join(TOP, "stab"), "link", first_job]
-    if subprocess.run(words, stdout=subprocess.DEVNULL).returncode:
-        sys.exit("./stab does not run: what it said is above")
-    return max(glob.glob(os.path.join(glob.escape(TOP), "out", "stab-*")), key=os.path.getmtime)
-
-
 def main():
     parser = argparse.ArgumentParser(description=__doc__.splitlines()[0])
     parser.add_argument("--stab", metavar="PROGRAM", help="measure it, not the program of ./stab")
     parser.add_argument("--quick", action="store_true", help="jobs of up to 100,000 events")
     options = parser.parse_args()
-    program = options.stab or built_program()
+    os.makedirs(BUILD, exist_ok=True)
+    program = options.stab or built("stab", BUILD)
     if not os.access(program, os.X_OK):
         sys.exit(f"there is no program at {program}")
     load = os.getloadavg()[0]

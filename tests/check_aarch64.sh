@@ -21,23 +21,11 @@ trap 'rm -rf -- "$work"' EXIT
 . tests/cases
 
 # Has the compiler of the kit make the archive over the libraries that the check has left.
-builds() (
-    local kit library folder words
-    kit=$(dirname -- "$(rt doc)")
-    (cd crates/stab_c && rt check) || return
-    words=(--crate-name stab_c src/lib.rt --crate-type staticlib --target "$target" --links stab_c=)
-    words+=(--extern "std=$kit/rlibs/std.rlib" -L "dependency=$kit/rlibs")
-    for library in $(sed -n 's/^stab_c staticlib: *//p' crates.txt); do
-        words+=(--extern "$library=$top/crates/$library/out/rlib/$library.rlib")
-    done
-    for folder in "$top"/crates/*/out/rlib; do
-        words+=(-L "dependency=$folder")
-    done
-    words+=(--antt-project "$kit/rattle/logic/antt-project.json" --logic-built "$kit/logic_built")
-    mkdir -p -- "${archive%/*}" && cd crates/stab_c &&
-        "$kit/bin/rattle" build "${words[@]}" --toolchain "$kit/toolchain" \
-            --incremental out/incremental -o "$archive"
-)
+builds() {
+    mkdir -p -- "${archive%/*}" && (cd crates/stab_c && rt check) &&
+        python3 -B tools/crates.py build . stab_c src/lib.rt --crate-type staticlib \
+            --target "$target" --incremental out/incremental -o "$archive"
+}
 
 for program in rt "$compiler" "$emulator"; do
     if ! type -P "$program" >/dev/null; then

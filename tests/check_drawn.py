@@ -19,15 +19,16 @@ import json
 import re
 import subprocess
 import sys
-import tempfile
 from pathlib import Path
 
 # (nothing is to be left beside the sources)
 sys.dont_write_bytecode = True
 
-from tables.program import program
-
 TOP = Path(__file__).resolve().parent.parent
+sys.path.insert(0, str(TOP / "tools"))
+
+from programs import run_with
+
 DATA = TOP / "crates/stab_checks/data"
 PAGE = TOP / "docs/PROTOCOL.md"
 PICTURES = TOP / "docs/pictures"
@@ -234,26 +235,20 @@ def write(drawer):
         (PICTURES / (name + ".svg")).write_text(text)
 
 
-def main():
-    if sys.argv[1:] not in ([], ["--write"]):
-        sys.exit("tests/check_drawn.py takes --write, or no words at all")
-    with tempfile.TemporaryDirectory() as room:
-        drawer = program("rignolda", room)
-        if drawer is None:
-            print("drawn: no rignolda was built of these sources: run ./release.sh, or ./gate")
-            print("0 passed, 1 failed")
-            sys.exit(1)
-        if sys.argv[1:]:
-            write(drawer)
-            return
-        passed = failed = 0
-        for name, fault in check(drawer):
-            passed, failed = passed + (fault is None), failed + (fault is not None)
-            print(f"same   {name}" if fault is None else f"OTHER  {name}\n       {fault}")
-        if failed:
-            print(f"drawn: by {drawer}; where the sources are newer, run ./release.sh first")
-        print(f"{passed} passed, {failed} failed")
-        sys.exit(0 if failed == 0 else 1)
+def main(drawer):
+    if sys.argv[1:]:
+        write(drawer)
+        return 0
+    passed = failed = 0
+    for name, fault in check(drawer):
+        passed, failed = passed + (fault is None), failed + (fault is not None)
+        print(f"same   {name}" if fault is None else f"OTHER  {name}\n       {fault}")
+    if failed:
+        print(f"drawn: by {drawer}; where the sources are newer, run ./release.sh first")
+    print(f"{passed} passed, {failed} failed")
+    return 0 if failed == 0 else 1
 
 
-main()
+if sys.argv[1:] not in ([], ["--write"]):
+    sys.exit("tests/check_drawn.py takes --write, or no words at all")
+sys.exit(run_with(main, "rignolda"))

@@ -26,12 +26,11 @@ import sys
 import tempfile
 
 TOP = os.path.dirname(os.path.dirname(os.path.realpath(__file__)))
+sys.dont_write_bytecode = True
+sys.path.insert(0, f"{TOP}/tools")
+from crates import below, listed, read  # noqa: E402
+
 FUNCTION = re.compile(r"\s*(?:pub(?:\(\w+\))? )?(?:const )?fn (\w+)")
-
-
-def read(path):
-    with open(path, encoding="utf-8") as it:
-        return it.read()
 
 
 def edits_in(folder):
@@ -72,18 +71,9 @@ def has_answers(crate, file, function):
     )
 
 
-def below(crate, lines, found):
-    """Adds a crate, and those that it stands on, the lowest first."""
-    if crate in lines and crate not in found:
-        for other in lines[crate]:
-            below(other, lines, found)
-        found.append(crate)
-    return found
-
-
 def copied(crate, lines, work):
     """Copies what was kept of a crate, and of those that it stands on, and answers its folder."""
-    for it in below(crate, lines, []):
+    for it in below(crate, lines):
         kept, copy = f"{TOP}/crates/{it}/out", f"{work}/crates/{it}/out"
         if os.path.isdir(kept) and (it == crate or not os.path.isdir(copy)):
             # (what a check keeps of a crate's own proof is large, and is of use to this one alone)
@@ -143,11 +133,7 @@ def refusal(folder, controls):
 
 
 def main(words):
-    lines = {}
-    for line in read(f"{TOP}/crates.txt").splitlines():
-        if line.strip() and not line.startswith("#"):
-            name, _, libraries = line.partition(":")
-            lines[name.split()[0]] = libraries.split()
+    lines = listed()
     unknown = [it for it in words if it not in lines]
     if unknown:
         print(f"check_edits: crates.txt lists no crate {unknown[0]}", file=sys.stderr)

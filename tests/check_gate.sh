@@ -11,16 +11,9 @@ unset CDPATH TMPDIR RT_JOBS
 house="$work/a house"
 # shellcheck source=tests/cases
 . "$top/tests/cases"
-mkdir -p "$work/bin" "$house/tests/refused" "$house/bench" "$house/tools" "$work/temporary"
+mkdir -p "$work/bin" "$house/tests/refused" "$house/tools" "$work/temporary"
 cp -- "$top/gate" "$house/"
-cp -- "$top/tools/launch" "$house/tools/"
-cp -- "$top/bench/gate.py" "$house/bench/"
-
-# What is said of a case that does not hold.
-tell() {
-    printf 'status %s, and it wrote:\n' "$status"
-    cat -- "$work/out" "$work/err"
-}
+cp -- "$top"/tools/{costs,crates,running}.py "$house/tools/"
 
 # Writes a command: what it does in bash.
 write() {
@@ -95,27 +88,12 @@ all_in() {
     done
 }
 
-# Starts a gate whose first part does not end by itself, and sends it a signal. Further words
-# are those of the gate.
+# Starts a gate whose first part does not end by itself, and sends it a signal. Further words are
+# those of the gate.
 interrupt() {
-    local pid count
-    rm -f "$work/started" "$work/ended"
-    write "$work/bin/rt" "trap 'kill \$!; echo >\"$work/ended\"; exit 1' TERM
-        sleep 600 & echo >\"$work/started\"; wait"
-    local words=("${@:2}")
-    # (a signal that is ignored here, as INT is in what runs in the background and HUP under nohup,
-    # would be ignored there)
-    TMPDIR="$work/temporary" PATH=$work/bin:$PATH \
-        env --default-signal=INT,TERM,HUP "$house/gate" "${words[@]}" \
-        >"$work/out" 2>"$work/err" &
-    pid=$!
-    for ((count = 0; count < 100; count++)); do
-        [ ! -e "$work/started" ] || break
-        sleep 0.1
-    done
-    kill -s "$1" "$pid"
-    wait "$pid" 2>/dev/null
-    status=$?
+    write "$work/bin/rt" "trap 'kill \$!; echo ended >\"$work/ended\"; exit 1' TERM
+        sleep 600 & echo started >\"$work/started\"; wait"
+    TMPDIR="$work/temporary" PATH=$work/bin:$PATH interrupted "$1" "$house/gate" "${@:2}"
 }
 
 # Whether a gate was given up with this status, and what it had started was ended first.
@@ -124,13 +102,13 @@ given_up() {
 }
 
 # The scripts of tests that the gate runs. The first one counts five cases, and the others none.
-mapfile -t scripts < <(sed -nE '/pages\.py/d; s,^ *run (tests/\w+\.\w+)( .*)?$,\1,p' "$top/gate")
+mapfile -t scripts < <(sed -nE '/pages\.py/d; s,^((tests|tools)/\w+\.\w+)( .*)?$,\1,p' "$top/gate")
 for script in "${scripts[@]}"; do
     write "$house/$script" "echo \"\$PWD: a script of tests\"; echo '0 passed, 0 failed'"
 done
 sed -i "s/'0 passed/'5 passed/" "$house/${scripts[0]}"
 write "$house/release.sh" "echo \"\$PWD: release \$*\"; echo '3 passed, 0 failed'"
-write "$house/tests/pages.py" "echo \"\$PWD: pages \$*\"; echo '2 passed, 0 failed'"
+write "$house/tools/pages.py" "echo \"\$PWD: pages \$*\"; echo '2 passed, 0 failed'"
 
 run 'echo 300 passed, 0 failed' 'echo 42 passed, 0 failed'
 holds 'the counts of all parts are added' gave 0 '352 passed, 0 failed'
@@ -157,6 +135,15 @@ run 'echo 300 passed, 0 failed, 1 lost' 'echo 42 passed, 0 failed'
 holds 'nor does a line of another form' gave 1 '52 passed, 1 failed'
 run 'kill -KILL $$' 'echo 42 passed, 0 failed'
 holds 'a part that is killed is a failure' gave 1 '52 passed, 1 failed'
+write "$house/${scripts[1]}" "echo \"\$PWD: a script of tests\"; kill -KILL \$\$"
+run 'echo 300 passed, 0 failed' 'echo 42 passed, 0 failed'
+holds 'and so is one beside others' gave 1 '352 passed, 1 failed'
+holds 'which is named' grep -qxF \
+    "gate: ${scripts[1]} ended with status 137, and no count in its last line" "$work/out"
+write "$house/${scripts[1]}" "echo \"\$PWD: a script of tests\"; echo '4 passed, 1 failed'; exit 1"
+RT_JOBS=1 run 'echo 300 passed, 0 failed' 'echo 42 passed, 0 failed'
+holds 'and one at a time they count the same' gave 1 '356 passed, 1 failed'
+write "$house/${scripts[1]}" "echo \"\$PWD: a script of tests\"; echo '0 passed, 0 failed'"
 run 'echo 300 passed, 0 failed' 'echo 42 passed, 0 failed'
 holds 'what each part took is said' \
     grep -qE '^gate: rt ci took 0 min .* processor minutes, and .* at its peak$' "$work/out"
@@ -169,7 +156,7 @@ holds 'which the environment decides, if it does' all_in "$work/out" \
 run 'echo 300 passed, 0 failed' 'echo 42 passed, 0 failed' --anew
 holds 'with --anew all of it is proved again' grep -qE "^$house: rt ci --anew, [0-9]+$" "$work/out"
 holds 'never more than the processors' bash -c '
-    [ "$(taskset -c 0 "$0/bench/gate.py" jobs | cut -d" " -f1)" -eq 1 ]' "$house"
+    [ "$(taskset -c 0 python3 -B "$0/tools/crates.py" tasks | cut -d" " -f1)" -eq 1 ]' "$house"
 write "$house/release.sh" "echo '2 passed, 1 failed'; exit 1"
 run 'echo 300 passed, 0 failed' 'echo 42 passed, 0 failed'
 holds 'a release that differs fails the gate' \
@@ -178,11 +165,11 @@ rm "$house/release.sh"
 run_gate
 holds 'and so does none' [ "$status, $(tail -n 1 "$work/out")" = '1, 349 passed, 1 failed' ]
 write "$house/release.sh" "echo \"\$PWD: release \$*\"; echo '3 passed, 0 failed'"
-write "$house/tests/pages.py" "echo '1 passed, 1 failed'; exit 1"
+write "$house/tools/pages.py" "echo '1 passed, 1 failed'; exit 1"
 run 'echo 300 passed, 0 failed' 'echo 42 passed, 0 failed'
 holds 'and so does a page that is out of date' \
     [ "$status, $(tail -n 1 "$work/out")" = '1, 351 passed, 1 failed' ]
-write "$house/tests/pages.py" "echo \"\$PWD: pages \$*\"; echo '2 passed, 0 failed'"
+write "$house/tools/pages.py" "echo \"\$PWD: pages \$*\"; echo '2 passed, 0 failed'"
 run 'echo 300 passed, 0 failed' 'echo 42 passed, 0 failed'
 rm "$house/tests/refused/check.py"
 TMPDIR="$work/temporary" PATH=$work/bin:$PATH "$house/gate" >"$work/out" 2>"$work/err"
@@ -208,10 +195,17 @@ cat >"$work/notes" <<END
 "largest": [1, "it"], "crates": {"low": {$none, "proof": 60, "edits": 60},
 "mid": {$none, "proof": 60, "tests": 120}, "stab_cli": {$none, "proof": 100, "programs": 20}}}
 END
-tr -d '\n' <"$work/notes" >"$work/notes_in_a_line"
-PATH=$work/bin:$PATH "$house/bench/gate.py" table "$work/notes_in_a_line" "$work/page" 420 \
-    "$work/notes" >"$work/out" 2>"$work/err"
-status=$?
+
+# Writes the table of the notes of a part, of a gate that took seven minutes.
+table() {
+    (cd -- "$house" && PATH=$work/bin:$PATH python3 -B -c "import json, sys
+sys.path.insert(0, 'tools')
+import costs
+costs.write_table([json.load(sys.stdin)], '$work/page', 420.0, 0.0)") >"$work/out" 2>"$work/err"
+    status=$?
+}
+
+table <"$work/notes"
 holds 'what each crate cost is in the table' all_in "$work/page" \
     '| `low` | 1.0 | 0.0 | 1.0 | 0.0 | 2.0 |' '| `mid` | 1.0 | 2.0 | 0.0 | 0.0 | 3.0 |' \
     '| all | 3.7 | 2.0 | 1.0 | 0.3 | 7.0 |'
@@ -220,10 +214,7 @@ holds 'what two processors would take is computed' grep -qF \
 holds 'and so is the first proof, without tests and edits' grep -qF \
     '`./stab --prove` would take at most 6.0 on four.' "$work/page"
 holds 'and it is said how' grep -qF 'so what it computes is multiplied by 2.00.' "$work/page"
-sed 's/"jobs"/"share": "2 of the 9 proofs", "jobs"/' "$work/notes_in_a_line" >"$work/notes_of_two"
-PATH=$work/bin:$PATH "$house/bench/gate.py" table "$work/notes_of_two" "$work/page" 420 \
-    "$work/notes" >"$work/out" 2>"$work/err"
-status=$?
+table < <(sed 's/"jobs"/"share": "2 of the 9 proofs", "jobs"/' "$work/notes")
 holds 'nothing is computed of a run that took most from earlier ones' bash -c '
     grep -qF "**This was not a run from nothing:** \`rt ci\` did 2 of the 9 proofs, and" "$0" &&
         ! grep -qF Computed "$0"' "$work/page"

@@ -1,5 +1,5 @@
 #!/usr/bin/env bash
-# Tests the scripts tests/pages.py and tests/check_stale_edits.py in a small house of its own, and
+# Tests the scripts tools/pages.py and tests/check_stale_edits.py in a small house of its own, and
 # touches nothing else.
 #
 # The last line is 'N passed, M failed'.
@@ -8,28 +8,15 @@ top=$(dirname -- "$(dirname -- "$(readlink -f -- "${BASH_SOURCE[0]}")")")
 work=$(mktemp -d) || exit 1
 trap 'rm -rf -- "$work"' EXIT
 house="$work/a house"
-passed=0
-failed=0
-
-# Says whether a case holds: its name, and a command.
-holds() {
-    local name=$1
-    shift
-    if "$@"; then
-        passed=$((passed + 1))
-        printf 'same   %s\n' "$name"
-    else
-        failed=$((failed + 1))
-        printf 'OTHER  %s\n' "$name"
-        sed 's/^/       /' "$work/said"
-    fi
-}
+# shellcheck source=tests/cases
+. "$top/tests/cases"
 
 # Makes the house anew: a crate with a type, a trait, laws and a private function, and two pages.
 make_house() {
     rm -rf -- "$house"
-    mkdir -p "$house"/{tests,docs} "$house/crates/low"/{src,specs,proofs,must-fail}
-    cp -- "$top"/tests/{pages,check_edits,check_stale_edits}.py "$house/tests/"
+    mkdir -p "$house"/{tests,tools,docs} "$house/crates/low"/{src,specs,proofs,must-fail}
+    cp -- "$top"/tools/{pages,crates}.py "$house/tools/"
+    cp -- "$top"/tests/{check_edits,check_stale_edits}.py "$house/tests/"
     printf '# crates\nlow may_wait=1: thiserror\n' >"$house/crates.txt"
     cat >"$house/crates/low/src/lib.rt" <<'END'
 //! The lowest layer.
@@ -95,19 +82,17 @@ END
         'pub record IsFull : Type where' '  pub level : ⊤' >"$house/crates/low/specs/Cups.antt"
     printf '%s\n' '-- Of cups.' >"$house/crates/low/proofs/Lib.antt"
     printf 'file: src/cup.rt\n' >"$house/crates/low/must-fail/cup_without_bottom.edit"
-    printf '%s\n' '# Claims' '' '<!-- begin: made by tests/pages.py, do not edit -->' '' \
-        '<!-- end -->' '' 'After it.' >"$house/docs/CLAIMS.md"
+    printf '%s\n' '# Layers' '' '## low' >"$house/docs/LAYERS.md"
     printf '%s\n' '# A page' '' '## Of `cups`, and more' '' \
         'See `Cup::fill.full`, `.kept` and `laws::cups_are_cups` in `specs/Cups.antt`,' \
-        '`IsFull.level`, [here](#of-cups-and-more) and [there](docs/CLAIMS.md#low).' \
+        '`IsFull.level`, [here](#of-cups-and-more) and [there](docs/LAYERS.md#low).' \
         '```' '`Cup::fill.no_such`' '```' >"$house/README.md"
-    "$house/tests/pages.py"
 }
 
 # Whether the check ends with this status, this last line, and these lines before it.
 says() {
     local status
-    "$house/tests/pages.py" --check >"$work/said" 2>&1
+    "$house/tools/pages.py" --check >"$work/said" 2>&1
     status=$?
     [ "$status" -eq "$1" ] && [ "$(cat "$work/said")" = "$2" ]
 }
@@ -116,50 +101,64 @@ says() {
 finds() {
     make_house
     printf '%s\n' "$1" >>"$house/README.md"
-    says 1 "README.md:10: $2"$'\n2 passed, 1 failed'
+    says 1 "README.md:10: $2"$'\n1 passed, 1 failed'
 }
 
 make_house
-holds 'a page that was just written is as the sources are' says 0 '3 passed, 0 failed'
+holds 'pages that cite what exists are well' says 0 '2 passed, 0 failed'
 cat >"$work/wanted" <<'END'
-# Claims
-
-<!-- begin: made by tests/pages.py, do not edit -->
-
 ## `low`
 
 The lowest layer.
 
-| Claim | What it says |
-|---|---|
-| `Cup` | A cup, which `Cup::fill` fills. |
-| `Cup::fill` `.full` | Fills the cup. Requires `by ≤ 3`. |
-| `.kept` | A refusal changes nothing. |
-| `Cup::level` *no clause, tested* | How full it is. |
-| `Pours` | What pours. |
-| `Pours::once` `.poured` | Pours once. |
-| `Cup::once` `.more` | As `Pours` says. |
-| `low_fill` `.filled` | Fills a cup from C. |
-| `laws::cups_are_cups` | A law. |
-| `laws::cups_are_round` *no clause, tested* | A law that says nothing. |
+### Claims
+
+**`Cup`** A cup, which `Cup::fill` fills.
+
+**`Cup::fill`** `(&mut self, by: u16) -> bool` Fills the cup.
+
+- *requires* `by ≤ 3`
+- `.full` `IfOk result (λ x. record { level = 3; })`
+- *A refusal changes nothing.*
+- `.kept` `self.new ≡ self.old`
+
+**`Cup::level`** `(&self) -> u16` How full it is. *No clause, tested.*
+
+**`Pours`** What pours.
+
+**`Pours::once`** `(&self)` Pours once.
+
+- `.poured` `1 ≡ 1`
+
+**`Cup::once`** `(&self)` As `Pours` says.
+
+- `.more` `1 ≡ 1`
+
+**`low_fill`** `(cup: &mut Cup)` Fills a cup from C.
+
+- `.filled` `1 ≡ 1`
+
+**`laws::cups_are_cups`** `()` A law.
+
+- `1 ≡ 1`
+
+**`laws::cups_are_round`** `()` A law that says nothing. *No clause, tested.*
+
+- `⊤`
 
 | Definitions | What they say |
 |---|---|
 | `Cups.antt` | What a cup is. It is round. |
 
 Planted bugs: `cup_without_bottom`.
-
-<!-- end -->
-
-After it.
 END
-holds 'it has what is public, its clauses and their comments, and says where there is none' \
-    cmp -- "$work/wanted" "$house/docs/CLAIMS.md"
-sed -i 's/Fills the cup/Fills it/' "$house/crates/low/src/cup.rt"
-holds 'a comment that changed is found' says 1 \
-    $'docs/CLAIMS.md:12: out of date; tests/pages.py writes it anew\n2 passed, 1 failed'
-"$house/tests/pages.py"
-holds 'until the page is written anew' says 0 '3 passed, 0 failed'
+"$house/tools/pages.py"
+sed '1,/^## /{/^## /!d}' "$house/out/CLAIMS.md" >"$work/said"
+holds 'the page of claims has what is public, its comments and clauses, and says where none is' \
+    cmp -- "$work/wanted" "$work/said"
+"$house/tools/pages.py" "$work/page"
+holds 'it is written to another file as well' cmp -- "$house/out/CLAIMS.md" "$work/page"
+holds 'and is none of the pages that are looked at' says 0 '2 passed, 0 failed'
 holds 'a clause that is not there is found' \
     finds 'The clause `Cup::fill.empty`.' 'no clause Cup::fill.empty'
 holds 'also of a function named before it' \
@@ -171,7 +170,7 @@ holds 'a file that is not there is found' \
     finds '`specs/Saucers.antt`' 'no file specs/Saucers.antt'
 holds 'a page that is not there is found' finds '[x](docs/NO.md)' 'no file docs/NO.md'
 holds 'a heading that is not there is found' \
-    finds '[x](docs/CLAIMS.md#high)' 'no heading docs/CLAIMS.md#high'
+    finds '[x](docs/LAYERS.md#high)' 'no heading docs/LAYERS.md#high'
 
 # Adds a function of the crate low that may be refused, with a page of the proof: the function, its
 # clauses, and a line of the page.
@@ -180,7 +179,6 @@ prove() {
     printf '%s\n    ensures { %s }\n{}\n' "/// Washes.
 pub fn $1" "$2" >"$house/crates/low/src/wash.rt"
     sed -i 's/^mod cup;$/&\nmod wash;\npub use wash::wash;/' "$house/crates/low/src/lib.rt"
-    "$house/tests/pages.py"
     printf '%s\n' '# Proof' "$3" >"$house/docs/PROOF.md"
 }
 
@@ -191,16 +189,16 @@ refuses='wash(by: u16) -> Result<u16, WashFault>'
 silent='write the clause, or name it there'
 for clause in 'OnErr result (cup.new ≡ cup.old)' 'cup.new ≡ washed cup.old result'; do
     prove "$changes" "$clause" 'All is said.'
-    holds "a clause says what a refusal leaves ($clause)" says 0 '4 passed, 0 failed'
+    holds "a clause says what a refusal leaves ($clause)" says 0 '3 passed, 0 failed'
 done
 for clause in 'OnOk result (cup.new ≡ cup.old)' 'cup.new.level ≡ cup.old.level' '1 ≡ 1'; do
     prove "$changes" "$clause" 'All is said.'
     holds "and where none does, the proof has to say so ($clause)" says 1 "docs/PROOF.md:0: \
 low::wash: no clause says what a refusal leaves of what it is lent, and the sentence $stays does \
-not name it: $silent"$'\n3 passed, 1 failed'
+not name it: $silent"$'\n2 passed, 1 failed'
     for name in wash low::wash 'wa*'; do
         prove "$changes" "$clause" "$stays of \`$name\`. And \`Cup::fill\`."
-        holds "by its name ($name; $clause)" says 0 '4 passed, 0 failed'
+        holds "by its name ($name; $clause)" says 0 '3 passed, 0 failed'
     done
 done
 for clause in 'MatchResult result (λ _. ⊤) (λ fault. 1 ≡ 1)' 'IfErr result (IsReason by)' \
@@ -211,7 +209,7 @@ for clause in 'MatchResult result (λ _. ⊤) (λ fault. 1 ≡ 1)' 'IfErr result
     'IfErr result (λ fault. fault ≢ WashFault.Memory → (at : ℕ) → wash by ≢ at)' \
     'IfErr result (λ fault. (at : ℕ) → fault ≡ WashFault.Other at → IsDirty at)'; do
     prove "$refuses" "$clause" 'All is said.'
-    holds "a clause says why ($clause)" says 0 '4 passed, 0 failed'
+    holds "a clause says why ($clause)" says 0 '3 passed, 0 failed'
 done
 for clause in 'IfOk result (λ done. done ≡ by)' 'IfErr result (λ fault. fault ≢ WashFault.Other)' \
     'result ≡ Err WashFault.Memory → 0 < by' 'OnErr result (by.new ≡ by.old)' \
@@ -223,14 +221,14 @@ for clause in 'IfOk result (λ done. done ≡ by)' 'IfErr result (λ fault. faul
 Cup::fill: take it out of the sentence $why, since there is no such public function, or nothing \
 for a clause to say
 docs/PROOF.md:2: low::wash: no clause says of every refusal which one it is, and the sentence $why \
-does not name it: $silent"$'\n3 passed, 2 failed'
+does not name it: $silent"$'\n2 passed, 2 failed'
     prove "$refuses" "$clause" "$why \`wash\` fails."
-    holds "by its name ($clause)" says 0 '4 passed, 0 failed'
+    holds "by its name ($clause)" says 0 '3 passed, 0 failed'
 done
 prove "$refuses" 'IfErr result (IsReason by)' "$why \`wash\` fails."
 holds 'and it may not say so where a clause does' says 1 "docs/PROOF.md:2: low::wash has a clause \
-on it now: take wash out of the sentence $why"$'\n3 passed, 1 failed'
-"$house/tests/pages.py" --other 2>"$work/said"
+on it now: take wash out of the sentence $why"$'\n2 passed, 1 failed'
+"$house/tools/pages.py" --other 2>"$work/said"
 holds 'another word is refused' [ "$?" -eq 1 ]
 
 # Writes an edit of the crate low: its folder and name, and pairs of an old and a new text.
@@ -322,5 +320,4 @@ holds 'and a file that nobody tries' stale $more \
 mkdir "$house/tests/more_edits/high"
 holds 'and a folder of no crate' stale tests/more_edits/high 'crates.txt lists no such crate' 7
 
-printf '%s passed, %s failed\n' "$passed" "$failed"
-[ "$failed" -eq 0 ]
+sum_up

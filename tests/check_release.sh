@@ -13,12 +13,6 @@ made=$house/crates/stab_cli/out/stab_cli.by-rattle
 # shellcheck source=tests/cases
 . "$top/tests/cases"
 
-# What is said of a case that does not hold.
-tell() {
-    printf 'status %s, and it wrote:\n' "$status"
-    cat -- "$work/out" "$work/err"
-}
-
 # A command like rt, and the compiler that it finds. What they make is the text of the source.
 mkdir -p "$work/bin" "$work/temporary" "$work/a kit/bin"
 cat >"$work/bin/rt" <<'END'
@@ -77,7 +71,7 @@ printf '# Changelog\n\nText.\n\n## 0.10.2, 2026-11-23: a release\n\n## 2026-11-2
     >"$house/CHANGELOG.md"
 cp -- "$top/release.sh" "$house/"
 mkdir "$house/tools"
-cp -- "$top"/tools/{launch,build} "$house/tools/"
+cp -- "$top"/tools/{launch,build,crates.py} "$house/tools/"
 
 # Runs ./release.sh, and notes its status and what it writes.
 run() {
@@ -105,21 +99,6 @@ checked() {
     [ "$(tail -n 1 "$work/out")" = "$1" ] && [ "$found" = "$2" ] &&
         [ "$status" -eq "$([[ $1 == *' 0 failed' ]]; echo $?)" ] &&
         [ -z "$(ls -A "$work/temporary")" ]
-}
-
-# Whether several commands hold; they stand apart by the word 'and'.
-all() {
-    local words=()
-    while [ "$#" -gt 0 ]; do
-        if [ "$1" = and ]; then
-            "${words[@]}" || return
-            words=()
-        else
-            words+=("$1")
-        fi
-        shift
-    done
-    "${words[@]}"
 }
 
 digest() {
@@ -373,7 +352,11 @@ run --archive
 holds 'a crate for Rust of another version is not packed' refused \
     'CHANGELOG.md has the version 1.2.0, and the crate rignolda for Rust 1.1.9'
 sed -i 's/1.1.9/1.2.0/' "$house/rust/rignolda/Cargo.toml"
+printf '#!/bin/sh\necho claims >"$1"\n' >"$house/tools/pages.py"
+chmod +x "$house/tools/pages.py"
 run --archive
+holds 'the page of claims is written into the archive' [ "$(tar -xOf \
+    "$house/out/rignolda-1.2.0-x86_64-linux.tar.xz" --wildcards '*/docs/CLAIMS.md')" = claims ]
 holds 'the archive has all of it' [ "$(tar -tf \
     "$house/out/rignolda-1.2.0-x86_64-linux.tar.xz" | sed 's,^[^/]*/,,' |
     grep -vE '/$|^$|^examples|^[A-Z]|\.md$')" = 'agents/agent.c

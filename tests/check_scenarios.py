@@ -16,7 +16,6 @@ import json
 import random
 import subprocess
 import sys
-import tempfile
 import xml.etree.ElementTree
 from concurrent.futures import ThreadPoolExecutor
 from pathlib import Path
@@ -25,11 +24,11 @@ from pathlib import Path
 sys.dont_write_bytecode = True
 
 TOP = Path(__file__).resolve().parent.parent
-sys.path.insert(0, str(TOP / "tests/faults"))
+sys.path[:0] = [str(TOP / "tests/faults"), str(TOP / "tools")]
 
 from drawn import drawn_text
+from programs import run_with
 from scenario import random_job, text_of
-from tables.program import program
 
 VALUES = [None, True, -1, 0, 1, 70000, 0.5, "", "x", "offer", "publish", "lose_frame", [], [0],
     [[0]],
@@ -127,23 +126,17 @@ def fault_of(file, seed):
     return fault_of_spoiled(file, draw, job)
 
 
-def main():
+def main(file):
     count = int(sys.argv[1]) if len(sys.argv) > 1 else 200
     first = int(sys.argv[2]) if len(sys.argv) > 2 else 49000
-    with tempfile.TemporaryDirectory() as room:
-        file = program("rignolda", room)
-        if file is None:
-            print("scenarios: no rignolda was built of these sources: run ./release.sh, or ./gate")
-            print("0 passed, 1 failed")
-            sys.exit(1)
-        with ThreadPoolExecutor(4) as pool:
-            faults = list(pool.map(lambda seed: fault_of(file, seed), range(first, first + count)))
+    with ThreadPoolExecutor(4) as pool:
+        faults = list(pool.map(lambda seed: fault_of(file, seed), range(first, first + count)))
     for seed, fault in enumerate(faults, first):
         if fault:
             print(f"OTHER  scenario {seed}\n       {fault[:2000]}")
     failed = sum(fault is not None for fault in faults)
     print(f"{count - failed} passed, {failed} failed")
-    sys.exit(0 if failed == 0 else 1)
+    return 0 if failed == 0 else 1
 
 
-main()
+sys.exit(run_with(main, "rignolda"))

@@ -3,9 +3,11 @@
 
 Each accepted job has to be accepted by its schema. A job that is refused for something that a
 schema can say has to be refused by it; a schema knows nothing of what two members say together, as
-the number of labels that a capacity needs, and takes 1.0 for a whole number.
+the number of labels that a capacity needs, and takes 1.0 for a whole number. Of members that only
+`rignolda` reads the schema has to accept and refuse what docs/FORMATS.md says.
 
-It needs the Python package jsonschema. Without it, it says so and counts nothing.
+It needs the Python package jsonschema. Without it, it says so and counts nothing. The last line is
+'N passed, M failed'.
 """
 
 import json
@@ -22,6 +24,27 @@ FOUND = {
     "job: bad event", "job: turns out of range", "job: rate out of range", "job: h out of range",
     "tree: wrong shape", "tree: bad name", "tree: too many nodes",
 }
+
+# members that a job may have as well, and what is not of their form
+TREE = {"capacity": 1, "labels": 4, "tree": [{"name": "r"}, {"name": "a", "parent": "r"}],
+        "items": [10]}
+START = {"send": 0, "recv": 1, "frames": [[2, 99]], "acks": [0]}
+GOOD = [
+    {"steps": []}, {"steps": [["publish", [20, 21]], ["strike", "b", START], ["a", "offer"]]},
+    {"steps": [["restart", "b", [50]], ["rounds", 0], ["reading_rounds", 65535]]},
+    {"steps": [["a", "lose_frame", 0]]}, {"backlogs": [[], [7]]}, {"received": [[7], []]},
+    {"received": [[], []], "from": [0, 3]},
+]
+BAD = [
+    {"steps": 1}, {"steps": [[]]}, {"steps": ["offer"]}, {"steps": [["a", "publish"]]},
+    {"steps": [["publish", 20]]}, {"steps": [["publish", [4294967296]]]},
+    {"steps": [["strike", "a", {"send": 0}]]}, {"steps": [["strike", "a", [0]]]},
+    {"steps": [["restart", "a"]]}, {"steps": [["restart", "a", ["x"]]]},
+    {"steps": [["rounds", 65536]]}, {"steps": [["rounds", -1]]}, {"steps": [["round", 1]]},
+    {"steps": [["reading_rounds", [1]]]}, {"backlogs": {}}, {"backlogs": [7]},
+    {"backlogs": [[], [-1]]}, {"received": None}, {"received": [[], 1]}, {"received": [[], ["x"]]},
+    {"received": [[], [4294967296]]}, {"from": 1}, {"from": [0, -1]}, {"from": ["x"]},
+]
 
 # refused jobs that have the form of a job: a number with a point is an integer to a schema
 NOT_FOUND = {"number_with_a_point"}
@@ -54,6 +77,7 @@ def main():
         from jsonschema import Draft7Validator
     except ImportError:
         print("schemas: skipped, since the Python package jsonschema is not there")
+        print("0 passed, 0 failed")
         return 0
     schemas = {}
     for kind in ("link_job", "job"):
@@ -71,8 +95,15 @@ def main():
         if is_valid != (fault is None):
             print(f"schemas: {job.relative_to(DATA)}: {fault or 'accepted'}, the schema differs")
             wrong += 1
-    print(f"schemas: {counts[True]} jobs are accepted, {counts[False]} are refused, {wrong} differ")
-    return 1 if wrong or not counts[True] or not counts[False] else 0
+    for is_good, some in ((True, GOOD), (False, BAD)):
+        for members in some:
+            if schemas["job"].is_valid({**TREE, **members}) != is_good:
+                print(f"schemas: {members}: it has to be {'accepted' if is_good else 'refused'}")
+                wrong += 1
+    total = sum(counts.values()) + len(GOOD) + len(BAD)
+    wrong += not counts[True] or not counts[False]
+    print(f"{total - wrong} passed, {wrong} failed")
+    return 1 if wrong else 0
 
 
 if __name__ == "__main__":

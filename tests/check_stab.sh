@@ -11,23 +11,8 @@ work=$(mktemp -d) || exit 1
 trap 'chmod -R u+w -- "$work"; rm -rf -- "$work"' EXIT
 chmod 711 "$work"
 house="$work/a house"
-passed=0
-failed=0
-
-# Says whether a case holds: its name, and a command.
-holds() {
-    local name=$1
-    shift
-    if "$@"; then
-        passed=$((passed + 1))
-        printf 'same   %s\n' "$name"
-    else
-        failed=$((failed + 1))
-        printf 'OTHER  %s\n' "$name"
-        printf '       status %s, standard output: %s\n' "$status" "$(cat "$work/out")"
-        sed 's/^/       /' "$work/err"
-    fi
-}
+# shellcheck source=tests/cases
+. "$top/tests/cases"
 
 # A command like rt, and the compiler that it finds. Programs print the text of their source, their
 # words and their input, and end with status 7. They are the same however they are built, unless the
@@ -139,7 +124,7 @@ write_house() {
     echo 'Handles allowed: none.' >"$house/HANDLES"
     mkdir -p "$house/tools"
     cp -- "$top/stab" "$top/rignolda" "$top/release.sh" "$house/"
-    cp -- "$top"/tools/{launch,build} "$house/tools/"
+    cp -- "$top"/tools/{launch,build,crates.py} "$house/tools/"
     : >"$work/calls"
 }
 
@@ -210,21 +195,6 @@ modes() {
     find "$house/out" -maxdepth 1 \( -name out -o -name 'stab-*' \) -printf '%y %m\n' | sort -u
 }
 
-# Whether several commands hold; they stand apart by the word 'and'.
-all() {
-    local words=()
-    while [ "$#" -gt 0 ]; do
-        if [ "$1" = and ]; then
-            "${words[@]}" || return
-            words=()
-        else
-            words+=("$1")
-        fi
-        shift
-    done
-    "${words[@]}"
-}
-
 # Makes the release of the present sources, as somebody does who has a kit.
 release() {
     run "$house/release.sh" "$@"
@@ -250,19 +220,7 @@ copied() {
 # the crate, and the words of the build.
 interrupt() {
     write_text "$2" slow
-    rm -f "$work/started" "$work/ended"
-    # (a signal that is ignored here, as INT is in what runs in the background and HUP under nohup,
-    # would be ignored there)
-    WORK=$work PATH=$work/bin:$PATH env --default-signal=INT,TERM,HUP "$house/stab" \
-        "${@:3}" </dev/null >"$work/out" 2>"$work/err" &
-    local pid=$! count
-    for ((count = 0; count < 100; count++)); do
-        [ ! -s "$work/started" ] || break
-        sleep 0.1
-    done
-    kill -s "$1" "$pid"
-    wait "$pid" 2>/dev/null
-    status=$?
+    WORK=$work PATH=$work/bin:$PATH interrupted "$1" "$house/stab" "${@:3}"
 }
 
 # Whether a build was given up with this status, and what it had started was ended first.
@@ -289,7 +247,7 @@ holds 'what it builds is what the program needs, without tests' \
     'top: other mid' 'stab_cli may_wait=4: low top clap'
 holds 'the folder of the build is gone' [ ! -e "$(cat "$work/place")" ]
 run "$house/stab" --prove
-holds 'with --prove all is built again' all gave 'stab_cli; ; in' 1 and
+holds 'with --prove all is built again' all gave 'stab_cli; ; in' 1 and \
     said 'stab_cli is proved: 5 of 5 crates' and said 'there is no release'
 holds 'what can be proved side by side by rt' copied and
 compiled=$(sed -E 's/^build --crate-name (\w+) .* -o .*\/(out\/\S+) (\S+) .*/\1 \2 \3/' \
@@ -377,7 +335,7 @@ mkdir -p "$house/crates/stab_cli/out/incremental"
 write_text stab_cli kept
 run "$house/stab"
 holds 'over what checks have kept, the program is built in its folder' \
-    all gave 'kept; ; in' 1 and said 'over what was kept' and
+    all gave 'kept; ; in' 1 and said 'over what was kept' and \
     [ "$(cat "$work/calls")" = 'run --backend rattle' ]
 rm -r "$house/crates/stab_cli/out"
 run env CDPATH="$work:/" bash -c 'cd -- "$0/.." && "./a house/stab" one' "$house"
@@ -592,7 +550,7 @@ holds 'and with the old ones the release runs' gave 'released; ; in' 0
 newest=$(ls -t "$house/out" | grep '^stab-' | head -n 1)
 holds 'whose file is then the newest program of out' [ "${newest%-*}" = stab-release ]
 run "$house/stab" --prove one
-holds 'with --prove, the program is built, and compared' all gave 'released; one; in' 1 and
+holds 'with --prove, the program is built, and compared' all gave 'released; one; in' 1 and \
     said 'the release is the same program, byte for byte'
 holds 'from nothing, whatever rt has proved before' [ "$(cat "$work/calls")" = 'ci --anew' ]
 run "$house/stab" --prove
@@ -678,8 +636,8 @@ mkdir -p "$house/crates/rignolda/out/incremental"
 echo over >"$house/crates/rignolda/src/main.rt"
 run "$house/rignolda" one
 holds 'over what checks have kept rt gets the words of its example' \
-    all gave 'over; one; in' 1 and
-    [ "$(cat "$work/calls")" = 'run --backend llvm -- --some two words' ]
+    all gave 'over; one; in' 1 and \
+    [ "$(cat "$work/calls")" = 'run --backend rattle -- --some two words' ]
 echo second >"$house/crates/rignolda/src/main.rt"
 release
 holds 'both are released together' [ "$(cut -d' ' -f1 "$house/release/MANIFEST")" = \
@@ -688,7 +646,7 @@ rm -rf "$house/out"
 run env PATH="$work/without" "$house/rignolda" one
 holds 'and the second one runs at once, without the kit' gave 'second; one; in' 0
 run "$house/rignolda" --prove one
-holds 'with --prove it is built and compared as the first' all gave 'second; one; in' 1 and
+holds 'with --prove it is built and compared as the first' all gave 'second; one; in' 1 and \
     said 'the release is the same program, byte for byte'
 write_text other changed
 run env PATH="$work/without" "$house/stab"
@@ -722,5 +680,4 @@ for word in '' --prove; do
         all refused 'for Linux on x86-64, and this is Darwin arm64' and calls 0
 done
 
-printf '%s passed, %s failed\n' "$passed" "$failed"
-[ "$failed" -eq 0 ]
+sum_up

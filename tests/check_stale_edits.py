@@ -23,7 +23,8 @@ import re
 import sys
 
 sys.dont_write_bytecode = True
-from check_edits import TOP, edits_in, function_of, has_answers, read  # noqa: E402
+from check_edits import (  # noqa: E402
+    TOP, edits_in, function_of, has_answers, listed, read)
 
 # The folders of a crate's edits: those of the gate, those that are tried by hand, and controls.
 FOLDERS = ("crates/{}/must-fail", "tests/more_edits/{}", "tests/controls/{}")
@@ -87,14 +88,14 @@ def look_at(crate):
             yield place, fault
 
 
-def look_at_folders(listed):
+def look_at_folders(crates):
     """Each folder of edits with what is wrong with it, or None. The crates that are listed."""
     for form in FOLDERS:
         for path in sorted(glob.glob(f"{TOP}/{form.format('*')}/")):
             folder = os.path.relpath(path, TOP)
             crate = re.fullmatch(form.format("(.*)"), folder)[1]
             others = [name for name in os.listdir(path) if not name.endswith(".edit")]
-            if crate not in listed:
+            if crate not in crates:
                 yield folder, "crates.txt lists no such crate"
             else:
                 yield folder, f"{others[0]} is no edit: nobody tries it" if others else None
@@ -102,9 +103,9 @@ def look_at_folders(listed):
 
 def main():
     """Looks at all edits. It prints what is wrong, and the last line."""
-    listed = re.findall(r"^(\w+).*:", read(f"{TOP}/crates.txt"), re.M)
-    cases = list(look_at_folders(listed))
-    for crate in listed:
+    crates = listed()
+    cases = list(look_at_folders(crates))
+    for crate in crates:
         cases += look_at(crate)
     wrong = [f"{place}: {fault}" for place, fault in cases if fault]
     print(*wrong, sep="\n", end="\n" if wrong else "")

@@ -18,13 +18,14 @@ from pathlib import Path
 
 # (nothing is to be left beside the sources)
 sys.dont_write_bytecode = True
+sys.path.insert(0, str(Path(__file__).resolve().parent.parent / "tools"))
 
+from programs import run_with
 from tables import rignolda_bounds, rignolda_check, rignolda_draw, rignolda_explain
 from tables import rignolda_files, rignolda_jobs, rignolda_lines, rignolda_moment
 from tables import rignolda_scenario
 from tables import stab_jobs, stab_limits, stab_lines, stab_links, stab_openings, stab_parts
 from tables import stab_plain, stab_steps, stab_trees
-from tables.program import program
 from tables.rows import Printed, Repeated
 
 TABLES = [
@@ -34,6 +35,7 @@ TABLES = [
     stab_lines, stab_jobs, stab_trees, stab_parts, stab_plain, stab_steps, stab_links,
     stab_openings, stab_limits,
 ]
+PROGRAMS = sorted({table.PROGRAM for table in TABLES})
 # No run takes longer, in seconds.
 LONGEST = 60
 # How many rows run at the same time.
@@ -95,34 +97,21 @@ def tried(called, file, row):
             return f"{type(fault).__name__}: {fault}"
 
 
-def found(room):
-    """The files of the programs, by their names; of one that is missing it says so."""
-    files = {}
-    for name in sorted({table.PROGRAM for table in TABLES}):
-        file = program(name, room)
-        if file is None:
-            print(f"{name}: none was built of these sources: run ./release.sh, or ./gate")
-            print("0 passed, 1 failed")
-            sys.exit(1)
-        files[name] = file
-    return files
+def main(*files):
+    """Tries all rows with these programs."""
+    files = dict(zip(PROGRAMS, files))
+    runs = [(table.PROGRAM, row) for table in TABLES for row in table.ROWS]
+    passed = failed = 0
+    with ThreadPoolExecutor(THREADS) as threads:
+        faults = threads.map(lambda of: tried(of[0], files[of[0]], of[1]), runs)
+        for (called, row), fault in zip(runs, faults):
+            passed, failed = passed + (fault is None), failed + (fault is not None)
+            if fault:
+                print(f"OTHER  {called}: {row.name}\n       {fault}")
+    print(f"{passed} passed, {failed} failed")
+    return 0 if failed == 0 else 1
 
 
-def main():
-    if sys.argv[1:]:
-        sys.exit("tests/check_tables.py takes no words")
-    with tempfile.TemporaryDirectory() as room:
-        files = found(room)
-        runs = [(table.PROGRAM, row) for table in TABLES for row in table.ROWS]
-        passed = failed = 0
-        with ThreadPoolExecutor(THREADS) as threads:
-            faults = threads.map(lambda of: tried(of[0], files[of[0]], of[1]), runs)
-            for (called, row), fault in zip(runs, faults):
-                passed, failed = passed + (fault is None), failed + (fault is not None)
-                if fault:
-                    print(f"OTHER  {called}: {row.name}\n       {fault}")
-        print(f"{passed} passed, {failed} failed")
-        sys.exit(0 if failed == 0 else 1)
-
-
-main()
+if sys.argv[1:]:
+    sys.exit("tests/check_tables.py takes no words")
+sys.exit(run_with(main, *PROGRAMS))

@@ -5,22 +5,24 @@ Run by hand, and not by the gate: python3 tests/large_jobs.py [WORD..]
 
 Each job has almost as many bytes as a file may have, and is full of one thing: steps, items,
 members that nobody reads, names that no node has, and so on, accepted or refused for it. For each
-the processor time of `stab tree` (`stab link` for a link job) is measured, and that of each command
-of rignolda that reads such a job. The status is 1 if one takes more than three times as long, and
-more than half a second. With words, only the jobs whose names have one of them are measured. The
-programs are those of release/, or STAB and RIGNOLDA in the environment.
+the processor time of `stab tree` (`stab link` for a link job) is measured, and that of `rignolda
+bounds`, since `stab` reads some jobs token by token, and `bounds` all by way of a tree of values.
+The longer one is what each command of rignolda that reads such a job is compared with: the status
+is 1 if one takes more than three times as long, and more than half a second. With words, only the
+jobs whose names have one of them are measured. The programs are those of tests/check_tables.py.
 """
 
-import gzip
 import json
-import os
 import pathlib
 import resource
 import subprocess
 import sys
 import tempfile
 
-ROOT = pathlib.Path(__file__).resolve().parent.parent
+sys.dont_write_bytecode = True
+sys.path.insert(0, str(pathlib.Path(__file__).resolve().parent.parent / "tools"))
+from programs import built  # noqa: E402
+
 SIZE = 16_777_216
 ROOM = 65_536
 TREE = [{"name": "r"}, {"name": "a", "parent": "r"}, {"name": "b", "parent": "a"}]
@@ -151,20 +153,10 @@ def taken(program, command, job):
     return best
 
 
-def program(work, name):
-    """A program of release/, or the one that the environment names."""
-    if name.upper() in os.environ:
-        return os.environ[name.upper()]
-    path = pathlib.Path(work) / name
-    path.write_bytes(gzip.decompress((ROOT / "release" / (name + ".gz")).read_bytes()))
-    path.chmod(0o755)
-    return str(path)
-
-
 def main():
     slow = count = 0
     with tempfile.TemporaryDirectory() as work:
-        stab, rignolda = program(work, "stab"), program(work, "rignolda")
+        stab, rignolda = built("stab", work), built("rignolda", work)
         job = pathlib.Path(work) / "job.json"
         every = [(name, made, "tree", ["explain"]) for name, made in trees()] + [
             (name, made, "link", ["explain", "draw"]) for name, made in link_jobs()]
@@ -175,14 +167,14 @@ def main():
             size = job.stat().st_size
             if size > SIZE:
                 sys.exit("%s: %d bytes" % (name, size))
-            base = taken(stab, reader, job)
+            base = max(taken(stab, reader, job), taken(rignolda, "bounds", job))
             count += 1
             for command in commands:
                 spent = taken(rignolda, command, job)
                 is_slow = spent > 3 * base and spent > 0.5
                 slow += is_slow
-                print("%-28s %8d bytes  stab %s %5.2f s  %s %5.2f s, %4.1f times%s" % (
-                    name, size, reader, base, command, spent, spent / max(base, 0.01),
+                print("%-28s %8d bytes  stab or bounds %5.2f s  %s %5.2f s, %4.1f times%s" % (
+                    name, size, base, command, spent, spent / max(base, 0.01),
                         "  SLOW" if is_slow else ""), flush=True)
     print("%d jobs, %d commands too slow" % (count, slow))
     sys.exit(1 if slow else 0)

@@ -18,9 +18,14 @@ run on each case twice. It must
     to run, and so may its counts: then the form, the names, the depths and the root's items are
     compared, and the status always.
 
+And `rignolda explain` must say of the job of a link or tree what `stab` says: its last line is that
+fault, or `accepted`; a fault has a finding with a place; and the status is 0 where there is nothing
+to find.
+
 A job that fails is kept in tests/hostile/build/, as NAME.json, beside NAME.txt with the words and
 what was seen. The last line is 'N passed, M failed'. Run it by hand: the gate does not. It needs
-Python 3.8 and Linux. Without --stab it runs the program of ./stab, which builds it if needed.
+Python 3.8 and Linux. Without --stab and --rignolda it runs the programs of ./stab and ./rignolda,
+which build them if needed.
 """
 import argparse
 import collections
@@ -31,13 +36,16 @@ import os
 import random
 import re
 import signal
-import subprocess
 import sys
 import tempfile
 import time
 
 HERE = os.path.dirname(os.path.realpath(__file__))
 TOP = os.path.dirname(os.path.dirname(HERE))
+sys.dont_write_bytecode = True
+sys.path.insert(0, os.path.join(TOP, "tools"))
+from programs import built  # noqa: E402
+
 EXAMPLES = os.path.join(TOP, "crates", "stab_checks", "data")
 BUILD = os.path.join(HERE, "build")
 SECONDS = 20
@@ -413,8 +421,8 @@ def case(jobs, seed, number):
 class Lane:
     """A process that runs cases, with files of its own for what stab reads and writes."""
 
-    def __init__(self, program, folder):
-        self.program = program
+    def __init__(self, programs, folder):
+        self.programs = programs
         files = [f"{folder}/{name}{os.getpid()}" for name in ("in", "out", "err")]
         self.files = [os.open(path, os.O_RDWR | os.O_CREAT) for path in files]
         self.input, self.out, self.err = self.files
@@ -431,15 +439,15 @@ class Lane:
         os.ftruncate(self.input, 0)
         os.pwrite(self.input, text, 0)
 
-    def run(self, command):
-        """Runs stab once on the job that was given: its status, and what it wrote."""
+    def run(self, command, name="stab"):
+        """Runs a program once on the job that was given: its status, and what it wrote."""
         self.timed_out = False
         for file in (self.out, self.err):
             os.ftruncate(file, 0)
         for file in (self.input, self.out, self.err):
             os.lseek(file, 0, os.SEEK_SET)
         dup = [(os.POSIX_SPAWN_DUP2, file, to) for to, file in enumerate(self.files)]
-        self.pid = os.posix_spawn(self.program, ["stab", *command], {}, file_actions=dup)
+        self.pid = os.posix_spawn(self.programs[name], [name, *command], {}, file_actions=dup)
         signal.setitimer(signal.ITIMER_REAL, SECONDS)
         _, status = os.waitpid(self.pid, 0)
         signal.setitimer(signal.ITIMER_REAL, 0)
@@ -504,6 +512,24 @@ def judge(table, command, seen, again):
     return None
 
 
+def judge_explained(command, seen, explained):
+    """What is wrong with an explanation of a job, beside what stab says of it, or None."""
+    status, out, err = explained
+    lines = out.decode("utf-8", "replace").splitlines()
+    fault = seen[2].decode().removeprefix("stab: ").strip()
+    if not os.WIFEXITED(status) or err or not lines:
+        return "an explanation that failed"
+    # (it says of which kind the job is, which may be another one than that of the case)
+    if lines[-1].startswith(f"stab {command[0]}: "):
+        if lines[-1] != f"stab {command[0]}: {fault or 'accepted'}":
+            return f"an explanation that ends with {lines[-1]!r}"
+        if "the job: refused" in lines:
+            return "an explanation without a place"
+        if os.WEXITSTATUS(status) != (0 if not fault and len(lines) == 1 else 1):
+            return "an explanation with another status"
+    return None
+
+
 def keep(folder, seed, number, command, text, wrong, runs):
     os.makedirs(folder, exist_ok=True)
     path = os.path.join(folder, f"seed_{seed}_case_{number}")
@@ -516,9 +542,9 @@ def keep(folder, seed, number, command, text, wrong, runs):
             page.write(f"standard error {err[:2000]!r}\n")
 
 
-def work(program, folder, keep_in, seed, numbers):
+def work(programs, folder, keep_in, seed, numbers):
     """What one lane does: some cases, one after the other."""
-    lane, jobs, table = Lane(program, folder), corpus(), faults()
+    lane, jobs, table = Lane(programs, folder), corpus(), faults()
     counts, longest, wrongs = collections.Counter(), (0.0, 0), []
     for number in numbers:
         command, text = case(jobs, seed, number)
@@ -530,6 +556,10 @@ def work(program, folder, keep_in, seed, numbers):
         wrong = f"had not ended after {SECONDS} seconds"
         if not lane.timed_out:
             wrong = judge(table, command, seen, again)
+        if wrong is None and command[0] in ("link", "tree"):
+            explained = lane.run(("explain",), "rignolda")
+            if not lane.timed_out:
+                wrong = judge_explained(command, seen, explained)
         if wrong is None:
             counts[seen[2].decode().strip() or f"a text of {' '.join(command)}"] += 1
         else:
@@ -540,30 +570,25 @@ def work(program, folder, keep_in, seed, numbers):
     return counts, longest, wrongs
 
 
-def built_program():
-    """The program that ./stab runs. ./stab builds it first if needed, and keeps no other."""
-    words = [os.path.join(TOP, "stab"), "link", os.path.join(EXAMPLES, "worst_start.json")]
-    if subprocess.run(words, stdout=subprocess.DEVNULL).returncode:
-        sys.exit("./stab does not run: what it said is above")
-    return max(glob.glob(os.path.join(glob.escape(TOP), "out", "stab-*")), key=os.path.getmtime)
-
-
 def main():
     parser = argparse.ArgumentParser(description=__doc__.splitlines()[0])
     parser.add_argument("--cases", type=int, default=100_000)
     parser.add_argument("--first", type=int, default=0, help="the number of the first case")
     parser.add_argument("--seed", default="1")
     parser.add_argument("--stab", metavar="PROGRAM", help="run it, not the program of ./stab")
+    parser.add_argument("--rignolda", metavar="PROGRAM", help="the same of ./rignolda")
     parser.add_argument("--lanes", type=int, default=4, help="how many programs run at a time")
     parser.add_argument("--keep", metavar="FOLDER", default=BUILD, help="where failing jobs go")
     given = parser.parse_args()
-    program, begin = os.path.abspath(given.stab or built_program()), time.monotonic()
+    begin = time.monotonic()
     numbers = range(given.first, given.first + given.cases)
     parts = [numbers[at : at + PART] for at in range(0, len(numbers), PART)]
     counts, longest, wrongs = collections.Counter(), (0.0, 0), []
     with tempfile.TemporaryDirectory(prefix="stab-fuzz-") as folder:
+        programs = {name: os.path.abspath(named or built(name, folder))
+                    for name, named in (("stab", given.stab), ("rignolda", given.rignolda))}
         with concurrent.futures.ProcessPoolExecutor(given.lanes) as lanes:
-            one = (work, program, folder, given.keep, given.seed)
+            one = (work, programs, folder, given.keep, given.seed)
             ended = [lanes.submit(*one, part) for part in parts]
             for place, one in enumerate(concurrent.futures.as_completed(ended), 1):
                 more, long, wrong = one.result()

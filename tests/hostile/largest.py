@@ -11,7 +11,6 @@ Run it by hand: the gate does not. It needs Python 3.8 and the kit, whose clang 
 Without --stab it measures the program of ./stab, which builds it if needed.
 """
 import argparse
-import json
 import os
 import re
 import shutil
@@ -20,7 +19,7 @@ import subprocess
 import sys
 
 sys.dont_write_bytecode = True
-from fuzz import BUILD, HERE, built_program, faults
+from fuzz import BUILD, HERE, built, faults
 
 RUNS = 3
 MAX_BYTES = 16_777_216
@@ -239,8 +238,8 @@ def main():
     parser.add_argument("--stab", metavar="PROGRAM", help="measure it, not the program of ./stab")
     parser.add_argument("--runs", action="store_true", help="also runs of 64 nodes to their end")
     given = parser.parse_args()
-    program = os.path.abspath(given.stab or built_program())
     os.makedirs(BUILD, exist_ok=True)
+    program = os.path.abspath(given.stab or built("stab", BUILD))
     measure = build_measure()
     passed = failed = 0
     print(f"{os.cpu_count()} processors, load {os.getloadavg()[0]:.1f}")

@@ -5,8 +5,7 @@ three trees they are worked out by hand as well."""
 
 import json
 
-from tables.program import TOP
-from tables.rows import Row
+from tables.rows import Row, TOP
 
 PROGRAM = "rignolda"
 EXAMPLES = TOP / "examples/trees"

@@ -4,7 +4,7 @@ There is a job of a chain of three nodes with a report that obeys, and the worst
 with the text that `stab link` prints of it, and both with one part replaced. All is worked out by
 hand."""
 
-from tables.rows import Row, replaced
+from tables.rows import Row, WORST_TEXT, replaced
 
 PROGRAM = "rignolda"
 
@@ -121,16 +121,7 @@ LINK_JOB = """\
 ["offer",12],"recv_ack",["offer",13],"send_frame","recv_frame"]}"""
 
 # The link after it.
-LINK = """\
-delivered: 99 13
-offered: 10 11 12 13
-acked: 3
-send label: 3
-recv label: 3
-frames:
-acks:
-closed: no
-"""
+LINK = WORST_TEXT
 
 LINKS = [
     ("", "", 0, "obeys\n"),

@@ -6,8 +6,7 @@ hand."""
 import json
 import sys
 
-from tables.program import TOP
-from tables.rows import Like, Row
+from tables.rows import Like, Row, TOP
 
 sys.path.insert(0, str(TOP / "tests/faults"))
 from drawn import drawn_text

@@ -6,8 +6,7 @@ worked out by hand as well."""
 import json
 import sys
 
-from tables.program import TOP
-from tables.rows import Row
+from tables.rows import Row, TOP
 
 sys.path.insert(0, str(TOP / "tests/faults"))
 from scenario import text_of

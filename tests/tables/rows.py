@@ -1,6 +1,21 @@
 """Rows of tests: a command line with what it reads, and what it has to print."""
 
 from dataclasses import dataclass, field
+from pathlib import Path
+
+TOP = Path(__file__).resolve().parent.parent.parent
+
+# The text of the link after examples/worst_start.json, as docs/FORMATS.md has it.
+WORST_TEXT = """\
+delivered: 99 13
+offered: 10 11 12 13
+acked: 3
+send label: 3
+recv label: 3
+frames:
+acks:
+closed: no
+"""
 
 
 @dataclass

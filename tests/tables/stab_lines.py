@@ -6,7 +6,7 @@ would be refused as no JSON, and the others have no file. More command lines tha
 examples of crates/stab_checks/data, in the folders refused and runs."""
 
 from tables.refusals import NOT_ONE, RUNS, TOO_MANY_FRAMES, refusals
-from tables.rows import Like, Row
+from tables.rows import Like, Row, WORST_TEXT
 
 PROGRAM = "stab"
 
@@ -14,17 +14,6 @@ WORST_START = """\
 {"capacity":1,"labels":4,"start":{"frames":[[2,99]],"acks":[0],"send":0,"recv":1},
 "events":[["offer",10],"recv_ack","send_ack",["offer",11],"recv_ack","recv_frame",
 "send_ack",["offer",12],"recv_ack",["offer",13],"send_frame","recv_frame"]}"""
-
-WORST_TEXT = """\
-delivered: 99 13
-offered: 10 11 12 13
-acked: 3
-send label: 3
-recv label: 3
-frames:
-acks:
-closed: no
-"""
 
 LONE_ROOT = '{"capacity":1,"labels":4,"tree":[{"name":"r"}],"items":[7,8]}'
 

@@ -10,7 +10,7 @@ from decimal import Decimal
 from tables.refusals import (
     CAPACITY, EVENT, NOT_JSON, SHAPE, TOO_FEW_LABELS, TOO_MANY_FRAMES, TOO_MANY_LABELS,
 )
-from tables.rows import Row
+from tables.rows import Row, WORST_TEXT
 
 PROGRAM = "stab"
 
@@ -21,17 +21,8 @@ EVENTS = """\
 ["offer",12],"recv_ack",["offer",13],"send_frame","recv_frame"]"""
 PLAIN = "{" + CAPACITY_AND_LABELS + "," + START + "," + EVENTS + "}"
 
-# The text of the link of this job, as docs/FORMATS.md has it, and its origins.
-TEXT = """\
-delivered: 99 13
-offered: 10 11 12 13
-acked: 3
-send label: 3
-recv label: 3
-frames:
-acks:
-closed: no
-"""
+# The text of the link of this job, and its origins.
+TEXT = WORST_TEXT
 ORIGINS = "origins: s0 i3\n"
 
 # ---- an independent reader

@@ -1,8 +1,10 @@
-"""How `stab tree` reads texts of one job, its schedule in the plain form and in others.
+"""How `stab tree` and `stab run` read texts of one job, its schedule in the plain form or not.
 
 A schedule in the plain form is read token by token, and any other text by way of a tree of values.
 What has to come of a text is found here by Python's own reader of JSON, the rules of
 docs/FORMATS.md and the table of docs/PROTOCOL.md."""
+
+import json
 
 from tables.refusals import (
     BAD_NAME, CAPACITY, EVENT, NO_SUCH_LINK, NOT_JSON, SAME_NAME, SHAPE, START_COUNT,
@@ -174,7 +176,20 @@ def swapped(old, *news):
     return [PLAIN.replace(old, new) for new in news]
 
 
+def many(*more):
+    """A job of a root with 63 children, whose schedule names each of them, and then has these
+    steps."""
+    names = [f"n{place}" for place in range(64)]
+    tree = [{"name": name, **({"parent": "n0"} if name != "n0" else {})} for name in names]
+    return json.dumps({"capacity": 1, "labels": 4, "tree": tree, "items": [7],
+                       "schedule": [*([name, "offer"] for name in names[1:]), *more]})
+
+
 TEXTS = [
+    # as many names as a tree has, and more
+    many(), many(["n0", "close"]), many(["x", "close"]), many(["n0", "close"], ["x", "close"]),
+    many(["x", "close"], ["n1", "jump"]), many(["n0", "close"], ["x", "close"], ["y"]),
+    many(*([f"x{place}", "close"] for place in range(70))), many(["n63", "send_frame"]),
     # the members in another order, white space, and escapes
     PLAIN, *("{" + ",".join(parts) + "}" for parts in [
         [STEPS, STARTS, TREE, NUMBERS], [TREE, STEPS, NUMBERS, STARTS],
@@ -230,17 +245,20 @@ BYTES += [PLAIN.encode() + b"\xff", PLAIN.replace("close", "cl\u00f6se").encode(
           PLAIN.encode("utf-16"), PLAIN.replace("close", "\0").encode()]
 
 
-def row(place, data):
-    """The run of a text, which means a job or is refused."""
+def rows(place, data):
+    """The run of a text, which means a job or is refused; and refusals of `stab run`, which reads
+    it in the same way."""
     name = f"reads text {place} of a tree: {data[:200]!r}"
     try:
         text = text_of(job_of(data))
     except Refused as refused:
         said = str(refused)
-        status = 3 if said.startswith(("start", "step")) else 1
-        return Row(name, ["tree"], data, status=status, err=f"stab: {said}\n")
-    return Row(name, ["tree"], data, out=text)
+        if said.startswith(("start", "step")):
+            return [Row(name, ["tree"], data, status=3, err=f"stab: {said}\n")]
+        return [Row(f"{word}: {name}", [word], data, status=1, err=f"stab: {said}\n")
+                for word in ("tree", "run")]
+    return [Row(name, ["tree"], data, out=text)]
 
 
 assert text_of(job_of(PLAIN.encode())) == TEXT, text_of(job_of(PLAIN.encode()))
-ROWS = [row(place, data) for place, data in enumerate(BYTES)]
+ROWS = [row for place, data in enumerate(BYTES) for row in rows(place, data)]

@@ -1,26 +1,28 @@
 #!/usr/bin/env python3
 """Writes the completions of stab and rignolda for bash, zsh and fish, or compares them.
 
-    tests/completions.py           compares completions/ with what it would write, and tries the
-                                   completions for bash. The last line is 'N passed, M failed'.
-    tests/completions.py --write   writes the files of completions/
+    tools/completions.py           writes the files of completions/
+    tools/completions.py --check   compares them with what it would write, and tries those for bash.
+                                   The last line is 'N passed, M failed'.
 
 The commands and options of rignolda are those of its help, and the man pages have to name them all.
-`--program FILE` names the program that is asked for it; without, it is the one of release/. The
-program stab has no help, so its commands and flags are those of the table in docs/FORMATS.md. """
+The program that is asked is that of tests/check_tables.py. The program stab has no help, so its
+commands and flags are those of the table in docs/FORMATS.md. """
 
 import argparse
-import gzip
 import os
 import pathlib
 import re
 import subprocess
 import sys
-import tempfile
+
+# (nothing is to be left beside the sources)
+sys.dont_write_bytecode = True
+from programs import run_with
 
 ROOT = pathlib.Path(__file__).resolve().parent.parent
 HOME = ROOT / "completions"
-WRITTEN = "Written by tests/completions.py; change nothing here."
+WRITTEN = "Written by tools/completions.py; change nothing here."
 OPTION = re.compile(r"^ +(?:-\w, |    )?--([a-z-]+)(?: <(\w+)>)?(?:  +(\S.*))?$")
 ENTRY = re.compile(r"^  ([a-z]+) +(\S.*)$")
 
@@ -241,26 +243,25 @@ def cases(program):
 
 def main():
     parser = argparse.ArgumentParser()
-    parser.add_argument("--write", action="store_true")
-    parser.add_argument("--program", type=pathlib.Path)
-    words = parser.parse_args()
-    with tempfile.TemporaryDirectory() as work:
-        program = words.program and words.program.resolve()
-        if program is None:
-            program = pathlib.Path(work) / "rignolda"
-            program.write_bytes(gzip.decompress((ROOT / "release" / "rignolda.gz").read_bytes()))
-            program.chmod(0o755)
-        if words.write:
-            HOME.mkdir(exist_ok=True)
-            for name, text in files_of(program).items():
-                (HOME / name).write_text(text)
-            return
-        passed = failed = 0
-        for name, holds in cases(program):
-            passed, failed = passed + holds, failed + (not holds)
-            print("%s %s" % ("same  " if holds else "OTHER ", name))
-        print("%d passed, %d failed" % (passed, failed))
-        sys.exit(1 if failed else 0)
+    parser.add_argument("--check", action="store_true")
+    sys.exit(run_with(check if parser.parse_args().check else write, "rignolda"))
+
+
+def write(program):
+    """Writes the files."""
+    HOME.mkdir(exist_ok=True)
+    for name, text in files_of(program).items():
+        (HOME / name).write_text(text)
+
+
+def check(program):
+    """Compares the files, and tries them. It prints each case, and the last line."""
+    passed = failed = 0
+    for name, holds in cases(program):
+        passed, failed = passed + holds, failed + (not holds)
+        print("%s %s" % ("same  " if holds else "OTHER ", name))
+    print("%d passed, %d failed" % (passed, failed))
+    return 1 if failed else 0
 
 
 if __name__ == "__main__":

@@ -3,9 +3,11 @@
 import gzip
 import os
 import subprocess
+import sys
+import tempfile
 from pathlib import Path
 
-TOP = Path(__file__).resolve().parent.parent.parent
+TOP = Path(__file__).resolve().parent.parent
 
 # Where the gate leaves each program, as a release would have it.
 BUILT = {
@@ -37,3 +39,25 @@ def program(name, room):
     # (the gate has just built it)
     built = TOP / BUILT[name]
     return built if built.is_file() else None
+
+
+def built(name, room):
+    """The same; where there is none, its launcher builds it."""
+    file = program(name, room)
+    if file is None:
+        subprocess.run([TOP / name], stdin=subprocess.DEVNULL, stdout=subprocess.DEVNULL)
+        file = program(name, room)
+    return str(file or sys.exit(f"./{name} does not run: what it said is above"))
+
+
+def run_with(do, *names):
+    """Runs a check with the files of these programs, and answers its status, or says that one of
+    them is missing."""
+    with tempfile.TemporaryDirectory() as room:
+        files = {name: program(name, room) for name in names}
+        missing = [name for name in names if files[name] is None]
+        if missing:
+            print(f"{missing[0]}: none was built of these sources: run ./release.sh, or ./gate")
+            print("0 passed, 1 failed")
+            return 1
+        return do(*files.values())

@@ -1,92 +1,32 @@
-#!/usr/bin/env python3
-"""Runs the parts of the gate and says what they cost; ./gate calls it.
-
-  bench/gate.py jobs             how many tasks of rt ci may run at once here, and why
-  bench/gate.py run NOTES PART.. runs a part of the gate, says how far it is, and adds to the file
-                                 NOTES what it cost; the last line of the part is the last one here
-  bench/gate.py table NOTES FILE SECONDS TIMES
-                                 writes a table of what is in NOTES, and of the whole gate, which
-                                 took so many seconds, and the processor times that bash tells
+"""What the parts of the gate cost, and what they would cost elsewhere: ./gate uses it.
 
 The time and the processor time of a part are exact: they are those of its processes once they have
-ended. What one crate cost is read off /proc, once a second, while the part runs. It needs Python
-3.8, which rt needs as well, and Linux.
+ended. What one crate cost is read off /proc, once a second, while the part runs.
 """
 import collections
-import json
 import os
 import re
 import resource
-import signal
 import subprocess
-import sys
 import threading
 import time
 
-TOP = os.path.dirname(os.path.dirname(os.path.realpath(__file__)))
+from crates import TOP, below, first_number, listed, processors, read
 
-# So much memory is counted for each task of rt ci. A task takes less for most of its time, and a
-# few take up to 5 GB for a while.
-TASK_BYTES = 3_000_000_000
+KINDS = ("proof", "tests", "edits", "programs")
 # How often the processes are looked at, and how often a line says how far a part is, in seconds.
 LOOK, TELL = 1.0, 120.0
-KINDS = ("proof", "tests", "edits", "programs")
-COUNT = re.compile(rb"[0-9]{1,9} passed, [0-9]{1,9} failed\n?")
 # What rt ci says at its end of how much it has done itself, where it took the rest from earlier
 # runs.
-SHARE = re.compile(rb"rt: ok; .*; done in this run: (.*); the others are kept from earlier runs")
+SHARE = re.compile(r"rt: ok; .*; done in this run: (.*); the others are kept from earlier runs")
 TICK = os.sysconf("SC_CLK_TCK")
 PAGE = os.sysconf("SC_PAGE_SIZE")
 
 
-def read(path):
-    """The text of a file, or an empty one where there is none."""
-    try:
-        with open(path, errors="replace") as it:
-            return it.read()
-    except OSError:
-        return ""
-
-
-def first_number(path, before=""):
-    """The number that follows a text in a file, or None."""
-    found = re.search(rf"^{before}\s*([0-9]+)", read(path), re.M)
-    return int(found[1]) if found else None
-
-
-def processors():
-    """How many processors there are: those that this process may run on, or fewer by a quota."""
-    count = len(os.sched_getaffinity(0))
-    quota = re.match(r"([0-9]+) ([0-9]+)", read("/sys/fs/cgroup/cpu.max"))
-    if quota:
-        quota, period = map(int, quota.groups())
-    else:
-        quota = first_number("/sys/fs/cgroup/cpu/cpu.cfs_quota_us")
-        period = first_number("/sys/fs/cgroup/cpu/cpu.cfs_period_us")
-    return min(count, max(quota // period, 1)) if quota and period else count
-
-
-def free():
-    """How many bytes of memory are free, also under a limit of a control group."""
-    found = [1024 * (first_number("/proc/meminfo", "MemAvailable:") or 0)]
-    for limit, held, before in (
-        ("/sys/fs/cgroup/memory.max", "/sys/fs/cgroup/memory.stat", "anon"),
-        ("/sys/fs/cgroup/memory/memory.limit_in_bytes",
-         "/sys/fs/cgroup/memory/memory.stat", "total_rss"),
-    ):
-        limit, held = first_number(limit), first_number(held, before)
-        if limit is not None and held is not None:
-            found.append(limit - held)
-    return min(found)
-
-
-def jobs():
-    """Prints how many tasks may run at once, and why."""
-    count, bytes_free = processors(), free()
-    fit = max(bytes_free // TASK_BYTES, 1)
-    said = f"{count} processors, and {gigabytes(bytes_free)} of free memory"
-    print(f"{min(count, fit)} {said} for {fit} tasks of {gigabytes(TASK_BYTES)}")
-    return 0
+def used():
+    """The processor seconds of this process and of all that have ended below it."""
+    both = (resource.getrusage(it) for it in (resource.RUSAGE_SELF, resource.RUSAGE_CHILDREN))
+    return sum(it.ru_utime + it.ru_stime for it in both)
 
 
 def gigabytes(count):
@@ -138,13 +78,50 @@ def kind_of(words, folder):
 
 
 class Watch:
-    """What the processes below one process take, as far as it was seen."""
+    """What a part of the gate takes, and the processes below it as far as they were seen."""
 
-    def __init__(self, pid):
+    def __init__(self, pid, tell):
         self.pid, self.tasks, self.now = pid, {}, []
         self.start = first_number("/proc/meminfo", "MemAvailable:") or 0
         self.used = self.peak = self.own = 0
         self.largest = (0, "")
+        self.begin, self.used_before, self.ended = time.monotonic(), used(), threading.Event()
+        self.proved, self.share, self.tell = 0, "", tell
+        self.watching = threading.Thread(target=self.keep, daemon=True)
+        self.watching.start()
+
+    def keep(self):
+        """Looks at the processes until the part has ended, and tells now and then how far it is."""
+        told = self.begin
+        while not self.ended.wait(LOOK):
+            try:
+                self.look()
+            except (OSError, KeyError, ValueError):
+                # (a process has ended while it was looked at)
+                continue
+            if time.monotonic() - told >= TELL:
+                told = time.monotonic()
+                now = ", ".join(sorted({*self.now})) or "nothing that has a name"
+                self.tell(f"{clock(told - self.begin)}: {self.proved} proved; now {now}; "
+                          f"{gigabytes(self.used)}")
+
+    def hear(self, line):
+        """Notes what a line that the part writes says of how far it is."""
+        self.proved += bool(re.match(r"rt: \w+(: its tests are)? proved$", line))
+        share = SHARE.match(line)
+        self.share = share[1] if share else self.share
+
+    def note(self, part, status):
+        """What the part cost, once it has ended."""
+        self.ended.set()
+        self.watching.join()
+        found = {"part": part, "wall": time.monotonic() - self.begin, "status": status}
+        found.update(processor=used() - self.used_before, peak=self.peak, own=self.own,
+                     largest=self.largest, crates=self.by_crate(), share=self.share,
+                     jobs=os.environ.get("RT_JOBS", ""))
+        self.tell(f"{part} took {clock(found['wall'])}, {minutes(found['processor'])} processor "
+                  f"minutes, and {gigabytes(found['peak'])} at its peak")
+        return found
 
     def look(self):
         """Looks at all processes once."""
@@ -193,93 +170,6 @@ class Watch:
         return found
 
 
-class Part:
-    """A part of the gate that runs."""
-
-    def __init__(self, words):
-        self.words, self.begin = words, time.monotonic()
-        self.printing, self.ended = threading.Lock(), threading.Event()
-        self.proved, self.share, self.process, self.given_up = 0, "", None, False
-        for it in (signal.SIGTERM, signal.SIGINT, signal.SIGHUP):
-            signal.signal(it, self.give_up)
-        try:
-            self.process = subprocess.Popen(words, stdout=subprocess.PIPE)
-        except OSError as error:
-            print(f"gate: {words[0]} cannot be run: {error.strerror}", flush=True)
-            sys.exit(127)
-        if self.given_up:
-            self.process.terminate()
-        self.watch = Watch(self.process.pid)
-
-    def give_up(self, *_):
-        """Ends the part, which then ends what it has started."""
-        self.given_up = True
-        if self.process:
-            self.process.terminate()
-
-    def say(self, text):
-        with self.printing:
-            print(f"gate: {text}", flush=True)
-
-    def keep_watch(self):
-        """Looks at the processes until the part has ended, and says now and then how far it is."""
-        told = self.begin
-        while not self.ended.wait(LOOK):
-            try:
-                self.watch.look()
-            except (OSError, KeyError, ValueError):
-                # (a process has ended while it was looked at)
-                continue
-            if time.monotonic() - told >= TELL:
-                told = time.monotonic()
-                now = ", ".join(sorted({*self.watch.now})) or "nothing that has a name"
-                self.say(f"{clock(told - self.begin)}: {self.proved} proved; now {now}; "
-                         f"{gigabytes(self.watch.used)}")
-
-    def show(self):
-        """Hands on what the part writes, but keeps back a last line with counts, and returns it."""
-        last = b""
-        for line in self.process.stdout:
-            with self.printing:
-                sys.stdout.buffer.write(last)
-                last = line if COUNT.fullmatch(line) else b""
-                sys.stdout.buffer.write(line[len(last):])
-                sys.stdout.flush()
-            self.proved += bool(re.match(rb"rt: \w+(: its tests are)? proved$", line))
-            share = SHARE.match(line)
-            self.share = share[1].decode() if share else self.share
-        return last
-
-    def run(self, notes):
-        """Runs the part to its end, and returns its status."""
-        watching = threading.Thread(target=self.keep_watch, daemon=True)
-        watching.start()
-        last = self.show()
-        status = self.process.wait()
-        wall = time.monotonic() - self.begin
-        self.ended.set()
-        watching.join()
-        used = resource.getrusage(resource.RUSAGE_CHILDREN)
-        note = {"part": " ".join(self.words), "wall": wall, "status": status}
-        note.update(processor=used.ru_utime + used.ru_stime, peak=self.watch.peak,
-                    own=self.watch.own, largest=self.watch.largest, crates=self.watch.by_crate(),
-                    jobs=os.environ.get("RT_JOBS", ""), share=self.share)
-        with open(notes, "a") as it:
-            it.write(json.dumps(note) + "\n")
-        self.say(f"{note['part']} took {clock(wall)}, {minutes(note['processor'])} processor "
-                 f"minutes, and {gigabytes(note['peak'])} at its peak")
-        sys.stdout.buffer.write(last)
-        sys.stdout.flush()
-        return status if status >= 0 else 128 - status
-
-
-def listed():
-    """The crates of crates.txt, each with the crates of that file that it uses."""
-    rows = re.findall(r"^(\w+)[^#\n:]*:([^#\n]*)", read(f"{TOP}/crates.txt"), re.M)
-    names = {name for name, _ in rows}
-    return {name: [it for it in words.split() if it in names] for name, words in rows}
-
-
 def lines_of(crate):
     """How many lines of code a crate has, by which rt orders its tasks."""
     found = 0
@@ -299,14 +189,11 @@ def count_edits(crate):
 def tasks_of(crates):
     """The tasks of rt ci, lowest layer first: what each waits for, its seconds, its lines. Each
     planted bug is one, and so is the proof that those of a crate begin with; they count alike."""
-    uses, below, tasks = listed(), {}, {}
-    def all_below(name):
-        if name not in below:
-            below[name] = {name}.union(*map(all_below, uses[name]))
-        return below[name]
-    for name in sorted(uses, key=lambda it: len(all_below(it))):
+    known, tasks = listed(), {}
+    under = {name: below(name, known)[:-1] for name in known}
+    for name in sorted(known, key=lambda it: len(under[it])):
         took, lines = crates.get(name, dict.fromkeys(KINDS, 0.0)), lines_of(name)
-        waits = [(it, "proof") for it in all_below(name) - {name}]
+        waits = [(it, "proof") for it in under[name]]
         tasks[name, "proof"] = waits, took["proof"] + took["programs"], lines
         tasks[name, "tests"] = waits, took["tests"], lines * bool(took["tests"])
         both = [(name, "proof"), (name, "tests")]
@@ -326,10 +213,10 @@ def modelled(crates, lanes):
     behind = {it: tasks[it][2] for it in tasks}
     chain = {}
     for it in reversed([*tasks]):
-        for below in tasks[it][0]:
-            behind[below] = max(behind[below], tasks[below][2] + behind[it])
+        for lower in tasks[it][0]:
+            behind[lower] = max(behind[lower], tasks[lower][2] + behind[it])
     for it, (waits, seconds, _) in tasks.items():
-        chain[it] = seconds + max((chain[below] for below in waits), default=0)
+        chain[it] = seconds + max((chain[lower] for lower in waits), default=0)
     left = sorted(tasks, key=lambda it: (it[1] == "edits", -behind[it]))
     running, ended, now = [], set(), 0.0
     while left or running:
@@ -345,13 +232,8 @@ def modelled(crates, lanes):
 
 def first_use(crates):
     """The part of these costs that `./stab --prove` has, without tests and edits."""
-    found, waiting = {}, ["stab_cli"]
-    while waiting:
-        name = waiting.pop()
-        if name in crates and name not in found:
-            found[name] = {**crates[name], "tests": 0.0, "edits": 0.0}
-            waiting += listed()[name]
-    return found
+    return {name: {**crates[name], "tests": 0.0, "edits": 0.0}
+            for name in below("stab_cli", listed()) if name in crates}
 
 
 def computed(crates, parts):
@@ -378,20 +260,18 @@ def computed(crates, parts):
             "earlier than the model says.", ""]
 
 
-def rest(parts, wall, times):
+def rest(parts, wall, used_by_all):
     """What the gate took beside the parts that were measured: its cheap parts, together."""
-    used = sum(60 * int(it[0]) + float(it[1]) for it in re.findall(r"([0-9]+)m([0-9.]+)s", times))
     return {"part": "the others", "wall": max(wall - sum(it["wall"] for it in parts), 0),
-            "processor": max(used - sum(it["processor"] for it in parts), 0), "peak": 0, "own": 0,
-            "largest": (0, ""), "crates": {}, "jobs": ""}
+            "processor": max(used_by_all - sum(it["processor"] for it in parts), 0), "peak": 0,
+            "own": 0, "largest": (0, ""), "crates": {}, "jobs": ""}
 
 
-def table(notes, to, wall, times):
-    """Writes what the parts and the crates cost."""
-    with open(notes) as it:
-        parts = [json.loads(line) for line in it]
-    parts.append(rest(parts, float(wall), read(times)))
-    wall, used = (sum(part[of] for part in parts) for of in ("wall", "processor"))
+def write_table(parts, to, wall, used_by_all):
+    """Writes what the measured parts and the crates cost: the parts, the file, and the time and the
+    processor time of the whole gate."""
+    parts = [*parts, rest(parts, wall, used_by_all)]
+    wall, taken = (sum(part[of] for part in parts) for of in ("wall", "processor"))
     kit = subprocess.run(["rt", "version"], stdout=subprocess.PIPE, text=True).stdout.strip()
     tasks = next((part["jobs"] for part in parts if part["jobs"]), "")
     peak = max(part["peak"] for part in parts)
@@ -399,7 +279,7 @@ def table(notes, to, wall, times):
     lines += [f"{time.strftime('%Y-%m-%d')}, {counted(processors(), 'processor')}, "
               f"{tasks or 'as many as rt chooses'} tasks at once, kit `{kit}`. "
               "Written by `./gate`, which leaves such a page in `out/gate.md` after a whole run.",
-              "", f"**{minutes(wall)} minutes, {minutes(used)} processor minutes, "
+              "", f"**{minutes(wall)} minutes, {minutes(taken)} processor minutes, "
               f"{gigabytes(peak)} of memory at the peak.**",
               "", "| Part | minutes | processor minutes | peak |", "|---|---|---|---|"]
     lines += [f"| `{part['part']}` | {minutes(part['wall'])} | {minutes(part['processor'])} | "
@@ -427,23 +307,8 @@ def table(notes, to, wall, times):
               "seen so as well, so the last second of each process is not in it, nor is the work "
               "of `rt` itself. *Programs* are what the two compilers and the linker take for one, "
               "and its runs."]
-    with open(to, "w") as it:
+    os.makedirs(os.path.dirname(to), exist_ok=True)
+    with open(to, "w", encoding="utf-8") as it:
         it.write("\n".join(lines) + "\n")
-    print(f"gate: {minutes(wall)} minutes, {minutes(used)} processor minutes; crate by crate in "
+    print(f"gate: {minutes(wall)} minutes, {minutes(taken)} processor minutes; crate by crate in "
           f"{os.path.relpath(to, TOP)}", flush=True)
-    return 0
-
-
-def main(words):
-    if words == ["jobs"]:
-        return jobs()
-    if words[:1] == ["run"] and len(words) > 2:
-        return Part(words[2:]).run(words[1])
-    if words[:1] == ["table"] and len(words) == 5:
-        return table(*words[1:])
-    print(__doc__, end="", file=sys.stderr)
-    return 2
-
-
-if __name__ == "__main__":
-    sys.exit(main(sys.argv[1:]))

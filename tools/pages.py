@@ -1,35 +1,54 @@
 #!/usr/bin/env python3
-"""Writes the lists of the pages that are made from the sources, and checks all pages.
+"""Writes the page of claims from the sources, and checks all pages.
 
-    tests/pages.py            writes the lists: what is between the two marks of docs/CLAIMS.md
-    tests/pages.py --check    writes nothing, and says what is out of date or leads nowhere
+    tools/pages.py [FILE]     writes the page of claims, as out/CLAIMS.md or as this file
+    tools/pages.py --check    writes nothing, and says what in a page leads nowhere
 
-The lists have, crate by crate: the comment of the crate; its public types and functions, with the
-names of their clauses, the comments at them and what they require; the first comments of the files
-of definitions and of lemmas; and the names of the planted bugs. A comment of `//` lines between
-the clauses of a function speaks of those after it, up to the next comment or empty line. Where a
-function has no clause, or none but `⊤`, which says nothing, the lists say that it is tested alone.
+The page has, crate by crate: the comment of the crate; its public types and functions, with the
+comments at them, what they require, and each clause with its text; the first comments of the files
+of definitions and of lemmas; and the names of the planted bugs. A comment of `//` lines between the
+clauses of a function speaks of those after it, up to the next comment or empty line. Where a
+function has no clause, or none but `⊤`, which says nothing, the page says that it is tested alone.
 
-The check sees that the lists are those of the sources, and that in every page of the repository
-each link leads to a file and a heading that exist. In the pages that speak of these sources each
-clause that is cited must exist, and so must each file and each name that is in backticks. And
-docs/PROOF.md must name those public functions of which no clause says what it says of all others,
-in sentences that begin a paragraph with the words of GAPS: these functions and no others, by name
-or with a star at the end. The last line is 'N passed, M failed'.
+The check sees that in every page of the repository each link leads to a file and a heading that
+exist. In the pages that speak of these sources each clause that is cited must exist, and so must
+each file and each name that is in backticks. And docs/PROOF.md must name those public functions of
+which no clause says what it says of all others, in sentences that begin a paragraph with the words
+of GAPS: these functions and no others, by name or with a star at the end. The last line is
+'N passed, M failed'.
 """
 
 import re
 import sys
 from pathlib import Path
 
+# (nothing is to be left beside the sources)
+sys.dont_write_bytecode = True
+from crates import listed  # noqa: E402
+
 TOP = Path(__file__).resolve().parent.parent
-LISTS = "docs/CLAIMS.md"
-BEGIN = "<!-- begin: made by tests/pages.py, do not edit -->"
-END = "<!-- end -->"
+# What the page of claims begins with.
+HEAD = """# Claims, definitions and lemmas
+
+The page [PROOF.md](PROOF.md) has the argument, and this page what it is made of, crate by crate.
+`tools/pages.py` writes it from the sources.
+
+- *Claims*: what other crates can use. Each function has what it requires, and then each clause that
+  it ensures, with its name if it has one: `function.clause` is how a page cites it. A comment
+  before clauses speaks of them. Each function has the exception *or memory was refused*, unless its
+  comment says that it takes no memory. Where a function has no clause, that is said.
+- *Definitions*: the files of `specs/`, whose words the clauses use. A reader has to judge that they
+  say what is meant. Examples that can be worked out with a pencil are beside them, and those of a
+  claim `examples::worked_out` are proved.
+- *Lemmas*: the files of `proofs/`. Crates above may cite `ForCallers.antt`, and of `stab_core` also
+  `Growing.antt`. A folder there is named for a file of the code and has what the prover needs for
+  its functions alone.
+- *Planted bugs*: edits of the code that the prover must refuse, by their names in `must-fail/`.
+"""
 # The endings of the files that a page may name.
 ENDINGS = "antt|rt|edit|md|py|sh|c|h|a|rs|toml|json|run|out|txt|html|svg|wasm|gz|bazel"
-# A page about the past may name what is no more, and the lists cite what they were made of.
-UNCITED = {"CHANGELOG.md", LISTS}
+# A page about the past may name what is no more.
+UNCITED = {"CHANGELOG.md"}
 # What only a build makes.
 MADE = re.compile(r"(out|bench/build)/")
 # Names that pages cite of other programs and of the system, or as an example.
@@ -54,12 +73,11 @@ class Function:
 
     def __init__(self, owner, name, public, doc):
         self.owner, self.name, self.public = owner, name, public
-        # each group: what is said of it, and the names of its clauses, of which one may be none
+        # each group: what is said of it, and its clauses, each a name, which may be none, and text
         self.groups = [(doc, [])]
         self.requires = []
-        # the text of what it ensures, clause by clause, and what is before its clauses; of a type
-        # there is none
-        self.ensures, self.signature = [], ""
+        # what is before its clauses; of a type there is none
+        self.signature = ""
         # (what C calls is exported, whatever lib.rt names)
         self.for_c = False
         # (of a trait that another type has, the clauses are at the trait)
@@ -69,11 +87,16 @@ class Function:
         return f"{self.owner}::{self.name}" if self.owner else self.name
 
     def clauses(self):
-        return [clause for _, clauses in self.groups for clause in clauses]
+        """The names of its clauses, of which one may be none."""
+        return [name for _, clauses in self.groups for name, _ in clauses]
+
+    def ensures(self):
+        """The texts of its clauses."""
+        return [text for _, clauses in self.groups for _, text in clauses]
 
     def is_tested_alone(self):
         """Whether it is a function, and no clause says anything of it."""
-        return bool(self.signature) and not self.of_trait and set(self.ensures) <= {"⊤"}
+        return bool(self.signature) and not self.of_trait and set(self.ensures()) <= {"⊤"}
 
     def is_silent_on_what_stays(self):
         """Whether no clause says of all that it is lent to change what that is after a refusal, or
@@ -83,7 +106,7 @@ class Function:
             return None
         return not any(
             re.search(r"\b\w+\.new\b(?!\.)", text) and not re.match(r"(OnOk|IfOk)\b", text)
-            for text in self.ensures)
+            for text in self.ensures())
 
     def is_silent_on_why(self):
         """Whether no clause says of every refusal which one it is: what the whole answer is, of
@@ -92,7 +115,7 @@ class Function:
         refusal = re.search(r"-> Result<.*, (?:\w+::)*(\w+)>$", self.signature)
         if not refusal or refusal[1] == "AllocError":
             return None
-        return not any(says_why(text) for text in self.ensures)
+        return not any(says_why(text) for text in self.ensures())
 
 
 def says_why(text):
@@ -137,12 +160,11 @@ def read_head(function, lines, at):
             else:
                 # (what comes before `in` gives names alone)
                 said = re.sub(r"^(let .*? in )+", "", text[:text.rindex("}")].strip())
-                function.ensures.append(said)
                 if notes:
                     group = (in_one_line(notes), [])
                     function.groups.append(group)
                     notes = []
-                group[1].append(clause[2])
+                group[1].append((clause[2], said))
             if text.endswith(";"):
                 return
         elif line.startswith("// "):
@@ -189,12 +211,6 @@ def functions(path):
     return found
 
 
-def listed_crates():
-    """The crates, the lowest layer first."""
-    lines = (TOP / "crates.txt").read_text().splitlines()
-    return [re.match(r"\w+", line)[0] for line in lines if re.match(r"\w+.*:", line)]
-
-
 def exported(crate):
     """The names that other crates can use."""
     text = (TOP / "crates" / crate / "src/lib.rt").read_text()
@@ -226,21 +242,26 @@ def public_functions(crate):
 
 
 def claims(crate):
-    """The rows of a crate's claims: its clauses, and what its comments say of them."""
-    rows = []
+    """The lines of a crate's claims: each function and type, what is said of it, what it requires,
+    and its clauses with their texts."""
+    lines = []
     for function in public_functions(crate):
         said = function.groups[0][0]
         if not function.clauses() and (not said or said.startswith("As `")):
             continue
-        said += "".join(f" Requires `{text}`." for text in function.requires)
-        for at, (text, clauses) in enumerate(function.groups):
-            shown = ", ".join(f"`.{clause}`" for clause in clauses if clause)
-            if at == 0:
-                shown = f"`{function.path()}` {shown}".strip()
-                shown += " *no clause, tested*" if function.is_tested_alone() else ""
-            if at == 0 or clauses:
-                rows.append(f"| {shown} | {said if at == 0 else text} |")
-    return rows
+        head = f"**`{function.path()}`**"
+        if function.signature:
+            form = re.sub(r"^.*?\bfn \w+|\s+(?=\))|(?<=\()\s+|,(?=\s*\))", "", function.signature)
+            head += f" `{form.strip(' ,')}`"
+        lines += ["", f"{head} {said}".strip()]
+        if function.is_tested_alone():
+            lines[-1] += " *No clause, tested.*"
+        clauses = [f"- *requires* `{text}`" for text in function.requires]
+        for at, (note, group) in enumerate(function.groups):
+            clauses += [f"- *{note}*"] if at and group else []
+            clauses += [f"- `.{name}` `{text}`" if name else f"- `{text}`" for name, text in group]
+        lines += [""] * bool(clauses) + clauses
+    return lines[1:]
 
 
 def files(crate, folder):
@@ -251,34 +272,26 @@ def files(crate, folder):
 
 def libraries():
     """The crates that others use, without those of tests."""
-    return [crate for crate in listed_crates() if not crate.startswith("tests_")
+    return [crate for crate in listed(TOP) if not crate.startswith("tests_")
             and (TOP / "crates" / crate / "src/lib.rt").exists()]
 
 
-def lists():
-    """The lines of the lists."""
-    lines = []
+def page_of_claims():
+    """The text of the page of claims."""
+    lines = [HEAD]
     for crate in libraries():
         home = TOP / "crates" / crate
-        root = home / "src/lib.rt"
-        lines += [f"## `{crate}`", "", first_comment(root, "//!"), ""]
-        tables = [("Claim", "What it says", claims(crate)),
-                  ("Definitions", "What they say", files(crate, "specs")),
-                  ("Lemmas", "What they say", files(crate, "proofs"))]
-        for name, says, rows in tables:
+        lines += [f"## `{crate}`", "", first_comment(home / "src/lib.rt", "//!"), ""]
+        shown = claims(crate)
+        lines += ["### Claims", "", *shown, ""] if shown else []
+        for name, folder in ("Definitions", "specs"), ("Lemmas", "proofs"):
+            rows = files(crate, folder)
             if rows:
-                lines += [f"| {name} | {says} |", "|---|---|", *rows, ""]
+                lines += [f"| {name} | What they say |", "|---|---|", *rows, ""]
         bugs = [f"`{path.stem}`" for path in sorted((home / "must-fail").glob("*.edit"))]
         if bugs:
             lines += [f"Planted bugs: {', '.join(bugs)}.", ""]
-    return lines
-
-
-def with_lists(text):
-    """A page with the lists of now between its marks."""
-    before, rest = text.split(BEGIN + "\n")
-    after = rest.split("\n" + END)[1]
-    return before + BEGIN + "\n\n" + "\n".join(lists()) + "\n" + END + after
+    return "\n".join(lines)
 
 
 def pages():
@@ -443,14 +456,6 @@ class Sources:
 def check():
     """Looks at all pages. It prints what is wrong, and the last line."""
     passed, wrong = 0, []
-    page = TOP / LISTS
-    old, new = page.read_text(), with_lists(page.read_text())
-    if old == new:
-        passed += 1
-    else:
-        pairs = zip(old.splitlines() + [""], new.splitlines() + [""])
-        line = next(at for at, (now, then) in enumerate(pairs, 1) if now != then)
-        wrong.append(f"{LISTS}:{line}: out of date; tests/pages.py writes it anew")
     sources = Sources()
     for path in pages():
         name = str(path.relative_to(TOP))
@@ -471,10 +476,11 @@ def check():
 def main():
     if sys.argv[1:] == ["--check"]:
         sys.exit(0 if check() else 1)
-    if sys.argv[1:]:
-        sys.exit("tests/pages.py takes --check, or no words at all")
-    page = TOP / LISTS
-    page.write_text(with_lists(page.read_text()))
+    if len(sys.argv) > 2 or sys.argv[1:2] and sys.argv[1].startswith("-"):
+        sys.exit("tools/pages.py takes --check, or a file, or no words at all")
+    page = Path(sys.argv[1]) if sys.argv[1:] else TOP / "out/CLAIMS.md"
+    page.parent.mkdir(parents=True, exist_ok=True)
+    page.write_text(page_of_claims())
 
 
 main()
