@@ -47,7 +47,9 @@ class Unfit(Exception):
 class Ends:
     """The classes of a student, whose objects are made anew from what they remember."""
 
-    def __init__(self, path):
+    def __init__(self, path, labels):
+        # those that are tried at the start
+        self.labels = [*range(labels), 65535]
         spec = importlib.util.spec_from_file_location("ends", path)
         module = importlib.util.module_from_spec(spec)
         sys.dont_write_bytecode = True
@@ -75,12 +77,15 @@ class Ends:
             numbers = answer if count > 1 and isinstance(answer, (tuple, list)) else [answer]
             if len(numbers) != count or not all(isinstance(one, int) for one in numbers):
                 raise Unfit(f"{name} gives {what} or None, and not {answer!r}")
+            if name != "frame" and numbers[0] not in self.labels:
+                raise Unfit(f"{name} gives the label {numbers[0]}, with which no start is tried: "
+                            f"use 0 to {self.labels[-2]} and 65535")
         return answer, self.memory(end)
 
 
 def starts(ends, capacity, labels):
     """Every start of a full line; a line that is not full is one after losses."""
-    any_label = [*range(labels), 65535]
+    any_label = ends.labels
     for send, recv in itertools.product((0, 65535), any_label):
         sender = ends.memory(ends.sender(labels, send))
         receiver = ends.memory(ends.receiver(recv))
@@ -275,7 +280,7 @@ def main():
     asked = words.parse_args()
     labels = asked.labels or 2 * asked.capacity + 2
     try:
-        return judge(Ends(asked.ends), asked.capacity, labels, asked.items)
+        return judge(Ends(asked.ends, labels), asked.capacity, labels, asked.items)
     except (Unfit, OSError, SyntaxError) as error:
         print(f"{asked.ends} cannot be judged: {error}", file=sys.stderr)
         return 2
