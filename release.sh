@@ -219,6 +219,7 @@ pack_pages() {
         rust/rignoldad/Cargo.toml rust/rignoldad/packaging page/index.html; do
         [ ! -e "$top/$part" ] || (cd -- "$top" && cp -RL --parents -- "$part" "$1/") || return
     done
+    [ ! -e "$top/tools/pages.py" ] || "$top/tools/pages.py" "$1/docs/CLAIMS.md" || return
     # (what was built there by hand)
     rm -rf -- "$1/agents/out" "$1/rust/rignolda/target" "$1"/agents/__pycache__
 }
