@@ -29,7 +29,7 @@ sys.path.insert(0, str(TOP / "tools"))
 
 from programs import run_with
 
-DATA = TOP / "crates/stab_checks/data"
+DATA = TOP / "crates/gate_checks/data"
 PAGE = TOP / "docs/PROTOCOL.md"
 PICTURES = TOP / "docs/pictures"
 # Each picture, with its example.

@@ -56,7 +56,7 @@ sys.path.insert(0, str(TOP / "tools"))
 from programs import built  # noqa: E402
 
 PAGE = TOP / "page" / "index.html"
-DATA = TOP / "crates" / "stab_checks" / "data"
+DATA = TOP / "crates" / "gate_checks" / "data"
 MOST_BYTES = 120_000
 MOST_MILLISECONDS = 200
 MOST_MILLISECONDS_OF_A_STEP = 50

@@ -25,7 +25,7 @@ build() {
         "$kit/lib/libc_nonshared.a" "$kit/lib/crtn.o" -o "$work/crate/out/planted" || exit 1
 }
 
-# Whether the check of the program, as stab, rignolda or stab_checks, ends as it should: the number
+# Whether the check of the program, as stab, rignolda or gate_checks, ends as it should: the number
 # of its bug, which cases, the last line, and a text that is in what it writes.
 ends() {
     local planted=$work/crate/out/planted
@@ -40,11 +40,11 @@ ends() {
 root=runs/a_lone_root
 thread='run of a chain of 1'
 worst='rignolda worst --capacity=1'
-calls=stab_checks
+calls=gate_checks
 holds 'a right stab passes' ends 0 "$root" '2 passed, 0 failed' '4 of 4 refusals end it'
 holds 'so do its threads' ends 0 "$thread" '1 passed, 0 failed' 'each thread refused'
 holds 'a right rignolda passes' ends 0 "$worst" '2 passed, 0 failed' '3 of 3 refusals end it'
-holds 'a right stab_checks passes' ends 0 "$calls" '3 passed, 0 failed' '2 refusals'
+holds 'a right gate_checks passes' ends 0 "$calls" '3 passed, 0 failed' '2 refusals'
 holds 'a text that is begun fails' ends 1 "$root" '0 passed, 2 failed' 'allocation 1: status 3'
 holds 'an abort fails' ends 2 "$root" '0 passed, 2 failed' 'allocation 1: status -6'
 holds 'a wrong text with status 0 fails' ends 3 "$root" '0 passed, 2 failed' 'allocation 1: status 0'
@@ -56,9 +56,9 @@ holds 'a program that hangs fails' ends 8 "$thread" '0 passed, 1 failed' 'had no
 holds 'a thread that is missing fails' ends 9 "$thread" '0 passed, 1 failed' 'thread 1 of 1: status 0'
 holds 'a changed object fails' ends 10 "$calls" '2 passed, 1 failed' "is b'List::push: 3 entries'"
 holds 'a call that is never refused fails' ends 11 "$calls" '2 passed, 1 failed' \
-    'OTHER  stab_checks, List::new'
+    'OTHER  gate_checks, List::new'
 holds 'a call that is not in the list fails' ends 12 "$calls" '1 passed, 2 failed' \
-    'OTHER  stab_checks, refused once'
+    'OTHER  gate_checks, refused once'
 holds 'another text of rignolda fails' ends 14 "$worst" '0 passed, 2 failed' 'error: out of memory'
 holds 'no such case fails' ends 0 'no such case' '0 passed, 0 failed' '0 runs'
 rm "$work/crate/out/planted"

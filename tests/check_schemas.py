@@ -15,7 +15,7 @@ import pathlib
 import sys
 
 ROOT = pathlib.Path(__file__).resolve().parent.parent
-DATA = ROOT / "crates" / "stab_checks" / "data"
+DATA = ROOT / "crates" / "gate_checks" / "data"
 
 # the faults that a schema finds as well, wherever they are found
 FOUND = {

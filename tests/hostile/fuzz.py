@@ -46,7 +46,7 @@ sys.dont_write_bytecode = True
 sys.path.insert(0, os.path.join(TOP, "tools"))
 from programs import built  # noqa: E402
 
-EXAMPLES = os.path.join(TOP, "crates", "stab_checks", "data")
+EXAMPLES = os.path.join(TOP, "crates", "gate_checks", "data")
 BUILD = os.path.join(HERE, "build")
 SECONDS = 20
 PART = 500  # so many cases one lane runs before it takes the next ones

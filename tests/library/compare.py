@@ -17,7 +17,7 @@ import sys
 import tempfile
 
 TOP = os.path.dirname(os.path.dirname(os.path.dirname(os.path.realpath(__file__))))
-EXAMPLES = os.path.join(TOP, "crates", "stab_checks", "data")
+EXAMPLES = os.path.join(TOP, "crates", "gate_checks", "data")
 LETTERS = {"send_frame": "f", "recv_frame": "r", "recv_frame_keep": "R", "send_ack": "s",
            "recv_ack": "a", "recv_ack_keep": "A", "close": "c",
            "offer": "o", "lose_frame": "l", "lose_ack": "L"}

@@ -3,7 +3,7 @@
 
 It builds refuse.c, an object for LD_PRELOAD, by the kit's own clang, and runs under it
 
-  (a) stab_checks with the word `calls`, once for every N with its Nth allocation refused: it must
+  (a) gate_checks with the word `calls`, once for every N with its Nth allocation refused: it must
       print the first part of its file `stdout`, before the examples, end with status 0, and name on
       standard error only calls of the file `calls`; each of these must have been refused at least
       once;
@@ -33,7 +33,7 @@ import tempfile
 
 HERE = os.path.dirname(os.path.realpath(__file__))
 TOP = os.path.dirname(os.path.dirname(HERE))
-EXAMPLES = f"{TOP}/crates/stab_checks/data"
+EXAMPLES = f"{TOP}/crates/gate_checks/data"
 
 # A program that has not ended after so many seconds hangs.
 SECONDS = 60.0
@@ -249,7 +249,7 @@ class Check:
 
     def refused(self, program, calls):
         """Part (a): the program that makes every call again."""
-        if self.only not in "stab_checks":
+        if self.only not in "gate_checks":
             return
         with open(f"{os.path.dirname(os.path.dirname(program))}/stdout", "rb") as it:
             right = (0, b"".join(itertools.takewhile(is_of_calls, it)))
@@ -257,7 +257,7 @@ class Check:
         with open(calls) as it:
             wanted = {line.strip() for line in it if line.strip() and not line.startswith("#")}
         is_right = lambda ended: (ended.status, ended.out) == right
-        if not self.undisturbed("stab_checks", command, os.devnull, is_right):
+        if not self.undisturbed("gate_checks", command, os.devnull, is_right):
             return
         faults, seen, last = [], set(), 0
         walk = lambda: self.every("REFUSE_ALLOCATION", command, os.devnull)
@@ -271,10 +271,10 @@ class Check:
             seen |= names
             if ended.refused:
                 last = max(last, number)
-        self.tell("stab_checks, refused once", faults, f": {last} refusals")
+        self.tell("gate_checks, refused once", faults, f": {last} refusals")
         for name in sorted(wanted):
             faults = [] if name in seen else ["no allocation of this call was ever refused"]
-            self.tell(f"stab_checks, {name} is refused", faults)
+            self.tell(f"gate_checks, {name} is refused", faults)
 
     def threads(self, name, command, input, is_right, nodes):
         """Part (c): the start of each thread is refused in its turn."""
@@ -447,11 +447,11 @@ def main():
     parser = argparse.ArgumentParser(description="refuses memory and threads to the built programs")
     parser.add_argument("--stab", default=built("stab_cli"))
     parser.add_argument("--rignolda", default=built("rignolda"))
-    parser.add_argument("--checks", default=f"{TOP}/crates/stab_checks/out/stab_checks")
+    parser.add_argument("--checks", default=f"{TOP}/crates/gate_checks/out/gate_checks")
     parser.add_argument("--lanes", type=int, default=4, help="how many programs run at a time")
     parser.add_argument("--all", action="store_true", help="every example, and not some of them")
     parser.add_argument("--only", default="", help="the cases that have this in their names")
-    parser.add_argument("--calls", default=f"{HERE}/calls", help="the calls of stab_checks")
+    parser.add_argument("--calls", default=f"{HERE}/calls", help="the calls of gate_checks")
     parser.add_argument("--seconds", type=float, default=SECONDS, help="how long one may run")
     given = parser.parse_args()
     with tempfile.TemporaryDirectory(prefix="stab-refused-") as folder:

@@ -3,7 +3,7 @@
  *
  * As `stab` it prints the report of a lone root: BUG says what it does wrong where memory, or its
  * thread, is refused. With the word `worst` it is `rignolda`, and prints the same without a thread.
- * As stab_checks with the word `calls`, it makes two calls, again where one is refused. With BUG 0 it
+ * As gate_checks with the word `calls`, it makes two calls, again where one is refused. With BUG 0 it
  * does all of it right.
  */
 

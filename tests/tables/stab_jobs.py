@@ -1,6 +1,6 @@
 """How `stab` refuses each part of a job, and in which order, but for its tree, links and openings.
 
-Cases that are an example of crates/stab_checks/data, in the folder refused_trees, are not here."""
+Cases that are an example of crates/gate_checks/data, in the folder refused_trees, are not here."""
 
 from tables.refusals import (
     CAPACITY, EVENT, NOT_JSON, OF_TREES, RATE, SCRIPT_COUNT, SHAPE, START_COUNT, TOO_LONG_SCRIPT,

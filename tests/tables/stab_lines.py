@@ -3,7 +3,7 @@ refused.
 
 What is printed shows which task ran. A row that reads a file has an empty standard input, which
 would be refused as no JSON, and the others have no file. More command lines that are refused are
-examples of crates/stab_checks/data, in the folders refused and runs."""
+examples of crates/gate_checks/data, in the folders refused and runs."""
 
 from tables.refusals import NOT_ONE, RUNS, TOO_MANY_FRAMES, refusals
 from tables.rows import Like, Row, WORST_TEXT

@@ -1,6 +1,6 @@
 """How `stab` refuses parameters of single links, and what it runs over links that have their own.
 
-Cases that are an example of crates/stab_checks/data, in the folder refused_trees, are not here. The
+Cases that are an example of crates/gate_checks/data, in the folder refused_trees, are not here. The
 text of a fault does not say which link is refused: that is tested in crates/tests_task."""
 
 from tables.refusals import (

@@ -1,6 +1,6 @@
 """How `stab` refuses the members of the second version of a job.
 
-Cases that are an example of crates/stab_checks/data, in the folder refused_trees, are not here."""
+Cases that are an example of crates/gate_checks/data, in the folder refused_trees, are not here."""
 
 from tables.refusals import (
     HOLD, LINK_COUNT, OPENING_COUNT, SHAPE, TOO_FEW_LABELS, TURNS, UNKNOWN_NODE, each, refused,

@@ -1,6 +1,6 @@
 """How `stab` refuses what a job says of a link: link jobs, their starts and events, and scripts.
 
-Cases that are an example of crates/stab_checks/data, in the folder refused, are not here."""
+Cases that are an example of crates/gate_checks/data, in the folder refused, are not here."""
 
 from tables.refusals import (
     CAPACITY, EVENT, NOT_JSON, RATE, SHAPE, TOO_LONG_SCRIPT, TOO_MANY_LABELS, each, refused,

@@ -1,6 +1,6 @@
 """How `stab tree` refuses lists that are no tree, and what is a tree nevertheless.
 
-Cases that are an example of crates/stab_checks/data, in the folder refused_trees, are not here."""
+Cases that are an example of crates/gate_checks/data, in the folder refused_trees, are not here."""
 
 from tables.refusals import (
     BAD_NAME, SAME_NAME, TREE_SHAPE, TWO_ROOTS, UNKNOWN_PARENT, each, refused,

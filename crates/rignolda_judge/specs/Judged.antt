@@ -8,11 +8,11 @@ use Rattle.serde_json.specs.Data.{Data}
 use Rattle.stab_job.specs.JobValues.{JobValue, network}
 use Rattle.stab_job.specs.Jobs.{job}
 use Rattle.stab_json.specs.Values.{value_of}
-use Rattle.stab_logs.specs.Logs.{LogsValue, logs}
-use Rattle.stab_logs.specs.LogTexts.{SaysLogs}
-use Rattle.stab_logs.specs.ObeysLogs.{ObeysLogs}
-use Rattle.stab_logs.specs.declared.logs.LogsFault.{LogsFault}
-use Rattle.stab_logs.specs.declared.logs.LogsFault.TheVariants as fault
+use Rattle.rignolda_logs.specs.Logs.{LogsValue, logs}
+use Rattle.rignolda_logs.specs.LogTexts.{SaysLogs}
+use Rattle.rignolda_logs.specs.ObeysLogs.{ObeysLogs}
+use Rattle.rignolda_logs.specs.declared.logs.LogsFault.{LogsFault}
+use Rattle.rignolda_logs.specs.declared.logs.LogsFault.TheVariants as fault
 use Rattle.stab_task.specs.Answers.{IsFault}
 use Rattle.stab_task.specs.Statuses.{status_of}
 use Rattle.stab_task.specs.declared.command.Task.TheVariants.{Tree}

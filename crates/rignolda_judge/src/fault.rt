@@ -1,4 +1,4 @@
-use stab_logs::LogsFault;
+use rignolda_logs::LogsFault;
 use stab_task::CliFault;
 use std::alloc::AllocError;
 use thiserror::Error;

@@ -6,15 +6,15 @@ ghost use Rattle.std.specs.Io.KnownBytes.{Appends, Keeps};
 ghost use Rattle.rignolda_judge.specs.Judged.{IsJob, IsJudged, IsUnjudged, logs_in};
 ghost use Rattle.serde_json.specs.View.{view};
 ghost use Rattle.stab_json.specs.Values.{value_of};
-ghost use Rattle.stab_logs.specs.Logs.{logs};
+ghost use Rattle.rignolda_logs.specs.Logs.{logs};
 ghost use Rattle.stab_task.specs.Answers.{IsFault};
 ghost use Rattle.stab_task.specs.declared.command.Task.{Task};
 
 use crate::fault::JudgeFault;
+use rignolda_logs::{Logs, LogsFault, read_logs, verdict_of_logs};
 use serde_json::Value;
 use stab_job::Job;
 use stab_job_stream::read_job_and_members;
-use stab_logs::{Logs, LogsFault, read_logs, verdict_of_logs};
 use stab_task::{CliFault, load};
 use std::alloc::Global;
 use std::io::{Read, Write};

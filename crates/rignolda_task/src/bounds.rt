@@ -2,7 +2,7 @@
 
 use crate::hint::hint_of_bounds;
 use crate::program::{say_that_it_reads, unopened};
-use rignolda_acts::{BoundsFault, act_bounds};
+use rignolda_commands::{BoundsFault, act_bounds};
 use std::rt::Files;
 use std::{fs, io};
 

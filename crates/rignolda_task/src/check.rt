@@ -5,7 +5,7 @@ use crate::hint::hint_of_check;
 use crate::program::{FOUND, say_that_it_reads, unopened};
 use clap::error::ErrorKind;
 use clap::{ArgMatches, Error};
-use rignolda_acts::{CheckFault, act_check};
+use rignolda_commands::{CheckFault, act_check};
 use stab_task::CliFault;
 use std::alloc::{AllocError, Global};
 use std::io::Read;

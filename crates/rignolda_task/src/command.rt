@@ -3,8 +3,8 @@ use crate::line::rignolda;
 use crate::random::random_request;
 use clap::error::ErrorKind;
 use clap::{ArgMatches, Error};
+use rignolda_random::DrawOptions;
 use stab_frames::{Params, ParamsFault};
-use stab_random::DrawOptions;
 use std::alloc::{AllocError, Global};
 
 /// What the program is to do.

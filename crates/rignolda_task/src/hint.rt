@@ -1,6 +1,6 @@
 //! What is said after a fault of which the kind of the job may be the reason.
 
-use rignolda_acts::{BoundsFault, CheckFault};
+use rignolda_commands::{BoundsFault, CheckFault};
 use rignolda_judge::JudgeFault;
 use stab_job::JobFault;
 use stab_script::LinkJobFault;

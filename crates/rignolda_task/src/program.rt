@@ -6,7 +6,9 @@ use crate::judge::judge_of;
 use crate::scenario::{scenario_of, status_of_steps};
 use clap::Error;
 use clap::error::ErrorKind;
-use rignolda_acts::{RandomWriteFault, StepsFault, act_draw, act_explain, act_random, act_worst};
+use rignolda_commands::{
+    RandomWriteFault, StepsFault, act_draw, act_explain, act_random, act_worst,
+};
 use stab_task::{CliFault, words};
 use std::rt::{Env, Files};
 use std::{fs, io};

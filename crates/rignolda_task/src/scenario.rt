@@ -2,7 +2,7 @@
 
 use crate::hint::hint_of;
 use crate::program::{say_that_it_reads, unopened};
-use rignolda_acts::{StepsFault, act_scenario};
+use rignolda_commands::{StepsFault, act_scenario};
 use std::rt::Files;
 use std::{fs, io};
 

@@ -1,6 +1,6 @@
 //! The explanation of a link job as a job of a tree, which no command line asks for.
 
-use stab_explain::{Kind, explain, explanation_text};
+use rignolda_explain::{Kind, explain, explanation_text};
 use std::alloc::{AllocError, Global};
 
 /// A link job.

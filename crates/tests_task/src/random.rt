@@ -1,7 +1,7 @@
 //! How the options of a random job are refused, which the command line refuses before.
 
+use rignolda_random::{DrawOptions, OptionsFault, RandomFault, random_text};
 use stab_frames::ParamsFault;
-use stab_random::{DrawOptions, OptionsFault, RandomFault, random_text};
 use std::alloc::Global;
 
 /// The options of a small job.

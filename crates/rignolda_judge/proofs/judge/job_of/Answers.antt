@@ -4,7 +4,7 @@ use Rattle.serde_json.specs.Find.{get}
 use Rattle.serde_json.specs.View.{view}
 use Rattle.stab_json.specs.Values.{value_of}
 use Rattle.stab_job_stream.specs.Parts.{the_schedule, SameMembers}
-use Rattle.stab_logs.specs.Logs.{logs}
+use Rattle.rignolda_logs.specs.Logs.{logs}
 use Rattle.stab_tree.specs.Nodes.{Nodes}
 use Rattle.rignolda_judge.specs.Judged.{logs_in}
 use Rattle.rignolda_judge.proofs.judge.job_of.Goals as goal

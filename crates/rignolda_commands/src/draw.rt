@@ -1,0 +1,288 @@
+ghost use Rattle.std.specs.Prelude.{◌≡◌, ◌≢◌, ℕ, List, false, Some, None, option_map, string_bytes};
+ghost use Rattle.std.specs.Prelude.{All, IfErr, IfOk, IfSome, OnOk};
+ghost use Rattle.std.specs.Io.KnownBytes.{Appends, Keeps};
+ghost use Rattle.serde_json.specs.View.{view};
+ghost use Rattle.rignolda_commands.specs.Drawn.{IsDrawn, IsDrawnAs, IsDrawnBy, IsDrawnLink};
+ghost use Rattle.rignolda_commands.specs.Drawn.{IsDrawnScenario, IsDrawnTree, IsUndrawn, IsUndrawnBy};
+ghost use Rattle.rignolda_commands.specs.Drawn.{has_steps, task_of};
+ghost use Rattle.rignolda_commands.specs.Told.{IsUntold};
+ghost use Rattle.stab_core.specs.Link.{IsReason};
+ghost use Rattle.stab_core.specs.Replay.{IsLawful};
+ghost use Rattle.rignolda_draw.specs.Runs.{run_text};
+ghost use Rattle.rignolda_draw.specs.Schedules.{schedule_run_text};
+ghost use Rattle.rignolda_draw_scenario.specs.ScenarioRuns.{scenario_run_text};
+ghost use Rattle.rignolda_explain.specs.Kinds.{chosen};
+ghost use Rattle.stab_job.specs.JobValues.{network};
+ghost use Rattle.stab_json.specs.Values.{value_of};
+ghost use Rattle.rignolda_scenario.specs.Counts.{IsUnrun};
+ghost use Rattle.rignolda_scenario.specs.Scenarios.{scenario};
+ghost use Rattle.stab_task.specs.Answers.{IsFault};
+ghost use Rattle.stab_task.specs.declared.command.Task.TheVariants.{Link, Tree};
+ghost use Rattle.stab_treecore.specs.Network.{IsNetwork};
+ghost use Rattle.stab_treecore.specs.Refusals.{IsScheduleReason, NamesLink};
+
+use crate::answer::write_text;
+use crate::scenario::StepsFault;
+use rignolda_draw::{run_text, schedule_run_text};
+use rignolda_draw_scenario::scenario_run_text;
+use rignolda_findings::Kind;
+use rignolda_picture::{link_picture, scenario_picture, schedule_picture};
+use rignolda_scenario::{Scenario, ScenarioFault, read_scenario};
+use serde_json::Value;
+use stab_core::StartFault;
+use stab_job::Job;
+use stab_job_stream::read_job;
+use stab_json::read_value;
+use stab_script::LinkJob;
+use stab_stream::read_link_job;
+use stab_task::{CliFault, load};
+use stab_treecore::TreeStartFault;
+use std::alloc::{AllocError, Global};
+use std::io::{Read, Write};
+
+/// Reads a job, and writes its run step by step, as text or as a picture: that of the link of a
+/// link job, that of the schedule of a job of a tree, and that of the steps of such a job where it
+/// has some. Where there is none, the fault is that of `stab link`, of `stab tree`, or of
+/// [`act_scenario`](crate::act_scenario), and nothing is written unless it is `Write`.
+pub fn act_draw<R: Read, W: Write>(
+    alloc: Global,
+    is_picture: bool,
+    reader: &mut R,
+    writer: &mut W,
+) -> Result<(), StepsFault>
+    ensures written { OnOk result (IfSome (R.remaining reader.old) (λ input.
+        (text : List ℕ) × IsDrawn is_picture input text
+        × Appends (W.contents writer.old) (W.contents writer.new) text)) }
+    ensures fault { IfErr result (λ fault. fault ≢ StepsFault.Job CliFault.Write
+        → IfSome (R.remaining reader.old) (λ input. IsUndrawn input fault)) }
+    ensures nothing { IfErr result (λ fault. fault ≢ StepsFault.Job CliFault.Write
+        → Keeps (W.contents writer.old) (W.contents writer.new)) }
+{
+    let text = draw_input(alloc, is_picture, reader)?;
+    write_text(writer, &text)?;
+    Ok(())
+}
+
+/// The run of the job that the reader gives.
+#[tactic(auto, using(crate::proofs::Drawn::unloaded))]
+fn draw_input<R: Read>(
+    alloc: Global,
+    is_picture: bool,
+    reader: &mut R,
+) -> Result<String, StepsFault>
+    ensures drawn { IfOk result (λ text.
+        IfSome (R.remaining reader.old) (λ input. IsDrawn is_picture input (string_bytes text))) }
+    ensures fault { IfErr result (λ fault.
+        IfSome (R.remaining reader.old) (λ input. IsUndrawn input fault)) }
+    ensures no_write { IfErr result (λ fault. fault ≢ StepsFault.Job CliFault.Write) }
+{
+    let bytes = load(alloc, reader)?;
+    let text = draw_bytes(alloc, is_picture, &bytes)?;
+    Ok(text)
+}
+
+/// The run of the job that these bytes are, or of its steps.
+#[tactic(auto, using(crate::proofs::Drawn::memory_is_refused))]
+fn draw_bytes(alloc: Global, is_picture: bool, bytes: &[u8]) -> Result<String, StepsFault>
+    ensures drawn { IfOk result (λ text. IsDrawn is_picture bytes.now (string_bytes text)) }
+    ensures fault { IfErr result (IsUndrawn bytes.now) }
+    ensures no_write { IfErr result (λ fault. fault ≢ StepsFault.Job CliFault.Write) }
+{
+    let (kind, is_scenario) = looks_of_bytes(alloc, bytes)?;
+    let text = draw_by(alloc, is_scenario, kind, is_picture, bytes)?;
+    Ok(text)
+}
+
+/// What these bytes are read as, and whether they are an object with the members `tree` and
+/// `steps`.
+fn looks_of_bytes(alloc: Global, bytes: &[u8]) -> Result<(Kind, bool), CliFault>
+    ensures kind { IfOk result (λ looks. looks.0 ≡ chosen None (value_of bytes.now)) }
+    ensures has { IfOk result (λ looks. looks.1 ≡ has_steps (value_of bytes.now)) }
+    ensures memory { IfErr result (λ fault. fault ≡ CliFault.Memory) }
+{
+    let value = read_value(alloc, bytes)?;
+    Ok((kind_of(value.as_ref()), has_steps(value.as_ref())))
+}
+
+/// Whether there is a value, and it is an object with the members `tree` and `steps`.
+fn has_steps(value: Option<&Value>) -> bool
+    ensures { result ≡ has_steps (option_map (λ lent. view lent.now) value.entry) }
+{
+    match value {
+        Some(value) if value.get("tree").is_some() => value.get("steps").is_some(),
+        _ => false,
+    }
+}
+
+/// The run of bytes that have steps, or of others of this kind.
+fn draw_by(
+    alloc: Global,
+    is_scenario: bool,
+    kind: Kind,
+    is_picture: bool,
+    bytes: &[u8],
+) -> Result<String, StepsFault>
+    requires { kind ≡ chosen None (value_of bytes.now) }
+    ensures drawn { IfOk result (λ text.
+        IsDrawnBy is_scenario is_picture bytes.now (string_bytes text)) }
+    ensures fault { IfErr result (IsUndrawnBy is_scenario bytes.now) }
+    ensures no_write { IfErr result (λ fault. fault ≢ StepsFault.Job CliFault.Write) }
+{
+    if is_scenario {
+        draw_scenario(alloc, is_picture, bytes)
+    } else {
+        let text = draw_kind(alloc, kind, is_picture, bytes)?;
+        Ok(text)
+    }
+}
+
+/// The run of the scenario that these bytes are.
+#[tactic(auto, using(crate::proofs::Told::unread, crate::proofs::Told::unrun, crate::proofs::Told::no_write))]
+fn draw_scenario(alloc: Global, is_picture: bool, bytes: &[u8]) -> Result<String, StepsFault>
+    ensures drawn { IfOk result (λ text. IsDrawnScenario is_picture bytes.now (string_bytes text)) }
+    ensures fault { IfErr result (λ fault. IsUntold bytes.now fault) }
+    ensures no_write { IfErr result (λ fault. fault ≢ StepsFault.Job CliFault.Write) }
+{
+    let scenario = read_scenario(alloc, bytes)?;
+    let text = scenario_run(alloc, is_picture, &scenario)?;
+    Ok(text)
+}
+
+/// The run of a scenario that was read.
+fn scenario_run(
+    alloc: Global,
+    is_picture: bool,
+    scenario: &Scenario,
+) -> Result<String, ScenarioFault>
+    ensures text { IfOk result (λ text.
+        is_picture ≡ false → string_bytes text ≡ scenario_run_text scenario.now) }
+    ensures refused { IfErr result (IsUnrun scenario.now.job scenario.now.steps) }
+{
+    if is_picture {
+        scenario_picture(alloc, scenario)
+    } else {
+        scenario_run_text(alloc, scenario)
+    }
+}
+
+/// The run of the job of this kind that these bytes are.
+fn draw_kind(alloc: Global, kind: Kind, is_picture: bool, bytes: &[u8]) -> Result<String, CliFault>
+    ensures drawn { IfOk result (λ text.
+        IsDrawnAs kind is_picture bytes.now (string_bytes text)) }
+    ensures fault { IfErr result (IsFault (task_of kind) bytes.now) }
+    ensures no_write { IfErr result (λ fault. fault ≢ CliFault.Write) }
+{
+    match kind {
+        Kind::LinkJob => draw_link(alloc, is_picture, bytes),
+        Kind::Job => draw_tree(alloc, is_picture, bytes),
+    }
+}
+
+/// What these bytes are read as: an object with a member `tree` is a job of a tree, and everything
+/// else a link job.
+pub(crate) fn kind_of_bytes(alloc: Global, bytes: &[u8]) -> Result<Kind, AllocError>
+    ensures { IfOk result (λ kind. kind ≡ chosen None (value_of bytes.now)) }
+{
+    let value = read_value(alloc, bytes)?;
+    Ok(kind_of(value.as_ref()))
+}
+
+/// What a value is read as, where there is one.
+fn kind_of(value: Option<&Value>) -> Kind
+    ensures { result ≡ chosen None (option_map (λ lent. view lent.now) value.entry) }
+{
+    match value {
+        Some(value) if value.get("tree").is_some() => Kind::Job,
+        _ => Kind::LinkJob,
+    }
+}
+
+/// The run of the link job that these bytes are.
+fn draw_link(alloc: Global, is_picture: bool, bytes: &[u8]) -> Result<String, CliFault>
+    ensures drawn { IfOk result (λ text. IsDrawnLink is_picture bytes.now (string_bytes text)) }
+    ensures fault { IfErr result (IsFault (Link false) bytes.now) }
+    ensures no_write { IfErr result (λ fault. fault ≢ CliFault.Write) }
+{
+    let job = read_link_job(alloc, bytes)?;
+    let text = link_run(alloc, is_picture, &job)?;
+    Ok(text)
+}
+
+/// The run of a link job that was read.
+fn link_run(alloc: Global, is_picture: bool, job: &LinkJob) -> Result<String, StartFault>
+    ensures text { IfOk result (λ text.
+        is_picture ≡ false → string_bytes text ≡ run_text job.now) }
+    ensures lawful { OnOk result (IsLawful job.now.params job.now.start) }
+    ensures refused { IfErr result (IsReason job.now.params job.now.start) }
+{
+    if is_picture {
+        link_picture(alloc, job)
+    } else {
+        run_text(alloc, job)
+    }
+}
+
+/// The run of the schedule of the job that these bytes are.
+fn draw_tree(alloc: Global, is_picture: bool, bytes: &[u8]) -> Result<String, CliFault>
+    ensures drawn { IfOk result (λ text. IsDrawnTree is_picture bytes.now (string_bytes text)) }
+    ensures fault { IfErr result (IsFault Tree bytes.now) }
+    ensures no_write { IfErr result (λ fault. fault ≢ CliFault.Write) }
+{
+    let job = read_job(alloc, bytes)?;
+    let text = tree_run(alloc, is_picture, &job)?;
+    Ok(text)
+}
+
+/// The run of the schedule of a job that was read.
+fn tree_run(alloc: Global, is_picture: bool, job: &Job) -> Result<String, TreeStartFault>
+    ensures text { IfOk result (λ text. is_picture ≡ false
+        → string_bytes text ≡ schedule_run_text (network job.now) job.now.schedule) }
+    ensures network { OnOk result (IsNetwork (network job.now)) }
+    ensures named { OnOk result (All (NamesLink job.now.tree.parents) job.now.schedule) }
+    ensures refused { IfErr result (IsScheduleReason job.now.params job.now.starts
+        (network job.now) job.now.schedule) }
+{
+    if is_picture {
+        tree_picture(alloc, job)
+    } else {
+        tree_text(alloc, job)
+    }
+}
+
+/// The run of the schedule of a job as text.
+fn tree_text(alloc: Global, job: &Job) -> Result<String, TreeStartFault>
+    ensures text { IfOk result (λ text.
+        string_bytes text ≡ schedule_run_text (network job.now) job.now.schedule) }
+    ensures network { OnOk result (IsNetwork (network job.now)) }
+    ensures named { OnOk result (All (NamesLink job.now.tree.parents) job.now.schedule) }
+    ensures refused { IfErr result (IsScheduleReason job.now.params job.now.starts
+        (network job.now) job.now.schedule) }
+{
+    schedule_run_text(
+        alloc,
+        job.params(),
+        job.tree(),
+        job.items(),
+        job.starts(),
+        job.openings(),
+        job.schedule(),
+    )
+}
+
+/// The run of the schedule of a job as a picture.
+fn tree_picture(alloc: Global, job: &Job) -> Result<String, TreeStartFault>
+    ensures network { OnOk result (IsNetwork (network job.now)) }
+    ensures named { OnOk result (All (NamesLink job.now.tree.parents) job.now.schedule) }
+    ensures refused { IfErr result (IsScheduleReason job.now.params job.now.starts
+        (network job.now) job.now.schedule) }
+{
+    schedule_picture(
+        alloc,
+        job.params(),
+        job.tree(),
+        job.items(),
+        job.starts(),
+        job.openings(),
+        job.schedule(),
+    )
+}

@@ -1,0 +1,89 @@
+//! The job of a tree, or of a link, that a command reads.
+
+ghost use Rattle.std.specs.Prelude.{◌≡◌, ◌≢◌, codes, false, IfErr, IfOk, OnOk};
+ghost use Rattle.rignolda_commands.specs.Begun.{IsBegun, IsBegunLink};
+ghost use Rattle.rignolda_commands.specs.Checked.{given_backlogs};
+ghost use Rattle.serde_json.specs.Find.{get};
+ghost use Rattle.serde_json.specs.View.{view};
+ghost use Rattle.stab_core.specs.Link.{IsReason};
+ghost use Rattle.stab_core.specs.Replay.{IsLawful};
+ghost use Rattle.stab_job.specs.JobValues.{network};
+ghost use Rattle.stab_json.specs.Values.{value_of};
+ghost use Rattle.stab_task.specs.Answers.{IsFault};
+ghost use Rattle.stab_treecore.specs.Network.{IsNetwork};
+ghost use Rattle.stab_treecore.specs.Refusals.{IsScheduleReason};
+
+use serde_json::Value;
+use stab_core::{Link, StartFault};
+use stab_job::Job;
+use stab_job_stream::{read_job, read_job_and_members};
+use stab_script::LinkJob;
+use stab_stream::read_link_job;
+use stab_task::{CliFault, Task};
+use stab_treecore::{TreeStartFault, run_schedule};
+use std::alloc::Global;
+
+/// The job that these bytes are, where each of its links can begin. Otherwise the fault is that of
+/// `stab tree`.
+pub(crate) fn begun_job(alloc: Global, bytes: &[u8]) -> Result<Job, CliFault>
+    ensures begun { IfOk result (IsBegun bytes.now) }
+    ensures fault { IfErr result (IsFault Task.Tree bytes.now) }
+    ensures no_write { IfErr result (λ fault. fault ≢ CliFault.Write) }
+{
+    let job = read_job(alloc, bytes)?;
+    begin(alloc, &job)?;
+    Ok(job)
+}
+
+/// The same, and a value that has the backlogs of the bytes.
+pub(crate) fn begun_job_and_members(alloc: Global, bytes: &[u8]) -> Result<(Job, Value), CliFault>
+    ensures begun { IfOk result (λ read. IsBegun bytes.now read.0) }
+    ensures backlogs { IfOk result (λ read. given_backlogs (value_of bytes.now)
+        ≡ get (codes "backlogs") (view read.1)) }
+    ensures fault { IfErr result (IsFault Task.Tree bytes.now) }
+    ensures no_write { IfErr result (λ fault. fault ≢ CliFault.Write) }
+{
+    let read = read_job_and_members(alloc, bytes)?;
+    begin(alloc, &read.0)?;
+    Ok(read)
+}
+
+/// Sees that each link of a job can begin.
+#[tactic(auto, using(crate::proofs::Begin::whatever_the_schedule))]
+fn begin(alloc: Global, job: &Job) -> Result<(), TreeStartFault>
+    ensures network { OnOk result (IsNetwork (network job.now)) }
+    ensures refused { IfErr result (IsScheduleReason job.now.params job.now.starts
+        (network job.now) job.now.schedule) }
+{
+    run_schedule(
+        alloc,
+        job.params(),
+        job.tree(),
+        job.items(),
+        job.starts(),
+        job.openings(),
+        &[],
+    )?;
+    Ok(())
+}
+
+/// The link job that these bytes are, where its link can begin. Otherwise the fault is that of
+/// `stab link`.
+pub(crate) fn begun_link_job(alloc: Global, bytes: &[u8]) -> Result<LinkJob, CliFault>
+    ensures begun { IfOk result (IsBegunLink bytes.now) }
+    ensures fault { IfErr result (IsFault (Task.Link false) bytes.now) }
+    ensures no_write { IfErr result (λ fault. fault ≢ CliFault.Write) }
+{
+    let job = read_link_job(alloc, bytes)?;
+    begin_link(alloc, &job)?;
+    Ok(job)
+}
+
+/// Sees that the link of a job can begin.
+fn begin_link(alloc: Global, job: &LinkJob) -> Result<(), StartFault>
+    ensures lawful { OnOk result (IsLawful job.now.params job.now.start) }
+    ensures refused { IfErr result (IsReason job.now.params job.now.start) }
+{
+    Link::new(alloc, job.params, &job.start)?;
+    Ok(())
+}

@@ -1,0 +1,180 @@
+ghost use Rattle.std.specs.Prelude.{◌↔◌, IsErrOf};
+ghost use Rattle.std.specs.Prelude.{◌≡◌, ◌++◌, [], ◌∷◌, Some, All, option_map, option_to_list};
+ghost use Rattle.std.specs.Prelude.{slice_get, IfErr, IfOk, OnOk};
+ghost use Rattle.stab_core.specs.Link.{IsReason, link_at};
+ghost use Rattle.stab_core.specs.Replay.{IsLawful, initial};
+ghost use Rattle.stab_core.specs.Step.{effect, step};
+ghost use Rattle.stab_treecore.specs.Network.{IsNetwork, network_of};
+ghost use Rattle.stab_tree.specs.NodeOpenings.{FitTree};
+ghost use Rattle.stab_treecore.specs.Refusals.{IsScheduleReason, IsStartReason, NamesLink};
+ghost use Rattle.stab_treecore.specs.Refusals.{NamesNoLink, OnePerLink};
+ghost use Rattle.stab_treecore.specs.TreeReplay.{initial_tree};
+ghost use Rattle.stab_treecore.specs.TreeStep.{tree_step};
+ghost use Rattle.stab_treecore.specs.WholeTree.{link_into};
+ghost use Rattle.rignolda_draw.specs.Rows.{row_of, rows_from, step_row, tree_rows_from};
+
+use crate::cells::held;
+use crate::next::event_on;
+use crate::row::Row;
+use stab_core::{Effect, Event, Link, Start, StartFault};
+use stab_frames::{Item, Params};
+use stab_script::LinkJob;
+use stab_tree::{NodeId, Tree};
+use stab_treecore::{Openings, TreeEvent, TreeStartFault, TreeState, TreeStepFault, run_schedule};
+use std::alloc::{AllocError, Global};
+
+/// The rows of a link job's run, one for each event. It refuses a start as `stab link` does.
+pub fn link_rows(alloc: Global, job: &LinkJob) -> Result<Vec<Row>, StartFault>
+    ensures rows { IfOk result (λ rows. rows.items
+        ≡ rows_from job.now.params (initial job.now.start) job.now.events) }
+    ensures lawful { OnOk result (IsLawful job.now.params job.now.start) }
+    ensures refused { IfErr result (IsReason job.now.params job.now.start) }
+{
+    let mut link = Link::new(alloc, job.params, &job.start)?;
+    let mut rows = Vec::new(alloc);
+    push_rows(&mut rows, &mut link, job.events.as_slice())?;
+    Ok(rows)
+}
+
+/// Adds a row for each of these events. Where memory is refused, a part of them may be there.
+fn push_rows(rows: &mut Vec<Row>, link: &mut Link, events: &[Event]) -> Result<(), AllocError>
+    ensures { OnOk result (rows.new.items ≡ rows.old.items
+        ++ rows_from link.old.params link.old.state events.now) }
+{
+    for event in events {
+        push_row(rows, link, *event)?;
+    }
+    Ok(())
+}
+
+/// Takes a step, and adds its row.
+fn push_row(rows: &mut Vec<Row>, link: &mut Link, event: Event) -> Result<(), AllocError>
+    ensures row { OnOk result (rows.new.items ≡ rows.old.items
+        ++ row_of 0 (Some event) (effect link.old.params link.old.state event) link.new ∷ []) }
+    ensures steps { OnOk result (link.new
+        ≡ link_at link.old.params (step link.old.params link.old.state event)) }
+{
+    let effect = link.apply(event)?;
+    rows.push(row_of(NodeId::new(0), Some(event), effect, link))?;
+    Ok(())
+}
+
+/// The row of an event that had this effect on the link into a node, which is so after it.
+fn row_of(child: NodeId, event: Option<Event>, effect: Effect, link: &Link) -> Row
+    ensures { result ≡ row_of child event effect link.now }
+{
+    Row {
+        child,
+        event,
+        effect,
+        label: link.send_label(),
+        holds: held(link),
+        remembers: link.recv_label(),
+    }
+}
+
+/// The rows of a schedule's run, one for each event. It refuses what `run_schedule` refuses.
+#[tactic(auto, using(crate::proofs::Reasons::start_reason))]
+pub fn schedule_rows(
+    alloc: Global,
+    params: &[Params],
+    tree: &Tree,
+    published: &[Item],
+    starts: &[Start],
+    openings: &Openings,
+    events: &[TreeEvent],
+) -> Result<Vec<Row>, TreeStartFault>
+    requires fit { FitTree tree.now.parents openings.now }
+    ensures rows { IfOk result (λ rows. rows.items ≡ tree_rows_from (initial_tree
+        (network_of params.now tree.now published.now starts.now openings.now)) events.now) }
+    ensures params_per_link { OnOk result (OnePerLink tree.now.parents params.now) }
+    ensures one_per_link { OnOk result (OnePerLink tree.now.parents starts.now) }
+    ensures network { OnOk result (IsNetwork
+        (network_of params.now tree.now published.now starts.now openings.now)) }
+    ensures named { OnOk result (All (NamesLink tree.now.parents) events.now) }
+    ensures refused { IfErr result (IsScheduleReason params.now starts.now
+        (network_of params.now tree.now published.now starts.now openings.now) events.now) }
+{
+    let end = run_schedule(alloc, params, tree, published, starts, openings, events)?;
+    drop(end);
+    let rows = stepped(alloc, params, tree, published, starts, openings, events)?;
+    Ok(rows)
+}
+
+/// The rows of a schedule that names links alone, so that nothing but memory is refused once the
+/// tree can begin.
+fn stepped(
+    alloc: Global,
+    params: &[Params],
+    tree: &Tree,
+    published: &[Item],
+    starts: &[Start],
+    openings: &Openings,
+    events: &[TreeEvent],
+) -> Result<Vec<Row>, TreeStartFault>
+    requires fit { FitTree tree.now.parents openings.now }
+    ensures rows { IfOk result (λ rows. rows.items ≡ tree_rows_from (initial_tree
+        (network_of params.now tree.now published.now starts.now openings.now)) events.now) }
+    ensures refused { IfErr result (IsStartReason params.now tree.now.parents starts.now) }
+{
+    let mut state = TreeState::new(alloc, params, tree, published, starts, openings)?;
+    match rows_from(alloc, tree, &mut state, events) {
+        Ok(rows) => Ok(rows),
+        Err(_) => Err(TreeStartFault::Start(StartFault::Memory)),
+    }
+}
+
+/// The rows of these events from this state.
+fn rows_from(
+    alloc: Global,
+    tree: &Tree,
+    state: &mut TreeState,
+    events: &[TreeEvent],
+) -> Result<Vec<Row>, TreeStepFault>
+    requires same_tree { state.old.parents ≡ tree.now.parents }
+    ensures { IfOk result (λ rows. rows.items ≡ tree_rows_from state.old events.now) }
+{
+    let mut rows = Vec::new(alloc);
+    for event in events {
+        push_step_row(&mut rows, tree, state, *event)?;
+    }
+    Ok(rows)
+}
+
+/// Takes a step, and adds its row.
+pub fn push_step_row(
+    rows: &mut Vec<Row>,
+    tree: &Tree,
+    state: &mut TreeState,
+    event: TreeEvent,
+) -> Result<(), TreeStepFault>
+    requires same_tree { state.old.parents ≡ tree.now.parents }
+    ensures row { OnOk result (rows.new.items
+        ≡ rows.old.items ++ option_to_list (step_row state.old event)) }
+    ensures steps { OnOk result (state.new ≡ tree_step state.old event) }
+    ensures no_such_link { IsErrOf result TreeStepFault.NoSuchLink
+        ↔ NamesNoLink state.old.parents event }
+{
+    let child = event.child;
+    let its_event = event_on(tree, state, &event);
+    let effect = state.apply(event)?;
+    push_row_of(rows, child, its_event, effect, state)?;
+    Ok(())
+}
+
+/// Adds the row of an event that had this effect on the link into a node, where one leads into it.
+fn push_row_of(
+    rows: &mut Vec<Row>,
+    child: NodeId,
+    event: Option<Event>,
+    effect: Effect,
+    state: &TreeState,
+) -> Result<(), AllocError>
+    ensures { OnOk result (rows.new.items ≡ rows.old.items ++ option_to_list
+        (option_map (row_of child event effect) (link_into state.now child))) }
+{
+    if let Some(link) = state.link(child) {
+        rows.push(row_of(child, event, effect, link))?;
+    }
+    Ok(())
+}

@@ -1,0 +1,188 @@
+ghost use Rattle.std.specs.Prelude.{◌↔◌, IsErrOf};
+ghost use Rattle.std.specs.Prelude.{◌≡◌, ◌++◌, ◌<◌, All, length, string_bytes, IfErr, IfOk, OnOk};
+ghost use Rattle.stab_treecore.specs.Network.{IsNetwork, network_of};
+ghost use Rattle.stab_tree.specs.NodeOpenings.{FitTree};
+ghost use Rattle.stab_treecore.specs.Refusals.{IsScheduleReason, IsStartReason, NamesLink};
+ghost use Rattle.stab_treecore.specs.Refusals.{NamesNoLink};
+ghost use Rattle.stab_treecore.specs.TreeStep.{event_on, next_item, tree_effect, tree_step};
+ghost use Rattle.stab_treecore.specs.WholeTree.{link_into};
+ghost use Rattle.rignolda_draw.specs.Schedules.{link_line, link_start_line, node_start_line};
+ghost use Rattle.rignolda_draw.specs.Schedules.{schedule_run_text, start_lines, step_line};
+ghost use Rattle.rignolda_draw.specs.Schedules.{step_lines, tree_head};
+ghost use Rattle.std.specs.Option.{option_map_or};
+ghost use Rattle.std.specs.Prelude.{[], Some};
+
+use crate::cells::{push_act_cell, push_effect_cell, push_name_cell, push_state_cells};
+use crate::next::event_on;
+use crate::run::push_start_line;
+use crate::words::delivered_by;
+use stab_core::{Effect, Event, Link, Start, StartFault};
+use stab_frames::{Item, Params};
+use stab_tree::{NodeId, Tree};
+use stab_treecore::{Openings, TreeEvent, TreeStartFault, TreeState, TreeStepFault, run_schedule};
+use std::alloc::{AllocError, Global};
+
+/// The names of the columns, which are the first line of a schedule's run.
+const HEAD: &str =
+    "link      event               effect  label holds acked frames      acks    remembers delivers\n";
+
+/// The run of a schedule: the names of the columns, each link at its start, and a line for each
+/// event with its link after it. It refuses what `run_schedule` refuses.
+#[tactic(auto, using(crate::proofs::Reasons::start_reason))]
+pub fn schedule_run_text(
+    alloc: Global,
+    params: &[Params],
+    tree: &Tree,
+    published: &[Item],
+    starts: &[Start],
+    openings: &Openings,
+    events: &[TreeEvent],
+) -> Result<String, TreeStartFault>
+    requires fit { FitTree tree.now.parents openings.now }
+    ensures text { IfOk result (λ text. string_bytes text ≡ schedule_run_text
+        (network_of params.now tree.now published.now starts.now openings.now) events.now) }
+    ensures network { OnOk result (IsNetwork
+        (network_of params.now tree.now published.now starts.now openings.now)) }
+    ensures named { OnOk result (All (NamesLink tree.now.parents) events.now) }
+    ensures refused { IfErr result (IsScheduleReason params.now starts.now
+        (network_of params.now tree.now published.now starts.now openings.now) events.now) }
+{
+    let end = run_schedule(alloc, params, tree, published, starts, openings, events)?;
+    drop(end);
+    let text = drawn(alloc, params, tree, published, starts, openings, events)?;
+    Ok(text)
+}
+
+/// The run of a schedule that names links alone, so that nothing but memory is refused once the
+/// tree can begin.
+fn drawn(
+    alloc: Global,
+    params: &[Params],
+    tree: &Tree,
+    published: &[Item],
+    starts: &[Start],
+    openings: &Openings,
+    events: &[TreeEvent],
+) -> Result<String, TreeStartFault>
+    requires fit { FitTree tree.now.parents openings.now }
+    ensures text { IfOk result (λ text. string_bytes text ≡ schedule_run_text
+        (network_of params.now tree.now published.now starts.now openings.now) events.now) }
+    ensures refused { IfErr result (IsStartReason params.now tree.now.parents starts.now) }
+{
+    let mut state = TreeState::new(alloc, params, tree, published, starts, openings)?;
+    match text_from(alloc, tree, &mut state, events) {
+        Ok(text) => Ok(text),
+        Err(_) => Err(TreeStartFault::Start(StartFault::Memory)),
+    }
+}
+
+/// The run from this state.
+#[tactic(auto, unfolding(crate::specs::Schedules::tree_head, crate::specs::Runs::head))]
+fn text_from(
+    alloc: Global,
+    tree: &Tree,
+    state: &mut TreeState,
+    events: &[TreeEvent],
+) -> Result<String, TreeStepFault>
+    requires same_tree { state.old.parents ≡ tree.now.parents }
+    ensures { IfOk result (λ text. string_bytes text ≡ tree_head ++ start_lines tree.now state.old
+        ++ step_lines tree.now state.old events.now) }
+{
+    let mut text = String::from_str(alloc, HEAD)?;
+    push_start_lines(&mut text, tree, state)?;
+    push_step_lines(&mut text, tree, state, events)?;
+    Ok(text)
+}
+
+/// Adds a line for each link, in the file order of their children.
+fn push_start_lines(text: &mut String, tree: &Tree, state: &TreeState) -> Result<(), AllocError>
+    requires same_tree { state.now.parents ≡ tree.now.parents }
+    ensures { OnOk result
+        (string_bytes text.new ≡ string_bytes text.old ++ start_lines tree.now state.now) }
+{
+    for place in 0..tree.len() {
+        push_node_start(text, tree, state, NodeId::new(place))?;
+    }
+    Ok(())
+}
+
+/// Adds the line of the link into a node at its start, where one leads into it.
+fn push_node_start(
+    text: &mut String,
+    tree: &Tree,
+    state: &TreeState,
+    node: NodeId,
+) -> Result<(), AllocError>
+    ensures { OnOk result (string_bytes text.new
+        ≡ string_bytes text.old ++ node_start_line tree.now state.now node) }
+{
+    match state.link(node) {
+        None => Ok(()),
+        Some(link) => {
+            push_name_cell(text, tree, node)?;
+            push_start_line(text, link)
+        }
+    }
+}
+
+/// Adds a line for each of these events. Where memory is refused, a part of them may be there.
+fn push_step_lines(
+    text: &mut String,
+    tree: &Tree,
+    state: &mut TreeState,
+    events: &[TreeEvent],
+) -> Result<(), TreeStepFault>
+    requires same_tree { state.old.parents ≡ tree.now.parents }
+    ensures { OnOk result (string_bytes text.new
+        ≡ string_bytes text.old ++ step_lines tree.now state.old events.now) }
+{
+    for event in events {
+        push_step_line(text, tree, state, *event)?;
+    }
+    Ok(())
+}
+
+/// Takes a step, and adds its line.
+pub fn push_step_line(
+    text: &mut String,
+    tree: &Tree,
+    state: &mut TreeState,
+    event: TreeEvent,
+) -> Result<(), TreeStepFault>
+    requires same_tree { state.old.parents ≡ tree.now.parents }
+    ensures line { OnOk result (string_bytes text.new
+        ≡ string_bytes text.old ++ step_line tree.now state.old event) }
+    ensures steps { OnOk result (state.new ≡ tree_step state.old event) }
+    ensures no_such_link { IsErrOf result TreeStepFault.NoSuchLink
+        ↔ NamesNoLink state.old.parents event }
+{
+    let child = event.child;
+    let its_event = event_on(tree, state, &event);
+    let effect = state.apply(event)?;
+    push_link_line(text, tree, state, child, its_event, effect)?;
+    Ok(())
+}
+
+/// Adds the line of an event that had this effect on the link into a node, where one leads into it.
+#[tactic(auto, unfolding(crate::specs::Schedules::link_line))]
+fn push_link_line(
+    text: &mut String,
+    tree: &Tree,
+    state: &TreeState,
+    node: NodeId,
+    event: Option<Event>,
+    effect: Effect,
+) -> Result<(), AllocError>
+    ensures { OnOk result (string_bytes text.new ≡ string_bytes text.old
+        ++ option_map_or (link_line tree.now node event effect) (link_into state.now node) []) }
+{
+    match state.link(node) {
+        None => Ok(()),
+        Some(link) => {
+            push_name_cell(text, tree, node)?;
+            push_act_cell(text, event)?;
+            push_effect_cell(text, effect)?;
+            push_state_cells(text, link, delivered_by(effect))
+        }
+    }
+}

@@ -1,0 +1,242 @@
+//! The text of a scenario's run.
+
+ghost use Rattle.std.specs.Prelude.{◌≡◌, ◌++◌, codes, length, string_bytes, IfErr, IfOk, OnOk};
+ghost use Rattle.rignolda_draw.specs.Schedules.{link_start_line};
+ghost use Rattle.rignolda_draw_scenario.specs.ScenarioRuns.{after_rounds, begin_line, begin_lines};
+ghost use Rattle.rignolda_draw_scenario.specs.ScenarioRuns.{change_lines, rounds_lines};
+ghost use Rattle.rignolda_draw_scenario.specs.ScenarioRuns.{lines_after, lines_in};
+ghost use Rattle.rignolda_draw_scenario.specs.ScenarioRuns.{scenario_head, scenario_run_text};
+ghost use Rattle.rignolda_draw_scenario.specs.ScenarioRuns.{step_cell};
+ghost use Rattle.stab_faults.specs.Changes.{change_step, changes_replay};
+ghost use Rattle.rignolda_scenario.specs.Counts.{IsUnrun};
+ghost use Rattle.rignolda_scenario.specs.Played.{changes_in, reading_round_of};
+ghost use Rattle.stab_tree.specs.Links.{links_of};
+
+use crate::faults::{push_published, push_restarted, push_struck};
+use crate::rounds::{push_act, push_rounds};
+use rignolda_draw::{push_name_cell, push_number_cell, push_start_line};
+use rignolda_scenario::{Scenario, ScenarioFault, Step, reading_round_of_all, state_after};
+use stab_core::Link;
+use stab_faults::{Change, ChangeFault};
+use stab_frames::Params;
+use stab_rounds::round_of_all;
+use stab_tree::{NodeId, Tree};
+use stab_treecore::TreeState;
+use std::alloc::{AllocError, Global};
+
+/// The names of the columns, which are the first line of a scenario's run.
+const HEAD: &str =
+    "step  link      event               effect  label holds acked frames      acks    \
+remembers delivers\n";
+
+/// The run of a scenario: the names of the columns, each link at its start, and the lines of each
+/// step. It refuses what `scenario_text` refuses.
+pub fn scenario_run_text(alloc: Global, scenario: &Scenario) -> Result<String, ScenarioFault>
+    ensures text { IfOk result (λ text. string_bytes text ≡ scenario_run_text scenario.now) }
+    ensures refused { IfErr result (IsUnrun scenario.now.job scenario.now.steps) }
+{
+    let end = state_after(alloc, &scenario.job, scenario.steps.as_slice())?;
+    drop(end);
+    match drawn(alloc, scenario) {
+        Ok(text) => Ok(text),
+        Err(_) => Err(ScenarioFault::Memory),
+    }
+}
+
+/// The run of a scenario whose changes can all be made, so that nothing but memory is refused.
+fn drawn(alloc: Global, scenario: &Scenario) -> Result<String, ChangeFault>
+    ensures { IfOk result (λ text. string_bytes text ≡ scenario_run_text scenario.now) }
+{
+    let job = &scenario.job;
+    let tree = job.tree();
+    let mut state = TreeState::new(
+        alloc,
+        job.params(),
+        tree,
+        job.items(),
+        job.starts(),
+        job.openings(),
+    )?;
+    let text = text_from(
+        alloc,
+        tree,
+        job.params(),
+        &mut state,
+        scenario.steps.as_slice(),
+    )?;
+    Ok(text)
+}
+
+/// The run of these steps from this state.
+#[tactic(auto, unfolding(crate::specs::ScenarioRuns::scenario_head, rignolda_draw::specs::Schedules::tree_head, rignolda_draw::specs::Runs::head))]
+fn text_from(
+    alloc: Global,
+    tree: &Tree,
+    params: &[Params],
+    state: &mut TreeState,
+    steps: &[Step],
+) -> Result<String, ChangeFault>
+    requires per_link { length params.now ≡ length (links_of tree.now.parents) }
+    requires same_tree { state.old.parents ≡ tree.now.parents }
+    ensures { IfOk result (λ text. string_bytes text ≡ scenario_head
+        ++ begin_lines tree.now state.old
+        ++ lines_after tree.now params.now state.old 0 steps.now) }
+{
+    let mut text = String::from_str(alloc, HEAD)?;
+    push_begin_lines(&mut text, tree, state)?;
+    push_steps(alloc, &mut text, tree, params, state, steps)?;
+    Ok(text)
+}
+
+/// Adds a line for each link at its start, in the file order of their children.
+fn push_begin_lines(text: &mut String, tree: &Tree, state: &TreeState) -> Result<(), AllocError>
+    ensures { OnOk result
+        (string_bytes text.new ≡ string_bytes text.old ++ begin_lines tree.now state.now) }
+{
+    for place in 0..tree.len() {
+        push_begin_line(text, tree, state, NodeId::new(place))?;
+    }
+    Ok(())
+}
+
+/// Adds the line of the link into a node at its start, where one leads into it.
+fn push_begin_line(
+    text: &mut String,
+    tree: &Tree,
+    state: &TreeState,
+    node: NodeId,
+) -> Result<(), AllocError>
+    ensures { OnOk result
+        (string_bytes text.new ≡ string_bytes text.old ++ begin_line tree.now state.now node) }
+{
+    match state.link(node) {
+        None => Ok(()),
+        Some(link) => push_link_begin(text, tree, node, link),
+    }
+}
+
+/// Adds the line of a link at its start.
+fn push_link_begin(
+    text: &mut String,
+    tree: &Tree,
+    node: NodeId,
+    link: &Link,
+) -> Result<(), AllocError>
+    ensures { OnOk result (string_bytes text.new ≡ string_bytes text.old
+        ++ step_cell 0 ++ link_start_line tree.now node link.now) }
+{
+    push_number_cell(text, 0)?;
+    push_name_cell(text, tree, node)?;
+    push_start_line(text, link)
+}
+
+/// Adds the lines of these steps.
+fn push_steps(
+    alloc: Global,
+    text: &mut String,
+    tree: &Tree,
+    params: &[Params],
+    state: &mut TreeState,
+    steps: &[Step],
+) -> Result<(), ChangeFault>
+    requires per_link { length params.now ≡ length (links_of tree.now.parents) }
+    requires same_tree { state.old.parents ≡ tree.now.parents }
+    ensures { OnOk result (string_bytes text.new ≡ string_bytes text.old
+        ++ lines_after tree.now params.now state.old 0 steps.now) }
+{
+    let mut number = 0;
+    for step in steps {
+        number += 1;
+        push_step(alloc, text, tree, params, state, number, step)?;
+    }
+    Ok(())
+}
+
+/// Makes a step of this number, and adds its lines.
+#[tactic(auto, using(crate::proofs::Played::rounds_played))]
+fn push_step(
+    alloc: Global,
+    text: &mut String,
+    tree: &Tree,
+    params: &[Params],
+    state: &mut TreeState,
+    number: usize,
+    step: &Step,
+) -> Result<(), ChangeFault>
+    requires per_link { length params.now ≡ length (links_of tree.now.parents) }
+    requires same_tree { state.old.parents ≡ tree.now.parents }
+    ensures lines { OnOk result (string_bytes text.new ≡ string_bytes text.old
+        ++ lines_in number tree.now params.now state.old step.now) }
+    ensures after { OnOk result (state.new
+        ≡ changes_replay state.old (changes_in tree.now.parents params.now step.now)) }
+    ensures same_tree { OnOk result (state.new.parents ≡ tree.now.parents) }
+{
+    match step {
+        Step::One(change) => push_change(alloc, text, tree, state, number, change)?,
+        Step::Rounds(count) => {
+            let round = round_of_all(alloc, tree)?;
+            push_rounds(text, tree, state, number, "round", &round, *count)?;
+        }
+        Step::ReadingRounds(count) => {
+            push_reading_rounds(alloc, text, tree, params, state, number, *count)?;
+        }
+    }
+    Ok(())
+}
+
+/// Makes so many reading rounds of all links, and adds their lines.
+fn push_reading_rounds(
+    alloc: Global,
+    text: &mut String,
+    tree: &Tree,
+    params: &[Params],
+    state: &mut TreeState,
+    number: usize,
+    count: u16,
+) -> Result<(), ChangeFault>
+    requires per_link { length params.now ≡ length (links_of tree.now.parents) }
+    requires same_tree { state.old.parents ≡ tree.now.parents }
+    ensures lines { OnOk result (string_bytes text.new ≡ string_bytes text.old
+        ++ rounds_lines (codes "reading round") number count tree.now state.old
+        (reading_round_of (links_of tree.now.parents) params.now) count) }
+    ensures after { OnOk result (state.new ≡ after_rounds state.old
+        (reading_round_of (links_of tree.now.parents) params.now) count) }
+    ensures same_tree { OnOk result (state.new.parents ≡ tree.now.parents) }
+{
+    let round = reading_round_of_all(alloc, tree, params)?;
+    push_rounds(text, tree, state, number, "reading round", &round, count)?;
+    Ok(())
+}
+
+/// Makes a change, and adds its lines.
+fn push_change(
+    alloc: Global,
+    text: &mut String,
+    tree: &Tree,
+    state: &mut TreeState,
+    number: usize,
+    change: &Change,
+) -> Result<(), ChangeFault>
+    requires same_tree { state.old.parents ≡ tree.now.parents }
+    ensures lines { OnOk result (string_bytes text.new ≡ string_bytes text.old
+        ++ change_lines number tree.now state.old change.now) }
+    ensures made { OnOk result (state.new ≡ change_step state.old change.now) }
+    ensures same_tree { OnOk result (state.new.parents ≡ tree.now.parents) }
+{
+    match change {
+        Change::Act(event) => push_act(text, tree, state, number, *event)?,
+        Change::Publish(items) => {
+            state.publish(items.as_slice())?;
+            push_published(text, tree, number, items.as_slice())?;
+        }
+        Change::Strike(child, start) => {
+            state.strike(*child, start)?;
+            push_struck(text, tree, state, number, *child)?;
+        }
+        Change::Restart(node, list) => {
+            state.restart(alloc, *node, list.as_slice())?;
+            push_restarted(text, tree, state, number, *node, list.as_slice())?;
+        }
+    }
+    Ok(())
+}

@@ -1,0 +1,118 @@
+ghost use Rattle.std.specs.Prelude.{◌≡◌, IfOk, IfSome, IsSome, IsTrue, Some};
+ghost use Rattle.stab_json.specs.Values.{value_of};
+ghost use Rattle.rignolda_explain.specs.Findings.{LedBy};
+ghost use Rattle.rignolda_explain.specs.Kinds.{chosen};
+ghost use Rattle.rignolda_explain.specs.Refusals.{refusal_of};
+
+use crate::job::look_at_job;
+use crate::reader::{chosen, refusal_of};
+use rignolda_findings::{
+    Explanation, Finding, Kind, Matter, Notes, Piece, Place, Refusal, line_of, look_at_bytes,
+    look_at_link_job,
+};
+use serde_json::Value;
+use stab_json::read_value;
+use std::alloc::{AllocError, Global};
+
+/// What is wrong with these bytes, read as a job of the given kind, or of the kind that they look
+/// like: an object with a member `tree` is a job of a tree, and everything else a link job. Only
+/// memory can be refused.
+pub fn explain(alloc: Global, given: Option<Kind>, bytes: &[u8]) -> Result<Explanation, AllocError>
+    ensures kind { IfOk result (λ its. its.kind ≡ chosen given (value_of bytes.now)) }
+    ensures refusal { IfOk result (λ its. its.refusal ≡ refusal_of its.kind bytes.now) }
+    ensures first { IfOk result (λ its. LedBy its.refusal its.findings.items) }
+{
+    let (kind, notes, refusal) = walked(alloc, given, bytes)?;
+    let (findings, omitted) = notes.into_parts();
+    let findings = led_by(alloc, &refusal, findings)?;
+    Ok(Explanation {
+        kind,
+        refusal,
+        findings,
+        omitted,
+    })
+}
+
+/// The kind of the bytes, what is found in them, and why the reader of that kind refuses them.
+fn walked(
+    alloc: Global,
+    given: Option<Kind>,
+    bytes: &[u8],
+) -> Result<(Kind, Notes, Option<Refusal>), AllocError>
+    ensures kind { IfOk result (λ all. all.0 ≡ chosen given (value_of bytes.now)) }
+    ensures refusal { IfOk result (λ all. all.2 ≡ refusal_of all.0 bytes.now) }
+{
+    let value = read_value(alloc, bytes)?;
+    let kind = chosen(given, value.as_ref());
+    let mut notes = Notes::new(alloc, kind);
+    look(&mut notes, kind, value.as_ref(), bytes)?;
+    let refusal = refusal_of(alloc, kind, bytes, value.as_ref())?;
+    Ok((kind, notes, refusal))
+}
+
+/// Adds what is found in the value of these bytes, or that they have none.
+fn look(
+    notes: &mut Notes,
+    kind: Kind,
+    value: Option<&Value>,
+    bytes: &[u8],
+) -> Result<(), AllocError> {
+    match (value, kind) {
+        (None, _) => look_at_bytes(notes, bytes),
+        (Some(value), Kind::LinkJob) => look_at_link_job(notes, value),
+        (Some(value), Kind::Job) => look_at_job(notes, value),
+    }
+}
+
+/// The findings, of which the first is of the refusal, where there is one. The walk makes the
+/// reader's checks in their order, so that its first finding is of that refusal; otherwise one
+/// without a place is put before it.
+fn led_by(
+    alloc: Global,
+    refusal: &Option<Refusal>,
+    findings: Vec<Finding>,
+) -> Result<Vec<Finding>, AllocError>
+    ensures { IfOk result (λ led. LedBy refusal.now led.items) }
+{
+    match refusal {
+        Some(refusal) => led_by_one(alloc, refusal, findings),
+        None => Ok(findings),
+    }
+}
+
+/// The findings, of which the first is of this refusal.
+fn led_by_one(
+    alloc: Global,
+    refusal: &Refusal,
+    mut findings: Vec<Finding>,
+) -> Result<Vec<Finding>, AllocError>
+    ensures { IfOk result (λ led. LedBy (Some refusal.now) led.items) }
+{
+    if !is_of(findings.first(), refusal) {
+        findings.insert(0, bare(alloc, refusal)?)?;
+    }
+    Ok(findings)
+}
+
+/// A finding of this refusal, without a place.
+fn bare(alloc: Global, refusal: &Refusal) -> Result<Finding, AllocError>
+    ensures { IfOk result (λ finding. finding.matter ≡ Matter.Refused refusal.now) }
+{
+    let line = line_of(alloc, &Place::whole(), &[Piece::Words("refused")])?;
+    Ok(Finding {
+        matter: Matter::Refused(*refusal),
+        line,
+    })
+}
+
+/// Whether there is a first finding, and it is of this refusal.
+fn is_of(finding: Option<&Finding>, refusal: &Refusal) -> bool
+    ensures matter { IsTrue result → IfSome finding.entry
+        (λ first. first.now.matter ≡ Matter.Refused refusal.now) }
+    ensures there { IsTrue result → IsSome finding.entry }
+{
+    match finding {
+        Some(finding) => finding.matter == Matter::Refused(*refusal),
+        None => false,
+    }
+}

@@ -1,0 +1,27 @@
+//! What is wrong with a job, and where.
+//!
+//! The program that replays and runs jobs answers a refused one with one line that names no place,
+//! and ignores members that it does not know. [`explain`] reads the same bytes for a person: it
+//! finds every place where a link job or a job of a tree is refused, and every member that no
+//! reader looks at, with the nearest name that it knows.
+//!
+//! Two facts are proved. The [`Explanation`]'s refusal is exactly the answer of the reader of such
+//! bytes, `read_link_job` or `read_job`: none where it accepts them, and else its fault. And the
+//! first finding is of that fault. The places, and all findings after the first, are tested.
+#![tactic(auto)]
+
+mod backlogs;
+mod explained;
+mod job;
+mod links;
+mod logs;
+mod openings;
+mod reader;
+mod schedule;
+mod scripts;
+mod steps;
+mod text;
+
+pub use explained::explain;
+pub use rignolda_findings::{Explanation, Finding, Kind, MAX_FINDINGS, Matter, Refusal};
+pub use text::explanation_text;

@@ -1,0 +1,15 @@
+use Rattle.std.proofs.Common.{◌≡◌, ◌<◌, ℕ, length, refl, subst, arith}
+use Rattle.stab_tree.specs.Nodes.{Nodes}
+use Rattle.rignolda_logs.specs.ObeysLogs.{LogObeys}
+use Rattle.rignolda_logs.proofs.judged.first_broken.Goals as goal
+
+pub returns-clause-none : goal.returns-clause-none
+returns-clause-none c =
+    let net = c.args.judge.now in
+    let logs = c.args.logs.now in
+    let nodes : (node : ℕ) → node < length net.tree.parents → LogObeys net logs node =
+    λ node is_node.
+    let within : node < length c.args.tree.now.parents =
+    subst (λ (t : Nodes). node < length t.parents) c.requires.same_tree is_node in
+    c.nodes.invariant node (omega (arith, within, c.nodes-test.false, c.len-place-end.ensures.value)) in
+    (λ _. record { nodes = nodes }, λ _. refl)

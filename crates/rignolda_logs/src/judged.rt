@@ -1,0 +1,185 @@
+//! Which part of some logs is broken first.
+
+ghost use Rattle.std.specs.Prelude.{◌≡◌, ◌<◌, ◌≤◌, ◌+◌, ◌*◌, ◌↔◌, IfOk, IfSome, IsNone, IsTrue};
+ghost use Rattle.std.specs.Prelude.{length};
+ghost use Rattle.rignolda_logs.specs.ObeysLogs.{IsBrokenLog, IsFirstLog, IsOrdered, LogObeys};
+ghost use Rattle.rignolda_logs.specs.ObeysLogs.{ObeysLogs, counted, kept_for, place_of, strays_at};
+ghost use Rattle.stab_treecore.specs.NodeLaws.{most_missing};
+
+use crate::broken::BrokenLog;
+use crate::logs::Logs;
+use stab_frames::Item;
+use stab_judge::{Judge, obeys_half_tree_law, obeys_tree_law};
+use stab_tree::{NodeId, Tree};
+use std::alloc::{AllocError, Global};
+
+/// The first part of some logs that is broken, and nothing where they obey: nodes in file order,
+/// and at each node strays and order first.
+pub(crate) fn first_broken(
+    alloc: Global,
+    judge: &Judge<'_>,
+    tree: &Tree,
+    hold: u16,
+    published: &[Item],
+    logs: &Logs,
+) -> Result<Option<BrokenLog>, AllocError>
+    requires same_tree { judge.now.tree ≡ tree.now }
+    requires same_hold { judge.now.openings.hold ≡ hold }
+    requires same_items { judge.now.published ≡ published.now }
+    requires per_node { length logs.now.received ≡ length tree.now.parents }
+    ensures none { IfOk result (λ part. IsNone part ↔ ObeysLogs judge.now logs.now) }
+    ensures broken { IfOk result (λ part. IfSome part (IsBrokenLog judge.now logs.now)) }
+    ensures first { IfOk result (λ part. IfSome part (IsFirstLog judge.now logs.now)) }
+    ensures known { IfOk result (λ part. IfSome part
+        (λ its. place_of its < length tree.now.parents)) }
+{
+    'nodes: for place in 0..tree.len() {
+        let node = NodeId::new(place);
+        if let Some(part) = broken_at(alloc, judge, tree, hold, published, logs, node)? {
+            return Ok(Some(part));
+        }
+    }
+    Ok(None)
+}
+
+/// The first part that is broken at a node.
+#[tactic(auto, using(crate::proofs::AnyGarbage::what_obeys_is_ordered))]
+fn broken_at(
+    alloc: Global,
+    judge: &Judge<'_>,
+    tree: &Tree,
+    hold: u16,
+    published: &[Item],
+    logs: &Logs,
+    node: NodeId,
+) -> Result<Option<BrokenLog>, AllocError>
+    requires same_tree { judge.now.tree ≡ tree.now }
+    requires same_hold { judge.now.openings.hold ≡ hold }
+    requires same_items { judge.now.published ≡ published.now }
+    requires per_node { length logs.now.received ≡ length tree.now.parents }
+    requires known { node < length tree.now.parents }
+    ensures none { IfOk result (λ part. IsNone part ↔ LogObeys judge.now logs.now node) }
+    ensures broken { IfOk result (λ part. IfSome part (IsBrokenLog judge.now logs.now)) }
+    ensures there { IfOk result (λ part. IfSome part (λ its. place_of its ≡ node)) }
+{
+    if !is_ordered(judge, tree, hold, published, logs, node) {
+        return Ok(Some(BrokenLog::Strays(node)));
+    }
+    if !log_obeys(alloc, judge, tree, hold, published, logs, node)? {
+        return Ok(Some(BrokenLog::Missing(node)));
+    }
+    Ok(None)
+}
+
+/// Whether what a node received are at most C + E strays and then published items in order. Any
+/// items may be strays, so they are looked for in the list itself.
+fn is_ordered(
+    judge: &Judge<'_>,
+    tree: &Tree,
+    hold: u16,
+    published: &[Item],
+    logs: &Logs,
+    node: NodeId,
+) -> bool
+    requires same_tree { judge.now.tree ≡ tree.now }
+    requires same_hold { judge.now.openings.hold ≡ hold }
+    requires same_items { judge.now.published ≡ published.now }
+    requires listed { node < length logs.now.received }
+    requires known { node < length tree.now.parents }
+    ensures { IsTrue result ↔ IsOrdered judge.now logs.now node }
+{
+    let counted = counted(judge, published, logs, node);
+    let strays = strays_at(judge, tree, hold, node);
+    let received = logs.received_at(node);
+    obeys_half_tree_law(strays as usize, received, counted, received)
+}
+
+/// Whether the log of a node obeys.
+fn log_obeys(
+    alloc: Global,
+    judge: &Judge<'_>,
+    tree: &Tree,
+    hold: u16,
+    published: &[Item],
+    logs: &Logs,
+    node: NodeId,
+) -> Result<bool, AllocError>
+    requires same_tree { judge.now.tree ≡ tree.now }
+    requires same_hold { judge.now.openings.hold ≡ hold }
+    requires same_items { judge.now.published ≡ published.now }
+    requires listed { node < length logs.now.received }
+    requires known { node < length tree.now.parents }
+    ensures { IfOk result (λ yes. IsTrue yes ↔ LogObeys judge.now logs.now node) }
+{
+    let counted = counted(judge, published, logs, node);
+    let strays = strays_at(judge, tree, hold, node);
+    let missing = missing_at(judge, tree, node);
+    let received = logs.received_at(node);
+    let obeys = obeys_tree_law(
+        alloc,
+        strays as usize,
+        missing as usize,
+        received,
+        counted,
+        received,
+    )?;
+    Ok(obeys)
+}
+
+/// The items that are published in the count of a node.
+pub(crate) fn counted<'a>(
+    judge: &Judge<'_>,
+    published: &'a [Item],
+    logs: &Logs,
+    node: NodeId,
+) -> &'a [Item]
+    requires same_items { judge.now.published ≡ published.now }
+    ensures { result.now ≡ counted judge.now logs.now node }
+{
+    let from = logs.from_at(node) as usize;
+    let (_, counted) = published.split_at(from.min(published.len()));
+    counted
+}
+
+/// How many items the parent of a node may have had for it that count as strays.
+fn kept_for(tree: &Tree, hold: u16, node: NodeId) -> u16
+    requires known { node < length tree.now.parents }
+    ensures { result ≡ kept_for tree.now.parents hold node }
+{
+    match tree.parent(node) {
+        None => 0,
+        Some(parent) => match tree.parent(parent) {
+            None => 0,
+            Some(_) => hold,
+        },
+    }
+}
+
+/// M of a node.
+pub(crate) fn missing_at(judge: &Judge<'_>, tree: &Tree, node: NodeId) -> u64
+    requires same_tree { judge.now.tree ≡ tree.now }
+    requires known { node < length tree.now.parents }
+    ensures { result ≡ most_missing judge.now node }
+{
+    judge.bounds_at(node).missing
+}
+
+/// C + E of a node.
+pub(crate) fn strays_at(judge: &Judge<'_>, tree: &Tree, hold: u16, node: NodeId) -> u64
+    requires same_tree { judge.now.tree ≡ tree.now }
+    requires same_hold { judge.now.openings.hold ≡ hold }
+    requires known { node < length tree.now.parents }
+    ensures { result ≡ strays_at judge.now node }
+{
+    let depth = tree.depth(node);
+    let mut strays: u64 = 0;
+    let mut at = node;
+    'links: for _ in 0..depth {
+        strays += u64::from(judge.capacity_into(at)) + u64::from(kept_for(tree, hold, at));
+        match tree.parent(at) {
+            None => return strays,
+            Some(parent) => at = parent,
+        }
+    }
+    strays
+}

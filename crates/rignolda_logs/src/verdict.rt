@@ -1,0 +1,69 @@
+//! The verdict of logs.
+
+ghost use Rattle.std.specs.Prelude.{◌≡◌, ◌↔◌, length, string_bytes, IfOk, IsTrue};
+ghost use Rattle.stab_job.specs.JobValues.{network};
+ghost use Rattle.rignolda_logs.specs.LogTexts.{SaysLogs};
+ghost use Rattle.rignolda_logs.specs.ObeysLogs.{ObeysLogs};
+
+use crate::judged::first_broken;
+use crate::logs::Logs;
+use crate::text::push_broken;
+use stab_frames::Item;
+use stab_job::Job;
+use stab_judge::Judge;
+use stab_tree::Tree;
+use std::alloc::{AllocError, Global};
+
+/// What is said of the logs of the nodes of a job, and whether they obey: the job's starts and
+/// openings do not count, since nobody knows what was in the links and nodes at the moment, but for
+/// how much they may hold. Where the logs do not obey, the first part is named that is broken.
+pub fn verdict_of_logs(alloc: Global, job: &Job, logs: &Logs) -> Result<(String, bool), AllocError>
+    requires per_node { length logs.now.received ≡ length job.now.tree.parents }
+    ensures exactly { IfOk result (λ said. IsTrue said.1 ↔ ObeysLogs (network job.now) logs.now) }
+    ensures says { IfOk result (λ said.
+        SaysLogs (network job.now) logs.now said.1 (string_bytes said.0)) }
+{
+    let judge = Judge::new(
+        alloc,
+        job.tree(),
+        job.openings(),
+        job.params(),
+        job.starts(),
+        job.items(),
+    )?;
+    verdict_by(
+        alloc,
+        &judge,
+        job.tree(),
+        job.openings().hold(),
+        job.items(),
+        logs,
+    )
+}
+
+/// What this judge says of logs.
+fn verdict_by(
+    alloc: Global,
+    judge: &Judge<'_>,
+    tree: &Tree,
+    hold: u16,
+    published: &[Item],
+    logs: &Logs,
+) -> Result<(String, bool), AllocError>
+    requires same_tree { judge.now.tree ≡ tree.now }
+    requires same_hold { judge.now.openings.hold ≡ hold }
+    requires same_items { judge.now.published ≡ published.now }
+    requires per_node { length logs.now.received ≡ length tree.now.parents }
+    ensures exactly { IfOk result (λ said. IsTrue said.1 ↔ ObeysLogs judge.now logs.now) }
+    ensures says { IfOk result (λ said.
+        SaysLogs judge.now logs.now said.1 (string_bytes said.0)) }
+{
+    match first_broken(alloc, judge, tree, hold, published, logs)? {
+        None => Ok((String::from_str(alloc, "obeys\n")?, true)),
+        Some(part) => {
+            let mut text = String::new(alloc);
+            push_broken(&mut text, judge, tree, hold, published, logs, part)?;
+            Ok((text, false))
+        }
+    }
+}

@@ -1,0 +1,65 @@
+-- The changes of the tree that steps are: each change, and the acts of each round of all links.
+-- Example: In the chain r, a, b one round is five acts on the link into a and then five on the link
+-- into b. One reading round of links of capacity 1 is seven acts on each.
+-- Source: this project's own.
+use Rattle.std.specs.Prelude.{ℕ, zero, suc, ◌<◌, length, List, [], ◌∷◌, ◌++◌, map, replicate, false}
+use Rattle.std.specs.Prelude.{Option}
+use Rattle.stab_core.specs.declared.act.LinkAct.TheVariants.{Offer, SendFrame, RecvFrame, SendAck}
+use Rattle.stab_core.specs.declared.act.LinkAct.TheVariants.{RecvAck}
+use Rattle.stab_frames.specs.Parameters.{Parameters}
+use Rattle.stab_rounds.specs.TreePlayed.{act_on, play, round_from}
+use Rattle.stab_tree.specs.Links.{links_of}
+use Rattle.stab_treecore.specs.declared.event.TreeEvent.{TreeEvent}
+use Rattle.stab_faults.specs.declared.change.Change.{Change}
+use Rattle.stab_faults.specs.declared.change.Change.TheVariants.{Act}
+use Rattle.rignolda_scenario.specs.declared.fault.ListFault.{ListFault}
+use Rattle.rignolda_scenario.specs.declared.fault.ListFault.TheVariants as fault
+use Rattle.rignolda_scenario.specs.declared.step.Step.{Step}
+use Rattle.rignolda_scenario.specs.declared.step.Step.TheVariants.{One, Rounds, ReadingRounds}
+
+-- a reading round of the link into this node, whose capacity is this: an offer, so many frames that
+-- are taken, one that is sent, and one that is taken; and so with acknowledgements
+abbrev pub reading_round_on : ℕ → ℕ → List TreeEvent
+reading_round_on child c =
+    act_on child Offer ∷ (replicate c (act_on child (RecvFrame false))
+    ++ (act_on child SendFrame ∷ act_on child (RecvFrame false)
+    ∷ (replicate c (act_on child (RecvAck false))
+    ++ (act_on child SendAck ∷ act_on child (RecvAck false) ∷ []))))
+
+-- a reading round of each of the links into these nodes, which have these parameters
+abbrev pub reading_round_of : List ℕ → List Parameters → List TreeEvent
+reading_round_of [] params = []
+reading_round_of (child ∷ children) [] = []
+reading_round_of (child ∷ children) (own ∷ params) =
+    reading_round_on child own.capacity ++ reading_round_of children params
+
+-- these events as changes
+abbrev pub acts : List TreeEvent → List Change
+acts events = map Act events
+
+-- so many times these events
+abbrev pub repeated : ℕ → List TreeEvent → List Change
+repeated zero events = []
+repeated (suc times) events = acts events ++ repeated times events
+
+-- the changes that a step is
+abbrev pub changes_in : List (Option ℕ) → List Parameters → Step → List Change
+changes_in parents params (One change) = change ∷ []
+changes_in parents params (Rounds count) = repeated count (round_from 0 parents)
+changes_in parents params (ReadingRounds count) =
+    repeated count (reading_round_of (links_of parents) params)
+
+-- the changes that these steps are
+abbrev pub changes_of : List (Option ℕ) → List Parameters → List Step → List Change
+changes_of parents params [] = []
+changes_of parents params (step ∷ steps) =
+    changes_in parents params step ++ changes_of parents params steps
+
+-- the most changes that steps may be
+abbrev pub most_changes : ℕ
+most_changes = 1000000
+
+-- why no list of changes is made: they are too many, or memory is refused
+abbrev pub IsUnlisted : List Change → ListFault → Type 0
+IsUnlisted changes fault.TooMany = most_changes < length changes
+IsUnlisted changes fault.Memory = Unit {0}

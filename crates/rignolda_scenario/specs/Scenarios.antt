@@ -1,0 +1,57 @@
+-- Scenarios: what bytes mean as a scenario, or the first check, in the stated order, that they
+-- fail: those of the job, that there is a list of steps, each step in its order, and how many
+-- changes they are. Example: Bytes that are no job are refused for that, whatever their steps are.
+-- In the chain r, a, b the steps `["r", "offer"]` and `["x", "offer"]` are refused at step 1, since
+-- no link leads into r; that no node is called x is not looked at. Source: this project's profile.
+use Rattle.std.specs.Prelude.{ℕ, suc, codes, nat_lt, length, List, [], ◌∷◌, Option, option_and_then}
+use Rattle.std.specs.Prelude.{Result, Ok, Err}
+use Rattle.serde_json.specs.Data.{Data, Items, no_items, item}
+use Rattle.serde_json.specs.Find.{as_array, get}
+use Rattle.stab_frames.specs.Parameters.{Parameters}
+use Rattle.stab_json.specs.Checks.{◌>>=◌, ◌>>◌, ◌or◌, ◌when◌, ◌refused_as◌}
+use Rattle.stab_json.specs.Values.{value_of}
+use Rattle.stab_job.specs.Jobs.{job}
+use Rattle.stab_job.specs.JobValues.{JobValue}
+use Rattle.stab_tree.specs.Nodes.{Nodes}
+use Rattle.rignolda_scenario.specs.declared.fault.ScenarioFault.{ScenarioFault}
+use Rattle.rignolda_scenario.specs.declared.fault.ScenarioFault.TheVariants as fault
+use Rattle.rignolda_scenario.specs.declared.read.Scenario.{Scenario}
+use Rattle.rignolda_scenario.specs.declared.step.Step.{Step}
+use Rattle.rignolda_scenario.specs.Entries.{step_of}
+use Rattle.rignolda_scenario.specs.Refusals.{job_refused}
+
+-- the step of this number that a value means
+abbrev pub numbered : Nodes → List Parameters → ℕ → Data → Result Step ScenarioFault
+numbered t params number d = step_of t params d refused_as fault.Step number
+
+-- the steps that these values mean, where so many are before them; or the fault of the first that
+-- means none
+abbrev pub steps_after : Nodes → List Parameters → ℕ → Items → Result (List Step) ScenarioFault
+steps_after t params count no_items = Ok []
+steps_after t params count (item d ds) = do
+  step ← numbered t params (suc count) d
+  steps ← steps_after t params (suc count) ds
+  Ok (step ∷ steps)
+
+-- the list of steps of a value
+abbrev pub listed_steps : Data → Option Items
+listed_steps d = option_and_then as_array (get (codes "steps") d)
+
+-- the steps of this value, for a job
+abbrev pub steps_of : JobValue → Data → Result (List Step) ScenarioFault
+steps_of j d = do
+  values ← listed_steps d or fault.Steps
+  steps_after j.tree j.params 0 values
+
+-- the steps of these bytes, for a job
+abbrev pub steps_of_bytes : JobValue → List ℕ → Result (List Step) ScenarioFault
+steps_of_bytes j bytes = do
+  value ← value_of bytes or fault.Steps
+  steps_of j value
+
+-- the scenario that these bytes mean
+abbrev pub scenario : List ℕ → Result Scenario ScenarioFault
+scenario bytes = do
+  its_job ← job bytes refused_as job_refused
+  steps ← steps_of_bytes its_job bytes
+  Ok (record { job = its_job; steps = steps })

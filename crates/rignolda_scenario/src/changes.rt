@@ -1,0 +1,198 @@
+//! The changes of the tree that steps are.
+
+ghost use Rattle.std.specs.Prelude.{◌≡◌, ◌≤◌, [], ◌∷◌, ◌++◌, IfErr, IfOk, OnOk, length, replicate};
+ghost use Rattle.stab_rounds.specs.TreePlayed.{act_on};
+ghost use Rattle.stab_tree.specs.Links.{links_of};
+ghost use Rattle.rignolda_scenario.specs.Counts.{IsUnrun};
+ghost use Rattle.rignolda_scenario.specs.Played.{IsUnlisted, acts, changes_in, changes_of};
+ghost use Rattle.rignolda_scenario.specs.Played.{most_changes, reading_round_of};
+ghost use Rattle.rignolda_scenario.specs.Played.{reading_round_on, repeated};
+
+use crate::fault::{ListFault, ScenarioFault};
+use crate::read::Scenario;
+use crate::step::Step;
+use stab_core::LinkAct;
+use stab_faults::Change;
+use stab_frames::Params;
+use stab_rounds::round_of_all;
+use stab_script::MAX_EVENTS;
+use stab_tree::{NodeId, Tree};
+use stab_treecore::TreeEvent;
+use std::alloc::{AllocError, Global};
+
+/// A change that is the same.
+fn copy_of(alloc: Global, change: &Change) -> Result<Change, AllocError>
+    ensures { IfOk result (λ copy. copy ≡ change.now) }
+{
+    match change {
+        Change::Act(event) => Ok(Change::Act(*event)),
+        Change::Publish(items) => Ok(Change::Publish(items.copy(alloc)?)),
+        Change::Strike(child, start) => Ok(Change::Strike(*child, start.copy(alloc)?)),
+        Change::Restart(node, list) => Ok(Change::Restart(*node, list.copy(alloc)?)),
+    }
+}
+
+/// Adds an act on the link into a node.
+fn push_act(events: &mut Vec<TreeEvent>, child: NodeId, act: LinkAct) -> Result<(), AllocError>
+    ensures { OnOk result (events.new.items ≡ events.old.items ++ act_on child act ∷ []) }
+{
+    events.push(TreeEvent { child, act })?;
+    Ok(())
+}
+
+/// Adds an act on the link into a node so many times.
+fn push_times(
+    events: &mut Vec<TreeEvent>,
+    child: NodeId,
+    act: LinkAct,
+    times: u16,
+) -> Result<(), AllocError>
+    ensures { OnOk result
+        (events.new.items ≡ events.old.items ++ replicate times (act_on child act)) }
+{
+    'times: for _done in 0..times {
+        push_act(events, child, act)?;
+    }
+    Ok(())
+}
+
+/// Adds a reading round of the link into this node, of this capacity.
+fn push_reading_round(
+    events: &mut Vec<TreeEvent>,
+    child: NodeId,
+    capacity: u16,
+) -> Result<(), AllocError>
+    ensures { OnOk result
+        (events.new.items ≡ events.old.items ++ reading_round_on child capacity) }
+{
+    push_act(events, child, LinkAct::Offer)?;
+    push_times(events, child, LinkAct::RecvFrame { keep: false }, capacity)?;
+    push_act(events, child, LinkAct::SendFrame)?;
+    push_act(events, child, LinkAct::RecvFrame { keep: false })?;
+    push_times(events, child, LinkAct::RecvAck { keep: false }, capacity)?;
+    push_act(events, child, LinkAct::SendAck)?;
+    push_act(events, child, LinkAct::RecvAck { keep: false })
+}
+
+/// One reading round of every link, in file order.
+pub fn reading_round_of_all(
+    alloc: Global,
+    tree: &Tree,
+    params: &[Params],
+) -> Result<Vec<TreeEvent>, AllocError>
+    requires { length params.now ≡ length (links_of tree.now.parents) }
+    ensures { IfOk result (λ events.
+        events.items ≡ reading_round_of (links_of tree.now.parents) params.now) }
+{
+    let mut events = Vec::new(alloc);
+    'links: for place in 0..tree.link_count() {
+        let capacity = params[usize::from(place)].capacity();
+        push_reading_round(&mut events, tree.link_child(place), capacity)?;
+    }
+    Ok(events)
+}
+
+/// Adds a change that is the same.
+fn push_copy(alloc: Global, changes: &mut Vec<Change>, change: &Change) -> Result<(), AllocError>
+    ensures { OnOk result (changes.new.items ≡ changes.old.items ++ change.now ∷ []) }
+{
+    let copy = copy_of(alloc, change)?;
+    changes.push(copy)?;
+    Ok(())
+}
+
+/// Adds these events.
+fn push_acts(changes: &mut Vec<Change>, events: &[TreeEvent]) -> Result<(), AllocError>
+    ensures { OnOk result (changes.new.items ≡ changes.old.items ++ acts events.now) }
+{
+    for event in events {
+        changes.push(Change::Act(*event))?;
+    }
+    Ok(())
+}
+
+/// Adds these events so many times.
+fn push_repeated(
+    changes: &mut Vec<Change>,
+    events: &[TreeEvent],
+    times: u16,
+) -> Result<(), ListFault>
+    ensures added { OnOk result
+        (changes.new.items ≡ changes.old.items ++ repeated times events.now) }
+    ensures refused { IfErr result
+        (IsUnlisted (changes.old.items ++ repeated times events.now)) }
+{
+    'times: for _done in 0..times {
+        if changes.len() > MAX_EVENTS {
+            return Err(ListFault::TooMany);
+        }
+        push_acts(changes, events)?;
+    }
+    Ok(())
+}
+
+/// Adds the changes of a step.
+fn push_step(
+    alloc: Global,
+    changes: &mut Vec<Change>,
+    tree: &Tree,
+    params: &[Params],
+    step: &Step,
+) -> Result<(), ListFault>
+    requires { length params.now ≡ length (links_of tree.now.parents) }
+    ensures added { OnOk result (changes.new.items
+        ≡ changes.old.items ++ changes_in tree.now.parents params.now step.now) }
+    ensures refused { IfErr result (IsUnlisted
+        (changes.old.items ++ changes_in tree.now.parents params.now step.now)) }
+{
+    match step {
+        Step::One(change) => push_copy(alloc, changes, change)?,
+        Step::Rounds(count) => {
+            let round = round_of_all(alloc, tree)?;
+            push_repeated(changes, &round, *count)?;
+        }
+        Step::ReadingRounds(count) => {
+            let round = reading_round_of_all(alloc, tree, params)?;
+            push_repeated(changes, &round, *count)?;
+        }
+    }
+    Ok(())
+}
+
+/// The changes that these steps are.
+#[tactic(auto, using(crate::proofs::Refused::unlisted_there))]
+pub(crate) fn changes_of(
+    alloc: Global,
+    tree: &Tree,
+    params: &[Params],
+    steps: &[Step],
+) -> Result<Vec<Change>, ListFault>
+    requires { length params.now ≡ length (links_of tree.now.parents) }
+    ensures listed { IfOk result (λ changes.
+        changes.items ≡ changes_of tree.now.parents params.now steps.now) }
+    ensures few { OnOk result
+        (length (changes_of tree.now.parents params.now steps.now) ≤ most_changes) }
+    ensures refused { IfErr result
+        (IsUnlisted (changes_of tree.now.parents params.now steps.now)) }
+{
+    let mut changes = Vec::new(alloc);
+    for step in steps {
+        push_step(alloc, &mut changes, tree, params, step)?;
+    }
+    if changes.len() > MAX_EVENTS {
+        return Err(ListFault::TooMany);
+    }
+    Ok(changes)
+}
+
+/// The changes that the steps of a scenario are. They are refused where they are too many.
+#[tactic(auto, using(crate::proofs::Refused::unrun_by_list))]
+pub fn listed_changes(alloc: Global, scenario: &Scenario) -> Result<Vec<Change>, ScenarioFault>
+    ensures listed { IfOk result (λ changes. changes.items ≡ changes_of
+        scenario.now.job.tree.parents scenario.now.job.params scenario.now.steps) }
+    ensures refused { IfErr result (IsUnrun scenario.now.job scenario.now.steps) }
+{
+    let job = &scenario.job;
+    let changes = changes_of(alloc, job.tree(), job.params(), scenario.steps.as_slice())?;
+    Ok(changes)
+}

@@ -1,0 +1,118 @@
+ghost use Rattle.std.specs.Prelude.{◌≡◌, ◌≢◌, MatchResult, Ok, Err, Some, None, IfErr, IfOk, option_map};
+ghost use Rattle.serde_json.specs.View.{view, items_view};
+ghost use Rattle.stab_job.specs.JobValues.{JobValue};
+ghost use Rattle.stab_job.specs.Jobs.{job};
+ghost use Rattle.rignolda_scenario.specs.Scenarios.{listed_steps, numbered, scenario, steps_after};
+ghost use Rattle.rignolda_scenario.specs.Scenarios.{steps_of, steps_of_bytes};
+
+use crate::entry::read_step;
+use crate::fault::{ScenarioFault, StepFault};
+use crate::step::Step;
+use serde_json::Value;
+use stab_frames::{Params, Sequence};
+use stab_job::{Job, JobFault};
+use stab_job_stream::read_job_and_members;
+use stab_tree::Tree;
+use std::alloc::Global;
+
+/// A job of a tree, and the steps that happen to it.
+#[derive(Debug)]
+pub struct Scenario {
+    /// The job, whose schedule and scripts no step looks at.
+    pub job: Job,
+    /// The steps, in their order.
+    pub steps: Sequence<Step>,
+}
+
+impl Drop for Scenario {
+    fn drop(self) {
+        let Scenario { job: _, steps: _ } = self;
+    }
+}
+
+/// The scenario that these bytes mean, or the first check that they fail; memory may be refused
+/// before a later check.
+pub fn read_scenario(alloc: Global, bytes: &[u8]) -> Result<Scenario, ScenarioFault>
+    ensures scenario { MatchResult result
+        (λ its_scenario. scenario bytes.now ≡ Ok its_scenario)
+        (λ fault. fault ≢ ScenarioFault.Memory → scenario bytes.now ≡ Err fault) }
+{
+    let (job, members) = read_members(alloc, bytes)?;
+    let steps = steps_of_value(alloc, &job, &members)?;
+    Ok(Scenario { job, steps })
+}
+
+/// The job that these bytes mean, or the first check that they fail; and a value that has their
+/// steps.
+fn read_members(alloc: Global, bytes: &[u8]) -> Result<(Job, Value), JobFault>
+    ensures job { MatchResult result
+        (λ read. job bytes.now ≡ Ok read.0)
+        (λ fault. fault ≢ JobFault.Memory → job bytes.now ≡ Err fault) }
+    ensures steps { IfOk result (λ read.
+        steps_of_bytes read.0 bytes.now ≡ steps_of read.0 (view read.1)) }
+{
+    let read = read_job_and_members(alloc, bytes)?;
+    Ok(read)
+}
+
+/// The list of steps of a value.
+fn listed_steps<'v>(value: &'v Value) -> Option<&'v [Value]>
+    ensures { option_map (λ list. items_view list.now) result ≡ listed_steps (view value.now) }
+{
+    Some(value.get("steps")?.as_array()?.as_slice())
+}
+
+/// The steps of a value, for a job.
+fn steps_of_value(alloc: Global, job: &Job, value: &Value) -> Result<Sequence<Step>, ScenarioFault>
+    ensures { MatchResult result
+        (λ steps. steps_of job.now (view value.now) ≡ Ok steps)
+        (λ fault. fault ≢ ScenarioFault.Memory → steps_of job.now (view value.now) ≡ Err fault) }
+{
+    match listed_steps(value) {
+        Some(values) => steps_of_values(alloc, job.tree(), job.params(), values),
+        None => Err(ScenarioFault::Steps),
+    }
+}
+
+/// The step of this number that a value means.
+fn numbered_step(
+    alloc: Global,
+    tree: &Tree,
+    params: &[Params],
+    number: u64,
+    value: &Value,
+) -> Result<Step, ScenarioFault>
+    ensures { MatchResult result
+        (λ step. numbered tree.now params.now number (view value.now) ≡ Ok step)
+        (λ fault. fault ≢ ScenarioFault.Memory
+        → numbered tree.now params.now number (view value.now) ≡ Err fault) }
+{
+    match read_step(alloc, tree, params, value) {
+        Ok(step) => Ok(step),
+        Err(StepFault::Memory) => Err(ScenarioFault::Memory),
+        Err(fault) => Err(ScenarioFault::Step(number, fault)),
+    }
+}
+
+/// The steps that these values mean, or the fault of the first that means none.
+#[tactic(auto, using(crate::proofs::Stepwise::none_before, crate::proofs::Stepwise::no_step_there))]
+fn steps_of_values(
+    alloc: Global,
+    tree: &Tree,
+    params: &[Params],
+    values: &[Value],
+) -> Result<Sequence<Step>, ScenarioFault>
+    ensures { MatchResult result
+        (λ steps. steps_after tree.now params.now 0 (items_view values.now) ≡ Ok steps)
+        (λ fault. fault ≢ ScenarioFault.Memory
+        → steps_after tree.now params.now 0 (items_view values.now) ≡ Err fault) }
+{
+    let mut steps = Sequence::new(alloc);
+    let _total = values.len();
+    for value in values {
+        let number = steps.len() as u64 + 1;
+        let step = numbered_step(alloc, tree, params, number, value)?;
+        steps.push(step)?;
+    }
+    Ok(steps)
+}
