@@ -46,6 +46,13 @@ pub fn read_job_and_members(alloc: Global, bytes: &[u8]) -> Result<(Job, Value),
         (λ fault. fault ≢ JobFault.Memory → job bytes.now ≡ Err fault) }
     ensures members { IfOk result (λ read. (d : Data)
         × (value_of bytes.now ≡ Some d) × SameMembers d (view read.1)) }
+    // `Json` comes only where the bytes have no value.
+    ensures json { result ≡ Err JobFault.Json → value_of bytes.now ≡ None }
+
+    // Refused memory is reported as that alone, and only where there is at least one byte.
+    ensures memory { result ≡ Err JobFault.Memory → 0 < length bytes.now }
+    ensures tree_memory { result ≢ Err (JobFault.Tree TreeFault.Memory) }
+    ensures script_memory { result ≢ Err (JobFault.Script ScriptFault.Memory) }
 {
     match read_plain(alloc, bytes) {
         Ok(Some(read)) => Ok(read),
@@ -55,12 +62,20 @@ pub fn read_job_and_members(alloc: Global, bytes: &[u8]) -> Result<(Job, Value),
 }
 
 /// The same, read as one value.
+#[tactic(auto, using(stab_json::proofs::ForCallers::some_bytes))]
 fn read_by_value(alloc: Global, bytes: &[u8]) -> Result<(Job, Value), JobFault>
     ensures job { MatchResult result
         (λ read. job bytes.now ≡ Ok read.0)
         (λ fault. fault ≢ JobFault.Memory → job bytes.now ≡ Err fault) }
     ensures members { IfOk result (λ read. (d : Data)
         × (value_of bytes.now ≡ Some d) × SameMembers d (view read.1)) }
+    // `Json` comes only where the bytes have no value.
+    ensures json { result ≡ Err JobFault.Json → value_of bytes.now ≡ None }
+
+    // Refused memory is reported as that alone, and only where there is at least one byte.
+    ensures memory { result ≡ Err JobFault.Memory → 0 < length bytes.now }
+    ensures tree_memory { result ≢ Err (JobFault.Tree TreeFault.Memory) }
+    ensures script_memory { result ≢ Err (JobFault.Script ScriptFault.Memory) }
 {
     let Some(value) = read_value(alloc, bytes)? else {
         return Err(JobFault::Json);
