@@ -7,7 +7,7 @@ the line, a clock, or the other end.
 
 class Sender:
     def __init__(self, labels, label):
-        """There are so many labels, 0 to labels - 1; it happens to begin with this one, which may
+        """There are `labels` labels, 0 to labels - 1; it happens to begin with this one, which may
         be any number below 65536."""
 
     def offer(self, item):

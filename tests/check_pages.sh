@@ -251,7 +251,7 @@ looked_at() {
     [ "$status" -eq "$1" ] && [ "$(cat "$work/said")" = "$2" ]
 }
 
-# Whether one fault is said of the edits, at this place, beside so many that are well. Then the
+# Whether one fault is said of the edits, at this place, beside $3 that are well. Then the
 # edits are as they were.
 stale() {
     looked_at 1 "$1: $2"$'\n'"$3 passed, 1 failed" || return

@@ -81,7 +81,7 @@ run() {
     status=$?
 }
 
-# Whether ./release.sh ended well, and left nothing, after so many calls of rt.
+# Whether ./release.sh ended well, and left nothing, after $1 calls of rt.
 well() {
     [ "$status" -eq 0 ] && [ "$(wc -l <"$work/calls")" -eq "$1" ] &&
         [ -z "$(ls -A "$work/temporary")" ]

@@ -31,7 +31,7 @@ JOB = {"capacity": 1, "labels": 4, "tree": TREE, "items": [7, 8]}
 
 
 def filled(entry, most=10**9, room=SIZE - ROOM):
-    """As many texts of entries as there is room for, at most so many, with commas between them."""
+    """As many texts of entries as there is room for, at most `most`, with commas between them."""
     parts, used = [], 0
     for number in range(most):
         part = entry(number)

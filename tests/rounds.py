@@ -4,7 +4,7 @@
 It plays links and trees by rules of its own, and checks what stab_rounds says of them:
 
 - the most rounds of a link that acknowledge nothing, by going through every state, are 2c (c to 3);
-- so many frames received and then so many acknowledgements can be in vain: c and c, and no more;
+- c frames received and then c acknowledgements can be in vain, and no more;
 - in random trees with random starts and random further events everything is handed on after as many
   rounds, or reading rounds, as are said to be enough, and how many were really needed.
 

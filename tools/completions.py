@@ -138,7 +138,7 @@ def bash(program, commands, options):
 
 
 def folded(text, width):
-    """The words of a text, in lines of at most so many columns."""
+    """The words of a text, in lines of at most `width` columns."""
     lines = [""]
     for word in text.split():
         if lines[-1] and len(lines[-1]) + 1 + len(word) > width:

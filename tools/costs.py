@@ -205,7 +205,7 @@ def tasks_of(crates):
 
 
 def modelled(crates, lanes):
-    """How long tasks with these processor seconds take in so many lanes, and the longest chain of
+    """How long tasks with these processor seconds take in `lanes` lanes, and the longest chain of
     them. As rt ci does it, a task starts once those that it waits for have ended, and first the one
     with the most lines in the longest chain of others behind it; planted bugs take what the others
     leave free. Each has one processor."""

@@ -326,7 +326,7 @@ def frame(label, text, item=None, length=None):
 
 
 def closed(sock, seconds=5):
-    """Whether the other end closes within so many seconds."""
+    """Whether the other end closes within `seconds` seconds."""
     end = time.monotonic() + seconds * PATIENCE
     try:
         while time.monotonic() < end:

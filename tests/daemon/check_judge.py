@@ -37,7 +37,7 @@ def part(published, inner, leaf):
 
 
 def judged(*parts, broken=()):
-    """The verdict on logs of so many parts. At the moments after those of `broken`, the last line
+    """The verdict on logs of these parts. At the moments after those of `broken`, the last line
     of an agent's log has no end, since its process was killed while it wrote it."""
     texts = {name: "" for name in BEGUN}
     lengths = {name: 0 for name in BEGUN}

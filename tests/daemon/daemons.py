@@ -42,7 +42,7 @@ PATIENCE = float(os.environ.get("PATIENCE", 4))
 
 
 def until(what, seconds=10.0, pause=0.01):
-    """Whether something holds within so many seconds, and some patience."""
+    """Whether something holds within `seconds` seconds, and some patience."""
     end = time.monotonic() + seconds * PATIENCE
     while True:
         if what():

@@ -4,13 +4,14 @@
     tests/daemon/long.py [--runs 1] [--kills 50] [--nodes 15] [--seed 1] [--stops] [--relays]
         [--loss PERCENT]
 
-With --loss each agent has a network of its own (ip netns), and nft drops so many packets each way;
-that needs root. Each agent's log says what it received. Between two moments at which all processes
-were stopped at once, of each agent whose links were begun before the first one, this must hold: it
-received at most C + E bodies of before, and then published ones in their order, each once, and of
-those before its last one only some among the first M are missing. At the end, two rounds later,
-every agent has the settings of the root's folder. With --runs each run has the next seed. What a
-run that failed has judged is kept in a file that it names. The last line is 'N passed, M failed'.
+With --loss each agent has a network of its own (ip netns), and nft drops PERCENT percent of the
+packets each way; that needs root. Each agent's log says what it received. Between two moments at
+which all processes were stopped at once, of each agent whose links were begun before the first
+one, this must hold: it received at most C + E bodies of before, and then published ones in their
+order, each once, and of those before its last one only some among the first M are missing. At the
+end, two rounds later, every agent has the settings of the root's folder. With --runs each run has
+the next seed. What a run that failed has judged is kept in a file that it names. The last line is
+'N passed, M failed'.
 """
 import argparse
 import atexit

@@ -9,7 +9,7 @@ import time
 class Relay:
     """Passes bytes on. With `cuts` it closes each connection after a drawn while, and what is under
     way is lost, often in the middle of a message, but not while it is `calm`; with `delay` bytes
-    come so many seconds late."""
+    come that many seconds late."""
 
     def __init__(self, port, cuts=None, delay=0.0, seed=1):
         self.to, self.cuts, self.delay = port, cuts, delay

@@ -13,7 +13,7 @@ import random, sys
 from reference import ACTS, Count, random_tree, strike_at_random
 
 def enough(tree, node):
-    """So many reading rounds of its path are said to be enough."""
+    """How many reading rounds of its path are said to be enough."""
     way = list(tree.path(node))
     return sum(len(tree.backlog(w)) for w in way) + sum(tree.links[w].capacity + 1
         for w in way[1:]) + 1

@@ -49,7 +49,7 @@ from programs import built  # noqa: E402
 EXAMPLES = os.path.join(TOP, "crates", "gate_checks", "data")
 BUILD = os.path.join(HERE, "build")
 SECONDS = 20
-PART = 500  # so many cases one lane runs before it takes the next ones
+PART = 500  # a lane runs this many cases before it takes the next ones
 
 COMMANDS = [("link",), ("link", "--trace"), ("tree",)]
 COMMANDS += [("run",), ("run", "--words"), ("run", "--mixed")]

@@ -40,7 +40,7 @@ def members(**given):
 
 
 def some(entry, count):
-    """The text of a list of so many equal entries."""
+    """The text of a list of `count` equal entries."""
     return "[" + ",".join([entry] * count) + "]"
 
 
@@ -98,20 +98,20 @@ def drawn(length=MAX_ACTS, loss=500):
 
 
 def wide(count):
-    """Every other of so many links has the largest capacity."""
+    """Every other of `count` links has the largest capacity."""
     widest = members(capacity=64, labels=1000)
     return "[" + ",".join([widest, "null"][i % 2] for i in range(count)) + "]"
 
 
 def held(inner, nodes=MAX_NODES):
-    """A chain whose inner nodes begin with so many items each, as many as any may."""
+    """A chain whose inner nodes begin with `inner` items each, as many as any may."""
     lists = ["[]", *[some("4294967295", inner)] * (nodes - 2), "[]"]
     openings = "[" + ",".join(lists) + "]"
     return tree_job(nodes, version=2, h=MAX_HELD, openings=openings, items=some("1", MAX_ITEMS))
 
 
 def filled(job, size):
-    """A job with spaces after it, up to so many bytes."""
+    """A job with spaces after it, up to `size` bytes."""
     return job + " " * (size - len(job))
 
 

@@ -64,7 +64,7 @@ static uint32_t drawn(uint32_t below) {
     return (uint32_t)((state * 0x2545F4914F6CDD1D >> 32) % below);
 }
 
-/* One time in so many, until all is quiet. */
+/* One time in `in`, until all is quiet. */
 static bool sometimes(uint32_t in) { return !is_quiet && drawn(in) == 0; }
 
 static void broken(const char *what) {
@@ -73,7 +73,7 @@ static void broken(const char *what) {
     exit(1);
 }
 
-/* At most so many frames and acknowledgements are under way when this count begins. */
+/* At most `frames` frames and `acks` acknowledgements are under way when this count begins. */
 static void count_anew(uint32_t frames, uint32_t acks) {
     uint32_t missing = 0;
     for (uint32_t i = 0; i < acked; i++)

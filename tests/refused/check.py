@@ -35,9 +35,9 @@ HERE = os.path.dirname(os.path.realpath(__file__))
 TOP = os.path.dirname(os.path.dirname(HERE))
 EXAMPLES = f"{TOP}/crates/gate_checks/data"
 
-# A program that has not ended after so many seconds hangs.
+# A program that has not ended after this many seconds hangs.
 SECONDS = 60.0
-# So many runs one after the other must be whole before a program counts as never refused again.
+# This many runs one after the other must be whole before a program counts as never refused again.
 ROW = 32
 MOST_ALLOCATIONS = 20_000
 # After calls that start threads, N is one call's allocation in one run and another's in the next.
@@ -96,8 +96,8 @@ RUNS = [("run", ["run"]), ("run --words", ["run", "--words"]), ("run --mixed", [
 
 
 def chain(nodes, items, turns, words, held=0):
-    """The job of a chain of so many nodes, with clean starts, for a run by these words. Where both
-    kinds of link are asked for, every other link is wider. Inner nodes begin with so many
+    """The job of a chain of `nodes` nodes, with clean starts, for a run by these words. Where both
+    kinds of link are asked for, every other link is wider. Inner nodes begin with `held`
     strays."""
     tree = [{"name": "r"}]
     for i in range(1, nodes):

@@ -42,7 +42,7 @@ static void (*next_exit)(int);
 static void (*next_exit_now)(int);
 
 static int counting;              /* whether main has begun and has not ended */
-static unsigned long allocations; /* so many calls since main */
+static unsigned long allocations; /* how many calls since main */
 static unsigned long threads;
 static unsigned long refused;
 static unsigned long refuse_allocation;

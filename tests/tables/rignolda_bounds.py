@@ -15,7 +15,7 @@ MISSING = {1: 3, 2: 5, 3: 7, 4: 9, 64: 129}
 
 
 def counted(number, word):
-    """So many of something."""
+    """At most `number` of something."""
     return f"at most {number} {word}" if number == 1 else f"at most {number} {word}s"
 
 

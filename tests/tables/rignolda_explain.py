@@ -351,7 +351,7 @@ stab link: job: not JSON
 """),
 ]
 
-# A link job with so many events that are none, and its last line but one: of what is found a
+# A link job with this many events that are none, and its last line but one: of what is found a
 # hundred are written, and the others are counted, up to a million.
 UNKNOWN = '{"capacity":1,"labels":4,"start":{"send":0,"recv":1},"events":["x"', ',"x"', "]}"
 COUNTED = [

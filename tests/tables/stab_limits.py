@@ -48,13 +48,13 @@ NO_ITEMS = "r depth 0 received 0 acked -\nitems:\na depth 1 received 0 acked 0\n
 
 
 def items(count):
-    """A job of one node with no turn, and with so many items."""
+    """A job of one node with no turn, and with `count` items."""
     before = '{"capacity":1,"labels":4,"tree":[{"name":"r"}],"turns":0,"items":['
     return Repeated(before, "7,", count - 1, "7]}")
 
 
 def schedule(entry, count):
-    """A job of one node with so many entries in its schedule."""
+    """A job of one node with `count` entries in its schedule."""
     before = '{"capacity":1,"labels":4,"tree":[{"name":"r"}],"items":[7,8],"schedule":['
     return Repeated(before, entry + ",", count - 1, entry + "]}")
 
@@ -65,7 +65,7 @@ def evicting(count):
 
 
 def spaces(count):
-    """So many spaces."""
+    """`count` spaces."""
     return Repeated("", " ", count, "")
 
 
@@ -77,7 +77,7 @@ def letters(last):
 
 
 def events(count, last):
-    """A link job with so many events, the last of which is this."""
+    """A link job with `count` events, the last of which is this."""
     before = '{"capacity":1,"labels":4,"start":{"send":0,"recv":3},"events":['
     return Repeated(before, '"send_ack",', count - 1, last + "]}")
 

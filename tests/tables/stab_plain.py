@@ -196,7 +196,7 @@ def swapped(old, *news):
 
 
 def nested(levels):
-    """A list of so many levels."""
+    """A list of `levels` levels."""
     return "[" * levels + "]" * levels
 
 

@@ -58,7 +58,7 @@ const FULL_START: &str = r#"{"frames":[[2,99]],"acks":[3],"send":0,"recv":1}"#;
 /// the first that come in stay.
 const SCRIPT: &str = r#"{"frames_out":"E","frames_in":"K","acks_out":"E","acks_in":"K"}"#;
 
-/// No row offers so many items.
+/// Every row offers fewer items than this.
 const MOST_ITEMS: usize = 100;
 
 /// The parameters of a link of capacity one.

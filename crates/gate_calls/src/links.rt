@@ -12,7 +12,7 @@ use stab_script::{LinkJob, read_link_job};
 use stab_word::{WordFault, WordLink, WordOpening};
 use std::alloc::{AllocError, Global};
 
-/// Items, so many that both lists of a link grow three times.
+/// Items, enough of them that both lists of a link grow three times.
 pub const ITEMS: [Item; 9] = [10, 11, 12, 13, 14, 15, 16, 17, 18];
 
 /// Where the items come from that are delivered at the worst start.

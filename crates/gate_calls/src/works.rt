@@ -11,7 +11,7 @@ use std::collections::VecDeque;
 /// The one call.
 pub const ROW: Row<'static, ()> = (1, &[("work", ())]);
 
-/// What the upper end sees: so many items that each list grows twice, and the close.
+/// What the upper end sees: enough items that each list grows twice, and the close.
 const SEEN: [FrameSeen; 6] = [
     FrameSeen::Fresh(1),
     FrameSeen::Fresh(2),

@@ -106,18 +106,18 @@ change_lines number nodes t (Strike child start) =
 change_lines number nodes t (Restart node list) =
     restart_lines number nodes (restarted_tree t node list) node list
 
--- the line before a round of all links: its word, and which of so many it is
+-- the line before a round of all links: its word, and that it is round `place` of `count`
 unfoldable pub round_line : List ℕ → ℕ → ℕ → ℕ → List ℕ
 round_line word number place count =
     step_cell number ++ codes "-         " ++ word ++ number_entry place ++ codes " of"
     ++ number_entry count ++ newline
 
--- the tree after so many rounds of these acts
+-- the tree after `n` rounds of these acts, where `n` is the last argument
 abbrev pub after_rounds : WholeTree → List TreeEvent → ℕ → WholeTree
 after_rounds t round zero = t
 after_rounds t round (suc done) = tree_replay (after_rounds t round done) round
 
--- the lines of the first so many of these rounds
+-- the lines of the first `n` of these rounds, where `n` is the last argument
 abbrev pub rounds_lines : List ℕ → ℕ → ℕ → Nodes → WholeTree → List TreeEvent → ℕ → List ℕ
 rounds_lines word number count nodes t round zero = []
 rounds_lines word number count nodes t round (suc done) =
@@ -134,7 +134,7 @@ lines_in number nodes params t (ReadingRounds count) =
     rounds_lines (codes "reading round") number count nodes t
     (reading_round_of (links_of nodes.parents) params) count
 
--- the lines of these steps, where so many are before them
+-- the lines of these steps, where `count` steps are before them
 abbrev pub lines_after : Nodes → List Parameters → WholeTree → ℕ → List Step → List ℕ
 lines_after nodes params t count [] = []
 lines_after nodes params t count (step ∷ steps) =

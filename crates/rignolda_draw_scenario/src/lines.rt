@@ -184,7 +184,7 @@ fn push_step(
     Ok(())
 }
 
-/// Makes so many reading rounds of all links, and adds their lines.
+/// Makes `count` reading rounds of all links, and adds their lines.
 fn push_reading_rounds(
     alloc: Global,
     text: &mut String,

@@ -12,7 +12,7 @@ use stab_tree::Tree;
 use stab_treecore::{TreeEvent, TreeState, TreeStepFault};
 use std::alloc::AllocError;
 
-/// Makes so many rounds of these acts, and adds their lines.
+/// Makes `count` rounds of these acts, and adds their lines.
 pub(crate) fn push_rounds(
     text: &mut String,
     tree: &Tree,

@@ -10,7 +10,7 @@ const MAX_COMPARED: usize = 32;
 /// The most bytes of a known name that is compared: a longer one is near none of those.
 const MAX_KNOWN: usize = 64;
 
-/// One edit is allowed for so many bytes of a name, if it is to be near a known one.
+/// One edit is allowed for every 3 bytes of a name, if it is to be near a known one.
 const BYTES_PER_EDIT: usize = 3;
 
 /// The nearest name so far.

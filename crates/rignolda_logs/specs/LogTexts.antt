@@ -14,13 +14,13 @@ use Rattle.rignolda_logs.specs.declared.broken.BrokenLog.TheVariants as broken
 abbrev pub name_at : Network → ℕ → List ℕ
 name_at net node = slice_index_or net.tree.names node []
 
--- a node received too many strays, of which so many may be, or items in another order
+-- a node received more strays than the `most` that it may, or items in another order
 unfoldable pub strays_words : ℕ → List ℕ
 strays_words most =
     codes ": it received more strays than C + E = " ++ decimal most
     ++ codes ", or published items out of order or twice\n"
 
--- published items are missing at a node, of which some of so many first ones may be
+-- published items are missing at a node, where only some of the first `most` may be missing
 unfoldable pub missing_words : ℕ → List ℕ
 missing_words most =
     codes ": published items before its last one are missing, not only among the first M = "

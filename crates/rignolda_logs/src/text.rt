@@ -65,7 +65,7 @@ fn push_lists_of(
     push_lists(text, counted, logs.received_at(node))
 }
 
-/// Adds that a node received too many strays, of which so many may be, or items in another order.
+/// Adds that a node received more strays than the `most` that it may, or items in another order.
 #[tactic(auto, unfolding(crate::specs::LogTexts::strays_words))]
 fn push_strays(text: &mut String, most: u64) -> Result<(), AllocError>
     ensures { OnOk result (string_bytes text.new ≡ string_bytes text.old ++ strays_words most) }
@@ -76,7 +76,8 @@ fn push_strays(text: &mut String, most: u64) -> Result<(), AllocError>
     )
 }
 
-/// Adds that published items are missing at a node, of which some of so many first ones may be.
+/// Adds that published items are missing at a node, where only some of the first `most` may be
+/// missing.
 #[tactic(auto, unfolding(crate::specs::LogTexts::missing_words))]
 fn push_missing(text: &mut String, most: u64) -> Result<(), AllocError>
     ensures { OnOk result (string_bytes text.new ≡ string_bytes text.old ++ missing_words most) }

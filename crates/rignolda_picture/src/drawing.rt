@@ -64,7 +64,7 @@ impl Drawing {
         self.sheet.first().down(above)
     }
 
-    /// Begins so many rows, and answers the place of the last one.
+    /// Begins `count` rows, and answers the place of the last one.
     fn next_rows(&mut self, count: u64) -> Point {
         self.rows = self.rows.saturating_add(count);
         self.last_row()

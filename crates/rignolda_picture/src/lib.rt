@@ -1,9 +1,9 @@
 //! Runs as pictures: an SVG that stands alone, with time going downwards, the two ends of each link
 //! as two vertical lines, and what is in its queues between them.
 //!
-//! A picture is drawn from the rows of `rignolda_draw`, which are proved to be those of the replay, and
-//! from the starts. That it can be drawn without a fault, and why a job has none, is proved; how it
-//! looks is not.
+//! A picture is drawn from the rows of `rignolda_draw`, which are proved to be those of the replay,
+//! and from the starts. That it can be drawn without a fault, and why a job has none, is proved;
+//! how it looks is not.
 #![tactic(auto)]
 
 mod canvas;

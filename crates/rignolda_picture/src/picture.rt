@@ -92,7 +92,7 @@ fn draw_tree(
     drawing.page(alloc, "The run of a schedule", ABOUT_TREE)
 }
 
-/// The sizes of the picture of a tree with so many rows.
+/// The sizes of the picture of a tree with `rows` rows.
 pub(crate) fn sheet_of(tree: &Tree, starts: &[Start], rows: u64) -> Sheet {
     let mut start_rows = 1;
     for start in starts {

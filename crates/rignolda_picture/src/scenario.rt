@@ -146,7 +146,7 @@ fn add_rounds(
     Ok(next)
 }
 
-/// Draws so many acts.
+/// Draws the next `acts` acts.
 fn add_acts(
     alloc: Global,
     drawing: &mut Drawing,

@@ -123,7 +123,7 @@ fn are_small(params: &[Params], greatest: u16) -> bool
         .all(|its_params| its_params.capacity() <= greatest)
 }
 
-/// Whether each link has so many labels, where it is said how many.
+/// Whether each link has `wanted` labels, where this number is given.
 fn have_labels(params: &[Params], wanted: Option<u16>) -> bool
     ensures { IsTrue result ↔ IfSome wanted (λ labels. All (λ p. p.labels ≡ labels) params.now) }
 {

@@ -59,7 +59,7 @@ pub enum OptionsFault {
     /// There are more than 10,000 items.
     #[error("a job has at most 10000 items")]
     TooManyItems,
-    /// No link has this capacity and so many labels.
+    /// No link has this capacity and this number of labels.
     #[error("{0}")]
     Params(ParamsFault),
     /// The turns are 0 or over 1,000,000.

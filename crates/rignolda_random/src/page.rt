@@ -1,8 +1,8 @@
 use itoa::Buffer;
 use std::alloc::{AllocError, Global};
 
-/// After so many columns the next entry begins a line. No entry that is not alone on its line is
-/// longer than 36 columns, so no line is longer than 100.
+/// After a line of more than 60 columns the next entry begins a line. No entry that is not alone on
+/// its line is longer than 36 columns, so no line is longer than 100.
 const FULL: usize = 60;
 
 /// The text of a job while it is written, in lines of at most 100 columns.

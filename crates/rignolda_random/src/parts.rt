@@ -148,7 +148,7 @@ fn push_link(page: &mut Page, link: DrawnLink) -> Result<(), AllocError> {
     page.words("}")
 }
 
-/// Adds a list of so many items.
+/// Adds a list of `count` items.
 fn push_items<R: Rng>(page: &mut Page, rng: &mut R, count: u32) -> Result<(), AllocError> {
     page.words("[")?;
     for place in 0..count {
@@ -233,7 +233,7 @@ fn push_openings<R: Rng>(
     end_list(page, false)
 }
 
-/// Adds a schedule of so many steps, where there is a link.
+/// Adds a schedule of `steps` steps, where there is a link.
 fn push_schedule<R: Rng>(
     page: &mut Page,
     rng: &mut R,

@@ -14,8 +14,8 @@ pub(crate) fn below<R: Rng>(rng: &mut R, count: u32) -> u32
 
 /// The parents of a random tree, by their places; the root is at any of them.
 ///
-/// The nodes have ranks, and each but that of rank 0 has one of the so many ranks before its own as
-/// its parent: where these are one, the tree is a chain. A node is as many places after the root as
+/// The nodes have ranks, and each but that of rank 0 has one of the `reach` ranks before its own as
+/// its parent: where `reach` is 1, the tree is a chain. A node is as many places after the root as
 /// its rank says, and after the last place comes the first.
 pub(crate) fn draw_parents<R: Rng>(
     alloc: Global,
@@ -50,8 +50,8 @@ pub(crate) struct DrawnLink {
 }
 
 /// The link into the node at this place: one time in four with the parameters of the job, and
-/// otherwise with a capacity up to theirs, and with their labels, or with so many as this capacity
-/// allows.
+/// otherwise with a capacity up to theirs, and with their labels, or, where `are_drawn`, with 0 to
+/// 7 labels more than the fewest that this capacity allows.
 fn draw_link<R: Rng>(rng: &mut R, child: usize, of_job: Params, are_drawn: bool) -> DrawnLink {
     let most = u32::from(of_job.capacity());
     let are_own = below(rng, 4) > 0;

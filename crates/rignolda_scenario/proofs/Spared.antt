@@ -21,7 +21,7 @@ use Rattle.rignolda_scenario.specs.Played.{acts, changes_in, changes_of, reading
 
 -- ---- paths
 
--- a node that is not within so many steps is not reached by them
+-- a node that is not within `count` steps is not reached by them
 not_within : (ps : List (Option ℕ)) (count other at : ℕ) → is_within ps count other at ≡ false → (k : ℕ) → k ≤ count
     → ancestor ps k at ≡ Some other → ⊥
 not_within ps zero other at not k few leads =

@@ -85,7 +85,7 @@ strike_step t params word name d = do
   fits ← start_fits own its_start
   Ok (One (Strike link.0 its_start))
 
--- so many rounds
+-- the step of `count` rounds, of the kind that the word names
 abbrev pub rounds_step : Data → ℕ → Result Step StepFault
 rounds_step word count =
     if is_word (codes "rounds") word then Ok (Rounds count)

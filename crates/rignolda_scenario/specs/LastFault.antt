@@ -11,7 +11,7 @@ use Rattle.stab_faults.specs.declared.change.Change.TheVariants.{Strike, Restart
 use Rattle.rignolda_scenario.specs.declared.step.Step.{Step}
 use Rattle.rignolda_scenario.specs.declared.step.Step.TheVariants.{One, Rounds, ReadingRounds}
 
--- another node is this one, or one of so many above it
+-- another node is this one, or one of the nearest `count` nodes above it
 abbrev pub is_within : List (Option ℕ) → ℕ → ℕ → ℕ → Bool
 is_within parents zero other at = at == other
 is_within parents (suc count) other at =
@@ -28,8 +28,8 @@ hits parents node (One (Strike child start)) = is_on_path parents node child
 hits parents node (One (Restart other list)) = is_on_path parents node other
 hits parents node _ = false
 
--- the last of these steps that hits a node, by its number, where so many are before them; or else
--- this number
+-- the last of these steps that hits a node, by its number, where `count` steps are before them; or
+-- else the number `last`
 abbrev pub last_after : List (Option ℕ) → ℕ → ℕ → ℕ → List Step → ℕ
 last_after parents node count last [] = last
 last_after parents node count last (step ∷ steps) =

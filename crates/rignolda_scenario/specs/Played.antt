@@ -17,7 +17,7 @@ use Rattle.rignolda_scenario.specs.declared.fault.ListFault.TheVariants as fault
 use Rattle.rignolda_scenario.specs.declared.step.Step.{Step}
 use Rattle.rignolda_scenario.specs.declared.step.Step.TheVariants.{One, Rounds, ReadingRounds}
 
--- a reading round of the link into this node, whose capacity is this: an offer, so many frames that
+-- a reading round of the link into this node, whose capacity is this: an offer, `c` frames that
 -- are taken, one that is sent, and one that is taken; and so with acknowledgements
 abbrev pub reading_round_on : ℕ → ℕ → List TreeEvent
 reading_round_on child c =
@@ -37,7 +37,7 @@ reading_round_of (child ∷ children) (own ∷ params) =
 abbrev pub acts : List TreeEvent → List Change
 acts events = map Act events
 
--- so many times these events
+-- these events, `times` times over
 abbrev pub repeated : ℕ → List TreeEvent → List Change
 repeated zero events = []
 repeated (suc times) events = acts events ++ repeated times events

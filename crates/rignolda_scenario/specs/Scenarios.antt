@@ -24,8 +24,8 @@ use Rattle.rignolda_scenario.specs.Refusals.{job_refused}
 abbrev pub numbered : Nodes → List Parameters → ℕ → Data → Result Step ScenarioFault
 numbered t params number d = step_of t params d refused_as fault.Step number
 
--- the steps that these values mean, where so many are before them; or the fault of the first that
--- means none
+-- the steps that these values mean, where `count` steps are before them; or the fault of the first
+-- that means none
 abbrev pub steps_after : Nodes → List Parameters → ℕ → Items → Result (List Step) ScenarioFault
 steps_after t params count no_items = Ok []
 steps_after t params count (item d ds) = do

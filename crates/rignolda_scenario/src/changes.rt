@@ -40,7 +40,7 @@ fn push_act(events: &mut Vec<TreeEvent>, child: NodeId, act: LinkAct) -> Result<
     Ok(())
 }
 
-/// Adds an act on the link into a node so many times.
+/// Adds an act on the link into a node `times` times.
 fn push_times(
     events: &mut Vec<TreeEvent>,
     child: NodeId,
@@ -111,7 +111,7 @@ fn push_acts(changes: &mut Vec<Change>, events: &[TreeEvent]) -> Result<(), Allo
     Ok(())
 }
 
-/// Adds these events so many times.
+/// Adds these events `times` times.
 fn push_repeated(
     changes: &mut Vec<Change>,
     events: &[TreeEvent],

@@ -14,7 +14,7 @@ use stab_tree::{NodeId, Tree};
 use stab_treecore::TreeState;
 use std::alloc::{AllocError, Global};
 
-/// The items of a list after so many.
+/// The items of a list after its first `count`.
 fn rest_of(list: &[Item], count: usize) -> &[Item]
     ensures { result.now ≡ drop count list.now }
 {

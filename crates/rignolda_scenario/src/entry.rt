@@ -189,7 +189,7 @@ fn strike_step(
     Ok(Step::One(Change::Strike(child, start)))
 }
 
-/// So many rounds, of the kind that a value names.
+/// The step of `count` rounds, of the kind that a value names.
 fn rounds_step(word: &Value, count: u16) -> Result<Step, StepFault>
     ensures { result ≡ rounds_step (view word.now) count }
 {

@@ -13,9 +13,9 @@ ghost use Rattle.rignolda_scenario.specs.Played.{changes_of};
 ghost use Rattle.rignolda_scenario.specs.declared.step.Step.{Step};
 
 /// Whatever the steps of a scenario are, what they come to at a node obeys the tree law, with the
-/// bounds that are counted there: since the last fault on its path the node received at most so
-/// many strays, and then published items of its count in their order, of which only some among the
-/// first so many are missing.
+/// bounds that are counted there: since the last fault on its path the node received at most
+/// `c.strays` strays, and then published items of its count in their order, of which only some
+/// among the first `c.missing` are missing.
 pub fn scenarios_obey()
     ensures { (j : JobValue) (steps : List Step) (node : ℕ)
         → IsNetwork (network j) → node < length j.tree.parents

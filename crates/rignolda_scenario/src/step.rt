@@ -5,8 +5,8 @@ use stab_faults::Change;
 pub enum Step {
     /// One change of the tree.
     One(Change),
-    /// So many rounds of all links, one after the other.
+    /// This number of rounds of all links, one after the other.
     Rounds(u16),
-    /// So many reading rounds of all links, one after the other.
+    /// This number of reading rounds of all links, one after the other.
     ReadingRounds(u16),
 }

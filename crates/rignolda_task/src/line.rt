@@ -28,7 +28,8 @@ enum Kind {
     File,
     /// An option without a value.
     Flag,
-    /// An option with a number of so many bits, by the name of its value and its defaults.
+    /// An option with a number, by the bits that it has at most, the name of its value and its
+    /// defaults.
     Number(Bits, &'static str, &'static [&'static str]),
 }
 
@@ -259,7 +260,7 @@ fn argument_of<'a>(alloc: Global, row: &Argument) -> Arg<'a> {
     }
 }
 
-/// What reads a number of so many bits.
+/// What reads a number of at most `bits` bits.
 fn parser_of<'a>(bits: &Bits) -> ValueParser<'a> {
     match bits {
         Bits::Sixteen => value_parser!(u16),

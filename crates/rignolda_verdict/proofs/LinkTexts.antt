@@ -1,5 +1,5 @@
--- The lines of a link are single lines, which show its numbers; and what is read of them is the link. So where what is read prints
--- another text, no link has this one.
+-- The lines of a link are single lines, which show its numbers; and what is read of them is the
+-- link. So where what is read prints another text, no link has this one.
 use Rattle.std.proofs.Common.{◌≡◌, ◌≢◌, ℕ, ◌+◌, ◌<◌, ◌^◌, List, [], ◌∷◌, ◌++◌, length, map, IfOk, Result, Ok, Err, Bool, true, false, Option, None, decimal, codes, refl, sym, ap, ap₂, ◌∙◌, rules, arith, append_assoc, lt-ltb, drop, get_or, if◌then◌else◌}
 use Rattle.std.proofs.lemmas.List.{append-nil, drop_more}
 use Rattle.std.proofs.lemmas.List.Elements.{All-head, All-tail}

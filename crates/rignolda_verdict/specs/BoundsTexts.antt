@@ -26,7 +26,7 @@ use Rattle.rignolda_verdict.specs.Costs.{greatest_below, missing_of}
 abbrev pub name_at : Network → ℕ → List ℕ
 name_at net node = slice_index_or net.tree.names node []
 
--- so many strays at most
+-- at most `count` strays
 unfoldable pub strays_words : ℕ → List ℕ
 strays_words count =
     if count == 0 then codes "no strays" else (if count == 1 then codes "at most 1 stray" else
@@ -70,12 +70,13 @@ rounds_words rounds published =
     number_entry rounds ++ codes " reading rounds of its path:"
     ++ parts_words published (rounds - published)
 
--- the line that says when all has arrived at a node of this name, where so many items are published
+-- the line that says when all has arrived at a node of this name, where `published` items are
+-- published
 unfoldable pub arrival_line : List ℕ → ℕ → ℕ → List ℕ
 arrival_line name rounds published =
     name ++ codes " has all but these after" ++ rounds_words rounds published
 
--- what a fault costs: so many strays, and some of so many items
+-- what a fault costs: at most `strays` strays, and some of the next `missing` items
 unfoldable pub cost_words : ℕ → ℕ → List ℕ
 cost_words strays missing =
     strays_words strays ++ codes ", and only some of the next" ++ number_entry missing
@@ -95,7 +96,8 @@ strike_line name capacity below =
 unfoldable pub leaf_line : List ℕ → List ℕ
 leaf_line name = name ++ codes " after its restart: as much\n"
 
--- the line of a restart that costs what is beneath so many strays, and some of so many items
+-- the line of a restart that costs what is beneath at most `strays` strays, and some of the next
+-- `missing` items
 unfoldable pub inner_line : List ℕ → ℕ → ℕ → List ℕ
 inner_line name strays missing =
     name ++ codes " after its restart: as much; beneath it, beside its new list, "

@@ -13,7 +13,7 @@ use Rattle.stab_treecore.specs.Faults.{is_parent}
 use Rattle.stab_treecore.specs.Network.{Network}
 use Rattle.stab_treecore.specs.NodeLaws.{capacity_into}
 
--- some of so many items may be missing where a link of this capacity is struck
+-- some of the next `2 * capacity + 1` items may be missing where a link of this capacity is struck
 abbrev pub missing_of : ℕ → ℕ
 missing_of capacity = 2 * capacity + 1
 

@@ -49,7 +49,7 @@ offered_text offers offered =
 unfoldable pub capacity_words : ℕ → List ℕ
 capacity_words capacity = codes "the link law of capacity " ++ decimal capacity
 
--- it is broken, with so many items acknowledged
+-- it is broken, with `acked` items acknowledged
 unfoldable pub acked_words : ℕ → List ℕ
 acked_words acked =
     codes " is broken, with " ++ decimal acked ++ codes " items acknowledged\n"

@@ -60,7 +60,7 @@ opening_text name opening items =
 unfoldable pub capacity_words : ℕ → List ℕ
 capacity_words capacity = codes " has capacity " ++ decimal capacity
 
--- so many items are acknowledged on it
+-- `acked` items are acknowledged on it
 unfoldable pub acked_words : ℕ → List ℕ
 acked_words acked = codes " and " ++ decimal acked ++ codes " acknowledged items\n"
 
@@ -97,7 +97,7 @@ link_law_text net r child = law_head net r child ++ law_above net r child ++ law
 unfoldable pub ended_words : ℕ → List ℕ
 ended_words count = codes " ended upstream with " ++ decimal count ++ codes " items,"
 
--- so many of these are acknowledged
+-- `acked` of these are acknowledged
 unfoldable pub of_them_words : ℕ → List ℕ
 of_them_words acked = codes " and " ++ decimal acked ++ codes " of them are acknowledged\n"
 

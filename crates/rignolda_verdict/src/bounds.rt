@@ -33,7 +33,7 @@ pub fn bounds_text(alloc: Global, job: &Job) -> Result<String, AllocError>
     text_of(alloc, &judge, job.tree(), job.items().len() as u32)
 }
 
-/// The lines of the nodes of this tree, whose root publishes so many items.
+/// The lines of the nodes of this tree, whose root publishes `published` items.
 #[tactic(auto, unfolding(crate::specs::BoundsTexts::bounds_text))]
 fn text_of(
     alloc: Global,

@@ -231,7 +231,7 @@ pub fn push_handed_on(
     push_of_them(text, acked)
 }
 
-/// Adds that a node of so many items ended with its upstream.
+/// Adds that a node of `count` items ended with its upstream.
 #[tactic(auto, unfolding(crate::specs::Verdicts::ended_words))]
 fn push_ended(text: &mut String, count: u64) -> Result<(), AllocError>
     ensures { OnOk result (string_bytes text.new ≡ string_bytes text.old ++ ended_words count) }

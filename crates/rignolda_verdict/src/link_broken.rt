@@ -58,7 +58,7 @@ fn push_capacity(text: &mut String, capacity: u16) -> Result<(), AllocError>
     write!(text, "the link law of capacity {capacity}")
 }
 
-/// Adds that it is broken, with so many items acknowledged.
+/// Adds that it is broken, with `acked` items acknowledged.
 #[tactic(auto, unfolding(crate::specs::LinkVerdicts::acked_words))]
 fn push_acked(text: &mut String, acked: u64) -> Result<(), AllocError>
     ensures { OnOk result (string_bytes text.new ≡ string_bytes text.old ++ acked_words acked) }

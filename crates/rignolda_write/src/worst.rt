@@ -75,7 +75,7 @@ fn worst_start(alloc: Global, capacity: u16) -> Result<Start, AllocError>
     })
 }
 
-/// Strays, so many, whose labels count up from this one.
+/// The `count` strays whose labels count up from `first`.
 fn counted_frames(alloc: Global, first: Label, count: u16) -> Result<Sequence<Frame>, AllocError>
     requires { first + count ≤ 1000 }
     ensures { IfOk result (λ frames. frames ≡ counted_frames first FIRST_STRAY count) }
@@ -90,7 +90,7 @@ fn counted_frames(alloc: Global, first: Label, count: u16) -> Result<Sequence<Fr
     Ok(frames)
 }
 
-/// The labels from 0 on, so many.
+/// The first `count` labels, from 0 on.
 fn counted_labels(alloc: Global, count: u16) -> Result<Sequence<Label>, AllocError>
     ensures { IfOk result (λ labels. labels ≡ range_with_len 0 count) }
 {
@@ -115,8 +115,8 @@ fn worst_events(alloc: Global, capacity: u16) -> Result<Sequence<Event>, AllocEr
     Ok(events)
 }
 
-/// Adds so many rounds, in each of which the next acknowledgement of the start acknowledges an item
-/// that was never sent.
+/// Adds `rounds` rounds, in each of which the next acknowledgement of the start acknowledges an
+/// item that was never sent.
 fn push_acked_by_start(
     events: &mut Sequence<Event>,
     first: Item,
@@ -132,8 +132,8 @@ fn push_acked_by_start(
     Ok(())
 }
 
-/// Adds so many rounds, in each of which the label that the receiver remembers acknowledges an item
-/// that was never sent, and then the receiver takes the next stray.
+/// Adds `rounds` rounds, in each of which the label that the receiver remembers acknowledges an
+/// item that was never sent, and then the receiver takes the next stray.
 fn push_acked_by_receiver(
     events: &mut Sequence<Event>,
     first: Item,

@@ -10,7 +10,7 @@ use Rattle.stab_c.specs.NodeList.{IsList, first_kept, item_kept, is_left_behind,
 use Rattle.stab_c.proofs.Lists.{get_added, get_before}
 use Rattle.stab_c.proofs.Rings.{kept_here, none_past}
 
--- ---- a list of so many items
+-- ---- a list of `n` items
 
 abbrev items_of : (ℕ → ℕ) → ℕ → List ℕ
 items_of f zero = []

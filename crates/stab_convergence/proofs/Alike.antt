@@ -1,5 +1,5 @@
--- What happens elsewhere is not seen on a path: after changes of which no fault hits the node, and that publish nothing, the path is as
--- after the acts alone.
+-- What happens elsewhere is not seen on a path: after changes of which no fault hits the node, and
+-- that publish nothing, the path is as after the acts alone.
 use Rattle.std.proofs.Common.{◌≡◌, ℕ, ◌≤◌, ◌==◌, false, List, [], ◌∷◌, ◌++◌, length, slice_get, option_and_then, Some, refl, ap, ap₂, sym, ◌∙◌, subst, inl, inr}
 use Rattle.std.specs.Option.{option_map_or}
 use Rattle.std.proofs.lemmas.Bool.{cases_eq}

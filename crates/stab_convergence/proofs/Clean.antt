@@ -1,4 +1,5 @@
--- Once more than M items are published in a node's count, and all is handed on, each link of its path has acknowledged 2c + 2 of them.
+-- Once more than M items are published in a node's count, and all is handed on, each link of its
+-- path has acknowledged 2c + 2 of them.
 use Rattle.std.proofs.Common.{◌≡◌, ℕ, zero, suc, ◌+◌, ◌-◌, ◌*◌, ◌<◌, ◌≤◌, List, [], ◌++◌, length, map, slice_index, Some, None, refl, ap, sym, ◌∙◌, subst, inl, inr, arith}
 use Rattle.std.specs.Option.{option_map_or}
 use Rattle.std.specs.Prelude.{Contains}
@@ -27,7 +28,8 @@ use Rattle.stab_faults.proofs.Obeying.{ObeysSince}
 use Rattle.stab_convergence.proofs.Beneath.{spare_up}
 use Rattle.stab_convergence.proofs.Lags.{path_below}
 
--- so many places there are, where none is missing but among the first
+-- where none below `bound` is missing but among the first `first` ones, there are at least
+-- `bound - first` places
 many_places : (first bound : ℕ) (places : List ℕ) → RisesFrom 0 places → NoneMissingFrom first bound places → bound ≤ first + length places
 many_places first bound places rises all =
     elim (cases_lt first bound) [

@@ -1,5 +1,5 @@
--- Where each link of a node's path has acknowledged 2c + 2 items since any state, and has handed on all: from then on the node receives
--- exactly what is published.
+-- Where each link of a node's path has acknowledged 2c + 2 items since any state, and has handed on
+-- all: from then on the node receives exactly what is published.
 use Rattle.std.proofs.Common.{◌≡◌, inl, inr, ℕ, zero, suc, ◌<◌, ◌≤◌, List, [], ◌∷◌, ◌++◌, length, drop, Some, None, option_and_then, refl, ap, sym, ◌∙◌, subst, arith}
 use mathlib.Core.List.{IsPrefix}
 use Rattle.std.specs.Option.{option_map_or}
@@ -49,7 +49,8 @@ module _ (tree : Nodes) (s : WholeTree) (is : IsState tree s) (node : ℕ) (is_n
     abbrev On : ℕ → Type 0
     On = OnPath middle node
 
-    -- what a link of the path delivers is what its parent received, and all of it where it was handed on
+    -- what a link of the path delivers is what its parent received, and all of it where it was
+    -- handed on
     record Passed (w parent : ℕ) : Type 0 where
       in_order : IsPrefix (gained middle end w) (gained middle end parent)
       all : acked_at end w ≡ length (received end parent) → gained middle end w ≡ gained middle end parent

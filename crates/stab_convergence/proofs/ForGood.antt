@@ -1,5 +1,5 @@
--- Both halves of convergence: a node that has come back, and in whose count more than M items are published, receives exactly what is
--- published from there on.
+-- Both halves of convergence: a node that has come back, and in whose count more than M items are
+-- published, receives exactly what is published from there on.
 use Rattle.std.proofs.Common.{◌≡◌, ℕ, ◌<◌, ◌≤◌, List, ◌++◌, length, Some, ap, sym, ◌∙◌, subst}
 use Rattle.std.specs.Option.{option_map_or}
 use Rattle.stab_core.specs.Link.{LinkValue}

@@ -1,4 +1,5 @@
--- From the start of a network on, so many reading rounds of a node's path as are counted from its bounds are enough.
+-- From the start of a network on, as many reading rounds of a node's path as are counted from its
+-- bounds are enough.
 use Rattle.std.proofs.Common.{◌≡◌, ℕ, zero, suc, ◌+◌, ◌<◌, ◌≤◌, List, [], ◌∷◌, ◌++◌, length, map, get_or, Option, Some, None, option_map, refl, ap, sym, ◌∙◌, subst, length-append, arith}
 use Rattle.std.specs.Option.{option_map_or}
 use Rattle.stab_core.specs.Link.{LinkValue, link_at}
@@ -68,7 +69,8 @@ module _ (net : Network) (is : IsNetwork net) where
       mapped (x ∷ xs) zero = refl
       mapped (x ∷ xs) (suc i) = mapped xs i
 
-  -- what a node has, and what the nodes above it have for the next of its path, is published or held
+  -- what a node has, and what the nodes above it have for the next of its path, is published or
+  -- held
   abbrev FewAt : ℕ → ℕ → Type 0
   FewAt depth u = length (received s u) + sum_above parents had depth u ≤ length net.published + sum_above parents hold depth u
 

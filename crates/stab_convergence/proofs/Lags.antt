@@ -1,4 +1,5 @@
--- Of any state of a whole tree: the most items that a node can yet have, and so how many rounds the link into it can need.
+-- Of any state of a whole tree: the most items that a node can yet have, and so how many rounds the
+-- link into it can need.
 use Rattle.std.proofs.Common.{◌≡◌, inl, inr, ℕ, suc, ◌+◌, ◌-◌, ◌<◌, ◌≤◌, [], ◌++◌, length, drop, Some, None, refl, ap, sym, ◌∙◌, subst, arith}
 use Rattle.std.specs.Option.{option_map_or}
 use Rattle.std.proofs.lemmas.Bool.{cases_lt}
@@ -148,7 +149,7 @@ module _ (tree : Nodes) (s : WholeTree) (is : IsState tree s) where
         path_below paid u g is_parent,
       )
 
-  -- so many items more than are acknowledged can a parent have
+  -- a parent can have at most `lag w` items more than are acknowledged
   pub few_left : (w u : ℕ) (p : Parameters) (state : LinkState) → u < length s.parents → parent_at s.parents w ≡ Some u → At s w p state
       → (k : ℕ) × Most fixed_at s u k × (k ≤ state.acked + lag w)
   few_left w u p state is_node is_child there =

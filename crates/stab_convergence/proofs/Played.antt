@@ -1,4 +1,5 @@
--- Reading rounds that are made after changes of a network: they are such rounds of every path, so every node comes back.
+-- Reading rounds that are made after changes of a network: they are such rounds of every path, so
+-- every node comes back.
 use Rattle.std.proofs.Common.{◌≡◌, ℕ, zero, suc, ◌<◌, ◌≤◌, List, [], ◌∷◌, ◌++◌, length, map, Option, refl, ap, sym, subst}
 use Rattle.std.proofs.lemmas.List.{map-append}
 use Rattle.stab_core.specs.LinkLaw.{LinkLaw}

@@ -1,5 +1,6 @@
--- A link that has acknowledged 2c + 2 items since any state, where no item waits and no frame is on its way: the label of the next item is
--- nowhere in it, so from then on it delivers exactly what it is offered, each item once.
+-- A link that has acknowledged 2c + 2 items since any state, where no item waits and no frame is on
+-- its way: the label of the next item is nowhere in it, so from then on it delivers exactly what it
+-- is offered, each item once.
 use Rattle.std.proofs.Common.{◌≡◌, ◌≢◌, ℕ, zero, suc, ◌+◌, ◌*◌, ◌<◌, ◌≤◌, inl, inr, List, [], ◌∷◌, ◌++◌, length, map, drop, slice_index, refl, sym, ◌∙◌, ap, subst, arith, Contains}
 use mathlib.Core.List.{IsPrefix}
 use Rattle.std.proofs.lemmas.Bool.{cases_lt}
@@ -43,7 +44,7 @@ member_later v p ps above (suc k, within, is) = (k, omega arith, is)
 abbrev AllFrom : ℕ → ℕ → List ℕ → Type 0
 AllFrom low acked ps = (v : ℕ) → low ≤ v → v < acked → Contains ps v
 
--- there are so many of them
+-- there are at least `acked - low` of them
 many_there : (low acked : ℕ) (ps : List ℕ) → RisesFrom low ps → AllFrom low acked ps → acked ≤ low + length ps
 many_there low acked [] rises all =
     elim (cases_lt low acked) [

@@ -1,5 +1,5 @@
--- A link that has acknowledged 2c + 2 items since any state, and has handed on all, passes on exactly what its node receives, as long as no
--- fault touches the link, whatever happens elsewhere.
+-- A link that has acknowledged 2c + 2 items since any state, and has handed on all, passes on
+-- exactly what its node receives, as long as no fault touches the link, whatever happens elsewhere.
 use Rattle.std.proofs.Common.{◌≡◌, ℕ, ◌+◌, ◌*◌, ◌<◌, ◌≤◌, List, ◌++◌, length, drop, Some, None, refl, ap, sym, ◌∙◌, subst, arith}
 use mathlib.Core.List.{IsPrefix}
 use Rattle.std.specs.Option.{option_map_or}

@@ -1,5 +1,5 @@
 -- After how many rounds of all links a node of a network has all that it will ever have, from the
--- start on: so many as its parent needs to hand on all that it can have. The root has it at once.
+-- start on: as many as its parent needs to hand on all that it can have. The root has it at once.
 -- Source: this project's own.
 use Rattle.std.specs.Prelude.{ℕ}
 use Rattle.std.specs.Option.{option_map_or}

@@ -41,7 +41,7 @@ IsPathRound s node part =
     (w parent : ℕ) → Reaches s.parents node w → parent_at s.parents w ≡ Some parent
     → 1 ≤ reading_from (capacity_at s w) offer (acts_on w (acts_among part))
 
--- the changes have so many reading rounds of the node's path, one after the other
+-- the changes have `rounds` reading rounds of the node's path, one after the other
 abbrev pub PathRounds : WholeTree → ℕ → ℕ → List Change → Type 0
 PathRounds s node zero changes = Unit {0}
 PathRounds s node (suc rounds) changes =
@@ -54,8 +54,8 @@ IsPathOpen t node =
     (w : ℕ) (link : LinkValue) → Reaches t.parents node w → link_into t w ≡ Some link
     → link.state.closed ≡ false
 
--- So many reading rounds are enough: one for each item that a sender of the path has for the node
--- below it, c + 1 for each link of the path but the last, and one.
+-- This number of reading rounds is enough: one for each item that a sender of the path has for the
+-- node below it, c + 1 for each link of the path but the last, and one.
 abbrev pub rounds_since : Moment → ℕ → ℕ
 rounds_since m node =
     path_sum m.parents (λ w. length (m.backlog w)) node

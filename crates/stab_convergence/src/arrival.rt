@@ -9,8 +9,8 @@ ghost use Rattle.stab_treecore.specs.Network.{Network};
 use stab_frames::Params;
 use stab_judge::Bounds;
 
-/// How many items a node of these bounds can have, where so many are published, and one more: they
-/// are published ones or strays.
+/// How many items a node of these bounds can have, where `published` items are published, and one
+/// more: they are published ones or strays.
 fn most_items(bounds: Bounds, published: u32) -> u64
     requires few { bounds.link_strays + bounds.opening_strays ≤ 131070 * bounds.depth }
     ensures { result ≡ published + (bounds.link_strays + bounds.opening_strays) + 1 }
@@ -19,7 +19,7 @@ fn most_items(bounds: Bounds, published: u32) -> u64
 }
 
 /// After how many rounds of all links from the start on a node has all that it will ever have: its
-/// parent has these bounds, so many items are published, and no link has a larger capacity than
+/// parent has these bounds, `published` items are published, and no link has a larger capacity than
 /// this one. The number is a sum over the path of the parent, and says nothing of other nodes. The
 /// root has everything at once.
 pub fn arrival_rounds(parent: Bounds, published: u32, capacity: u16) -> u64
@@ -32,8 +32,8 @@ pub fn arrival_rounds(parent: Bounds, published: u32, capacity: u16) -> u64
 }
 
 /// After how many reading rounds of its path from the start on a node has all that it will ever
-/// have: its parent has these bounds, and so many items are published. The root has everything at
-/// once.
+/// have: its parent has these bounds, and `published` items are published. The root has everything
+/// at once.
 pub fn arrival_reading_rounds(parent: Bounds, published: u32) -> u64
     requires few { parent.link_strays + parent.opening_strays ≤ 131070 * parent.depth }
     ensures rounds { (net : Network) (node above : ℕ) → parent_at net.tree.parents node ≡ Some above

@@ -52,9 +52,9 @@ pub fn converged_nodes_stay_exact()
         → IsExact t (changes_replay t later) node }
 {}
 
-/// Of whole schedules: whatever changes a network goes through, once so many reading rounds of all
-/// its links are made, each node has converged, counted from any moment after which no fault hits
-/// it, such as the last fault on its path. Nothing is asked of the rounds but their number.
+/// Of whole schedules: whatever changes a network goes through, once `rounds_since` reading rounds
+/// of all its links are made, each node has converged, counted from any moment after which no fault
+/// hits it, such as the last fault on its path. Nothing is asked of the rounds but their number.
 pub fn every_schedule_converges()
     ensures { (net : Network) (before after : List Change) (capacity rounds node : ℕ)
         → IsNetwork net → Fit (initial_tree net) (before ++ after)
@@ -86,7 +86,7 @@ pub fn nodes_converge_for_good()
     stab_core::laws::link_law_from_any_state();
 }
 
-/// From the start of a network: so many reading rounds of a node's path as
+/// From the start of a network: as many reading rounds of a node's path as
 /// `arrival_reading_rounds` says bring it all that was published, but for some of the first items,
 /// whatever happens elsewhere.
 pub fn rounds_of_the_path_are_enough()

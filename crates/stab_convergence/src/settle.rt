@@ -19,10 +19,10 @@ use stab_tree::{Openings, Tree};
 use stab_treecore::{TreeState, TreeStepFault};
 use std::alloc::Global;
 
-/// The whole tree after these changes, and then after so many reading rounds of every link, each of
-/// which takes so many messages before it sends. Where the rounds are enough, no link has a larger
-/// capacity and no link was closed, every node has come back: counted from any moment after which
-/// no fault hits it, it has all that was published since, but for some of the first items.
+/// The whole tree after these changes, and then after `rounds` reading rounds of every link, each
+/// of which takes `capacity` messages before it sends. Where the rounds are enough, no link has a
+/// larger capacity and no link was closed, every node has come back: counted from any moment after
+/// which no fault hits it, it has all that was published since, but for some of the first items.
 pub fn run_and_settle(
     alloc: Global,
     params: &[Params],

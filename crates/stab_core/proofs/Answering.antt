@@ -1,7 +1,8 @@
--- The labels that the receiver has remembered, in their order, and where in this list the acknowledgements are. The sender
--- accepts each of them once at most. So the item after as many as the acknowledgements of the start, the label that the
--- receiver began with, and the strays that it took, is acknowledged by the answer to a frame that was sent; and where there
--- are enough labels, that is a frame of the item's own.
+-- The labels that the receiver has remembered, in their order, and where in this list the
+-- acknowledgements are. The sender accepts each of them once at most. So the item after as many as
+-- the acknowledgements of the start, the label that the receiver began with, and the strays that it
+-- took, is acknowledged by the answer to a frame that was sent; and where there are enough labels,
+-- that is a frame of the item's own.
 use Rattle.std.proofs.Common.{◌≡◌, ℕ, zero, suc, ◌+◌, ◌-◌, ◌<◌, ◌≤◌, ltb, lt-ltb, le-ltb, if◌then◌else◌, ◌⊎◌, inl, inr, Bool, List, [], ◌∷◌, ◌++◌, map, length, get_or, slice_index, Contains, refl, sym, ◌∙◌, ap, ap₂, subst, subst₂, arith, append_assoc, length-append, get_or-append-add, zero-add}
 use Rattle.std.proofs.lemmas.Bool.{cases_lt}
 use Rattle.std.proofs.lemmas.List.{length-map, map_push, length_push, get_or_append_left, get_or-map, get_or_default, same_lists}
@@ -50,7 +51,8 @@ rises_far low (v ∷ vs) (suc t) rises within =
     let first = rises.0 in
     let rest = rises_far (v + 1) vs t rises.1 (omega arith) in omega arith
 
--- a place after all that are below the bound is as far above it, where the first one is below and the rest are such places
+-- a place after all that are below the bound is as far above it, where the first one is below and
+-- the rest are such places
 above_next : (bound v : ℕ) (vs : List ℕ) (t : ℕ) → v < bound
     → ((u : ℕ) → u < length vs → few_below bound vs ≤ u → bound + u ≤ get_or vs u 0 + few_below bound vs)
     → t < length (v ∷ vs) → few_below bound (v ∷ vs) ≤ t → bound + t ≤ get_or (v ∷ vs) t 0 + few_below bound (v ∷ vs)
@@ -98,7 +100,8 @@ range_below first (suc count) bound room = (omega arith, range_below (first + 1)
 -- ---- the labels that the receiver has remembered
 
 module _ (p : Parameters) (start : Start) where
-  -- the labels that the receiver answered before the start, the one that it begins with, and those that it took
+  -- the labels that the receiver answered before the start, the one that it begins with, and those
+  -- that it took
   abbrev pub remembered : List ℕ → List ℕ
   remembered taken = start.acks ++ start.recv_label ∷ map (label_at p start) taken
 
@@ -118,8 +121,8 @@ module _ (p : Parameters) (start : Start) where
   abbrev IsAhead : List ℕ → ℕ → ℕ → Type 0
   IsAhead taken acked k = (acked ≤ k) ⊎ ((k + 1 ≡ acked) × (label_of taken k ≡ item_label p start k))
 
-  -- The acknowledgements are of these places, which never fall. No label is accepted twice; so of the items after as many
-  -- as there are labels of the start and of strays, each was taken.
+  -- The acknowledgements are of these places, which never fall. No label is accepted twice; so of
+  -- the items after as many as there are labels of the start and of strays, each was taken.
   pub record Answering (acked : ℕ) (acks : List ℕ) (recv_label : ℕ) (taken answered : List ℕ) : Type 0 where
     pub acks_are : acks ≡ map (label_of taken) answered
     pub recv_is : recv_label ≡ label_of taken (latest taken)
@@ -276,8 +279,8 @@ module _ (p : Parameters) (start : Start) where
             absurd (next_differs p (item_label p start k) some_labels (sym next_one ∙ sym accepted ∙ both.1))
       ]
 
-  -- A label after those of the start and of strays is that of a frame that was sent; where there are more labels than these,
-  -- it is a frame of the item's own.
+  -- A label after those of the start and of strays is that of a frame that was sent; where there
+  -- are more labels than these, it is a frame of the item's own.
   accepted_own : (taken : List ℕ) (acked k bound : ℕ) → RisesFrom 0 taken → AllBelow bound taken
       → bound ≤ stray_count start + (acked + 1) → acked ≤ k → k < latest taken + 1
       → label_of taken k ≡ item_label p start acked → of_strays taken ≤ acked → of_strays taken < p.labels

@@ -1,5 +1,5 @@
--- The labels on the circle of a link, from what the sender will see next to what it put there last: the acknowledgements
--- from the front, the receiver's label, the frames' labels from the front.
+-- The labels on the circle of a link, from what the sender will see next to what it put there last:
+-- the acknowledgements from the front, the receiver's label, the frames' labels from the front.
 use Rattle.std.proofs.Common.{◌≡◌, ◌≢◌, ℕ, Bool, true, false, refl, List, [], ◌∷◌, ◌++◌, append_assoc}
 use Rattle.std.specs.List.{AllByRecursion as Each}
 use Rattle.stab_core.specs.Step.{after_front}
@@ -17,8 +17,8 @@ Absent label entries = Each (λ x. x ≢ label) entries
 abbrev pub AllAre : ℕ → List ℕ → Type 0
 AllAre label entries = Each (λ x. x ≡ label) entries
 
--- Once this label is there, all entries after it are this label. Read from the other end, where the sender puts its
--- frames, these are copies of the label and then labels that differ from it.
+-- Once this label is there, all entries after it are this label. Read from the other end, where the
+-- sender puts its frames, these are copies of the label and then labels that differ from it.
 abbrev pub TurnsTo : ℕ → List ℕ → Type 0
 TurnsTo label [] = Unit {0}
 TurnsTo label (x ∷ xs) = (x ≡ label → AllAre label xs) × TurnsTo label xs

@@ -1,4 +1,5 @@
--- What breaks the laws of a link: an acknowledged item that was not delivered, a stray too many, an item too many.
+-- What breaks the laws of a link: an acknowledged item that was not delivered, a stray too many, an
+-- item too many.
 use Rattle.std.proofs.Common.{◌≡◌, ◌≢◌, ℕ, zero, suc, ◌+◌, ◌<◌, ◌≤◌, List, [], ◌∷◌, ◌++◌, ◌-◌, length, fold, slice_index, Contains, ap, sym, ◌∙◌, subst, arith}
 use Rattle.std.specs.List.{AllByRecursion as Each}
 use Rattle.std.proofs.Math.Seq.{get_or-append_right}
@@ -25,7 +26,8 @@ module _ (most_strays : ℕ) (start_items offered : List ℕ) (acked : ℕ) (del
       subst (λ (xs : List ℕ). Contains xs item) (sym half.taken_picked.the_items) (chosen_is_member offered places i taken) in
       subst (λ (xs : List ℕ). Contains xs item) (sym half.parts) (Contains-append_right half.strays half.taken item picked)
 
-  -- an acknowledged item that is not among the first ones, and was not delivered, breaks the link law
+  -- an acknowledged item that is not among the first ones, and was not delivered, breaks the link
+  -- law
   missing_breaks : (most_missing i : ℕ) → most_missing ≤ i → i < acked → Each (λ y. y ≢ slice_index offered i) delivered
       → LinkLawWithin most_strays most_missing start_items offered acked delivered → ⊥
   missing_breaks most_missing i late passed apart (places, half, none_missing) =

@@ -1,7 +1,8 @@
--- One label fewer is enough for the link law: 2c + 1 labels. Where a start leaves a label free, that is the argument with
--- one item number less. Where it does not, both queues are full, so nothing can be sent until an entry of the circle goes;
--- and until then no more than one item is acknowledged, by the front that stays. Once an entry has gone, the label of one
--- of the next 2c + 1 items is nowhere, and the argument begins there.
+-- One label fewer is enough for the link law: 2c + 1 labels. Where a start leaves a label free,
+-- that is the argument with one item number less. Where it does not, both queues are full, so
+-- nothing can be sent until an entry of the circle goes;
+-- and until then no more than one item is acknowledged, by the front that stays. Once an entry has
+-- gone, the label of one of the next 2c + 1 items is nowhere, and the argument begins there.
 use Rattle.std.proofs.Common.{◌≡◌, ◌≢◌, ℕ, zero, suc, ◌+◌, ◌*◌, ◌<◌, ◌≤◌, ◌⊎◌, inl, inr, Bool, true, false, List, [], ◌∷◌, ◌++◌, map, length, slice_get, Some, None, Option, ◌==◌, ◌&&◌, refl, sym, ◌∙◌, ap, subst, arith, length-append, eqb-true}
 use mathlib.Core.List.{map-map}
 use Rattle.std.proofs.lemmas.Bool.{cond_both, and_parts, cases_lt, ltb-true}

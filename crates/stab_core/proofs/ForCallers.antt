@@ -1,5 +1,6 @@
--- For the crates above, and for this one: facts on lists of places, on picks and on prefixes. A place is a number that
--- counts entries of a list from 0. `Picks`, `RisesFrom` and `AllBelow` are defined in specs/Picks.antt.
+-- For the crates above, and for this one: facts on lists of places, on picks and on prefixes. A
+-- place is a number that counts entries of a list from 0. `Picks`, `RisesFrom` and `AllBelow` are
+-- defined in specs/Picks.antt.
 use Rattle.std.proofs.Common.{◌≡◌, ℕ, zero, suc, ◌+◌, ◌-◌, ◌<◌, ◌≤◌, inl, inr, List, [], ◌∷◌, ◌++◌, map, length, get_or, slice_get, slice_index, Some, Contains, refl, sym, ◌∙◌, ap, subst, add-one, append_assoc, arith}
 use mathlib.Core.List.{IsPrefix}
 use Rattle.std.proofs.lemmas.Bool.{cases_lt}
@@ -81,7 +82,8 @@ pub joined_below : (bound : ℕ) (ps qs : List ℕ) → AllBelow bound ps → Al
 joined_below bound [] qs below more = more
 joined_below bound (p ∷ ps) qs below more = (below.0, joined_below bound ps qs below.1 more)
 
--- there are no more rising places than there is room for between where they rise from and their bound
+-- there are no more rising places than there is room for between where they rise from and their
+-- bound
 pub few_rising : (low bound : ℕ) (ps : List ℕ) → RisesFrom low ps → AllBelow bound ps → low ≤ bound
     → low + length ps ≤ bound
 few_rising low bound [] rises below room = omega arith
@@ -237,7 +239,8 @@ items_after front items (p ∷ ps) =
     ap (λ x. x ∷ at_places items ps) (sym (get_or-append-add front items p 0))
     ∙ ap (λ more. get_or (front ++ items) (length front + p) 0 ∷ more) (items_after front items ps)
 
--- the items of two lists, one after the other, at parted places: some of the first, then some of the second
+-- the items of two lists, one after the other, at parted places: some of the first, then some of
+-- the second
 pub items_parted : (front back low high : List ℕ) → AllBelow (length front) low
     → at_places (front ++ back) (low ++ raised (length front) high) ≡ at_places front low ++ at_places back high
 items_parted front back low high below =

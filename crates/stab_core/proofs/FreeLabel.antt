@@ -60,7 +60,8 @@ one_is_free number (suc n) used differ few =
           (j, omega arith, absent_from_others last (number j) used differs absent)
     ]
 
--- Item number j is free: it is one of the first items, whose labels all differ, and its label is nowhere in the start.
+-- Item number j is free: it is one of the first items, whose labels all differ, and its label is
+-- nowhere in the start.
 pub record IsFree (p : Parameters) (start : Start) (j : ℕ) : Type 0 where
   pub some_labels : 2 ≤ p.labels
   pub few : j < p.labels

@@ -1,4 +1,5 @@
--- What a step leaves of a link's lists: the offered list grows by the offered item alone, and the delivered list only grows.
+-- What a step leaves of a link's lists: the offered list grows by the offered item alone, and the
+-- delivered list only grows.
 use Rattle.std.proofs.Common.{◌≡◌, ◌==◌, ◌&&◌, ℕ, ◌+◌, List, [], ◌∷◌, ◌++◌, length, slice_get, Bool, true, false, if◌then◌else◌, Option, Some, None}
 use mathlib.Core.List.{IsPrefix}
 use Rattle.stab_frames.specs.declared.frame.Frame.{Frame}

@@ -1,11 +1,13 @@
--- What a list becomes when entries vanish and others are repeated where they stand. Whatever a queue loses or keeps at
--- its front, and whatever the receiver takes or answers, the labels on the circle change in no other way.
+-- What a list becomes when entries vanish and others are repeated where they stand. Whatever a
+-- queue loses or keeps at its front, and whatever the receiver takes or answers, the labels on the
+-- circle change in no other way.
 use Rattle.std.proofs.Common.{◌≡◌, ℕ, zero, suc, Bool, true, false, List, [], ◌∷◌, ◌++◌, map, refl, ap}
 use Rattle.std.specs.List.{AllByRecursion as Each}
 use Rattle.stab_frames.specs.Queue.{without}
 use Rattle.stab_core.specs.Step.{after_front}
 
--- the second list has entries of the first in their order, where some may be missing and others repeated
+-- the second list has entries of the first in their order, where some may be missing and others
+-- repeated
 pub data InOrder {A : Type 0} : List A → List A → Type 0 where
   nothing : InOrder [] []
   skip : {x : A} {xs ys : List A} → InOrder xs ys → InOrder (x ∷ xs) ys

@@ -1,4 +1,5 @@
--- What every event keeps of a link, where the frames in transit and the delivered items are given by their places.
+-- What every event keeps of a link, where the frames in transit and the delivered items are given
+-- by their places.
 -- `Kept` is the one record of all invariants, and there is a lemma for each kind of event.
 use Rattle.std.proofs.Common.{◌≡◌, ◌≢◌, ℕ, ◌+◌, ◌<◌, ◌≤◌, arith, Bool, true, List, [], ◌∷◌, ◌++◌, map, length, ◌∙◌, ap, subst, eqb-true}
 use mathlib.Core.List.{map-map}
@@ -18,8 +19,8 @@ use Rattle.stab_core.proofs.Ordering.{Sending, InTransit, Delivery, sending_open
 use Rattle.stab_core.proofs.Answering.{Answering, answering_open, answering_fresh, answering_acked}
 use Rattle.stab_core.proofs.Reading.{Reading, reading_open, reading_in_order, reading_send, reading_fresh, reading_acked}
 
--- The sender, the queue of frames and the receiver keep their order, and from this count on the circle of labels reads so
--- for each item number that is followed.
+-- The sender, the queue of frames and the receiver keep their order, and from this count on the
+-- circle of labels reads so for each item number that is followed.
 pub record Kept (p : Parameters) (start : Start) (from : ℕ) (Followed : ℕ → Type 0) (s : LinkState)
     (queued taken : List ℕ) (bound : ℕ) : Type 0 where
   pub begun : from ≤ s.acked
@@ -29,7 +30,8 @@ pub record Kept (p : Parameters) (start : Start) (from : ℕ) (Followed : ℕ �
   pub readings : (j : ℕ) → Followed j → Reading p start j s.acked s.acks s.recv_label queued taken
   pub answers : 2 ≤ p.labels → (answered : List ℕ) × Answering p start s.acked s.acks s.recv_label taken answered
 
--- An item number can be followed from this count on: the sender's labels differ from its own until its turn comes.
+-- An item number can be followed from this count on: the sender's labels differ from its own until
+-- its turn comes.
 pub record IsNear (p : Parameters) (from j : ℕ) : Type 0 where
   pub some_labels : 2 ≤ p.labels
   pub near : j < p.labels + from

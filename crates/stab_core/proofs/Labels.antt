@@ -9,7 +9,8 @@ abbrev pub item_label : Parameters → Start → ℕ → ℕ
 item_label p start zero = start.send_label
 item_label p start (suc i) = next p (item_label p start i)
 
--- The labels count on from the first one; past the last label, or past a first one that is none, they start again at 0.
+-- The labels count on from the first one; past the last label, or past a first one that is none,
+-- they start again at 0.
 abbrev Counted : ℕ → ℕ → ℕ → ℕ → Type 0
 Counted labels first i label =
     ((label ≡ first + i) × (first + i < max labels (first + 1))) ⊎ (label + max labels (first + 1) ≡ first + i)

@@ -153,7 +153,8 @@ module _ (p : Parameters) (start : Start) (from : ℕ) (Followed : ℕ → Type 
       → LinkLaw p.capacity (start_items start) t.state.offered t.state.acked t.state.delivered
   few_acked_link_law lawful few = (_, half_law lawful, λ i late passed. absurd (omega arith))
 
-  -- where there are enough labels, only as many items are missing as labels of the start and of strays came
+  -- where there are enough labels, only as many items are missing as labels of the start and of
+  -- strays came
   pub answered_link_law : fewest_labels p.capacity ≤ p.labels → IsLawful p start
       → SharperLinkLaw p.capacity (start_items start) t.state.offered t.state.acked t.state.delivered
   unfolding half_law stray_items

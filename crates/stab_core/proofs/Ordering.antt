@@ -1,4 +1,5 @@
--- The order in which items go through a link, whatever its start: places in transit never fall, delivered places rise.
+-- The order in which items go through a link, whatever its start: places in transit never fall,
+-- delivered places rise.
 use Rattle.std.proofs.Common.{◌≡◌, ◌≢◌, ℕ, ◌+◌, ◌-◌, ◌<◌, ◌≤◌, Bool, List, [], ◌∷◌, ◌++◌, map, length, slice_index, refl, sym, ◌∙◌, ap, ap₂, arith}
 use Rattle.std.proofs.lemmas.List.{map_push, length_push}
 use Rattle.stab_frames.specs.declared.frame.Frame.{Frame}
@@ -12,7 +13,8 @@ use Rattle.stab_core.proofs.ForCallers.{rises_push, below_higher, below_push, ma
 use Rattle.stab_core.proofs.Places.{NeverFalls, NeverFalls-lower, NeverFalls-in_order, NeverFalls-push, AllBelow-in_order}
 use Rattle.stab_core.proofs.Sources.{stray_count, item_at, label_at, frame, frame_at, frame_sent, item_kept, frame_kept, start_places, start_places_never_fall, start_places_below, start_frames}
 
--- The sender: all offered items but at most the last are acknowledged, and its label is that of the next item.
+-- The sender: all offered items but at most the last are acknowledged, and its label is that of the
+-- next item.
 pub record Sending (p : Parameters) (start : Start) (offered : List ℕ) (acked send_label : ℕ) : Type 0 where
   pub acked_were_offered : acked ≤ length offered
   pub one_waits_at_most : length offered ≤ acked + 1
@@ -24,8 +26,8 @@ pub record InTransit (p : Parameters) (start : Start) (offered : List ℕ) (fram
   pub frames_are : frames ≡ map (frame_at p start offered) queued
   pub in_list : AllBelow (stray_count start + length offered) queued
 
--- The receiver: it took the items of these rising places, all below a bound. What is in transit never falls and is no
--- lower than the place taken last, whose label the receiver remembers.
+-- The receiver: it took the items of these rising places, all below a bound. What is in transit
+-- never falls and is no lower than the place taken last, whose label the receiver remembers.
 pub record Delivery (p : Parameters) (start : Start) (offered : List ℕ) (recv_label : ℕ) (delivered queued taken : List ℕ)
     (bound : ℕ) : Type 0 where
   pub delivered_are : delivered ≡ map (item_at start offered) taken
@@ -166,7 +168,8 @@ module _ (p : Parameters) (start : Start) where
         never_falls = NeverFalls-in_order (bound - 1) in_order delivery.never_falls;
       }
 
-  -- a frame whose label is not the receiver's lies above all that was taken, since the place taken last has that label
+  -- a frame whose label is not the receiver's lies above all that was taken, since the place taken
+  -- last has that label
   fresh_is_above : {offered : List ℕ} {recv_label : ℕ} {delivered : List ℕ} {place : ℕ} {queued taken : List ℕ} {bound : ℕ}
       → label_at p start place ≢ recv_label → Delivery p start offered recv_label delivered (place ∷ queued) taken bound
       → bound ≤ place

@@ -1,5 +1,5 @@
--- A link that has so many items acknowledged that all labels of its start are gone: from then on it passes on exactly what it is
--- offered.
+-- A link that has 2c + 2 items acknowledged, so that all labels of its start are gone: from then on
+-- it passes on exactly what it is offered.
 use Rattle.std.proofs.Common.{◌≡◌, ◌⊎◌, inl, inr, ℕ, zero, suc, ◌+◌, ◌-◌, ◌*◌, ◌<◌, ◌≤◌, List, [], ◌∷◌, ◌++◌, length, map, drop, slice_get, slice_index, get_or, refl, sym, ◌∙◌, ap, ap₂, subst, arith, Contains}
 use mathlib.Core.List.{IsPrefix}
 use Rattle.std.proofs.lemmas.Bool.{cases_lt, cases_eq}
@@ -139,7 +139,8 @@ member_later : (v p : ℕ) (ps : List ℕ) → p < v → Contains (p ∷ ps) v �
 member_later v p ps above (zero, within, is) = absurd (omega (arith, is))
 member_later v p ps above (suc k, within, is) = (k, omega arith, is)
 
--- rising places below a bound, of which none is missing but perhaps the last below it, count on from where they rise from
+-- rising places below a bound, of which none is missing but perhaps the last below it, count on
+-- from where they rise from
 counts_on : (low bound : ℕ) (ps : List ℕ) → RisesFrom low ps → AllBelow bound ps
     → ((v : ℕ) → low ≤ v → v + 1 < bound → Contains ps v) → Counts low ps
 unfolding Counts
@@ -160,7 +161,7 @@ counts_on low bound (p ∷ ps) rises below all =
     first_is (zero, within, is) = omega (arith, is)
     first_is (suc k, within, is) = omega (arith, member_above (p + 1) low ps rises.1 (k, omega arith, is))
 
--- they are so many above it
+-- each of them is below `low` plus their number
 counted_below : (low v : ℕ) (ps : List ℕ) → Counts low ps → Contains ps v → v < low + length ps
 unfolding Counts
 counted_below low v [] counts (k, within, is) = absurd (omega arith)
@@ -425,7 +426,8 @@ passes_on_shifted o d m t on =
       none_missing = omega (arith, ap (λ xs. length xs) since);
     }
 
--- From every bounded state, once 2c + 2 items were acknowledged, the link passes on exactly what it is offered.
+-- From every bounded state, once 2c + 2 items were acknowledged, the link passes on exactly what it
+-- is offered.
 pub clean_link : (p : Parameters) (s : LinkState) (before after : List Event) → AreLawful p → IsBounded p s
     → 2 * p.capacity + 2 ≤ acked_since s (replay p s before)
     → PassesOn (replay p s before) (replay p (replay p s before) after)

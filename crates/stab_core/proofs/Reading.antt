@@ -1,5 +1,6 @@
--- What the circle of labels says of a free item number j, whose label is nowhere in the start, and of all items after
--- it: from item j on, the circle read from the sender is copies of the sender's label and then labels that differ from it.
+-- What the circle of labels says of a free item number j, whose label is nowhere in the start, and
+-- of all items after it: from item j on, the circle read from the sender is copies of the sender's
+-- label and then labels that differ from it.
 use Rattle.std.proofs.Common.{◌≡◌, ◌≢◌, ℕ, ◌+◌, ◌<◌, ◌≤◌, inl, inr, Bool, List, [], ◌∷◌, ◌++◌, map, Contains, refl, sym, ◌∙◌, ap, subst, arith}
 use Rattle.std.specs.List.{AllByRecursion as Each}
 use Rattle.std.proofs.lemmas.Bool.{cases_lt}
@@ -25,9 +26,9 @@ IsOwn p start item place = label_at p start place ≡ item_label p start item �
 abbrev pub NoneMissingFrom : Start → ℕ → ℕ → List ℕ → Type 0
 NoneMissingFrom start j acked taken = (i : ℕ) → j ≤ i → i < acked → Contains taken (stray_count start + i)
 
--- Until item j is the sender's, its label is nowhere. From then on the circle turns to the sender's label, the frames
--- with this label are frames of the sender's item, and a receiver that remembers this label took the item. So of the
--- acknowledged items from item j on none is missing.
+-- Until item j is the sender's, its label is nowhere. From then on the circle turns to the sender's
+-- label, the frames with this label are frames of the sender's item, and a receiver that remembers
+-- this label took the item. So of the acknowledged items from item j on none is missing.
 pub record Reading (p : Parameters) (start : Start) (j acked : ℕ) (acks : List ℕ) (recv_label : ℕ) (queued taken : List ℕ)
     : Type 0 where
   pub early : acked < j → Absent (item_label p start j) (on_circle p start acks recv_label queued)
@@ -135,7 +136,8 @@ module _ (p : Parameters) (start : Start) (j : ℕ) (some_labels : 2 ≤ p.label
       rw (sym (after_front-map (label_at p start) keep (place ∷ queued)))
       (taking_in_order keep acks recv_label (label_at p start place) (map (label_at p start) queued))
 
-  -- the receiver takes the front frame: where that has the sender's label, it is one of the sender's item
+  -- the receiver takes the front frame: where that has the sender's label, it is one of the
+  -- sender's item
   pub reading_fresh : (keep : Bool) {acked : ℕ} {acks : List ℕ} {recv_label place : ℕ} {queued taken : List ℕ}
       → Reading p start j acked acks recv_label (place ∷ queued) taken
       → Reading p start j acked acks (label_at p start place) (after_front keep (place ∷ queued)) (taken ++ place ∷ [])
@@ -175,7 +177,8 @@ module _ (p : Parameters) (start : Start) (j : ℕ) (some_labels : 2 ≤ p.label
             subst (λ (k : ℕ). Contains taken (stray_count start + k)) is_last (reading.remembered own_turn same)
       ]
 
-  -- And the label of the next item is nowhere: it differs from the one that all are, or it is that of item j itself.
+  -- And the label of the next item is nowhere: it differs from the one that all are, or it is that
+  -- of item j itself.
   next_is_absent : {acked : ℕ} {acks : List ℕ} {recv_label : ℕ} {queued taken : List ℕ} → j ≤ acked + 1
       → Reading p start j acked (item_label p start acked ∷ acks) recv_label queued taken
       → Absent (item_label p start (acked + 1)) (on_circle p start (item_label p start acked ∷ acks) recv_label queued)
@@ -192,7 +195,8 @@ module _ (p : Parameters) (start : Start) (j : ℕ) (some_labels : 2 ≤ p.label
             absent_other label after labels differs (all_are_own begun reading)
       ]
 
-  -- the sender's own label is acknowledged, and stays at the front or goes; the next item's turn begins
+  -- the sender's own label is acknowledged, and stays at the front or goes; the next item's turn
+  -- begins
   pub reading_acked : {acked : ℕ} {acks fewer_acks : List ℕ} {recv_label : ℕ} {queued taken : List ℕ}
       → InOrder (item_label p start acked ∷ acks) fewer_acks
       → Reading p start j acked (item_label p start acked ∷ acks) recv_label queued taken

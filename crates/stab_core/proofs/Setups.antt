@@ -1,4 +1,5 @@
--- Links by their setups: as many as there are starts, each with the parameters and the start at its own place.
+-- Links by their setups: as many as there are starts, each with the parameters and the start at its
+-- own place.
 use Rattle.std.proofs.Common.{◌≡◌, ℕ, zero, suc, ◌<◌, List, [], ◌∷◌, length, get_or, All, refl, ap, sym, ◌∙◌, subst, arith}
 use Rattle.std.proofs.lemmas.List.Elements.{All-cons, All-head, All-nil, All-tail}
 use Rattle.stab_frames.specs.Parameters.{Parameters}

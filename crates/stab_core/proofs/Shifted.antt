@@ -13,7 +13,7 @@ use Rattle.stab_core.specs.Step.{step, open_step, after_front, receives_frame, r
 use Rattle.stab_core.proofs.Replays.{replay-append}
 use Rattle.stab_core.specs.Since.{start_at, IsBounded, offered_since, acked_since, delivered_since}
 
--- a link with so many items acknowledged and delivered before
+-- a link that had the items `offers` acknowledged and the items `before` delivered earlier
 abbrev pub shifted : List ℕ → List ℕ → LinkState → LinkState
 shifted offers before s =
     record s {

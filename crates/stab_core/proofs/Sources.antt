@@ -1,5 +1,5 @@
--- Where frames and delivered items come from: a place in the start's items followed by the offered ones. So the places
--- of strays come first, and those of offered items follow.
+-- Where frames and delivered items come from: a place in the start's items followed by the offered
+-- ones. So the places of strays come first, and those of offered items follow.
 use Rattle.std.proofs.Common.{◌≡◌, ℕ, zero, suc, ◌+◌, ◌-◌, ◌<◌, ◌≤◌, ltb, false, lt-ltb, le-ltb, if◌then◌else◌, append_assoc, List, [], ◌∷◌, ◌++◌, map, length, get_or, slice_index, refl, sym, ◌∙◌, ap, ap₂, arith, get_or-append-add, length-append, zero-add}
 use Rattle.std.proofs.lemmas.Bool.{cond-true, cond-false}
 use Rattle.std.proofs.lemmas.List.{length-map, get_or-map, get_or_append_left, same_lists}

@@ -131,7 +131,8 @@ too_few_is_lawful c stray some =
       acks = omega (arith, length-range_with_len 0 (c - 1));
     }
 
--- where the strays are other items than the offered ones, item 2c + 1 was not delivered, though it is acknowledged
+-- where the strays are other items than the offered ones, item 2c + 1 was not delivered, though it
+-- is acknowledged
 pub too_few_labels_break : (c item stray : ℕ) → 1 ≤ c → item + 2 * c + 2 ≤ stray
     → let start = too_few_labels_start c stray in
     let s = replay (too_few_labels c) (initial start) (too_few_labels_events c item) in

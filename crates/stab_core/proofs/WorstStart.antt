@@ -1,4 +1,5 @@
--- The replay of the worst events from the worst start, round by round, and what it shows of the bounds of the link law.
+-- The replay of the worst events from the worst start, round by round, and what it shows of the
+-- bounds of the link law.
 use Rattle.std.proofs.Common.{◌≡◌, ◌≢◌, ℕ, false, zero, suc, ◌+◌, ◌*◌, ◌<◌, ◌≤◌, inl, inr, List, [], ◌∷◌, ◌++◌, map, length, get_or, slice_index, Contains, refl, sym, ◌∙◌, ap, ap₂, arith, append_assoc, append-nil, add-one, length-append}
 use Rattle.std.specs.List.{range_with_len}
 use Rattle.std.proofs.lemmas.Bool.{cases_lt, eq-eqb, ne_eqb, lt-ltb, lt-leb}
@@ -21,7 +22,7 @@ use Rattle.stab_core.proofs.Replays.{replay-append}
 
 -- ---- numbers that count up
 
--- so many numbers, and the one after them, are one number more
+-- the `count` numbers from `first` on, and the one after them, are `count + 1` numbers
 pub range_push : (first count next : ℕ) → first + count ≡ next
     → range_with_len first count ++ next ∷ [] ≡ range_with_len first (count + 1)
 range_push first zero next is = ap (λ x. x ∷ []) (omega arith)

@@ -1,4 +1,5 @@
--- Below a fault: a link that no fault touches, and that had so many items acknowledged before, passes on exactly its parent's list.
+-- Below a fault: a link that no fault touches, and that had 2c + 2 items acknowledged before,
+-- passes on exactly its parent's list.
 use Rattle.std.proofs.Common.{◌≡◌, ℕ, zero, suc, ◌+◌, ◌*◌, ◌≤◌, List, [], ◌∷◌, ◌++◌, length, drop, Option, Some, None, refl, ap, sym, ◌∙◌, subst, arith}
 use Rattle.std.specs.Option.{option_map_or}
 use Rattle.std.proofs.lemmas.List.{length-append, length-drop}
@@ -75,8 +76,8 @@ module _ (s : WholeTree) (w parent : ℕ) (is_child : parent_at s.parents w ≡ 
       sym same ∙ at_root (ap (λ u. link_into s u) same ∙ none)))
       (left own changes spare)
 
--- Once 2c + 2 items were acknowledged since some state, and as long as no fault touches the link, the child receives exactly what its
--- parent has, whatever happens above.
+-- Once 2c + 2 items were acknowledged since some state, and as long as no fault touches the link,
+-- the child receives exactly what its parent has, whatever happens above.
 pub contained : PassesOnExactly → (tree : Nodes) (s : WholeTree) (before after : List Change) (w parent : ℕ) → IsState tree s
     → parent_at s.parents w ≡ Some parent → SpareLink s.parents w before → SpareLink s.parents w after
     → let m = changes_replay s before in

@@ -1,4 +1,5 @@
--- Faults in one subtree alone: what its nodes receive since, by the older count of the node above it.
+-- Faults in one subtree alone: what its nodes receive since, by the older count of the node above
+-- it.
 use Rattle.std.proofs.Common.{◌≡◌, ℕ, zero, suc, ◌+◌, ◌-◌, ◌*◌, ◌<◌, ◌≤◌, List, [], ◌∷◌, ◌++◌, length, option_and_then, Option, Some, None, refl, ap, sym, ◌∙◌, subst, inl, inr, append_assoc, arith}
 use Rattle.std.specs.Option.{option_map_or}
 use Rattle.std.proofs.lemmas.Option.{none-some, same_Some}

@@ -28,7 +28,8 @@ prefix_dropped n xs ys (rest, is) =
 pub prefix_behind : {A : Type 0} (first xs ys : List A) → IsPrefix xs ys → IsPrefix (first ++ xs) (first ++ ys)
 prefix_behind first xs ys (rest, is) = (rest, append_assoc first xs rest ∙ ap (λ zs. first ++ zs) is)
 
--- from a place on that is in the front, a list has the rest of the front and then what comes after it
+-- from a place on that is in the front, a list has the rest of the front and then what comes after
+-- it
 pub dropped_front : {A : Type 0} (n : ℕ) (xs ys : List A) → n ≤ length xs → drop n (xs ++ ys) ≡ drop n xs ++ ys
 dropped_front zero xs ys within = refl
 dropped_front (suc n) [] ys within = absurd (omega arith)

@@ -1,5 +1,5 @@
--- What changes leave on a path that no fault hits: its links are replays from what they were, and were offered what the parent had
--- then or received since.
+-- What changes leave on a path that no fault hits: its links are replays from what they were, and
+-- were offered what the parent had then or received since.
 use Rattle.std.proofs.Common.{◌≡◌, ◌≢◌, ◌⊎◌, ◌==◌, ℕ, zero, suc, ◌≤◌, List, [], ◌∷◌, ◌++◌, length, drop, get_or, set, slice_get, option_and_then, Option, Some, None, option_map, Bool, true, false, if◌then◌else◌, refl, ap, ap₂, sym, ◌∙◌, subst, inl, inr, arith}
 use Rattle.std.specs.Option.{option_map_or}
 use Rattle.std.proofs.lemmas.Bool.{cases_eq}
@@ -41,7 +41,8 @@ written_same [] i old new there = absurd (none-some old there)
 written_same (x ∷ xs) zero old new there = refl
 written_same (x ∷ xs) (suc i) old new there = written_same xs i old new there
 
--- a link since: a replay from what it was, which was offered what the parent has beyond what it had been offered
+-- a link since: a replay from what it was, which was offered what the parent has beyond what it had
+-- been offered
 pub record LinkSince (s t : WholeTree) (w : ℕ) (link : LinkValue) : Type 0 where
   pub events : List Event
   pub now : link_into t w ≡ Some (link_at link.params (replay link.params link.state events))
@@ -279,7 +280,8 @@ link_left happens links w nothing =
     same None = refl
     same (Some l) = ap (λ z. Some (link_at l.params z)) (nothing l.state)
 
--- where nothing happens to what it delivered, and its node keeps its opening, the node's list stays; and that of the root
+-- where nothing happens to what it delivered, and its node keeps its opening, the node's list
+-- stays; and that of the root
 pub list_left : (t u : WholeTree) (happens : ℕ → LinkState → LinkState) (v : ℕ) → u.links ≡ each_link happens 0 t.links
     → opening_at u.openings v ≡ opening_at t.openings v → ((state : LinkState) → (happens v state).delivered ≡ state.delivered)
     → (link_into t v ≡ None → u.published ≡ t.published) → received u v ≡ received t v
@@ -395,7 +397,8 @@ module _ (s : WholeTree) (Linked Listed : ℕ → Type 0)
       by v None = (items, refl)
       by v (Some l) = prefix_of_itself (opening_at t.openings v ++ l.state.delivered)
 
-  -- a fault that strikes one of these links, or restarts a node of one of them or one with one of these lists
+  -- a fault that strikes one of these links, or restarts a node of one of them or one with one of
+  -- these lists
   abbrev pub Touches : Change → Type 0
   Touches (Act e) = ⊥
   Touches (Publish items) = ⊥

@@ -63,7 +63,8 @@ module _ (tree : Nodes) (s : WholeTree) (is : IsState tree s) where
         ∙ (sym (append_assoc (drop state.acked state.offered) (drop n (received s parent)) (gained s t parent))
         ∙ ap (λ xs. xs ++ gained s t parent) (sym backlog_is))))
 
-    -- between what a parent has for a child and what the child received since there is a link that obeys the law
+    -- between what a parent has for a child and what the child received since there is a link that
+    -- obeys the law
     pub link_went : (Law : ℕ → List ℕ → List ℕ → ℕ → List ℕ → Type 0) → ObeysSince Law → (w parent : ℕ) → OnPath w
         → parent_at s.parents w ≡ Some parent
         → (offered : List ℕ) × (acked : ℕ) × IsPrefix offered (backlog s w ++ gained s t parent)
@@ -141,7 +142,8 @@ root_alone tree s is node is_node v (j, leads) none =
     let as_far : j ≡ reaches.0 = steps_once s.parents j reaches.0 node v (root_of s.parents) leads own_none reaches.1 root_none in
     same_Some v (root_of s.parents) (sym leads ∙ (ap (λ k. ancestor s.parents k node) as_far ∙ reaches.1))
 
--- From any state of a whole tree, after changes that spare a node, the node obeys both laws, counted from there.
+-- From any state of a whole tree, after changes that spare a node, the node obeys both laws,
+-- counted from there.
 module _ (tree : Nodes) (s : WholeTree) (changes : List Change) (node : ℕ) (is : IsState tree s) (is_node : node < length s.parents)
     (spare : Spare s.parents node changes) where
   abbrev end : WholeTree

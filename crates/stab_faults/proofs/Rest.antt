@@ -56,7 +56,7 @@ late_member (suc n) zero x (y ∷ ys) late here = absurd (omega arith)
 late_member (suc n) (suc k) x (y ∷ ys) late here =
     late_member n k x ys (omega arith) (record { within = omega (arith, here.within); is_there = here.is_there })
 
--- So many strays fewer, and so many more items that may be missing.
+-- Without its first `n` items a list may have `n` strays fewer, and `n` more items may be missing.
 pub law_of_rest : (n most_strays most_missing : ℕ) (garbage published list : List ℕ) → TreeLaw most_strays most_missing garbage published list
     → TreeLaw (most_strays - n) (most_missing + n) garbage published (drop n list)
 law_of_rest n most_strays most_missing garbage published list (places, half, none_missing) =

@@ -36,7 +36,7 @@ pub sharper_schedule_law : ObeysSince SharperLinkLaw → (net : Network) (before
 sharper_schedule_law obey net before after node is fit is_node spare =
     sharper_law_since net.tree (changes_replay (initial_tree net) before) after node (schedule_state net before is fit).is_state is_node spare obey
 
--- ---- backlogs of at most so many items
+-- ---- backlogs of at most `most w` items
 
 no_more_of : (f g : ℕ → ℕ) (up : Option ℕ) → ((w : ℕ) → f w ≤ g w) → option_map_or f up 0 ≤ option_map_or g up 0
 no_more_of f g None less = omega arith

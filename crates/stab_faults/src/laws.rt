@@ -56,7 +56,7 @@ pub fn clean_links_contain_faults()
 }
 
 /// A fault that touches one link alone: since a later moment, from which on no fault touches the
-/// link, its child receives at most `c` strays, and so many as its parent has and it had not
+/// link, its child receives at most `c` strays, and as many as its parent has and it had not
 /// acknowledged; then items that were published in its parent's count, and only few of these are
 /// missing.
 pub fn one_struck_link()
@@ -97,8 +97,8 @@ pub fn every_schedule_with_faults_obeys_the_tree_law()
     stab_core::laws::sharper_link_law_from_any_state();
 }
 
-/// Where no backlog of an inner node is longer than so many items, so many strays come of it; in a
-/// drained tree none do.
+/// Where no backlog of an inner node `w` is longer than `most w` items, at most `most w` strays
+/// come of it; in a drained tree none do.
 pub fn law_of_short_backlogs()
     ensures { (m : Moment) (gain : ℕ → List ℕ) (most : ℕ → ℕ) (node : ℕ)
         → ((w : ℕ) → length (old_backlog m w) ≤ most w) → LawSince m gain node

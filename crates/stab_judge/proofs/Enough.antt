@@ -1,5 +1,5 @@
--- Where each node obeys, the report does: the tree law at each node, and the complete law below nodes that all ended with their
--- upstream, from the root down.
+-- Where each node obeys, the report does: the tree law at each node, and the complete law below
+-- nodes that all ended with their upstream, from the root down.
 use Rattle.std.proofs.Common.{◌≡◌, ℕ, suc, ◌+◌, ◌*◌, ◌<◌, ◌≤◌, List, [], ◌++◌, length, Option, Some, MatchOption, ap, sym, ◌∙◌, subst, arith, append_assoc}
 use Rattle.std.proofs.lemmas.Option.{same_Some}
 use Rattle.std.specs.Option.{option_map_or}
@@ -85,7 +85,8 @@ module _ (net : Network) (r : ReportValue) (tree : IsRooted net.tree.parents) (f
   abbrev hold : ℕ → ℕ
   hold = hold_at parents net.openings.hold
 
-  -- how many strays a node and the link into it can add, and how many items can be missing for the link
+  -- how many strays a node and the link into it can add, and how many items can be missing for the
+  -- link
   abbrev strays : ℕ → ℕ
   strays child = capacity_into net child + hold child
 
@@ -96,7 +97,8 @@ module _ (net : Network) (r : ReportValue) (tree : IsRooted net.tree.parents) (f
   garbage child = opening_at net.openings.lists child ++ garbage_into net child
 
   module _ (at_root : RootIsComplete) (at_child : ChildIsComplete) (past_opening : OpeningsAddStrays) (larger : LargerBoundsHold) where
-    -- the complete law of a node below ended nodes, with what there is beside this many nodes, from it upwards
+    -- the complete law of a node below ended nodes, with what there is beside this many nodes, from
+    -- it upwards
     abbrev CompleteAt : ℕ → ℕ → Type 0
     CompleteAt depth node =
         AllAboveEnded net r node

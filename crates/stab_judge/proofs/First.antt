@@ -1,4 +1,5 @@
--- A part is broken first, where the nodes before it obey, and the parts of its node that are looked at before it are whole.
+-- A part is broken first, where the nodes before it obey, and the parts of its node that are looked
+-- at before it are whole.
 use Rattle.std.proofs.Common.{◌≡◌, ℕ, zero, suc, ◌<◌, ◌≤◌, inl, inr, List, ◌++◌, Option, Some, None, IsSome, MatchOption, refl, sym, ◌∙◌, ap, subst, arith}
 use Rattle.std.proofs.lemmas.Bool.{cases_lt}
 use Rattle.std.proofs.lemmas.List.{append_cancel_left}

@@ -90,7 +90,8 @@ picked_from_nothing part (p ∷ ps, picks) = absurd (omega (arith, picks.in_list
 
 -- ---- greedily
 
--- how many of the first items of a list are found in another, each at the first place after the one before
+-- how many of the first items of a list are found in another, each at the first place after the one
+-- before
 abbrev pub greedy : List ℕ → List ℕ → ℕ
 greedy part [] = 0
 greedy [] (w ∷ ws) = 0
@@ -104,7 +105,7 @@ greedy_within (p ∷ ps) (w ∷ ws) =
     cond_both (eqb p w) (suc (greedy ps ws)) (greedy (p ∷ ps) ws) (λ n. n ≤ length (p ∷ ps))
     (λ _. omega (arith, greedy_within ps ws)) (λ _. greedy_within (p ∷ ps) ws)
 
--- so many are picked
+-- the first `greedy part whole` of them are picked
 pub greedy_picked : (part whole : List ℕ) → IsPicked (take (greedy part whole) part) whole
 greedy_picked part [] = nothing_picked []
 greedy_picked [] (w ∷ ws) = nothing_picked (w ∷ ws)

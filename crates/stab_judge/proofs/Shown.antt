@@ -1,4 +1,5 @@
--- What a schedule leaves obeys: each link of it obeys the link law, the root has the published items, and no node has ended.
+-- What a schedule leaves obeys: each link of it obeys the link law, the root has the published
+-- items, and no node has ended.
 use Rattle.std.proofs.Common.{◌≡◌, ℕ, ◌<◌, ◌⊎◌, inl, inr, List, [], ◌++◌, length, Option, Some, None, is_some, true, false, refl, sym, ◌∙◌, ap, subst, arith}
 use Rattle.std.specs.Option.{option_map_or}
 use Rattle.std.proofs.lemmas.Bool.{false≢true}

@@ -1,4 +1,5 @@
--- Taken places where none is missing before the last: picks from a front, then the first items of what comes after it.
+-- Taken places where none is missing before the last: picks from a front, then the first items of
+-- what comes after it.
 use Rattle.std.proofs.Common.{◌≡◌, ℕ, suc, ◌+◌, ◌-◌, ◌<◌, ◌≤◌, inl, inr, List, [], ◌∷◌, ◌++◌, length, take, drop, Contains, refl, sym, ◌∙◌, ap, subst, append_assoc, arith}
 use Rattle.std.proofs.lemmas.List.{length-append, length-map, take-append-drop, length-take-le}
 use Rattle.stab_core.specs.Picks.{RisesFrom, AllBelow, Picks}
@@ -57,7 +58,7 @@ closed_places (x ∷ items) places rises below closed =
         subst (λ (xs : List ℕ). Contains xs 0) is (closed 0 (1 + q) (omega arith) here) in
         absurd (raised_not_zero (q ∷ qs) zero_there rises)
 
--- places in the front, then all places of so many items after it
+-- places in the front, then all places of the first `count` items after it
 pub record Placed (most : ℕ) (garbage front back received places : List ℕ) (count : ℕ) : Type 0 where
   pub low : List ℕ
   pub low_below : AllBelow (length front) low

@@ -366,7 +366,8 @@ pub line_is_replay : (p : Parameters) (frames : List Frame) (acks : List ℕ) (s
 line_is_replay p frames acks sender receiver acts =
     count_is_replay p frames acks sender.state.label sender.state.item sender.closed receiver acts
 
--- so a law of all replays holds of a line whose parameters are lawful and which held at most c messages each way
+-- so a law of all replays holds of a line whose parameters are lawful and which held at most c
+-- messages each way
 pub line_obeys : (Law : ℕ → List ℕ → List ℕ → ℕ → List ℕ → Type 0) → ReplaysObey Law
     → (p : Parameters) (frames : List Frame) (acks : List ℕ) (sender : SenderEnd)
     (receiver : ReceiverEnd) (acts : List LineAct) → AreLawful p → length frames ≤ p.capacity

@@ -55,7 +55,8 @@ line_adds p l (ack_lost place) = prefix_of_itself l.delivered
 line_adds p l sender_closes = prefix_of_itself l.delivered
 line_adds p l receiver_closes = prefix_of_itself l.delivered
 
--- what an act at an edge leaves: the same list above, and a delivered list that begins with the one before
+-- what an act at an edge leaves: the same list above, and a delivered list that begins with the one
+-- before
 record Adds (before after : Edge) : Type 0 where
   list : after.list ≡ before.list
   adds : IsPrefix before.line.delivered after.line.delivered
@@ -184,7 +185,8 @@ all_acts net t (act ∷ acts) child =
 
 -- ---- the laws
 
--- A law of all replays holds of what the link into a child did, and what it was offered is a prefix of its parent's list.
+-- A law of all replays holds of what the link into a child did, and what it was offered is a prefix
+-- of its parent's list.
 edge_law : (Law : ℕ → List ℕ → List ℕ → ℕ → List ℕ → Type 0) → ReplaysObey Law → (net : Network) (t : NodeTree) (acts : List NodeAct) (child : ℕ) (b : BeginsInto net t child) → CanBegin b.link
     → let after = node_run net t acts in
     LawBetween Law b.link.params.capacity (start_items b.link.start) (list_above net after child) (after.lines child).delivered

@@ -1,5 +1,5 @@
--- The tree law by what each link really had under way when the count began: the step from a parent to its child with any
--- bounds of the link between them, and the sums along a path.
+-- The tree law by what each link really had under way when the count began: the step from a parent
+-- to its child with any bounds of the link between them, and the sums along a path.
 use Rattle.std.proofs.Common.{◌≡◌, ℕ, ◌+◌, ◌<◌, ◌≤◌, List, [], ◌++◌, length, get_or, refl, ap, sym, ◌∙◌, subst, arith, append_assoc}
 use Rattle.std.specs.Prelude.{Contains}
 use Rattle.std.specs.Option.{option_map_or}
@@ -30,7 +30,8 @@ module _ (capacity most_strays acked : ℕ) (start_items garbage published recei
   module _ (above places : List ℕ)
       (up : HalfTreeLawAt most_strays garbage published received above)
       (link : HalfLawAt capacity start_items offered acked delivered places) where
-    -- what the link took from its offered list is picked from the parent's strays and published items, at the same places
+    -- what the link took from its offered list is picked from the parent's strays and published
+    -- items, at the same places
     taken_from_parent : Picks (up.strays ++ up.taken) places link.taken
     taken_from_parent =
         subst (λ list. Picks list places link.taken) (begins.1 ∙ up.parts)
@@ -88,8 +89,8 @@ module _ (capacity most_strays acked : ℕ) (start_items garbage published recei
         let in_taken : get_or parts.high k 0 < length up.taken = below_bound (length up.taken) parts.high k parts.high_below in_high in
         at_is_member above q (get_or parts.high k 0) (record { within = omega arith; is_there = k_is })
 
-    -- Where the child has a later item, and none is missing on the link from this place on, it has an earlier item whose place in
-    -- the parent's list is there.
+    -- Where the child has a later item, and none is missing on the link from this place on, it has
+    -- an earlier item whose place in the parent's list is there.
     child_has : (first i q m : ℕ) → NoneMissingFrom first acked places → i < q → Contains (at_places above parts.high) q
         → IsAt above i m → first ≤ length up.strays + m → Contains (at_places above parts.high) i
     child_has first i q m on_link before last there enough =
@@ -108,7 +109,8 @@ module _ (capacity most_strays acked : ℕ) (start_items garbage published recei
         member_is_raised strays m low high parts.low_below (subst (λ ps. Contains ps (strays + m)) parts.both taken_here) in
         subst (λ x. Contains (at_places above high) x) there.is_there (chosen_is_member above high m chosen)
 
-    -- where none is missing at the parent before its last place, nor on the link, none is missing at the child
+    -- where none is missing at the parent before its last place, nor on the link, none is missing
+    -- at the child
     child_misses : (first most_missing : ℕ) → NoneMissingBefore most_missing above → NoneMissingFrom first acked places
         → NoneMissingBefore (most_missing + first) (at_places above parts.high)
     child_misses first most_missing at_parent on_link i q enough before last =

@@ -24,7 +24,8 @@ use Rattle.stab_line.proofs.Calls.{line_after, put_here}
 use Rattle.stab_line.proofs.Places.{with_front, step_past}
 use Rattle.stab_line.proofs.NodeTrees.{path_obeys_law, path_obeys_sharper}
 
--- a tree of whole lists and one whose lists begin with the count, which are alike along the path to a node
+-- a tree of whole lists and one whose lists begin with the count, which are alike along the path to
+-- a node
 record Alike (net : Network) (past : ℕ → List ℕ) (node : ℕ) (whole part : NodeTree) : Type 0 where
   published : whole.published ≡ part.published
   lines : (steps child parent : ℕ) → ancestor net.tree.parents steps node ≡ Some child

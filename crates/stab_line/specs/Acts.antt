@@ -71,8 +71,8 @@ IsReceiverClosed before after =
     (p : Parameters) (l : Line)
     → line_step p (record l { receiver = before }) receiver_closes ≡ record l { receiver = after }
 
--- the child of a node with this list was polled, whose sender was offered so many items before and
--- after, and then this frame was sent, or none
+-- the child of a node with this list was polled, whose sender was offered `count` items before and
+-- `count_after` items after, and then this frame was sent, or none
 abbrev pub IsPolled : List ℕ → ℕ → SenderEnd → ℕ → SenderEnd → Option Frame → Type 0
 IsPolled list count before count_after after sent =
     (p : Parameters) (l : Line)

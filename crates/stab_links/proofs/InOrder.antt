@@ -1,4 +1,5 @@
--- Ends that take their acts in order: each call of an end keeps it, and so it is once they are finished.
+-- Ends that take their acts in order: each call of an end keeps it, and so it is once they are
+-- finished.
 use Rattle.std.proofs.Common.{◌≡◌, ◌≤◌, ℕ, zero, suc, ◌+◌, Bool, true, false, List, [], ◌∷◌, ◌++◌, drop, if◌then◌else◌, not, Result, Ok, Err, IfOk, IsOk, OnErr, refl, ap, sym, ◌∙◌, subst, arith}
 use Rattle.std.specs.declared.alloc.AllocError.{AllocError}
 use Rattle.stab_core.specs.declared.event.Effect.{Effect}

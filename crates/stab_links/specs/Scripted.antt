@@ -48,7 +48,7 @@ stored_under Pass = 1
 stored_under Drop = 0
 stored_under Evict = 1
 
--- how many stores the first acts let through, of so many
+-- how many stores the first `n` acts of this half let through
 abbrev pub let_through : ℕ → ActsRemaining → ℕ
 let_through zero half = 0
 let_through (suc n) half = stored_under (out_act half.outs) + let_through n (after_out half)
@@ -67,8 +67,8 @@ ack_stores (recv_step.FrameLoad word ∷ steps) = ack_stores steps
 ack_stores (recv_step.FrameLook word ∷ steps) = ack_stores steps
 ack_stores (recv_step.AckStore label ∷ steps) = suc (ack_stores steps)
 
--- the first acts of this half let so many stores through, and of these acts there are no more than
--- the turns
+-- the first acts of this half let this number of stores through, and there are no more of these
+-- acts than turns
 pub record IsLetThrough (half : ActsRemaining) (turns stores : ℕ) : Type 0 where
   pub taken : ℕ
   pub few : taken ≤ turns
@@ -93,7 +93,7 @@ abbrev pub IsNewRecv : {R : Type 0} → ActsRemaining → AnyRecv R → Type 0
 IsNewRecv half (recv.Lock end) = Unit {0}
 IsNewRecv half (recv.Word end) = (end.steps ≡ []) × (end.acts ≡ half)
 
--- an end of a link of two words takes its acts in their order, and has taken so many at most
+-- an end of a link of two words takes its acts in their order, and has taken at most `most`
 abbrev pub SendsInOrder : {R : Type 0} → ActsRemaining → ℕ → AnySend R → Type 0
 SendsInOrder half most (send.Lock end) = Unit {0}
 SendsInOrder half most (send.Word end) =

@@ -84,7 +84,7 @@ impl AnyLink {
         }
     }
 
-    /// The two ends of the link, which have made no call, for so many turns. Those of a link of two
+    /// The two ends of the link, which have made no call, for `turns` turns. Those of a link of two
     /// words have each its half of a copy of the script.
     pub fn split<'a, 's, R>(
         &'a self,

@@ -20,7 +20,7 @@ impl<'s> Model for Plan<'s> {
 }
 
 impl<'s> Plan<'s> {
-    /// What the ends of a link with this script follow, in a job of so many turns.
+    /// What the ends of a link with this script follow, in a job of `turns` turns.
     pub(crate) fn new(script: &'s Script, turns: u32) -> Plan<'s>
         ensures { result ≡ plan turns script.now }
     {

@@ -24,7 +24,8 @@ rest_of_chosen : {A : Type 0} (P : A → Type 0) (b : Bool) (x : A) (xs : List A
 rest_of_chosen P true x xs all = All-tail P x xs all
 rest_of_chosen P false x xs all = all
 
--- what holds of all that belongs to the links from a parent holds of what belongs to the link into its child
+-- what holds of all that belongs to the links from a parent holds of what belongs to the link into
+-- its child
 pub holds_at_child : {A : Type 0} (P : A → Type 0) (parents : List (Option ℕ)) (xs : List A) (child parent : ℕ) (x : A)
     → All P (to_children parent parents xs) → parent_at parents child ≡ Some parent → get_or (by_child parents xs) child None ≡ Some x → P x
 holds_at_child P [] xs child parent x all is_child is = absurd (none-some parent is_child)
@@ -38,7 +39,8 @@ holds_at_child P (Some q ∷ parents) (y ∷ ys) zero parent x all is_child is =
 holds_at_child P (Some q ∷ parents) (y ∷ ys) (suc child) parent x all is_child is =
     holds_at_child P parents ys child parent x (rest_of_chosen P (q == parent) y (to_children parent parents ys) all) is_child is
 
--- what holds of all that the row of each parent has holds of what belongs to the link into its child
+-- what holds of all that the row of each parent has holds of what belongs to the link into its
+-- child
 pub holds_of_child : {A : Type 0} (P : ℕ → A → Type 0) (parents : List (Option ℕ)) (xs : List A) (rows : List (List A)) → by_parent parents xs ≡ rows
     → ((node : ℕ) → node < length parents → All (P node) (get_or rows node []))
     → (child parent : ℕ) (x : A) → parent_at parents child ≡ Some parent → parent < length parents

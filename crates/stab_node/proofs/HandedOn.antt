@@ -92,7 +92,8 @@ module _ {A X Y : Type 0} (first : ℕ → List ℕ) (parents : List (Option ℕ
         (λ node a worked. all_of_map (IsServed (received_of a)) done_sent (downs_of a) worked.served) (λ past. All-nil _))
         child parent done is_child (known child parent is_child) is
 
-    -- a node that ended with its upstream handed all that it received on, and all of it is acknowledged
+    -- a node that ended with its upstream handed all that it received on, and all of it is
+    -- acknowledged
     pub handed_on_at : (child parent : ℕ) (done : Y) → parent_at parents child ≡ Some parent → entry_into parents sends child ≡ Some done
         → ended_at ended parent ≡ Upstream → HasAll (received_at received parent) (done_sent done)
     handed_on_at child parent done is_child is =
@@ -123,7 +124,8 @@ module _ {A X Y : Type 0} (first : ℕ → List ℕ) (parents : List (Option ℕ
       ap length ended_is
       ∙ (length-map accounts ended_of ∙ (sym (length-map accounts up_of) ∙ (sym (ap length recvs_are) ∙ length-by_child parents recvs)))
 
--- what holds of each lower end of each node and of what the node received holds of the end of the link to each child
+-- what holds of each lower end of each node and of what the node received holds of the end of the
+-- link to each child
 pub offers_at : {A X Y : Type 0} (Q : List ℕ → Y → Type 0) (parents : List (Option ℕ)) (received_of : A → List ℕ) (up_of : A → Option X)
     (downs_of : A → List Y) (ended_of : A → Ended) (accounts : List A) (received : List (List ℕ)) (sends : List Y)
     → received ≡ map received_of accounts → by_parent parents sends ≡ map downs_of accounts

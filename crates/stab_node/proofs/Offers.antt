@@ -69,7 +69,8 @@ all_without_offer may received s (inr all) used prefix =
     ap (λ xs. length xs) (sym prefix.offered.1) ∙ length-append s.offered tail in
     inr (inl (whole_prefix s.offered received prefix.offered (omega (arith, all, long))))
 
--- what holds of what two functions say of each entry holds where they say the same of the entries of another list
+-- what holds of what two functions say of each entry holds where they say the same of the entries
+-- of another list
 pub all_alike : {A B L S : Type 0} (Q : L → S → Type 0) (link : A → L) (sent : A → S) (its_link : B → L) (its_sent : B → S) (xs : List A) (ys : List B)
     → map its_link ys ≡ map link xs → map its_sent ys ≡ map sent xs → All (λ x. Q (link x) (sent x)) xs
     → All (λ y. Q (its_link y) (its_sent y)) ys

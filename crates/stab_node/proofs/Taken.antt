@@ -24,7 +24,8 @@ module _ {A : Type 0} (parents : List (Option ℕ)) (i : ℕ) (in_list : i < len
       ap (λ rest. by_child (drop i parents) rest) takes
       ∙ ap (λ rest. by_child rest (x ∷ left)) (next_parent parents i (Some parent) in_list is_child)
 
--- The workers so far took these from the front of the list, and the others are still to take what is left.
+-- The workers so far took these from the front of the list, and the others are still to take what
+-- is left.
 pub record TakenSoFar {S X : Type 0} (part : S → X) (workers : List S) (left all : List X) : Type 0 where
   pub so_far : map part workers ++ left ≡ all
 

@@ -1,5 +1,5 @@
--- From the ends that a worker is given to its answer: what holds at the beginning, between two turns,
--- once no further turn is made, and once the lower ends are closed.
+-- From the ends that a worker is given to its answer: what holds at the beginning, between two
+-- turns, once no further turn is made, and once the lower ends are closed.
 use Rattle.std.proofs.Common.{◌≡◌, ℕ, List, [], ◌∷◌, length, map, Bool, true, false, All, rules}
 use Rattle.std.proofs.Common.{◌++◌, append_assoc, ap, refl, sym, subst, ◌∙◌}
 use Rattle.std.proofs.Common.{Option, Some, None}

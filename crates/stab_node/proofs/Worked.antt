@@ -67,7 +67,8 @@ module _ {S A : Type 0} (R : S → A → Type 0) where
       let rest = carried f g workers accounts each zipped.1 in
       cc
 
-  -- where each account has a part that is read as that of its worker, these parts are read as what the workers got
+  -- where each account has a part that is read as that of its worker, these parts are read as what
+  -- the workers got
   pub read_alike : {X Y L : Type 0} (f : X → L) (g : Y → L) (part : A → X) (scattered : S → Y) (workers : List S) (accounts : List A) (all : List Y)
       → ((s : S) (a : A) → R s a → f (part a) ≡ g (scattered s))
       → AllZip R workers accounts → map scattered workers ≡ all → map f (map part accounts) ≡ map g all
@@ -124,7 +125,8 @@ each_done is_done (x ∷ xs) start (suc n) zero place are all inside is =
 each_done is_done (x ∷ xs) start (suc n) (suc node) place are all inside is =
     each_done is_done xs (start + 1) n node place (ap (λ ks. drop 1 ks) are) (All-tail is_done x xs all) (omega (arith, inside)) (omega (arith, is))
 
--- the first of some nodes is one of them, what is said of it holds, and what is said of those before it as well
+-- the first of some nodes is one of them, what is said of it holds, and what is said of those
+-- before it as well
 pub first_of_numbers : (before here : ℕ → Type 0) (numbers : List ℕ) (start n node : ℕ) → numbers ≡ range_with_len start n
     → IsFirstOf before here numbers node
     → (node < start + n) × ((earlier : ℕ) → start ≤ earlier → earlier < node → before earlier) × here node

@@ -40,12 +40,12 @@ pub record GivesUp (has_passed may_refuse : ℕ → ℕ → Type 0) (is_done : �
       (λ k. why ≡ Gate → IsRefused (has_passed k) (may_refuse k) turns) nodes node
   pub done : All is_done nodes
 
--- of so many nodes this is the first whose worker was not started: those before it are done
+-- of `count` nodes this is the first whose worker was not started: those before it are done
 pub record IsFirstUnstarted (count : ℕ) (is_done : ℕ → Type 0) (node : ℕ) : Type 0 where
   pub known : node < count
   pub before : (earlier : ℕ) → earlier < node → is_done earlier
 
--- Of so many nodes this is the first whose worker gave up: the turns of those before it are over,
+-- Of `count` nodes this is the first whose worker gave up: the turns of those before it are over,
 -- and all nodes are done.
 pub record IsFirstToGiveUp (count : ℕ) (has_passed : ℕ → ℕ → Type 0) (is_done : ℕ → Type 0)
     (turns node : ℕ) : Type 0 where

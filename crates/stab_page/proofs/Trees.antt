@@ -15,7 +15,7 @@ refilled [] (w ∷ ws) same = absurd (omega arith)
 refilled (x ∷ xs) [] same = absurd (omega arith)
 refilled (x ∷ xs) (w ∷ ws) same = ap (λ rest. w ∷ rest) (refilled xs ws (omega arith))
 
--- a link with at most so many has at most one more
+-- a link that has at most `most` has at most `most + 1`
 more : (most : ℕ) (link : Option TracerValue) → HasAtMost most link → HasAtMost (most + 1) link
 more most None has = has
 more most (Some link) has = (omega (arith, has.0), omega (arith, has.1))
@@ -31,7 +31,7 @@ grown most place links read d after same there grows all =
     (grows (subst (λ ls. HasAtMost most (get_or ls place d)) (sym same) (all place d (subst (λ ls. place < length ls) same there))))
     (λ k e in_links. more most (get_or links k e) (all k e in_links))))
 
--- each link has at most so many, also at a place where there is none
+-- each link has at most `most`, also at a place where there is none
 pub few_at : (most place : ℕ) (links : List (Option TracerValue)) → All (HasAtMost most) links → HasAtMost most (get_or links place None)
 few_at most place [] all = search
 few_at most zero (link ∷ links) all = All-head (HasAtMost most) link links all

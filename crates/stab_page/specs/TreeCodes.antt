@@ -1,7 +1,7 @@
 -- What a page writes for a tree, its links and its events, as numbers, and what they mean.
 -- Example: The parents 65535, 0, 0 are those of a root with two children. The event with the child
--- 2 and the kind 0 is an offer on the link into the second of them. The opening with the count 2 has
--- the first two of its eight items, and one with the count 9 has none.
+-- 2 and the kind 0 is an offer on the link into the second of them. The opening with the count 2
+-- has the first two of its eight items, and one with the count 9 has none.
 -- Source: this project's own.
 use Rattle.std.specs.Prelude.{ℕ, ◌==◌, ◌&&◌, Bool, List, [], map, take, true, false, nat_le}
 use Rattle.std.specs.Prelude.{Option, Some, None}

@@ -1,7 +1,7 @@
 -- Where a node stands between the bounds of its law: where each of its items comes from, how many
 -- of them nobody published, and how many published items were passed over. A stray of a link has
--- its place among the frames of the start, at most 63; the item number i of the opening of node n is
--- the stray of place 64 (n + 1) + i.
+-- its place among the frames of the start, at most 63; the item number i of the opening of node n
+-- is the stray of place 64 (n + 1) + i.
 -- Example: Over the link into b came 98 and 15 with the origins `Stray 0` and `Sent 2`. Place 2 of
 -- the list of a, its parent, is the published item at place 5. So the origins at b are `Stray 0`
 -- and `Sent 5`: 1 stray, and 5 items, 0 to 4, are missing before its last one. Had a, which is node

@@ -2,9 +2,9 @@
 //! numbers.
 //!
 //! Contracts see a tree as its published items, its openings, its parents and its links with their
-//! origins. The two exports answer the report of the replay that `stab_core` defines of a link, and of the
-//! replay of a schedule, which `stab_treecore` defines of a tree. A page only fills arrays with
-//! what is to happen, and shows the numbers of the report.
+//! origins. The two exports answer the report of the replay that `stab_core` defines of a link, and
+//! of the replay of a schedule, which `stab_treecore` defines of a tree. A page only fills arrays
+//! with what is to happen, and shows the numbers of the report.
 #![tactic(auto)]
 
 mod export;

@@ -26,8 +26,8 @@ use stab_page_link::numbers::{MAX_NUMBERS, Numbers};
 ///
 /// A parent is the place of a node, or 65535 for the root. The openings are in file order, and an
 /// inner node may begin with `hold` items, of which at most 8 are given. The links are in the file
-/// order of their children. Without its origins the state is the replay of the schedule, and the tree law holds of
-/// it at every node, where the parts are a network.
+/// order of their children. Without its origins the state is the replay of the schedule, and the
+/// tree law holds of it at every node, where the parts are a network.
 #[unsafe(no_mangle)]
 pub extern "C" fn stab_page_tree_report(
     hold: u16,

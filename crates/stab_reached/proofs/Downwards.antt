@@ -1,5 +1,6 @@
--- A schedule that takes a path one link after the other, from the root down. Each link above a chosen one loses its first c + 1
--- items, the chosen one 2c + 1, and it and each link below put c strays before what they deliver.
+-- A schedule that takes a path one link after the other, from the root down. Each link above a
+-- chosen one loses its first c + 1 items, the chosen one 2c + 1, and it and each link below put c
+-- strays before what they deliver.
 use Rattle.std.proofs.Common.{◌≡◌, ◌≢◌, ℕ, zero, suc, ◌+◌, ◌-◌, ◌*◌, ◌<◌, ◌≤◌, inl, inr, List, [], ◌∷◌, ◌++◌, map, length, get_or, replicate, option_map, All, Option, Some, None, refl, sym, ◌∙◌, ap, ap₂, arith, append_assoc, length-append, subst}
 use Rattle.std.specs.List.{range_with_len}
 use Rattle.std.specs.Option.{option_map_or}
@@ -108,7 +109,8 @@ module _ (net : Network) (is : IsNetwork net) (node : ℕ) (steps child parent :
 
   -- ---- the lists on the path
 
-  -- the list of a node: the items that were not lost above the chosen link, and below it strays and then one item
+  -- the list of a node: the items that were not lost above the chosen link, and below it strays and
+  -- then one item
   record Has (w : ℕ) (list : List ℕ) : Type 0 where
     above : depth_of parents w < chosen → list ≡ range_with_len (lost_above w) (missing + 1 - lost_above w)
     below : chosen ≤ depth_of parents w

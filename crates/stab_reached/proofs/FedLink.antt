@@ -1,5 +1,5 @@
--- What a link makes of a list that it is offered item by item: from a lossy start it loses the first items, from a strayed one it
--- puts strays before it.
+-- What a link makes of a list that it is offered item by item: from a lossy start it loses the
+-- first items, from a strayed one it puts strays before it.
 use Rattle.std.proofs.Common.{◌≡◌, ◌≢◌, ℕ, false, ◌+◌, ◌*◌, ◌<◌, ◌≤◌, inl, inr, List, [], ◌∷◌, ◌++◌, length, slice_index, slice_get, Some, refl, sym, ◌∙◌, ap, ap₂, arith, append_assoc, append-nil, length-append, zero, suc}
 use Rattle.std.specs.List.{range_with_len}
 use Rattle.std.proofs.lemmas.Bool.{cases_lt, eq-eqb, ne_eqb, lt-ltb, lt-leb, le-leb}
@@ -26,7 +26,8 @@ fed_replay xs link (act ∷ acts) = fed_replay xs (fed_step xs link act) acts
 
 -- ---- the starts and the acts
 
--- The start that loses c + 1 items, and one for each of these strays, whose items count up: at c of them the worst start.
+-- The start that loses c + 1 items, and one for each of these strays, whose items count up: at c of
+-- them the worst start.
 abbrev pub lossy_start : ℕ → ℕ → ℕ → Start
 lossy_start c strays stray =
     record { frames = counted_frames (c + 1) stray strays; acks = range_with_len 0 c; send_label = 0; recv_label = c }
@@ -40,7 +41,7 @@ acked_by_start (suc rounds) = Offer ∷ RecvAck false ∷ acked_by_start rounds
 abbrev pub acked_at_once : List LinkAct
 acked_at_once = SendAck ∷ Offer ∷ RecvAck false ∷ []
 
--- so is one before each of so many strays, which the receiver takes
+-- so is one before each of `rounds` strays, which the receiver takes
 abbrev pub acked_by_strays : ℕ → List LinkAct
 acked_by_strays zero = []
 acked_by_strays (suc rounds) = SendAck ∷ Offer ∷ RecvAck false ∷ RecvFrame false ∷ acked_by_strays rounds
@@ -50,7 +51,7 @@ abbrev pub clean_rounds : ℕ → List LinkAct
 clean_rounds zero = []
 clean_rounds (suc rounds) = Offer ∷ SendFrame ∷ RecvFrame false ∷ SendAck ∷ RecvAck false ∷ clean_rounds rounds
 
--- c + 1 items and one for each stray are lost, and so many more are delivered
+-- c + 1 items and one for each stray are lost, and `more` further ones are delivered
 abbrev pub lossy_acts : ℕ → ℕ → ℕ → List LinkAct
 lossy_acts c strays more = acked_by_start c ++ acked_by_strays strays ++ acked_at_once ++ clean_rounds more
 
@@ -59,7 +60,7 @@ abbrev pub strayed_start : ℕ → ℕ → Start
 strayed_start strays stray =
     record { frames = counted_frames 1 stray strays; acks = []; send_label = 0; recv_label = unused_label }
 
--- the receiver takes so many strays
+-- the receiver takes `count` strays
 abbrev pub strays_taken : ℕ → List LinkAct
 strays_taken zero = []
 strays_taken (suc count) = RecvFrame false ∷ strays_taken count
@@ -266,7 +267,8 @@ module _ (p : Parameters) (xs : List ℕ) where
             ∙ ap₂ (λ d e. idle [] [] d later.label later.recv_label e) (append_assoc done (x ∷ []) passed) (append_assoc delivered (x ∷ []) passed);
       }
 
--- From a bad start c + 1 items are lost, and one for each stray; the rest is delivered after the strays.
+-- From a bad start c + 1 items are lost, and one for each stray; the rest is delivered after the
+-- strays.
 pub after_lossy : (p : Parameters) (strays stray : ℕ) (first more last rest : List ℕ) → AreLawful p → strays ≤ p.capacity
     → length first ≡ p.capacity → length more ≡ strays → length last ≡ 1
     → let xs = first ++ (more ++ (last ++ rest)) in

@@ -1,4 +1,5 @@
--- Of a list of strays and one published item no law has a bound that is smaller than the number of items before that one.
+-- Of a list of strays and one published item no law has a bound that is smaller than the number of
+-- items before that one.
 use Rattle.std.proofs.Common.{◌≡◌, ℕ, ◌+◌, ◌<◌, ◌≤◌, inl, inr, List, [], ◌∷◌, ◌++◌, map, length, slice_index, Contains, refl, sym, ◌∙◌, arith, subst}
 use Rattle.std.specs.List.{range_with_len}
 use Rattle.std.proofs.lemmas.Bool.{cases_lt}
@@ -16,7 +17,8 @@ module _ (missing most_strays bound : ℕ) (strays garbage : List ℕ) (beyond :
   published_at : (place : ℕ) → place < missing + 1 → slice_index published place ≡ place
   published_at place within = let sum : 0 + place ≡ place = omega arith in get_or-range_with_len 0 (missing + 1) place 0 within ∙ sum
 
-  -- the published item of the list is at its own place, and before that place no other is in the list
+  -- the published item of the list is at its own place, and before that place no other is in the
+  -- list
   enough : (places : List ℕ) → HalfTreeLawAt most_strays garbage published (strays ++ missing ∷ []) places → NoneMissingBefore bound places
       → missing ≤ bound
   enough places half none_missing =

@@ -15,7 +15,7 @@ use Rattle.stab_treecore.specs.NodeLaws.{capacity_into}
 use Rattle.stab_treecore.specs.Paths.{path_sum, sum_above}
 use Rattle.stab_treecore.specs.SharperLaw.{fewest_missing, missing_without_strays, peak_above}
 
--- where so many steps lead to a node, more lead on from there
+-- where `steps` steps lead to a node, `more` further ones lead on from there
 pub steps_on : (parents : List (Option ℕ)) (steps more node w : ℕ) → ancestor parents steps node ≡ Some w
     → ancestor parents (steps + more) node ≡ ancestor parents more w
 steps_on parents zero more node w leads =
@@ -74,7 +74,8 @@ module _ (parents : List (Option ℕ)) (rooted : IsRooted parents) where
 
 -- ---- where the bound is greatest
 
--- a link on the path of a node, at which the sharper bound of the node is its 2c + 1 and the c + 1 of each link above
+-- a link on the path of a node, at which the sharper bound of the node is its 2c + 1 and the c + 1
+-- of each link above
 pub record Greatest (net : Network) (node : ℕ) : Type 0 where
   pub steps : ℕ
   pub child : ℕ

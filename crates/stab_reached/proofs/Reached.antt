@@ -1,4 +1,5 @@
--- So many items are missing at a node, for each link on its path; and at some link these are as many as the sharper bound.
+-- For each link on a node's path as many items as its `missing` are missing at the node; and at
+-- some link these are as many as the sharper bound.
 use Rattle.std.proofs.Common.{◌≡◌, ℕ, zero, suc, ◌+◌, ◌-◌, ◌*◌, ◌<◌, inl, inr, List, [], ◌++◌, length, option_map, Contains, Option, Some, None, refl, sym, ◌∙◌, ap, subst, arith}
 use Rattle.std.specs.Option.{option_map_or}
 use Rattle.std.proofs.lemmas.Option.{same_Some}

@@ -43,7 +43,8 @@ acts_of lossy c more = lossy_acts c 0 more
 acts_of worst c more = lossy_acts c c more
 acts_of strayed c more = strays_taken c ++ clean_rounds more
 
--- the kind of a link at a depth, where one is chosen: those above it lose items, and those below it deliver strays
+-- the kind of a link at a depth, where one is chosen: those above it lose items, and those below it
+-- deliver strays
 abbrev pub kind_at : ℕ → ℕ → Kind
 kind_at chosen depth = if nat_lt depth chosen then lossy else if depth == chosen then worst else strayed
 
@@ -59,7 +60,7 @@ kind_below chosen depth below =
 
 -- ---- what is delivered
 
--- a list of so many and so many
+-- a list of `n` items and then `m` items
 record Halves (n m : ℕ) (xs : List ℕ) : Type 0 where
   first : List ℕ
   second : List ℕ

@@ -1,4 +1,5 @@
--- Acts on one link of a tree change that link alone: they are its replay, whose offers come from the parent's list.
+-- Acts on one link of a tree change that link alone: they are its replay, whose offers come from
+-- the parent's list.
 use Rattle.std.proofs.Common.{◌≡◌, ◌≢◌, ℕ, zero, suc, List, [], ◌∷◌, ◌++◌, map, length, get_or, set, slice_get, option_map, option_and_then, Option, Some, None, refl, ◌∙◌, ap}
 use Rattle.std.specs.Option.{option_map_or}
 use Rattle.std.proofs.lemmas.List.{get_or-set_other}

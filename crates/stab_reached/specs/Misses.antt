@@ -1,4 +1,5 @@
--- That so many published items can be missing at a node, and so no smaller bound holds there.
+-- That as many published items can be missing at a node as its bound says, and so no smaller bound
+-- holds there.
 -- Example: A root, a node a and its child b, with two links of capacity 1. The bound of b is
 -- (1 + 1) + (2 * 1 + 1) = 5, so the root publishes 0 to 5. The link into a can begin so that it
 -- loses 0 and 1, and that into b so that it loses 2, 3 and 4 and delivers a stray, say 6. Then b
@@ -26,8 +27,9 @@ counting net links last =
       published = range_with_len 0 (last + 1);
     }
 
--- Links with the same parameters and other starts, and a schedule, after which a node has so many
--- strays and then one published item alone, which has so many before it: all of these are missing.
+-- Links with the same parameters and other starts, and a schedule, after which a node has `strays`
+-- strays and then one published item alone, which has `missing` items before it: all of these are
+-- missing.
 pub record Misses (net : Network) (node missing strays : ℕ) : Type 0 where
   pub links : List LinkSetup
   pub params : map (λ link. link.params) links ≡ map (λ link. link.params) net.links

@@ -1,4 +1,4 @@
-//! The sharper bound of a node is the least: so many items can be missing at each.
+//! The sharper bound of a node is the least: as many items as it says can be missing at each.
 //!
 //! Contracts know a network, its bounds and what a schedule makes of it; they know no tree, link or
 //! list of the code. The layer above uses one fact ([`laws`]): whatever the nodes and the

@@ -1,5 +1,6 @@
--- Round by round: how far each link of a tree has come. With `best` the most items that a node can have at the start, a link
--- that still hands on has r rounds for each item that it may yet have to hand on, and one for each link above it.
+-- Round by round: how far each link of a tree has come. With `best` the most items that a node can
+-- have at the start, a link that still hands on has r rounds for each item that it may yet have to
+-- hand on, and one for each link above it.
 use Rattle.std.proofs.Common.{◌≡◌, inl, inr, ℕ, zero, suc, ◌+◌, ◌-◌, ◌*◌, ◌<◌, ◌≤◌, List, [], ◌++◌, length, Option, Some, refl, sym, ◌∙◌, ap, subst, arith, mul-suc, mul-add, append_assoc}
 use Rattle.std.proofs.lemmas.Bool.{cases_lt}
 use Rattle.std.proofs.lemmas.List.{nil_from_length}
@@ -91,7 +92,7 @@ module _ (fixed : Fixed) (r : ℕ) (best depth : ℕ → ℕ)
   abbrev spare : Parameters → ℕ
   spare p = r - (2 * p.capacity + 1)
 
-  -- How far the link into a node has come after so many rounds.
+  -- How far the link into a node has come after `rounds` rounds.
   pub data Stage (rounds : ℕ) (t : WholeTree) (w u : ℕ) : Type 0 where
     drained : Drained t parents w → Stage rounds t w u
     flushing : (p : Parameters) (s : LinkState) → At t w p s → Drained t parents u → s.acked ≡ length (received t u)
@@ -275,7 +276,7 @@ module _ (fixed : Fixed) (r : ℕ) (best depth : ℕ → ℕ)
               ]
         ]
 
-  -- so many rounds, and what comes after them
+  -- `count` rounds, and what comes after them
   pub rounds_on : (count rounds : ℕ) (t : WholeTree) (events : List TreeEvent) → IsSound fixed t → IsOpen (tree_replay t events)
       → TreeRounds parents count events → Stages rounds t
       → (part : List TreeEvent) × (rest : List TreeEvent) × (events ≡ part ++ rest) × Stages (rounds + count) (tree_replay t part)

@@ -1,6 +1,6 @@
--- How many more items a link can deliver without another offer: one for each change of label, from the one that the receiver
--- remembers through the frames to the item that waits. With the items delivered so far this grows by one at most at an offer,
--- and else never.
+-- How many more items a link can deliver without another offer: one for each change of label, from
+-- the one that the receiver remembers through the frames to the item that waits. With the items
+-- delivered so far this grows by one at most at an offer, and else never.
 use Rattle.std.proofs.Common.{◌≡◌, ◌≢◌, inl, inr, ℕ, zero, suc, ◌+◌, ◌≤◌, ◌==◌, ◌&&◌, Bool, List, [], ◌∷◌, ◌++◌, length, slice_get, if◌then◌else◌, refl, sym, ◌∙◌, ap, subst, arith, append_assoc, eq-eqb, ne_eqb, eqb-true}
 use Rattle.std.specs.List.{AllByRecursion as Each}
 use Rattle.std.proofs.lemmas.Bool.{cond_both, cond-false, cond-true, cases_eq, and_parts}
@@ -68,7 +68,7 @@ changes_none l [] all = refl
 changes_none l (f ∷ fs) all =
     omega (arith, no_change l f.label all.0, subst (λ x. changes x fs ≡ 0) (sym all.0) (changes_none l fs all.1))
 
--- but for so many frames in front all have the label
+-- but for the first `before` frames all have the label
 changes_from : (a l before : ℕ) (fs : List Frame) → From (HasLabel l) before fs → changes a fs ≤ before + 1
 changes_from a l zero [] later = omega arith
 changes_from a l zero (f ∷ fs) later =

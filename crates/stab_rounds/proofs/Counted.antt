@@ -1,4 +1,4 @@
--- So many rounds acknowledge so many items.
+-- With capacity c, `(2c + 1) * items` rounds acknowledge at least `items` items.
 use Rattle.std.proofs.Common.{◌≡◌, inl, inr, ℕ, zero, suc, ◌+◌, ◌*◌, ◌≤◌, true, false, List, [], ◌∷◌, map, refl, sym, ◌∙◌, ap, subst, arith, mul-suc}
 use Rattle.std.proofs.lemmas.Bool.{cond-false, cond-true, cases_Bool}
 use Rattle.std.specs.Prelude.{Contains}
@@ -104,7 +104,7 @@ module _ (p : Parameters) (some : 1 ≤ p.capacity) where
             ]
       ]
 
--- so many rounds for each item
+-- `2c + 1` rounds for each of `items` items acknowledge as many items
 pub rounds_bring : (p : Parameters) (s : LinkState) (events : List Event) (items : ℕ) → 1 ≤ p.capacity → IsWithin p s
     → (replay p s events).closed ≡ false → (2 * p.capacity + 1) * items ≤ rounds_of events
     → s.acked + items ≤ (replay p s events).acked
@@ -115,7 +115,8 @@ rounds_bring p s events (suc items) some within still_open enough =
     (inr (any_level p (suc (2 * p.capacity)) s within (omega arith))) still_open (omega arith) in
     omega arith
 
--- an item that so many rounds acknowledge is delivered, but for the first ones
+-- the item at place `item` is delivered after `(2c + 1) * (item + 1)` rounds, but for the first
+-- `2c + 1` items
 pub rounds_bring_item : ((p : Parameters) (start : Start) (events : List Event) → AreLawful p → IsLawful p start
     → let s = replay p (initial start) events in LinkLaw p.capacity (start_items start) s.offered s.acked s.delivered)
     → (p : Parameters) (start : Start) (events : List Event) → AreLawful p → IsLawful p start

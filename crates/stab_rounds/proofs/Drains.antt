@@ -74,8 +74,8 @@ first_take : (a : LinkAct) (acts : List LinkAct) → Takes (a ∷ acts) → (a �
 first_take (act.RecvFrame false) acts takes = inl refl
 first_take a acts takes = inr takes
 
--- The node has all that it will ever have: it is a root, or its parent has, and all of that was acknowledged, and no frame is
--- on its way.
+-- The node has all that it will ever have: it is a root, or its parent has, and all of that was
+-- acknowledged, and no frame is on its way.
 pub data Drained (t : WholeTree) (parents : List (Option ℕ)) : ℕ → Type 0 where
   top : {w : ℕ} → parent_at parents w ≡ None → Drained t parents w
   under : {w : ℕ} (u : ℕ) (p : Parameters) (s : LinkState) → parent_at parents w ≡ Some u → At t w p s

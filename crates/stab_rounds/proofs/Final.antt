@@ -1,4 +1,5 @@
--- After so many rounds of all links a node has all that it will ever have, and no published item is missing but among the first.
+-- After as many rounds of all links as `rounds_below` counts for its parent, a node has all that it
+-- will ever have, and no published item is missing but among the first.
 use Rattle.std.proofs.Common.{◌≡◌, ℕ, ◌+◌, ◌*◌, ◌≤◌, inl, inr, List, length, Option, Some, All, sym, ◌∙◌, ap, subst, arith, mul-add}
 use Rattle.std.specs.Option.{option_map_or}
 use Rattle.std.proofs.lemmas.Bool.{cases_lt}
@@ -76,7 +77,7 @@ module _ (net : Network) (is : IsNetwork net) where
     abbrev StageAt : ℕ → WholeTree → ℕ → ℕ → Type 0
     StageAt = Stage (fixed_of net) (2 * capacity + 1) best depth capacity_few best_below deeper
 
-    -- the state after a part of the schedule in which there are so many rounds
+    -- the state after a part of the schedule in which there are `rounds` rounds
     at_last : (part : List TreeEvent) (rounds w u : ℕ) → parent_at parents w ≡ Some u → rounds_below net capacity u ≤ rounds
         → StageAt rounds (tree_replay (initial_tree net) part) w u → Drained (tree_replay (initial_tree net) part) parents w
     at_last part rounds w u is_child enough (drained all) = all
@@ -100,7 +101,8 @@ module _ (net : Network) (is : IsNetwork net) where
         let grown = times r (s.acked + 1 + best u) (m + (best u + 1)) (omega arith) in
         absurd (omega (arith, level_positive p.capacity k level, grown, mul-add r m (best u + 1)))
 
-    -- after so many rounds a node has all that it will ever have
+    -- after as many rounds as `rounds_below` counts for its parent, a node has all that it will
+    -- ever have
     has_all : (events : List TreeEvent) (rounds w u : ℕ) → IsOpen (tree_replay (initial_tree net) events) → TreeRounds parents rounds events
         → parent_at parents w ≡ Some u → rounds_below net capacity u ≤ rounds
         → Drained (tree_replay (initial_tree net) events) parents w

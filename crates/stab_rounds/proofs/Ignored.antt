@@ -1,4 +1,5 @@
--- The labels on the circle that are not the sender's never become more, and each acknowledgement that is ignored takes one away.
+-- The labels on the circle that are not the sender's never become more, and each acknowledgement
+-- that is ignored takes one away.
 use Rattle.std.proofs.Common.{◌≡◌, ◌≢◌, ◌⊎◌, inl, inr, ℕ, zero, suc, ◌+◌, ◌-◌, ◌*◌, ◌≤◌, max, ◌==◌, ◌&&◌, true, false, List, [], ◌∷◌, ◌++◌, length, slice_get, nat_lt, Option, Some, None, refl, sym, ◌∙◌, ap, subst, subst₂, arith, if◌then◌else◌, eqb-true, eq-eqb, ne_eqb}
 use Rattle.std.proofs.lemmas.Bool.{cases_Bool, cond_both, cond-true, cond-false, and_from}
 use Rattle.stab_frames.specs.declared.frame.Frame.{Frame}

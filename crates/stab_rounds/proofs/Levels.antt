@@ -1,4 +1,5 @@
--- How many more rounds acknowledge the item that waits, at most. No event makes them more, and each round makes them fewer.
+-- How many more rounds acknowledge the item that waits, at most. No event makes them more, and each
+-- round makes them fewer.
 use Rattle.std.proofs.Common.{◌≡◌, inl, inr, ℕ, ◌+◌, ◌*◌, ◌≤◌, Bool, true, List, [], ◌∷◌, ◌++◌, length, refl, ◌∙◌, ap, arith}
 use Rattle.std.specs.List.{AllByRecursion as Each}
 use Rattle.std.proofs.lemmas.List.{length_push}
@@ -18,8 +19,8 @@ HasLabel label f = f.label ≡ label
 abbrev pub IsLabel : ℕ → ℕ → Type 0
 IsLabel label a = a ≡ label
 
--- The receiver has the label of the item that waits, and all frames have it: but for so many acknowledgements in front, all
--- have it too.
+-- The receiver has the label of the item that waits, and all frames have it: but for the first
+-- `before` acknowledgements, all have it too.
 pub record ArrivedOf (k : ℕ) (offered : List ℕ) (acked label : ℕ) (frames : List Frame) (acks : List ℕ) (recv_label : ℕ)
     : Type 0 where
   pub before : ℕ
@@ -29,7 +30,8 @@ pub record ArrivedOf (k : ℕ) (offered : List ℕ) (acked label : ℕ) (frames 
   pub later_acks : From (IsLabel label) before acks
   pub enough : before + 1 ≤ k
 
--- no item waits; or one does, and but for so many frames in front all have its label; or it has arrived
+-- no item waits; or one does, and but for the first `before` frames all have its label; or it has
+-- arrived
 pub data LevelOf (c k : ℕ) (offered : List ℕ) (acked label : ℕ) (frames : List Frame) (acks : List ℕ) (recv_label : ℕ)
     : Type 0 where
   idle : length offered ≡ acked → 2 * c + 1 ≤ k → LevelOf c k offered acked label frames acks recv_label
@@ -156,7 +158,7 @@ arrived_stable p k =
       close = λ s here. here;
     }
 
--- so many rounds are enough for any state within the bounds
+-- `2c + 1` rounds or more are enough for any state within the bounds
 pub any_level : (p : Parameters) (k : ℕ) (s : LinkState) → IsWithin p s → 2 * p.capacity + 1 ≤ k → Level p k s
 any_level p k s within enough =
     elim within.waits [

@@ -27,7 +27,7 @@ module _ (p : Parameters) (m : ℕ) where
   Midway next.SendAck s = Arrived (suc m) s
   Midway next.RecvAck s = Arrived (suc m) s × (1 ≤ length s.acks)
 
-  -- after the current round so many more are enough
+  -- after the current round `m` more are enough
   abbrev pub Due : Awaited → LinkState → Type 0
   Due w s = Level p m s ⊎ Midway w s
 

@@ -1,5 +1,6 @@
--- The most items that a node can ever have, from a state of the tree on: what it has, what the link into it can still deliver,
--- and what that link has not yet been offered of the most that its parent can have. No step makes it more.
+-- The most items that a node can ever have, from a state of the tree on: what it has, what the link
+-- into it can still deliver, and what that link has not yet been offered of the most that its
+-- parent can have. No step makes it more.
 use Rattle.std.proofs.Common.{◌≡◌, inl, inr, ℕ, zero, suc, ◌+◌, ◌<◌, ◌≤◌, List, [], ◌∷◌, length, map, get_or, slice_get, Option, Some, None, refl, sym, ◌∙◌, ap, subst, arith, length-append}
 use Rattle.std.specs.Option.{option_map_or}
 use Rattle.std.proofs.lemmas.Bool.{cases_eq}

@@ -1,4 +1,4 @@
--- Events that are rounds and nothing else have so many of them.
+-- Events that are a number of rounds and nothing else count as that number of rounds.
 use Rattle.std.proofs.Common.{◌≡◌, inl, inr, ℕ, zero, suc, ◌+◌, ◌-◌, ◌<◌, ◌≤◌, false, List, [], ◌∷◌, ◌++◌, map, length, replicate, refl, ◌∙◌, ap, arith}
 use Rattle.stab_frames.specs.Parameters.{Parameters}
 use Rattle.stab_core.specs.LinkState.{LinkState}
@@ -13,7 +13,7 @@ use Rattle.stab_rounds.specs.Rounds.{IsWithin, act_of, rounds_of}
 use Rattle.stab_rounds.specs.ReadingRounds.{frames, acks, reading_from, reading_rounds}
 use Rattle.stab_rounds.specs.Played.{round_with, rounds_with, reading_round_with}
 
--- so many rounds are so many
+-- `rounds` rounds, one after the other, count as `rounds` rounds
 pub rounds_with_count : (item rounds : ℕ) → rounds_of (rounds_with item rounds) ≡ rounds
 rounds_with_count item zero = refl
 rounds_with_count item (suc rounds) = omega (arith, rounds_with_count item rounds)
@@ -54,7 +54,7 @@ pub times_left : (p : Parameters) (s : LinkState) (e : Event) (times done : ℕ)
 times_left p s e times done more =
     ap (λ n. replay p s (replicate n e)) (let is : times - done ≡ suc (times - (done + 1)) = omega arith in is)
 
--- a link after an event, and after one event so many times
+-- a link after an event, and after one event `n` times
 abbrev after_event : Event → LinkValue → LinkValue
 after_event e l = link_at l.params (step l.params l.state e)
 

@@ -26,13 +26,14 @@ use Rattle.stab_rounds.proofs.Most.{Most, received_few, most_over, next_most}
 use Rattle.stab_rounds.proofs.Complete.{complete_at, reach_step}
 use Rattle.stab_rounds.proofs.Final.{best, depth, best_below, deeper, most_above, handed_on_by}
 
--- so many rounds of some kind, one after the other
+-- the events have `rounds` rounds of some kind, one after the other
 abbrev pub RoundsOf : (List TreeEvent → Type 0) → ℕ → List TreeEvent → Type 0
 RoundsOf IsRound zero events = Unit {0}
 RoundsOf IsRound (suc rounds) events =
     (part : List TreeEvent) × (rest : List TreeEvent) × (events ≡ part ++ rest) × IsRound part × RoundsOf IsRound rounds rest
 
--- Some of the nodes, with each the one above it; and how many rounds the link into each of them needs at most.
+-- Some of the nodes, with each the one above it; and how many rounds the link into each of them
+-- needs at most.
 module _ (fixed : Fixed) (On : ℕ → Type 0) (up : (w u : ℕ) → On w → parent_at fixed.parents w ≡ Some u → On u) (lag : ℕ → ℕ)
     (farther : (w u g : ℕ) → On w → parent_at fixed.parents w ≡ Some u → parent_at fixed.parents u ≡ Some g → lag u + fixed.capacity u + 1 ≤ lag w) where
   abbrev parents : List (Option ℕ)
@@ -46,7 +47,7 @@ module _ (fixed : Fixed) (On : ℕ → Type 0) (up : (w u : ℕ) → On w → pa
   abbrev pub AreOpen : WholeTree → Type 0
   AreOpen t = (w : ℕ) → On w → OpenAt t w
 
-  -- how far the link into a node has come after so many rounds
+  -- how far the link into a node has come after `rounds` rounds
   pub data Stage (rounds : ℕ) (t : WholeTree) (w u : ℕ) : Type 0 where
     drained : Drained t parents w → Stage rounds t w u
     running : (p : Parameters) (s : LinkState) (m : ℕ) → At t w p s → Most fixed t u m → rounds + m ≤ s.acked + lag w → Stage rounds t w u
@@ -161,7 +162,7 @@ module _ (fixed : Fixed) (On : ℕ → Type 0) (up : (w u : ℕ) → On w → pa
       let acked = acked_few fixed p s (known fixed t sound w p s there).within in
       absurd (omega arith)
 
-  -- from any state, after so many reading rounds a node has all that it will ever have
+  -- from any state, after `lag w + 1` reading rounds the node `w` has all that it will ever have
   pub reads_drain : (t : WholeTree) (events : List TreeEvent) (rounds w u : ℕ) → IsSound fixed t → Stages 0 t → AreOpen (tree_replay t events)
       → RoundsOf IsRoundOf rounds events → On w → parent_at parents w ≡ Some u → lag w + 1 ≤ rounds → Drained (tree_replay t events) parents w
   reads_drain t events rounds w u sound begins is_open is_rounds on is_child enough =

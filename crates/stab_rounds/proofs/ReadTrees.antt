@@ -1,4 +1,5 @@
--- Reading rounds of a whole tree: each acknowledges an item on each link that has one, and takes all that was on its way.
+-- Reading rounds of a whole tree: each acknowledges an item on each link that has one, and takes
+-- all that was on its way.
 use Rattle.std.proofs.Common.{◌≡◌, ◌⊎◌, inl, inr, ℕ, zero, suc, ◌+◌, ◌-◌, ◌<◌, ◌≤◌, true, false, List, [], ◌∷◌, length, slice_get, Option, Some, None, refl, sym, ◌∙◌, ap, subst, arith}
 use Rattle.std.proofs.lemmas.Bool.{cond-false, cases_eq}
 use Rattle.stab_frames.specs.Parameters.{Parameters}
@@ -110,7 +111,7 @@ takes_more (suc n) (act.LoseFrame place) acts takes = takes
 takes_more (suc n) (act.LoseAck place) acts takes = takes
 takes_more (suc n) act.Close acts takes = takes
 
--- so many are still to be taken
+-- how many frames are still to be taken
 abbrev still_to_take : ℕ → Reads → ℕ
 still_to_take c offer = c
 still_to_take c (frames left) = left

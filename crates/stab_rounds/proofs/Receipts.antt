@@ -1,4 +1,5 @@
--- While an item waits, c + 1 frames and then c + 1 acknowledgements bring its acknowledgement, whatever is lost.
+-- While an item waits, c + 1 frames and then c + 1 acknowledgements bring its acknowledgement,
+-- whatever is lost.
 use Rattle.std.proofs.Common.{◌≡◌, inl, inr, ℕ, zero, suc, ◌+◌, ◌*◌, ◌≤◌, ◌==◌, ◌&&◌, true, false, List, [], ◌∷◌, ◌++◌, length, slice_get, refl, sym, ◌∙◌, ap, subst, arith}
 use Rattle.std.proofs.lemmas.Bool.{cond_both, cond-false, cond-true, cases_Bool}
 use Rattle.stab_frames.specs.declared.frame.Frame.{Frame}

@@ -1,5 +1,6 @@
--- 2c rounds are not enough. In each of the slowest rounds the circle of labels, from the acknowledgements back to the frames,
--- moves on by one: the sender hears the first of its 2c labels, and its own comes after the last.
+-- 2c rounds are not enough. In each of the slowest rounds the circle of labels, from the
+-- acknowledgements back to the frames, moves on by one: the sender hears the first of its 2c
+-- labels, and its own comes after the last.
 use Rattle.std.proofs.Common.{◌≡◌, ◌≢◌, inl, inr, ℕ, zero, suc, ◌+◌, ◌*◌, ◌<◌, ◌≤◌, ◌==◌, true, false, List, [], ◌∷◌, ◌++◌, map, length, replicate, nat_lt, refl, sym, ◌∙◌, ap, subst, arith, append_assoc, eqb-true, eq-eqb, ne_eqb, lt-ltb, le-ltb}
 use Rattle.std.proofs.lemmas.Bool.{cases_Bool, cond-true, cond-false}
 use Rattle.std.proofs.lemmas.List.{length_push, length-replicate, map-append}
@@ -98,7 +99,8 @@ module _ (p : Parameters) (label : ℕ) (offered : List ℕ) (acked : ℕ) (hold
   six events =
       event.SendFrame ∷ event.RecvFrame false ∷ event.SendFrame ∷ event.SendAck ∷ event.RecvAck false ∷ event.SendAck ∷ events
 
-  -- where so many labels are not the sender's, it is so after as many rounds
+  -- both queues are full, and the first `k` labels, from the acknowledgements on, are not the
+  -- sender's; each of these rounds leaves at least all but one of them
   abbrev pub Belt : ℕ → LinkState → Type 0
   Belt k s =
       (frames : List Frame) × (acks : List ℕ) × (recv : ℕ) × (delivered : List ℕ)
@@ -143,7 +145,7 @@ module _ (p : Parameters) (label : ℕ) (offered : List ℕ) (acked : ℕ) (hold
             ∙ ap (λ s. replay p s events) (ack_put more acks f.label now (omega arith)),
       )
 
-  -- so many rounds acknowledge nothing
+  -- where `k` labels are not the sender's, `k` of these rounds acknowledge nothing
   pub belt_rounds : (k item : ℕ) (some : 1 ≤ p.capacity) (s : LinkState) → Belt k s → (replay p s (slow_rounds item k)).acked ≡ acked
   belt_rounds zero item some s (frames, acks, recv, delivered, is, all, as_many, differ) = ap (λ (t : LinkState). t.acked) is
   belt_rounds (suc k) item some s (frames, acks, recv, delivered, is, all, as_many, differ) =

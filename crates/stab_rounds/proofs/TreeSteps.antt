@@ -1,4 +1,5 @@
--- What a step of a whole tree leaves of the link into one node, and so what a part of a schedule leaves.
+-- What a step of a whole tree leaves of the link into one node, and so what a part of a schedule
+-- leaves.
 use Rattle.std.proofs.Common.{◌≡◌, ◌≢◌, ◌⊎◌, inl, inr, ℕ, zero, suc, ◌+◌, ◌<◌, ◌≤◌, ◌==◌, true, false, List, [], ◌∷◌, ◌++◌, length, slice_get, get_or, set, map, drop, option_map, is_some, Option, Some, None, All, refl, sym, ◌∙◌, ap, subst, arith, eq-eqb, ne_eqb, length-append}
 use Rattle.std.specs.Option.{option_map_or}
 use Rattle.std.specs.Prelude.{option_and_then}
@@ -170,7 +171,8 @@ some_next [] i within none = omega arith
 some_next (x ∷ xs) zero within none = none-some x (sym none)
 some_next (x ∷ xs) (suc i) within none = some_next xs i (omega arith) none
 
--- what stays the same of a whole tree while acts happen: the parents, what is published, and the capacity of the link into each node
+-- what stays the same of a whole tree while acts happen: the parents, what is published, and the
+-- capacity of the link into each node
 pub record Fixed : Type 0 where
   pub parents : List (Option ℕ)
   pub published : List ℕ
@@ -182,7 +184,8 @@ pub record Known (fixed : Fixed) (w : ℕ) (p : Parameters) (s : LinkState) : Ty
   pub some : 1 ≤ p.capacity
   pub capacity : p.capacity ≡ fixed.capacity w
 
--- A whole tree of which no more is known, whatever it came from: each link is within its bounds, and was offered no more than its parent has.
+-- A whole tree of which no more is known, whatever it came from: each link is within its bounds,
+-- and was offered no more than its parent has.
 pub record IsSound (fixed : Fixed) (t : WholeTree) : Type 0 where
   pub parents_stay : t.parents ≡ fixed.parents
   pub published_stay : t.published ≡ fixed.published
@@ -363,7 +366,7 @@ module _ (fixed : Fixed) where
   -- ---- what a part of a schedule leaves of the link into one node
 
   module _ (w u : ℕ) (p : Parameters) (is_child : parent_at fixed.parents w ≡ Some u) where
-    -- an item more than these is acknowledged, or none is and so many rounds are enough
+    -- more than `count` items are acknowledged, or just `count` are and `k` rounds are enough
     abbrev pub Ends : WholeTree → ℕ → ℕ → Type 0
     Ends t count k = (s : LinkState) × At t w p s × ((count + 1 ≤ s.acked) ⊎ ((s.acked ≡ count) × Level p k s))
 

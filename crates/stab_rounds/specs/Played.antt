@@ -10,7 +10,7 @@ abbrev pub round_with : ℕ → List Event
 round_with item =
     Offer item ∷ SendFrame ∷ RecvFrame false ∷ SendAck ∷ RecvAck false ∷ []
 
--- so many rounds, each of which offers this item
+-- `rounds` rounds, each of which offers this item
 abbrev pub rounds_with : ℕ → ℕ → List Event
 rounds_with item zero = []
 rounds_with item (suc rounds) = round_with item ++ rounds_with item rounds

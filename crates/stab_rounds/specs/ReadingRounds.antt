@@ -13,8 +13,9 @@ use Rattle.stab_core.specs.declared.act.LinkAct.TheVariants as act
 use Rattle.stab_core.specs.declared.event.Event.{Event}
 use Rattle.stab_rounds.specs.Rounds.{act_of}
 
--- what a reading round waits for: an offer; so many frames that are still to be taken, and then one
--- that is sent; that one; so many acknowledgements, and then one that is sent; that one
+-- what a reading round waits for: an offer; the frames that are still to be taken, whose number
+-- `frames` has, and then one that is sent; that one; the acknowledgements that are still to be
+-- taken, whose number `acks` has, and then one that is sent; that one
 pub data Reads : Type 0 where
   offer : Reads
   frames : ℕ → Reads

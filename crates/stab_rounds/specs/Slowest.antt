@@ -22,7 +22,7 @@ slow_start c =
       recv_label = 1;
     }
 
--- so many of these rounds, which offer this item, the next one, and so on
+-- `rounds` of these rounds, which offer this item, the next one, and so on
 abbrev pub slow_rounds : ℕ → ℕ → List Event
 slow_rounds item zero = []
 slow_rounds item (suc rounds) =

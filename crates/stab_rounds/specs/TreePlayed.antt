@@ -23,12 +23,12 @@ round_from node [] = []
 round_from node (None ∷ parents) = round_from (node + 1) parents
 round_from node (Some parent ∷ parents) = round_on node (round_from (node + 1) parents)
 
--- so many rounds of all links
+-- `rounds` rounds of all links
 abbrev pub play : List (Option ℕ) → ℕ → List TreeEvent
 play parents zero = []
 play parents (suc rounds) = round_from 0 parents ++ play parents rounds
 
--- a reading round of the link into this node, which takes so many messages before it sends, and
+-- a reading round of the link into this node, which takes `c` messages before it sends, and
 -- then these events
 abbrev pub reading_round_on : ℕ → ℕ → List TreeEvent → List TreeEvent
 reading_round_on c child rest =
@@ -44,7 +44,7 @@ reading_round_from c node (None ∷ parents) = reading_round_from c (node + 1) p
 reading_round_from c node (Some parent ∷ parents) =
     reading_round_on c node (reading_round_from c (node + 1) parents)
 
--- so many reading rounds of all links
+-- `rounds` reading rounds of all links
 abbrev pub play_reads : ℕ → List (Option ℕ) → ℕ → List TreeEvent
 play_reads c parents zero = []
 play_reads c parents (suc rounds) = reading_round_from c 0 parents ++ play_reads c parents rounds

@@ -16,15 +16,15 @@ IsReadingRound net part =
     (child parent : ℕ) → parent_at net.tree.parents child ≡ Some parent
     → 1 ≤ reading_from (capacity_into net child) offer (acts_on child part)
 
--- the events have so many reading rounds of all links, one after the other
+-- the events have `rounds` reading rounds of all links, one after the other
 abbrev pub ReadingRounds : Network → ℕ → List TreeEvent → Type 0
 ReadingRounds net zero events = Unit {0}
 ReadingRounds net (suc rounds) events =
     (part : List TreeEvent) × (rest : List TreeEvent) × (events ≡ part ++ rest)
     × IsReadingRound net part × ReadingRounds net rounds rest
 
--- So many reading rounds bring all that a node can have to its children: one for each item that it
--- can have, published or stray, one more, and one for each link on its path.
+-- This number of reading rounds brings all that a node can have to its children: one for each item
+-- that it can have, published or stray, one more, and one for each link on its path.
 abbrev pub reading_rounds_below : Network → ℕ → ℕ
 reading_rounds_below net parent =
     length net.published + most_strays net parent + 1 + depth_of net.tree.parents parent

@@ -28,7 +28,7 @@ IsTreeRound parents part =
     (child parent : ℕ) → parent_at parents child ≡ Some parent
     → 1 ≤ rounds_from next.Offer (acts_on child part)
 
--- the events have so many rounds of all links, one after the other
+-- the events have `rounds` rounds of all links, one after the other
 abbrev pub TreeRounds : List (Option ℕ) → ℕ → List TreeEvent → Type 0
 TreeRounds parents zero events = Unit {0}
 TreeRounds parents (suc rounds) events =
@@ -39,9 +39,9 @@ TreeRounds parents (suc rounds) events =
 abbrev pub IsOpen : WholeTree → Type 0
 IsOpen t = (node : ℕ) (link : LinkValue) → link_into t node ≡ Some link → link.state.closed ≡ false
 
--- So many rounds bring all that a node can have to its children, where no capacity is more than
--- this: 2c + 1 for each item that it can have, published or stray, 2c + 1 more, and one for each
--- link on its path.
+-- This number of rounds brings all that a node can have to its children, where no capacity is more
+-- than the given c: 2c + 1 for each item that it can have, published or stray, 2c + 1 more, and one
+-- for each link on its path.
 abbrev pub rounds_below : Network → ℕ → ℕ → ℕ
 rounds_below net capacity parent =
     (2 * capacity + 1) * (length net.published + most_strays net parent + 1)

@@ -87,7 +87,8 @@ pub fn fewer_rounds_are_not_enough()
 {}
 
 /// Arrival in a tree. Whatever was in the links and nodes at the start, and whatever else happens
-/// but a close: after so many rounds of all links, everything is handed on, for good.
+/// but a close: after as many rounds of all links as `rounds_below` counts for a parent, all that
+/// it has is handed on to its child, for good.
 pub fn everything_arrives()
     // All that the parent has is acknowledged, and no frame is on its way to the child.
     ensures handed_on { (net : Network) (events : List TreeEvent) (capacity rounds child parent : ℕ)
@@ -152,7 +153,7 @@ pub fn everything_arrives_where_all_is_read()
     stab_core::laws::every_replay_obeys_the_link_law();
 }
 
-/// The same of a schedule that is made of so many rounds and nothing else, of which nothing is
+/// The same of a schedule that is made of `rounds` rounds and nothing else, of which nothing is
 /// asked.
 pub fn rounds_bring_everything()
     ensures handed_on { (net : Network) (capacity rounds child parent : ℕ)
@@ -171,7 +172,7 @@ pub fn rounds_bring_everything()
     stab_core::laws::every_replay_obeys_the_link_law();
 }
 
-/// The same of a schedule that is made of so many reading rounds and nothing else.
+/// The same of a schedule that is made of `rounds` reading rounds and nothing else.
 pub fn reading_rounds_bring_everything()
     ensures handed_on { (net : Network) (capacity rounds child parent : ℕ)
         → IsNetwork net → All (λ link. link.params.capacity ≤ capacity) net.links

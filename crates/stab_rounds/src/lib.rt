@@ -2,7 +2,8 @@
 //!
 //! A round is defined in `specs/Rounds.antt`, a reading round in `specs/ReadingRounds.antt`. The
 //! facts that a reader wants are in [`laws`]: from any state `2c + 1` rounds acknowledge an item,
-//! and one reading round does; and after so many of all links, [`laws::everything_arrives`].
+//! and one reading round does; and after as many rounds of all links as `rounds_below` counts,
+//! [`laws::everything_arrives`].
 #![tactic(auto)]
 
 pub mod examples;

@@ -10,7 +10,7 @@ use stab_core::{Event, Link};
 use stab_frames::{Item, Params};
 use std::alloc::AllocError;
 
-/// Applies this event so many times.
+/// Applies this event `times` times.
 fn apply_times(link: &mut Link, event: Event, times: u16) -> Result<(), AllocError>
     ensures { IfOk result (λ _. link.new ≡ link_at link.old.params
         (replay link.old.params link.old.state (replicate times event))) }

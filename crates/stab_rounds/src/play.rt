@@ -72,7 +72,7 @@ pub(crate) fn apply_all(state: &mut TreeState, events: &[TreeEvent]) -> Result<(
     Ok(())
 }
 
-/// So many rounds of every link.
+/// Applies `rounds` rounds of every link.
 fn apply_rounds(
     alloc: Global,
     state: &mut TreeState,
@@ -92,7 +92,7 @@ fn apply_rounds(
     Ok(())
 }
 
-/// The whole tree after so many rounds of every link, from the starts of its links. Where the
+/// The whole tree after `rounds` rounds of every link, from the starts of its links. Where the
 /// rounds are enough, every node has all that its parent has, and misses nothing but among the
 /// first items. It is refused where the tree cannot begin, and else for memory alone; then no state
 /// is handed out.

@@ -30,7 +30,7 @@ fn push_act(events: &mut Vec<TreeEvent>, child: NodeId, act: LinkAct) -> Result<
     Ok(())
 }
 
-/// Adds it so many times.
+/// Adds this act on the link into this node `times` times.
 fn push_times(
     events: &mut Vec<TreeEvent>,
     child: NodeId,
@@ -46,7 +46,8 @@ fn push_times(
     Ok(())
 }
 
-/// Adds a reading round of the link into this node, which takes so many messages before it sends.
+/// Adds a reading round of the link into this node, which takes `capacity` messages before it
+/// sends.
 #[tactic(auto, using(crate::proofs::PlaysReads::in_parts))]
 fn push_reading_round(
     events: &mut Vec<TreeEvent>,
@@ -68,7 +69,7 @@ fn push_reading_round(
     Ok(())
 }
 
-/// One reading round of every link, in file order; each takes so many messages before it sends.
+/// One reading round of every link, in file order; each takes `capacity` messages before it sends.
 #[tactic(auto, using(crate::proofs::PlaysReads::one_added))]
 pub fn reading_round_of_all(
     alloc: Global,
@@ -87,8 +88,9 @@ pub fn reading_round_of_all(
     Ok(events)
 }
 
-/// So many reading rounds of every link, from any state of a tree; each takes so many messages
-/// before it sends. Where memory is refused, some of the acts were made, and the others were not.
+/// Applies `rounds` reading rounds of every link, from any state of a tree; each takes `capacity`
+/// messages before it sends. Where memory is refused, some of the acts were made, and the others
+/// were not.
 pub fn apply_reading_rounds(
     alloc: Global,
     tree: &Tree,
@@ -109,8 +111,8 @@ pub fn apply_reading_rounds(
     Ok(())
 }
 
-/// The whole tree after so many reading rounds of every link, from the starts of its links; each
-/// takes so many messages before it sends. Where the rounds are enough, and no link has a larger
+/// The whole tree after `rounds` reading rounds of every link, from the starts of its links; each
+/// takes `capacity` messages before it sends. Where the rounds are enough, and no link has a larger
 /// capacity, every node has all that its parent has, and misses nothing but among the first items.
 /// It is refused where the tree cannot begin, and else for memory alone; then no state is handed
 /// out.

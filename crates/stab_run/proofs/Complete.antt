@@ -1,4 +1,5 @@
--- The complete law at each node below nodes whose workers all ended with their upstream, from the root down.
+-- The complete law at each node below nodes whose workers all ended with their upstream, from the
+-- root down.
 use Rattle.std.proofs.Common.{◌≡◌, ℕ, suc, ◌+◌, ◌*◌, ◌≤◌, List, [], ◌++◌, length, Option, Some, ap, sym, ◌∙◌, subst, arith, append_assoc}
 use Rattle.std.proofs.lemmas.Option.{same_Some}
 use Rattle.std.specs.Option.{option_map_or}
@@ -65,7 +66,8 @@ module _ (obey : ReplaysObey) (at_root : RootIsComplete) (at_child : ChildIsComp
   abbrev hold : ℕ → ℕ
   hold = hold_at parents net.openings.hold
 
-  -- how many strays a node and the link into it can add, and how many items can be missing for the link
+  -- how many strays a node and the link into it can add, and how many items can be missing for the
+  -- link
   abbrev strays : ℕ → ℕ
   strays child = capacity_into net child + hold child
 
@@ -75,7 +77,8 @@ module _ (obey : ReplaysObey) (at_root : RootIsComplete) (at_child : ChildIsComp
   abbrev garbage : ℕ → List ℕ
   garbage child = opening_at net.openings.lists child ++ garbage_into net child
 
-  -- the complete law of a node below ended nodes, with what there is beside this many nodes, from it upwards
+  -- the complete law of a node below ended nodes, with what there is beside this many nodes, from
+  -- it upwards
   abbrev CompleteAt : ℕ → ℕ → Type 0
   CompleteAt depth node =
       AllAboveEnded parents report.ended node

@@ -1,4 +1,5 @@
--- What the workers left and what settling showed, joined: each link of the report is explained, by its own script.
+-- What the workers left and what settling showed, joined: each link of the report is explained, by
+-- its own script.
 use Rattle.std.proofs.Common.{◌≡◌, inl, inr, ℕ, zero, suc, List, [], ◌∷◌, length, map, Option, Some, None, refl, ap, sym, ◌∙◌, subst, arith, All}
 use Rattle.std.proofs.lemmas.Option.{none-some, same_Some}
 use mathlib.Core.List.{IsPrefix}

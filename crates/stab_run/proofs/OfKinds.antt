@@ -21,7 +21,8 @@ abbrev pub IsWord : LinkKind → Type 0
 IsWord two_words = Unit {0}
 IsWord behind_lock = ⊥
 
--- a run over words has no lock, and in one over both kinds the capacity of a link with a lock is not one
+-- a run over words has no lock, and in one over both kinds the capacity of a link with a lock is
+-- not one
 pub no_lock_of_words : (link : LinkSetup) → ¬ IsLocked Words link
 no_lock_of_words link is = subst IsWord is tt
 

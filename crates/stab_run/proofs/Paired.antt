@@ -43,7 +43,8 @@ module _ {A B : Type 0} (R : A → B → Type 0) where
   as_many_paired (x ∷ xs) [] all = absurd all
   as_many_paired (x ∷ xs) (y ∷ ys) all = ap (λ n. suc n) (as_many_paired xs ys all.1)
 
--- what holds of each entry and of what is read of the one beside it holds of others that are read alike, in the same order
+-- what holds of each entry and of what is read of the one beside it holds of others that are read
+-- alike, in the same order
 pub paired_read : {X A B C : Type 0} (R : X → A → Type 0) (f : B → A) (g : C → A) (xs : List X) (ys : List B) (zs : List C)
     → AllZip (λ x y. R x (f y)) xs ys → map g zs ≡ map f ys → AllZip (λ x z. R x (g z)) xs zs
 paired_read R f g [] [] [] all same = tt

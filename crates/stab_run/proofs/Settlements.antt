@@ -65,8 +65,8 @@ first_left parents all node parent x left within is before =
     ap (λ k. entry_into parents all k) place
     ∙ (before.at 0 ∙ ap (λ ps. entry_into ps (x ∷ left) 0) rest)
 
--- The counts so far, and then those of the nodes that are left, are all counts; where the links that are left are settled, all are;
--- and there is what is needed for each link that is left.
+-- The counts so far, and then those of the nodes that are left, are all counts; where the links
+-- that are left are settled, all are; and there is what is needed for each link that is left.
 pub record SettledSoFar (parents : List (Option ℕ)) (links : List LinkSetup) (sends : List SenderAccount) (recvs : List ReceiverAccount)
     (acked : List (Option ℕ)) (links_left : List LinkSetup) (sends_left : List SenderAccount) (recvs_left : List ReceiverAccount) (node : ℕ) : Type 0 where
   pub counts : acked ++ by_child (drop node parents) (map acked_of sends_left) ≡ by_child parents (map acked_of sends)
@@ -147,7 +147,8 @@ module _ (parents : List (Option ℕ)) (links : List LinkSetup) (sends : List Se
       let none : drop node parents ≡ [] = drop_all node parents (omega (arith, over)) in
       sym (append-nil acked) ∙ (ap (λ ps. acked ++ by_child ps (map acked_of sends_left)) (sym none) ∙ so_far.counts)
 
--- what holds of the first link that is left, of its accounts and of the reason, holds of the link into this child
+-- what holds of the first link that is left, of its accounts and of the reason, holds of the link
+-- into this child
 pub first_refused : (P : LinkSetup → SenderAccount → ReceiverAccount → SettleFault → Type 0) (parents : List (Option ℕ)) (links : List LinkSetup) (sends : List SenderAccount)
     (recvs : List ReceiverAccount) (acked : List (Option ℕ)) (links_left : List LinkSetup) (sends_left : List SenderAccount) (recvs_left : List ReceiverAccount)
     (node parent : ℕ) (why : SettleFault)

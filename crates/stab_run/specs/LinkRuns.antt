@@ -86,7 +86,7 @@ pub record IsRun (net : Network) (received : List (List ℕ)) (ended : List Ende
       → entry_into net.tree.parents sends child ≡ Some send → ended_at ended parent ≡ Upstream
       → HasAll (received_at received parent) send
 
--- The first of these links is settled with the first account of each side, and so many items are
+-- The first of these links is settled with the first account of each side, and `acked` items are
 -- acknowledged on it; the others are left.
 pub record IsFirstSettled (acked : ℕ) (links : List LinkSetup) (sends : List SenderAccount)
     (recvs : List ReceiverAccount) (links_left : List LinkSetup) (sends_left : List SenderAccount)

@@ -29,7 +29,7 @@ of_workers (workers.Thread node) = run.Thread node
 of_workers (workers.Node node fault) = run.Node node fault
 of_workers workers.Memory = run.Memory
 
--- What the workers of so many nodes asked of their gate, each with these turns and ended for this
+-- What the workers of `count` nodes asked of their gate, each with these turns and ended for this
 -- reason: the gate let each turn begin that a worker made, and was told by each node that it is
 -- done.
 pub record HaveAsked (has_passed : ℕ → ℕ → Type 0) (is_done : ℕ → Type 0) (count turns : ℕ)

@@ -35,7 +35,7 @@ pub record RootHas (net : Network) (r : Reported) : Type 0 where
 
 -- The link into a child: it can begin, and some events, from its start and under its parameters,
 -- explain what the report says of it. They end with the link closed, the child has its opening and
--- then what was delivered, so many items are acknowledged as the report says, and what was offered
+-- then what was delivered, as many items are acknowledged as the report says, and what was offered
 -- is a prefix of what the parent has.
 pub record IsExplained (net : Network) (r : Reported) (child parent : ℕ) : Type 0 where
   pub edge : EdgeInto net child (received_at r.received parent) (received_at r.received child)

@@ -36,7 +36,7 @@ fn take_first(openings: &mut VecDeque<AnyOpening>) -> AnyOpening
     openings.pop_front().unwrap()
 }
 
-/// The two ends of each link, which have made no call and follow the link's script, for so many
+/// The two ends of each link, which have made no call and follow the link's script, for `turns`
 /// turns.
 fn split_all<'a, 's, R>(
     alloc: Global,

@@ -31,7 +31,7 @@ use std::thread::Threads;
 ///
 /// Whatever the links and the inner nodes hold at the start, whatever is lost or repeated and
 /// however the workers' steps interleave: with C the sum of the capacities c of the links on a
-/// node's path to the root, M the sum of their 2c + 1, and E so many items as an opening may have
+/// node's path to the root, M the sum of their 2c + 1, and E as many items as an opening may have
 /// for each inner node on the path, itself among them, the node received at most C + E strays, then
 /// published items in their order, each at most once, none missing before its last one except among
 /// the first M. Where the worker of each node above it ended with its upstream, none is missing at

@@ -25,7 +25,7 @@ links_counted_anywhere parents v w = omega (arith, length-links_from v parents, 
 
 -- ---- induction from the root
 
--- where so many parent steps lead to a child, one more leads to its parent
+-- where `steps` parent steps lead to a child, one more leads to its parent
 pub one_step_further : (parents : List (Option ℕ)) (steps node child parent : ℕ) → ancestor parents steps node ≡ Some child
     → parent_at parents child ≡ Some parent → ancestor parents (suc steps) node ≡ Some parent
 one_step_further parents zero node child parent leads is_child =
@@ -66,7 +66,8 @@ module _ (parents : List (Option ℕ)) (rooted : IsRooted parents) where
   child_is_deeper child parent is_child =
       (tree_depths parents rooted).child_depth child parent (child_is_node parents child parent is_child) is_child ∙ add-one (depth_of parents parent)
 
-  -- what holds of the root at depth 0, and passes from each parent to its child one step deeper, holds of every node at its depth
+  -- what holds of the root at depth 0, and passes from each parent to its child one step deeper,
+  -- holds of every node at its depth
   pub holds_at_every_depth : (P : ℕ → ℕ → Type 0) → P 0 (root_of parents)
       → ((depth child parent : ℕ) → parent_at parents child ≡ Some parent → P depth parent → P (suc depth) child)
       → (node : ℕ) → node < length parents → P (depth_of parents node) node
@@ -111,7 +112,8 @@ no_link_into (Some q ∷ parents) xs zero none = absurd (none-some q (sym none))
 no_link_into (Some q ∷ parents) [] (suc node) none = no_link_into parents [] node none
 no_link_into (Some q ∷ parents) (x ∷ xs) (suc node) none = no_link_into parents xs node none
 
--- what holds of the entries of two lists, place by place, holds of the two that belong to the link into a node
+-- what holds of the entries of two lists, place by place, holds of the two that belong to the link
+-- into a node
 pub holds_by_child_of_both : {A B : Type 0} (R : A → B → Type 0) (parents : List (Option ℕ)) (xs : List A) (ys : List B) (node : ℕ) (x : A) (y : B)
     → AllZip R xs ys → get_or (by_child parents xs) node None ≡ Some x → get_or (by_child parents ys) node None ≡ Some y → R x y
 holds_by_child_of_both R [] xs ys node x y all is is_too = absurd (none-some x is)
@@ -126,7 +128,8 @@ holds_by_child_of_both R (Some parent ∷ parents) (z ∷ zs) (w ∷ ws) zero x 
 holds_by_child_of_both R (Some parent ∷ parents) (z ∷ zs) (w ∷ ws) (suc node) x y all is is_too =
     holds_by_child_of_both R parents zs ws node x y all.1 is is_too
 
--- where there is one entry for each link, there is one for the link into each node that has a parent
+-- where there is one entry for each link, there is one for the link into each node that has a
+-- parent
 pub one_by_child : {A : Type 0} (parents : List (Option ℕ)) (xs : List A) (w child parent : ℕ) → length xs ≡ length (links_from w parents)
     → parent_at parents child ≡ Some parent → (x : A) × (get_or (by_child parents xs) child None ≡ Some x)
 one_by_child [] xs w child parent same is_child = absurd (none-some parent is_child)

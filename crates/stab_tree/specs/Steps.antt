@@ -5,7 +5,7 @@ use Rattle.std.specs.Prelude.{option_and_then, unwrap_or}
 use Rattle.std.specs.Option.{option_map_or}
 use Rattle.stab_tree.specs.Nodes.{parent_at}
 
--- the node that k parent steps from w lead to, where there are so many
+-- the node that k parent steps from w lead to, where there are k of them
 abbrev pub ancestor : List (Option ℕ) → ℕ → ℕ → Option ℕ
 ancestor parents zero w = Some w
 ancestor parents (suc k) w = option_and_then (ancestor parents k) (parent_at parents w)

@@ -34,8 +34,8 @@ sum_above-add parents f g (suc count) node =
 
 module _ (parents : List (Option ℕ)) (tree : IsRooted parents) (published : List ℕ) (received : ℕ → List ℕ)
     (at_root : received (root_of parents) ≡ published) where
-  -- Where each child on a path adds so much to the bounds and to the garbage of its parent, the bounds and the garbage of a node
-  -- there are what there is along its path.
+  -- Where each child on a path adds so much to the bounds and to the garbage of its parent, the
+  -- bounds and the garbage of a node there are what there is along its path.
   module _ (OnPath : ℕ → Type 0) (up : (child parent : ℕ) → parent_at parents child ≡ Some parent → OnPath child → OnPath parent)
       (more_strays more_missing : ℕ → ℕ) (more_garbage : ℕ → List ℕ)
       (adds : (child parent most_strays most_missing : ℕ) (garbage : List ℕ) → OnPath child → parent_at parents child ≡ Some parent
@@ -137,7 +137,7 @@ module _ (net : Network) (capacity : ℕ) (tree : IsRooted net.tree.parents) (on
       ap (λ o. option_map_or (λ (l : LinkSetup). l.params.capacity) o 0) is
       ∙ holds_by_child (λ l. l.params.capacity ≡ capacity) net.tree.parents net.links child link alike is
 
-  -- so the bounds are so many times those of one link
+  -- so the bounds are those of one link, times the depth of the node
   pub strays-same : (node : ℕ) → node < length net.tree.parents → strays_bound net node ≡ depth_of net.tree.parents node * capacity
   strays-same node is_node = path_sum-same net.tree.parents tree (capacity_into net) capacity node its_capacity is_node
 

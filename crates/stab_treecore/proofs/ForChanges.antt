@@ -1,4 +1,5 @@
--- For a crate in which more happens to a whole tree than acts: facts on its links and lists, and on laws of nodes.
+-- For a crate in which more happens to a whole tree than acts: facts on its links and lists, and on
+-- laws of nodes.
 pub use Rattle.stab_treecore.proofs.AtNodes.{sum_above-add}
 pub use Rattle.stab_treecore.proofs.Happened.{CameOf, came_of, chosen, differ, happened_at, same_kinds, unchosen}
 pub use Rattle.stab_treecore.proofs.Linked.{kind-set, same_kind}

@@ -7,12 +7,14 @@ some_at [] i = refl
 some_at (x ∷ xs) zero = refl
 some_at (x ∷ xs) (suc i) = some_at xs i
 
--- of two lists that have something at the same places, both have or neither has something at this place
+-- of two lists that have something at the same places, both have or neither has something at this
+-- place
 pub same_kind : {A B : Type 0} (xs : List (Option A)) (ys : List (Option B)) (i : ℕ) → map is_some xs ≡ map is_some ys
     → is_some (get_or xs i None) ≡ is_some (get_or ys i None)
 same_kind xs ys i same = sym (some_at xs i) ∙ (ap (λ bs. get_or bs i false) same ∙ some_at ys i)
 
--- a list that is written at a place where both or neither is something has something at the same places
+-- a list that is written at a place where both or neither is something has something at the same
+-- places
 pub kind-set : {A : Type 0} (xs : List (Option A)) (i : ℕ) (x : Option A) → is_some x ≡ is_some (get_or xs i None)
     → map is_some (set xs i x) ≡ map is_some xs
 kind-set [] i x same = refl

@@ -1,4 +1,5 @@
--- The lists beside the nodes: each is the opening of its node, and then what the link into it delivered.
+-- The lists beside the nodes: each is the opening of its node, and then what the link into it
+-- delivered.
 use Rattle.std.proofs.Common.{◌≡◌, ◌<◌, ℕ, List, [], ◌++◌, length, get_or, set, Option, Some, None, is_some, true, false, refl, Result, Ok, Err, IfOk, OnErr, ap, sym, ◌∙◌, inl, inr}
 use Rattle.std.proofs.lemmas.Bool.{cases_eq}
 use Rattle.std.proofs.lemmas.List.{get_or-set_other, get_or-set_same}

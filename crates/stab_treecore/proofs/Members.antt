@@ -6,7 +6,8 @@ use Rattle.stab_core.specs.Picks.{RisesFrom}
 use Rattle.stab_core.proofs.ForCallers.{IsAt, member_is_at, lower_is_earlier}
 use Rattle.stab_treecore.specs.TreeLaw.{NoneMissingBefore}
 
--- Where none is missing before the last place, so many places lie before one that is so much above the first ones.
+-- Where none is missing before the last place, `count` places lie before one that is at least
+-- `count` above the first `most_missing` ones.
 pub enough_before : (most_missing count i q m : ℕ) (ps : List ℕ) → NoneMissingBefore most_missing ps → RisesFrom 0 ps → Contains ps q
     → most_missing + count ≤ i → i < q → IsAt ps i m → count ≤ m
 enough_before most_missing zero i q m ps none_missing rises last high before here = omega arith

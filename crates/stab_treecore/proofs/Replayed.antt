@@ -1,4 +1,5 @@
--- What each schedule leaves of a whole tree: links that are replays from their starts, and offered a prefix of the parent's list.
+-- What each schedule leaves of a whole tree: links that are replays from their starts, and offered
+-- a prefix of the parent's list.
 use Rattle.std.proofs.Common.{◌≡◌, ◌≢◌, ◌⊎◌, ℕ, zero, suc, List, [], ◌∷◌, ◌++◌, length, map, get_or, set, slice_get, option_and_then, Option, Some, None, is_some, option_map, All, refl, ap, sym, ◌∙◌, subst, inl, inr, true, false, append_assoc}
 use Rattle.std.specs.Option.{option_map_or}
 use Rattle.std.proofs.lemmas.Bool.{cases_eq}
@@ -45,8 +46,8 @@ pub record IsReplayAt (net : Network) (node : ℕ) (link : LinkValue) : Type 0 w
   pub leads : setup_into net node ≡ Some setup
   pub run : IsReplayOf setup.params setup.start link
 
--- A whole tree with these published items and parents: nodes with a parent have a link, which is a replay from its start and
--- offered a prefix of the parent's list.
+-- A whole tree with these published items and parents: nodes with a parent have a link, which is a
+-- replay from its start and offered a prefix of the parent's list.
 pub record IsRun (net : Network) (t : WholeTree) : Type 0 where
   pub published_stay : t.published ≡ net.published
   pub openings_stay : t.openings ≡ net.openings.lists
@@ -246,7 +247,8 @@ ReplaysObey Law =
     (p : Parameters) (start : Start) (events : List Event) → AreLawful p → IsLawful p start
     → let s = replay p (initial start) events in Law p.capacity (start_items start) s.offered s.acked s.delivered
 
--- so between a parent and its child there is a link that obeys the law, and the child's opening comes before what it delivered
+-- so between a parent and its child there is a link that obeys the law, and the child's opening
+-- comes before what it delivered
 pub run_links : (Law : ℕ → List ℕ → List ℕ → ℕ → List ℕ → Type 0) → ReplaysObey Law → (net : Network) (t : WholeTree) → IsRun net t → All CanBegin net.links
     → (child parent : ℕ) → parent_at net.tree.parents child ≡ Some parent → LawInto Law net child (received t parent) (received t child)
 run_links Law obey net t run lawful child parent is_child =

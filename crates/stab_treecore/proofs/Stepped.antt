@@ -1,4 +1,5 @@
--- What a step of the whole tree leaves of a link: its offered list grows by the next item alone, and its delivered list only grows.
+-- What a step of the whole tree leaves of a link: its offered list grows by the next item alone,
+-- and its delivered list only grows.
 use Rattle.std.proofs.Common.{◌≡◌, ◌==◌, ◌&&◌, ◌+◌, ℕ, List, [], ◌∷◌, ◌++◌, length, slice_get, nat_lt, Bool, true, false, if◌then◌else◌, Option, Some, None, refl, ap, sym, ◌∙◌, append_assoc}
 use Rattle.stab_frames.specs.declared.frame.Frame.{Frame}
 use Rattle.stab_frames.specs.Parameters.{Parameters, next}

@@ -31,7 +31,8 @@ module _ (capacity most_strays acked : ℕ) (start_items garbage published recei
   module _ (above places : List ℕ)
       (up : HalfTreeLawAt most_strays garbage published received above)
       (link : HalfLawAt capacity start_items offered acked delivered places) where
-    -- what the link took from its offered list is picked from the parent's strays and published items, at the same places
+    -- what the link took from its offered list is picked from the parent's strays and published
+    -- items, at the same places
     taken_from_parent : Picks (up.strays ++ up.taken) places link.taken
     taken_from_parent =
         subst (λ list. Picks list places link.taken) (begins.1 ∙ up.parts)
@@ -89,8 +90,8 @@ module _ (capacity most_strays acked : ℕ) (start_items garbage published recei
         let in_taken : get_or parts.high k 0 < length up.taken = below_bound (length up.taken) parts.high k parts.high_below in_high in
         at_is_member above q (get_or parts.high k 0) (record { within = omega arith; is_there = k_is })
 
-    -- Where the child has a later item, and none is missing on the link from this place on, it has an earlier item whose place in
-    -- the parent's list is there.
+    -- Where the child has a later item, and none is missing on the link from this place on, it has
+    -- an earlier item whose place in the parent's list is there.
     child_has : (first i q m : ℕ) → NoneMissingFrom first acked places → i < q → Contains (at_places above parts.high) q
         → IsAt above i m → first ≤ length up.strays + m → Contains (at_places above parts.high) i
     child_has first i q m on_link before last there enough =
@@ -109,7 +110,8 @@ module _ (capacity most_strays acked : ℕ) (start_items garbage published recei
         member_is_raised strays m low high parts.low_below (subst (λ ps. Contains ps (strays + m)) parts.both taken_here) in
         subst (λ x. Contains (at_places above high) x) there.is_there (chosen_is_member above high m chosen)
 
-    -- where none is missing at the parent before its last place, nor on the link, none is missing at the child
+    -- where none is missing at the parent before its last place, nor on the link, none is missing
+    -- at the child
     child_misses_none : (most_missing : ℕ) → NoneMissingBefore most_missing above → NoneMissing capacity acked places
         → NoneMissingBefore (most_missing + (2 * capacity + 1)) (at_places above parts.high)
     child_misses_none most_missing at_parent on_link i q enough before last =
@@ -119,7 +121,8 @@ module _ (capacity most_strays acked : ℕ) (start_items garbage published recei
         enough_before most_missing (2 * capacity + 1) i q m above at_parent up.taken_picked.rising last_above enough before there in
         child_has (2 * capacity + 1) i q m on_link before last there (omega arith)
 
-    -- where the child has a published item, it has each of the parent's strays but those that were missing on the link
+    -- where the child has a published item, it has each of the parent's strays but those that were
+    -- missing on the link
     strays_kept : (first q : ℕ) → NoneMissingFrom first acked places → Contains (at_places above parts.high) q
         → length up.strays ≤ first + length parts.low
     strays_kept first q on_link last =
@@ -140,7 +143,8 @@ module _ (capacity most_strays acked : ℕ) (start_items garbage published recei
           | inr few ↦ omega arith
         ]
 
-    -- how far an item is in the parent's list that comes so much after those that strays were in the place of
+    -- how far an item is in the parent's list that comes so much after those that strays were in
+    -- the place of
     far_enough : (without first i q m : ℕ) → NoneMissingBefore (without + length up.strays) above → Contains above q
         → without + first ≤ i → i < q → IsAt above i m → first ≤ length up.strays + m
     far_enough without first i q m at_parent last_above enough before there =
@@ -182,8 +186,8 @@ module _ (capacity most_strays acked : ℕ) (start_items garbage published recei
         child_has first i q m on_link before last there
         (far_enough without first i q m at_parent last_above (omega arith) before there)
 
-    -- where no published item is missing at the parent, and the link has all of the parent's list acknowledged, none is missing
-    -- at the child
+    -- where no published item is missing at the parent, and the link has all of the parent's list
+    -- acknowledged, none is missing at the child
     child_has_all : (most_missing : ℕ) → acked ≡ length received → NoneMissingFrom most_missing (length published) above
         → NoneMissing capacity acked places
         → NoneMissingFrom (most_missing + (2 * capacity + 1)) (length published) (at_places above parts.high)

@@ -17,7 +17,7 @@ use Rattle.stab_core.specs.Replay.{initial, replay}
 use Rattle.stab_treecore.specs.Network.{Network, setup_into}
 use Rattle.stab_tree.specs.NodeOpenings.{opening_at}
 
--- The replay of some events from the start is closed, has delivered this list, has so many items
+-- The replay of some events from the start is closed, has delivered this list, has `acked` items
 -- acknowledged, and was offered a prefix of the parent's list.
 pub record EdgeLaw (p : Parameters) (start : Start) (above : List ℕ) (acked : ℕ)
     (delivered : List ℕ) : Type 0 where

@@ -19,7 +19,7 @@ use Rattle.stab_treecore.specs.Paths.{sum_above, path_sum}
 use Rattle.stab_treecore.specs.TreeLaw.{HalfTreeLawAt, NoneMissingBefore}
 
 -- the half tree law, and before the last of its places none is missing but among the first ones:
--- so many and one for each stray, and at any rate among so many
+-- the first `without_strays` and one for each stray, and at any rate the first `most_missing`
 abbrev pub SharperTreeLaw : ℕ → ℕ → ℕ → List ℕ → List ℕ → List ℕ → Type 0
 SharperTreeLaw most_strays without_strays most_missing garbage published received =
     (places : List ℕ) × (half : HalfTreeLawAt most_strays garbage published received places)

@@ -21,7 +21,7 @@ use std::alloc::Global;
 ///
 /// Whatever the links and the inner nodes hold at the start and whatever the schedule: with C the
 /// sum of the capacities c of the links on a node's path to the root, M the sum of their 2c + 1,
-/// and E so many items as an opening may have for each inner node on the path, itself among them,
+/// and E as many items as an opening may have for each inner node on the path, itself among them,
 /// the node received at most C + E strays, then published items in their order, each at most once,
 /// none missing before its last one except among the first M.
 pub fn run_schedule(

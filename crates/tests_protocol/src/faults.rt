@@ -55,7 +55,7 @@ fn starts(rt: &(impl Abort + Alloc<A = Global>)) -> Vec<Start> {
     starts
 }
 
-/// What the links into a and b delivered and have acknowledged after so many reading rounds.
+/// What the links into a and b delivered and have acknowledged after `rounds` reading rounds.
 struct After {
     rounds: u32,
     a: &'static [Item],
@@ -103,7 +103,7 @@ fn is_as(state: &TreeState, row: &After) -> bool {
         && has(state.link(NodeId::new(2)), row.b, row.b_acked)
 }
 
-/// Whether it is so after the changes and then so many reading rounds.
+/// Whether it is so after the changes and then the reading rounds of the row.
 fn settles_as(rt: &(impl Abort + Alloc<A = Global>), row: &After) -> bool {
     let params = Params::new(1, 4).expect(rt, "parameters");
     let opened = chain(rt);

@@ -183,7 +183,7 @@ fn a_round_of_the_chain_has_ten_events(rt: HostRuntime) {
     assert!(&rt; round.len() == 10, "five events for each of two links");
 }
 
-/// What the nodes a and b of the chain have after so many rounds, and how much is acknowledged.
+/// What the nodes a and b of the chain have after `rounds` rounds, and how much is acknowledged.
 struct After {
     rounds: u32,
     a: &'static [Item],
@@ -217,7 +217,7 @@ static AFTER: [After; 3] = [
     },
 ];
 
-/// Whether the chain has this after so many rounds.
+/// Whether the chain has this after the rounds of the row.
 fn is_after(rt: &(impl Abort + Alloc<A = Global>), row: &After) -> bool {
     let params = Params::new(1, 4).expect(rt, "parameters");
     let opened = chain(rt);
@@ -238,7 +238,7 @@ fn is_after(rt: &(impl Abort + Alloc<A = Global>), row: &After) -> bool {
         && has(state.link(NodeId::new(2)), row.b, row.b_acked)
 }
 
-/// Whether a link has delivered this, and so many items on it are acknowledged.
+/// Whether a link has delivered this, and `acked` items on it are acknowledged.
 pub(crate) fn has(link: Option<&Link>, delivered: &[Item], acked: u64) -> bool {
     match link {
         Some(link) => link.delivered() == delivered && link.acked() == acked,
@@ -288,7 +288,7 @@ static AFTER_READING: [After; 3] = [
     },
 ];
 
-/// Whether the chain has this after so many reading rounds.
+/// Whether the chain has this after the reading rounds of the row.
 fn is_after_reading(rt: &(impl Abort + Alloc<A = Global>), row: &After) -> bool {
     let params = Params::new(1, 4).expect(rt, "parameters");
     let opened = chain(rt);

@@ -130,7 +130,7 @@ pub(crate) struct TestGate {
 }
 
 impl TestGate {
-    /// The gate of a run of so many nodes, which refuses these turns.
+    /// The gate of a run of `nodes` nodes, which refuses these turns.
     pub(crate) fn refusing(order: Order, nodes: u16, refused: Refused) -> TestGate {
         TestGate {
             nodes,
@@ -143,7 +143,7 @@ impl TestGate {
         }
     }
 
-    /// The gate of a run of so many nodes, which refuses no turn that may begin in this order.
+    /// The gate of a run of `nodes` nodes, which refuses no turn that may begin in this order.
     pub(crate) fn for_nodes(order: Order, nodes: u16) -> TestGate {
         TestGate::refusing(order, nodes, Refused::Nothing)
     }

@@ -213,7 +213,7 @@ fn a_noted_event_without_effect(rt: HostRuntime) {
     assert!(rt; book.link().offered() == [7].as_slice());
 }
 
-/// Notes an event so many times, and compares the effect of each.
+/// Notes an event `times` times, and compares the effect of each.
 fn note_repeated<R: Abort>(rt: &R, book: &mut LinkBook, event: Event, effect: Effect, times: u32) {
     for _ in 0..times {
         let given = book.note(event).expect(rt, "memory");
@@ -221,7 +221,8 @@ fn note_repeated<R: Abort>(rt: &R, book: &mut LinkBook, event: Event, effect: Ef
     }
 }
 
-/// Notes each event so many times, and compares its effect and the length of the history after it.
+/// Notes each event as many times as its row says, and compares its effect and the length of the
+/// history after it.
 fn note_rows<R: Abort>(rt: &R, book: &mut LinkBook, rows: &[(Event, Effect, u32, u64)]) {
     for (event, effect, times, len) in rows {
         note_repeated(rt, book, *event, *effect, *times);

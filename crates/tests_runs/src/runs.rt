@@ -11,8 +11,8 @@ use std::sync::Wait;
 use std::test::Fail;
 use std::thread::Threads;
 
-/// Fails the test where the run of the job of this text does not print what is expected, where so
-/// many nodes begin their turns in this order.
+/// Fails the test where the run of the job of this text does not print what is expected, where
+/// `nodes` nodes begin their turns in this order.
 pub(crate) fn assert_in_order<T: Threads + Wait + Send + Sync + Abort + Alloc<A = Global>>(
     rt: &T,
     links: &[Links],
@@ -158,7 +158,7 @@ fn joined(alloc: Global, pieces: &[&str]) -> Result<String, AllocError> {
 }
 
 /// Fails the test where the run of the job of these pieces of a text does not print what is
-/// expected, where so many nodes begin their turns in this order.
+/// expected, where `nodes` nodes begin their turns in this order.
 pub(crate) fn assert_joined<T: Threads + Wait + Send + Sync + Abort + Alloc<A = Global>>(
     rt: &T,
     links: Links,
@@ -171,7 +171,7 @@ pub(crate) fn assert_joined<T: Threads + Wait + Send + Sync + Abort + Alloc<A = 
     assert_in_order(rt, &[links], text.as_str(), order, nodes, expected)
 }
 
-/// Runs a job of a hundred items, where so many nodes keep pace: this is what it prints, in pieces.
+/// Runs a job of a hundred items, where `nodes` nodes keep pace: this is what it prints, in pieces.
 fn assert_paced<T: Threads + Wait + Send + Sync + Abort + Alloc<A = Global>>(
     rt: &T,
     links: Links,

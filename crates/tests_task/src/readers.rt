@@ -203,7 +203,7 @@ fn readers_that_fail(rt: HostRuntime) -> Result<(), AllocError> {
     assert_fault(&rt, &CliFault::Read, 1, "file: cannot be read")
 }
 
-/// Whether a job in pieces of so many bytes is read, and one that ends after them, or has a byte
+/// Whether a job in pieces of `count` bytes is read, and one that ends after them, or has a byte
 /// after them that the reader did not give, is no JSON.
 fn is_read_as_given<T: Threads + Wait + Send + Sync + Alloc<A = Global>>(
     rt: &T,

@@ -103,7 +103,7 @@ fn is_interrupted_at<T: Threads + Wait + Send + Sync + Alloc<A = Global>>(
     writes(rt, work, writer, Ok(()), work.text.len())
 }
 
-/// Whether the whole text is written where the writer takes at most so many bytes at a time.
+/// Whether the whole text is written where the writer takes at most `most` bytes at a time.
 fn is_taken_in_pieces<T: Threads + Wait + Send + Sync + Alloc<A = Global>>(
     rt: &T,
     work: Work,
@@ -128,7 +128,7 @@ fn fails_at_the_flush<T: Threads + Wait + Send + Sync + Alloc<A = Global>>(
     writes(rt, work, writer, Err(CliFault::Write), work.text.len())
 }
 
-/// Whether a failure after as many bytes is reported, an interruption is not, and pieces of so many
+/// Whether a failure after `count` bytes is reported, an interruption is not, and pieces of as many
 /// bytes are taken until the whole text is written.
 fn is_written_as_taken<T: Threads + Wait + Send + Sync + Alloc<A = Global>>(
     rt: &T,

@@ -9,11 +9,11 @@
 //! `2 * capacity + 1`.
 //!
 //! A [`Node`] is a receiver, a list, and a [`Child`] for each link below it. It keeps of its list
-//! what a child still needs, in a ring that it owns. In a tree of nodes, with a line like this for each link, the list of a node is at most
-//! C + E strays and after them published items in their order, each at most once; and before its
-//! last one none is missing, except among the first M. C, M and E are sums over the node's path
-//! from the root: of `capacity` and of `2 * capacity + 1` over the links, and over the inner nodes
-//! of the most items that their lists may begin with.
+//! what a child still needs, in a ring that it owns. In a tree of nodes, with a line like this for
+//! each link, the list of a node is at most C + E strays and after them published items in their
+//! order, each at most once; and before its last one none is missing, except among the first M. C,
+//! M and E are sums over the node's path from the root: of `capacity` and of `2 * capacity + 1`
+//! over the links, and over the inner nodes of the most items that their lists may begin with.
 //!
 //! Each call is one of the C library that this crate links, whose code is proved: it is a step of
 //! the definitions that these laws are about, from every bit pattern of its structs. None waits,
@@ -47,10 +47,10 @@
 //! cloned. Where the children of a node begin at different items, the law of the tree holds of each
 //! path by itself.
 //!
-//! What a node forgets changes no count: the laws speak of its whole list. A child that is made anew
-//! by [`Node::child`] begins one: it gets at most `capacity` strays, then the list of its node from
-//! its place on, in its order, each item at most once; and none that it acknowledged is missing,
-//! except among the first `2 * capacity + 1`.
+//! What a node forgets changes no count: the laws speak of its whole list. A child that is made
+//! anew by [`Node::child`] begins one: it gets at most `capacity` strays, then the list of its node
+//! from its place on, in its order, each item at most once; and none that it acknowledged is
+//! missing, except among the first `2 * capacity + 1`.
 //!
 //! # What is proved
 //!

@@ -81,7 +81,7 @@ pub fn checksum(bytes: &[u8]) -> u32 {
     !sum
 }
 
-/// The checksum of each byte with so many zeros after it.
+/// `SUMS[zeros][byte]` is the checksum of the byte with `zeros` zeros after it.
 static SUMS: [[u32; 256]; 8] = {
     let mut sums = [[0; 256]; 8];
     let mut byte = 0;

@@ -9,10 +9,10 @@ use core::sync::atomic::{AtomicUsize, Ordering};
 /// The list is what the node begins with, its opening, and then what came: published items at the
 /// root, elsewhere what the receiver delivered. Each child is offered the list in its order.
 ///
-/// The list is all that the node ever had; its counts have 64 bits. The node keeps the end of it, in
-/// a ring that it owns, until it is told to [forget](Node::forget). A node that keeps as many items
-/// as it has room for takes no fresh frame, as if the line had lost it. What holds of the list in a
-/// tree is said at the head of this crate.
+/// The list is all that the node ever had; its counts have 64 bits. The node keeps the end of it,
+/// in a ring that it owns, until it is told to [forget](Node::forget). A node that keeps as many
+/// items as it has room for takes no fresh frame, as if the line had lost it. What holds of the
+/// list in a tree is said at the head of this crate.
 ///
 /// ```
 /// use rignolda::{Node, Params};
@@ -76,7 +76,7 @@ static NODES: AtomicUsize = AtomicUsize::new(0);
 
 impl Node {
     /// A node whose receiver remembers this label, which may be any, whose list is empty, and which
-    /// has room for so many items that a child still needs.
+    /// has room for `room` items that a child still needs.
     pub fn new(label: u16, room: usize) -> Node {
         Node::with_opening(label, room, &[])
     }

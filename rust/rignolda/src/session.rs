@@ -13,9 +13,9 @@ pub struct Connection(NonZeroU64);
 /// [`Child`] or a [`Node`] with its link above.
 ///
 /// Either end of a link may make connections, over TCP or anything like it, and both may. An end
-/// has one at a time, the newest that it made or accepted; when it makes or accepts the next one, it
-/// leaves the one before for ever. On a connection the two ends take turns, one message each, and
-/// the end that accepted it begins. So capacity is 1, whatever the network does: it may break
+/// has one at a time, the newest that it made or accepted; when it makes or accepts the next one,
+/// it leaves the one before for ever. On a connection the two ends take turns, one message each,
+/// and the end that accepted it begins. So capacity is 1, whatever the network does: it may break
 /// connections, bring them late, in another order or never, and lose what is under way. No rule of
 /// time matters to the bounds; when an end leaves a connection on which nothing comes is the
 /// caller's choice.
@@ -52,9 +52,9 @@ pub struct Session<End> {
 }
 
 impl<End> Session<End> {
-    /// A session of an end that never had a connection. An end that takes the place of an earlier one
-    /// of the same link goes into that one's session, by [`Session::renew`]: a session of its own
-    /// would give the numbers of connections again that may still be open.
+    /// A session of an end that never had a connection. An end that takes the place of an earlier
+    /// one of the same link goes into that one's session, by [`Session::renew`]: a session of its
+    /// own would give the numbers of connections again that may still be open.
     pub fn new(end: End) -> Session<End> {
         let mut raw = calls::Session::default();
         // SAFETY: the call writes this session alone.
@@ -215,7 +215,8 @@ impl Session<Child> {
         }
     }
 
-    /// Handles an acknowledgement that a word shows, as [`Child::on_ack`], under the same condition.
+    /// Handles an acknowledgement that a word shows, as [`Child::on_ack`], under the same
+    /// condition.
     pub fn on_word(&mut self, label: u16) -> bool {
         self.is_free() && self.end.on_ack(label)
     }

@@ -39,7 +39,7 @@ pub const KEY_BYTES: usize = 128;
 pub const VALUE_BYTES: usize = 1 << 20;
 /// The most changes in one body.
 const CHANGES: usize = 4_096;
-/// After so many items a new table is published, if it is not longer than they were.
+/// After this many items a new table is published, if it is not longer than they were.
 const MANY: u64 = 64;
 /// How many bytes a body with entries has before them.
 const HEAD: usize = 13;
@@ -53,7 +53,7 @@ pub fn is_key(text: &str) -> bool {
 /// What a body says.
 ///
 /// A body is `kind u8 | sequence u64 | rest`, numbers in big-endian order. A harmless one has no
-/// rest. That of changes and of a whole table is `count u32` and so many entries, in the order of
+/// rest. That of changes and of a whole table is `count u32` and `count` entries, in the order of
 /// the keys: `'S' | length u8 | key | length u32 | value`, or `'U' | length u8 | key`.
 #[derive(Clone, Debug, PartialEq, Eq)]
 pub enum Meaning<'a> {
@@ -239,8 +239,8 @@ impl Table {
 
 /// All settings, as the root has them, and which bodies it publishes.
 ///
-/// Changes that wait are merged: of each key the last value alone is published. A round is so many
-/// harmless items and then the whole table.
+/// Changes that wait are merged: of each key the last value alone is published. A round is a number
+/// of harmless items and then the whole table.
 #[derive(Debug)]
 pub struct Publisher {
     settings: BTreeMap<String, Vec<u8>>,
@@ -342,7 +342,7 @@ impl Publisher {
         self.changed.extend(gone);
     }
 
-    /// A round with so many harmless items begins, unless one is under way.
+    /// A round with `harmless` harmless items begins, unless one is under way.
     pub fn begin_round(&mut self, harmless: u32) {
         if !self.is_in_a_round() {
             self.round = u64::from(harmless) + 1;

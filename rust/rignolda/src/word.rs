@@ -2,9 +2,9 @@
 //!
 //! The sender's end sets the one place and gets the other, and the receiver's end the other way
 //! round. What an end has got it gives to its half before it does anything else, and it waits until
-//! a set is done before it gets or sets again. Where each get and each set takes effect at one moment
-//! (the store is linearizable), such a link is a line of capacity 1, whatever the two places hold
-//! at first.
+//! a set is done before it gets or sets again. Where each get and each set takes effect at one
+//! moment (the store is linearizable), such a link is a line of capacity 1, whatever the two places
+//! hold at first.
 //!
 //! ```
 //! use rignolda::{word, Params, Receiver, Sender};

@@ -123,7 +123,7 @@ struct Net {
     now: Instant,
     lives: u64,
     made: u64,
-    /// Those that act in one step of so many.
+    /// Those that act in only one of this many steps.
     slow: BTreeMap<String, u64>,
 }
 

@@ -139,7 +139,7 @@ impl Connection {
         let texts: Vec<*const u8> = words.iter().map(|word| word.as_ptr()).collect();
         let lengths: Vec<usize> = words.iter().map(|word| word.len()).collect();
         let count = words.len() as c_int;
-        // SAFETY: there are so many texts and lengths, and the library copies them.
+        // SAFETY: there are `count` texts and lengths, and the library copies them.
         match unsafe { (self.calls.append)(self.context, count, texts.as_ptr(), lengths.as_ptr()) }
         {
             0 => Ok(()),

@@ -64,12 +64,12 @@ pub fn depths(list: &[Seen]) -> Vec<usize> {
 pub struct Bounds {
     pub name: String,
     pub depth: u64,
-    /// At most so many bodies that nobody published come first: those of the lines, and backlogs.
+    /// At most C + E bodies that nobody published come first: those of the lines, and backlogs.
     #[serde(rename = "C")]
     pub c: u64,
     #[serde(rename = "E")]
     pub e: u64,
-    /// Only some of so many published ones can be missing: of M, and by the sharper bound of N.
+    /// Only some of M published ones can be missing, and by the sharper bound of N.
     #[serde(rename = "M")]
     pub m: u64,
     #[serde(rename = "N")]

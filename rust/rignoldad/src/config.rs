@@ -457,7 +457,7 @@ pub fn milliseconds(text: &str) -> Option<u64> {
     text[..end].parse::<u64>().ok()?.checked_mul(unit)
 }
 
-/// The bytes of a file, of which there are at most so many.
+/// The bytes of a file, of which there are at most `most`.
 pub fn read_file(path: &Path, most: usize, what: &str) -> io::Result<Vec<u8>> {
     let mut bytes = Vec::new();
     File::open(path)?.take(most as u64 + 1).read_to_end(&mut bytes)?;

@@ -59,7 +59,8 @@ pub struct Setup<A> {
     pub children: Children<A>,
     /// How long the answer to a frame, or a hello, may take before the connection is left. Who was
     /// late is given twice the time at each try, and a child twice what its last answer took, but
-    /// at most 32 times this: so one that is slow is served slowly, and not again and again in vain.
+    /// at most 32 times this: so one that is slow is served slowly, and not again and again in
+    /// vain.
     pub ack_timeout: Duration,
     /// How long a child may be away before its backlog is dropped.
     pub evict: Duration,

@@ -124,7 +124,7 @@ impl Link {
 }
 
 impl Relay {
-    /// A node with room for so many items, at the root or below it; and whether it keeps the last
+    /// A node with room for `room` items, at the root or below it; and whether it keeps the last
     /// whole table for children, which it does in any case from the first child on.
     pub fn new(is_root: bool, room: u64, keeps: bool) -> Relay {
         // (the label is none of a sender's: so the first frame is fresh)

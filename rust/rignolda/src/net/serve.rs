@@ -93,7 +93,8 @@ pub struct Server<T, L: Listener> {
 }
 
 impl<T, L: Listener> Server<T, L> {
-    /// A server without clients. `most`: the most bytes of a request; `idle`: how long a client may be without one.
+    /// A server without clients. `most`: the most bytes of a request; `idle`: how long a client may
+    /// be without one.
     pub fn new(listener: L, most: usize, idle: Duration, parse: Parse<T>) -> Server<T, L> {
         Server {
             listener,
@@ -175,7 +176,7 @@ impl<T, L: Listener> Server<T, L> {
     }
 
     fn accept(&mut self, now: Instant) {
-        // (a client that is one too many is closed, and so many at most in one turn)
+        // (a client that is one too many is closed, and at most `CLIENTS` are accepted in one turn)
         for _ in 0..CLIENTS {
             match self.listener.accept() {
                 Ok(socket) if self.clients.len() < CLIENTS => {

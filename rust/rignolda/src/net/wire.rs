@@ -182,7 +182,7 @@ fn parse(input: &[u8], expect: Expect) -> Result<Option<Parsed>, &'static str> {
     }
 }
 
-/// The number in so many bytes from a place on, if they have come.
+/// The number in `bytes` bytes from a place on, if they have come.
 fn number(input: &[u8], at: usize, bytes: usize) -> Option<u64> {
     let from = input.get(at..at + bytes)?;
     Some(

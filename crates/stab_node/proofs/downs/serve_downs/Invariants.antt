@@ -4,7 +4,8 @@ use Rattle.stab_node.specs.Work.{OffersUnlessRefused}
 use Rattle.stab_node.specs.UnderWay.{IsInUse, OffersPrefix}
 use Rattle.stab_node.proofs.downs.serve_downs.Given as goal
 
--- each end offers a prefix still, is in use, and belongs to its link; and those so far offered all that they could
+-- each end offers a prefix still, is in use, and belongs to its link; and those so far offered all
+-- that they could
 abbrev pub invariant-each : goal.invariant-each
 invariant-each g l =
     (All (OffersPrefix l.received) (map g.D.SendSide.sent l.fn.downs)

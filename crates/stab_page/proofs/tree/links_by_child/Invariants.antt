@@ -5,7 +5,8 @@ use Rattle.stab_page.specs.TracedTree.{traced_link}
 use Rattle.stab_page.specs.TreeCodes.{fits, setup_of}
 use Rattle.stab_page.proofs.tree.links_by_child.Given as goal
 
--- the links so far, and then those of the nodes and links that are left, are all of them; what is left fits
+-- the links so far, and then those of the nodes and links that are left, are all of them; what is
+-- left fits
 abbrev pub invariant-loop-parent : goal.invariant-loop-parent
 invariant-loop-parent l =
     (l.links.items ++ by_child (drop l.parent-index l.parents) (map traced_link (map setup_of l.left))

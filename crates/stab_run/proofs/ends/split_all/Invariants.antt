@@ -5,8 +5,8 @@ use Rattle.stab_links.specs.AnyLinks.{IsOpenedBy, Receives, Sends}
 use Rattle.stab_links.specs.Scripted.{ScriptedRecvEnd, ScriptedSendEnd, plan}
 use Rattle.stab_run.proofs.ends.split_all.Given as goal
 
--- the ends so far are those of the links so far and follow their scripts, each link that is left has its opening, and there is
--- room for all
+-- the ends so far are those of the links so far and follow their scripts, each link that is left
+-- has its opening, and there is room for all
 abbrev pub invariant-links : goal.invariant-links
 invariant-links g l = record {
   send_room : vec_capacity l.sends ≡ length l.links;

@@ -25,7 +25,8 @@ settle_all-requires-clause-links c =
     ∙ (as_many_setups job.params job.starts (its_job.one_params_each ∙ sym its_job.one_start_each)
     ∙ (its_job.one_start_each ∙ ap (λ t. length (links_of t.parents)) (sym c.tree-tree.ensures.tree)))
 
--- the job is a network, since its starts are lawful; each link of the report is explained by settling it, and so the laws hold
+-- the job is a network, since its starts are lawful; each link of the report is explained by
+-- settling it, and so the laws hold
 pub returns-clause-report : goal.returns-clause-report
 returns-clause-report c =
     let job = c.args.job.now in

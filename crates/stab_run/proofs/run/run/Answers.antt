@@ -6,7 +6,8 @@ use Rattle.stab_run.specs.RunFaults.{IsRunReason}
 use Rattle.stab_run.proofs.Reasons.{settling_refused, start_refused, workers_gave_up}
 use Rattle.stab_run.proofs.run.run.Goals as goal
 
--- each part that fails fails for a reason of the run; what comes after the starts comes only where all links can begin
+-- each part that fails fails for a reason of the run; what comes after the starts comes only where
+-- all links can begin
 pub returns-in_err-check_starts-clause-refused : goal.returns-in_err-check_starts-clause-refused
 returns-in_err-check_starts-clause-refused g c =
     let job = c.args.job.now in

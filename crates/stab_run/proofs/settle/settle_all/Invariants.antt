@@ -5,8 +5,8 @@ use Rattle.stab_run.specs.LinkRuns.{AllOfEach}
 use Rattle.stab_run.proofs.Settlements.{SettledSoFar}
 use Rattle.stab_run.proofs.settle.settle_all.Given as goal
 
--- the links into the nodes so far are settled, the finished ends that are left are those of the links that are left, and there is room for
--- all counts
+-- the links into the nodes so far are settled, the finished ends that are left are those of the
+-- links that are left, and there is room for all counts
 abbrev pub invariant-nodes : goal.invariant-nodes
 invariant-nodes l = record {
   room : vec_capacity l.acked ≡ length l.tree.parents;

@@ -5,7 +5,8 @@ use Rattle.stab_links.specs.AnyLinks.{IsOneOf, IsOpenedBy, IsScriptOf, given_to,
 use Rattle.stab_links.specs.LinkKinds.{kind_for}
 use Rattle.stab_run.proofs.starts.make_links.Given as goal
 
--- the links so far were given the setups and the scripts so far, and are of their kinds; each has its opening; and there is room for all
+-- the links so far were given the setups and the scripts so far, and are of their kinds; each has
+-- its opening; and there is room for all
 abbrev pub invariant-links : goal.invariant-links
 invariant-links l = record {
   link_room : vec_capacity l.links ≡ length l.starts;

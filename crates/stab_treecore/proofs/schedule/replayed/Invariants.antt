@@ -6,8 +6,8 @@ use Rattle.stab_treecore.specs.WholeTree.{WholeTree}
 use Rattle.stab_treecore.proofs.Refused.{CarriesOver}
 use Rattle.stab_treecore.proofs.schedule.replayed.Given as goal
 
--- The events so far named links. The replay of the events to come, from the state so far, is that of all events, and what refuses
--- them refuses all.
+-- The events so far named links. The replay of the events to come, from the state so far, is that
+-- of all events, and what refuses them refuses all.
 abbrev pub invariant-loop-event : goal.invariant-loop-event
 invariant-loop-event l =
     let t : WholeTree = initial_tree (network_of l.params l.tree l.published l.starts l.openings) in
