@@ -1,13 +1,15 @@
 //! Agents over lines in memory: who connects to whom, what is said first, and who is taken.
 use rignolda::net::wire::{self, Expect, Hello, Message};
-use rignolda::net::{Body, Children, Handler, Line, Parent, Peers, Setup};
+use rignolda::net::{Body, Children, Line, Parent, Peers, Setup};
 use std::cell::RefCell;
 use std::collections::{BTreeMap, VecDeque};
-use std::fmt;
 use std::io::{self, Error, ErrorKind, Read, Write};
 use std::rc::Rc;
 use std::sync::Arc;
 use std::time::{Duration, Instant};
+
+mod common;
+use common::Said;
 
 const ACK_TIMEOUT: Duration = Duration::from_millis(500);
 const STEP: Duration = Duration::from_millis(10);
@@ -81,34 +83,6 @@ impl Drop for End {
 impl Line for End {
     fn may_be(&self, name: &str) -> bool {
         self.other == name
-    }
-}
-
-#[derive(Default)]
-struct Said {
-    items: Vec<String>,
-    facts: Vec<String>,
-}
-
-impl Handler for Said {
-    fn on_item(&mut self, body: &Arc<Body>, _: Instant) -> bool {
-        self.items
-            .push(String::from_utf8(body.bytes.clone()).unwrap());
-        body.bytes.starts_with(b"T")
-    }
-
-    fn on_report(&mut self, child: &str, report: &[u8], _: Instant) -> bool {
-        self.facts
-            .push(format!("report of {child} {}", report.len()));
-        report == b"well"
-    }
-
-    fn on_gone(&mut self, child: &str) {
-        self.facts.push(format!("gone {child}"));
-    }
-
-    fn on_fact(&mut self, fact: &'static str, words: fmt::Arguments<'_>) {
-        self.facts.push(format!("{fact} {words}"));
     }
 }
 
@@ -533,7 +507,9 @@ fn who_acknowledges_what_was_not_sent_is_closed() {
     .concat();
     let end = net.stranger("root", "a", &greeting);
     net.step();
-    assert!(net.said("root", "report of a 4") && net.said("root", "closed a: it sent no report"));
+    assert!(
+        net.said("root", "report of a well") && net.said("root", "closed a: it sent no report")
+    );
     drop(end);
 }
 

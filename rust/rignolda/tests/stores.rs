@@ -1,25 +1,16 @@
 //! Agents whose links lie in a store in memory: what is lost, spoiled, late or old there, and what
 //! each agent received then, judged by C, E and M of the links.
 use rignolda::net::wire::{self, Hello};
-use rignolda::net::{Body, Call, Children, Handler, Line, Parent, Peers, Setup, Turn};
+use rignolda::net::{Body, Call, Children, Line, Parent, Peers, Setup, Turn};
 use std::collections::BTreeMap;
-use std::fmt;
 use std::io::{self, Read, Write};
 use std::sync::Arc;
 use std::time::{Duration, Instant};
 
+mod common;
+use common::{Random, Said};
+
 const STEP: Duration = Duration::from_millis(10);
-
-struct Random(u64);
-
-impl Random {
-    fn below(&mut self, bound: usize) -> usize {
-        self.0 ^= self.0 << 13;
-        self.0 ^= self.0 >> 7;
-        self.0 ^= self.0 << 17;
-        (self.0 % bound as u64) as usize
-    }
-}
 
 /// There are no connections here.
 struct NoLine;
@@ -43,35 +34,6 @@ impl Write for NoLine {
 impl Line for NoLine {
     fn may_be(&self, _: &str) -> bool {
         true
-    }
-}
-
-#[derive(Default)]
-struct Said {
-    items: Vec<String>,
-    facts: Vec<String>,
-}
-
-impl Handler for Said {
-    fn on_item(&mut self, body: &Arc<Body>, _: Instant) -> bool {
-        let text = String::from_utf8_lossy(&body.bytes).into_owned();
-        let is_table = text.starts_with('T');
-        self.items.push(text);
-        is_table
-    }
-
-    fn on_report(&mut self, child: &str, report: &[u8], _: Instant) -> bool {
-        let text = String::from_utf8_lossy(report);
-        self.facts.push(format!("report of {child} {text}"));
-        true
-    }
-
-    fn on_gone(&mut self, child: &str) {
-        self.facts.push(format!("gone {child}"));
-    }
-
-    fn on_fact(&mut self, fact: &'static str, words: fmt::Arguments<'_>) {
-        self.facts.push(format!("{fact} {words}"));
     }
 }
 
@@ -271,6 +233,29 @@ impl Net {
         agent.peers.publish(&body, now, &mut agent.said);
     }
 
+    /// Publishes a dozen items with drawn pauses, waits until all have them, and judges what each
+    /// agent received from now on: at `a` and `b`, so many items lie in backlogs now.
+    fn judge_from_now(&mut self, seed: u64, held: [usize; 2], is_table: fn(usize) -> bool) {
+        let before = PATH.map(|name| self.items(name).len());
+        for at in 0..12 {
+            let kind = if is_table(at) { "T" } else { "" };
+            self.publish(&format!("{kind}since {at}"));
+            let pause = self.random.below(30);
+            self.steps(pause);
+        }
+        self.fails = 0;
+        self.settle();
+        let published = self.items("root").split_off(before[0]);
+        for depth in [1, 2] {
+            let name = PATH[depth];
+            let got = self.items(name).split_off(before[depth]);
+            let strays = depth + held[depth - 1];
+            let fault = judge(&got, &published, strays, 3 * depth);
+            assert_eq!(fault, None, "{seed} {name}");
+            assert_eq!(got.last(), published.last(), "{seed} {name}");
+        }
+    }
+
     fn items(&mut self, name: &str) -> Vec<String> {
         self.agent(name).said.items.clone()
     }
@@ -416,18 +401,7 @@ fn whatever_a_store_holds_at_first_costs_what_the_laws_say() {
         (0..words).for_each(|_| net.old_word());
         let lost = net.random.below(3);
         (0..lost).for_each(|_| net.lose());
-        for at in 0..12 {
-            net.publish(&format!("{}{at}", if at % 3 == 0 { "T" } else { "" }));
-            let pause = net.random.below(30);
-            net.steps(pause);
-        }
-        net.settle();
-        let all = net.items("root");
-        for (name, depth) in [("a", 1), ("b", 2)] {
-            let got = net.items(name);
-            assert_eq!(judge(&got, &all, depth, 3 * depth), None, "{seed} {name}");
-            assert_eq!(got.last(), all.last(), "{seed} {name}");
-        }
+        net.judge_from_now(seed, [0, 0], |at| at % 3 == 0);
     }
 }
 
@@ -453,40 +427,17 @@ fn faults_are_counted_from_the_last_one() {
                 _ => (),
             }
         }
-        // (the last fault, and what each had then)
+        // (the last fault)
         net.keys = backup;
-        let before: BTreeMap<&str, usize> = PATH.map(|it| (it, net.items(it).len())).into();
-        let above = |net: &mut Net, name: &str| match name {
-            "a" => net.agents["root"]
-                .peers
-                .relay()
-                .children()
-                .next()
-                .map(|(_, it)| net.agents["root"].peers.relay().backlog(it)),
-            _ => net.agents["a"]
-                .peers
-                .relay()
-                .children()
-                .next()
-                .map(|(_, it)| net.agents["a"].peers.relay().backlog(it)),
+        let backlog = |name: &str| {
+            let relay = net.agents[name].peers.relay();
+            let (_, link) = relay.children().next().unwrap();
+            relay.backlog(link) as usize
         };
-        let backlogs = [above(&mut net, "a").unwrap(), above(&mut net, "b").unwrap()];
+        let backlogs = [backlog("root"), backlog("a")];
         // (what the root still has to send is a backlog too, and so is a table begun anew)
-        let hold = [backlogs[0] + 5, backlogs[0] + backlogs[1] + 10];
-        for at in 0..12 {
-            net.publish(&format!("{}since {at}", if at == 7 { "T" } else { "" }));
-            let pause = net.random.below(30);
-            net.steps(pause);
-        }
-        net.fails = 0;
-        net.settle();
-        let all = net.items("root")[before["root"]..].to_vec();
-        for (name, depth) in [("a", 1), ("b", 2)] {
-            let got = net.items(name)[before[name]..].to_vec();
-            let strays = depth + hold[depth - 1] as usize;
-            assert_eq!(judge(&got, &all, strays, 3 * depth), None, "{seed} {name}");
-            assert_eq!(got.last(), all.last(), "{seed} {name}");
-        }
+        let held = [backlogs[0] + 5, backlogs[0] + backlogs[1] + 10];
+        net.judge_from_now(seed, held, |at| at == 7);
     }
 }
 

@@ -3,22 +3,8 @@ use rignolda::net::wire::{ack, frame, report, take, Expect, Hello, Message, REPO
 use rignolda::net::{Body, BODY_BYTES};
 use rignolda::settings::{entry_bytes, is_key, Meaning, VALUE_BYTES};
 
-struct Random(u64);
-
-impl Random {
-    fn next(&mut self) -> u64 {
-        self.0 ^= self.0 << 13;
-        self.0 ^= self.0 >> 7;
-        self.0 ^= self.0 << 17;
-        self.0
-    }
-
-    fn bytes(&mut self, most: u64) -> Vec<u8> {
-        (0..self.next() % (most + 1))
-            .map(|_| self.next() as u8)
-            .collect()
-    }
-}
+mod common;
+use common::Random;
 
 fn hello() -> Hello {
     Hello {
@@ -171,13 +157,16 @@ fn drawn_bytes_do_no_harm() {
     ];
     for round in 0..200_000 {
         let mut bytes = match round % 2 {
-            0 => random.bytes(64),
-            _ => good[random.next() as usize % good.len()].clone(),
+            0 => {
+                let length = random.below(65);
+                (0..length).map(|_| random.number() as u8).collect()
+            }
+            _ => good[random.below(good.len())].clone(),
         };
         if round % 2 == 1 {
-            for _ in 0..1 + random.next() % 3 {
-                let at = random.next() as usize % bytes.len();
-                bytes[at] = random.next() as u8;
+            for _ in 0..1 + random.below(3) {
+                let at = random.below(bytes.len());
+                bytes[at] = random.number() as u8;
             }
         }
         for expect in [Expect::Hello, Expect::Frames, Expect::Acks] {
