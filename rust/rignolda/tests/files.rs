@@ -5,6 +5,8 @@ use std::fs::{self, File, Permissions};
 use std::io::Read;
 use std::os::unix::fs::{symlink, PermissionsExt};
 use std::path::{Path, PathBuf};
+use std::sync::atomic::{AtomicBool, AtomicU32, Ordering};
+use std::thread;
 
 /// A folder of one test, removed at its end.
 struct Place(PathBuf);
@@ -40,6 +42,14 @@ fn text(path: impl AsRef<Path>) -> String {
     fs::read_to_string(path).unwrap()
 }
 
+fn mode(path: impl AsRef<Path>) -> u32 {
+    fs::metadata(path).unwrap().permissions().mode() & 0o7777
+}
+
+fn set_mode(path: impl AsRef<Path>, mode: u32) {
+    fs::set_permissions(path, Permissions::from_mode(mode)).unwrap();
+}
+
 #[test]
 fn who_reads_a_file_while_it_is_put_has_the_old_one_whole() {
     let place = Place::new("old");
@@ -71,16 +81,67 @@ fn a_file_has_its_mode_whatever_the_mask_of_the_process_is() {
     for mode in [0o666, 0o640, 0o600, 0o777, 0o666] {
         for value in [&b"1"[..], b"2", b"3"] {
             folder.put("a", Some(value), mode).unwrap();
-            let is = fs::metadata(place.0.join("a"))
-                .unwrap()
-                .permissions()
-                .mode();
-            assert_eq!(is & 0o7777, mode);
+            assert_eq!(self::mode(place.0.join("a")), mode);
             assert!(!folder.differs("a", Some(value), mode));
         }
     }
-    fs::set_permissions(place.0.join("a"), Permissions::from_mode(0o600)).unwrap();
+    set_mode(place.0.join("a"), 0o600);
     assert!(folder.differs("a", Some(b"3"), 0o666));
+}
+
+#[test]
+fn a_batch_keeps_the_modes_of_the_files_that_it_replaces() {
+    let place = Place::new("private");
+    let [secret, open, new] = ["secret", "open", "new"].map(|key| place.0.join(key));
+    let beside = [0, 1, 2].map(|at| place.0.join(format!(".rignolda{at}.new")));
+    for (path, is) in [(&secret, 0o600), (&open, 0o666), (&beside[0], 0o666)] {
+        // (the last one was left by a process that was killed)
+        fs::write(path, "old").unwrap();
+        set_mode(path, is);
+    }
+    let mut batch = Batch::default();
+    for path in [&secret, &open, &new] {
+        batch.write(path.clone(), b"1").unwrap();
+    }
+    let usual = mode(&beside[2]);
+    assert_eq!((mode(&beside[0]), mode(&beside[1])), (0o600, 0o666));
+    assert!(batch.commit().is_empty());
+    assert_eq!((mode(&secret), mode(&open)), (0o600, 0o666));
+    // (without one before, it has what any new file of this process has)
+    fs::write(place.0.join("any"), "").unwrap();
+    assert_eq!((mode(&new), usual), (usual, mode(place.0.join("any"))));
+    assert_eq!(text(&secret), "1");
+}
+
+#[test]
+fn nobody_else_can_read_a_private_file_while_it_is_written() {
+    let place = Place::new("beside");
+    let value = vec![7; 1 << 18];
+    let (seen, more, over) = (AtomicU32::new(0), AtomicU32::new(0), AtomicBool::new(false));
+    let looks = [".new", ".rignolda0.new"].map(|name| place.0.join(name));
+    fs::write(place.0.join("b"), "old").unwrap();
+    set_mode(place.0.join("b"), 0o600);
+    thread::scope(|scope| {
+        scope.spawn(|| {
+            while !over.load(Ordering::Relaxed) {
+                for is in looks.iter().filter_map(|path| fs::metadata(path).ok()) {
+                    more.fetch_or(is.permissions().mode() & 0o077, Ordering::Relaxed);
+                    seen.fetch_add(1, Ordering::Relaxed);
+                }
+            }
+        });
+        let (mut folder, mut batch) = (Folder::new(place.0.clone()), Batch::default());
+        for _ in 0..1_000 {
+            folder.put("a", Some(&value), 0o600).unwrap();
+            batch.write(place.0.join("b"), &value).unwrap();
+            batch.commit();
+            if seen.load(Ordering::Relaxed) > 200 {
+                break;
+            }
+        }
+        over.store(true, Ordering::Relaxed);
+    });
+    assert_eq!(more.into_inner(), 0, "others could read it");
 }
 
 #[test]

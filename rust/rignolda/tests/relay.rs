@@ -432,6 +432,33 @@ fn one_that_is_away_too_long_is_evicted() {
 }
 
 #[test]
+fn what_no_child_lacks_is_forgotten_at_the_next_acknowledgement() {
+    let now = Instant::now();
+    let mut root = Relay::new(true, 8, true);
+    ["line", "store"]
+        .iter()
+        .for_each(|name| root.add(name, now));
+    let publish = |root: &mut Relay, text: &[u8]| {
+        root.publish(&Arc::new(Body::of(text.to_vec())));
+    };
+    publish(&mut root, b"one");
+    let (line, _) = root.greeted("line", 1, 0, None, now).unwrap();
+    assert_eq!(root.word_seen("store", 2, 0, now), Some(true));
+    let (label, _) = root.poll("line", now).unwrap();
+    root.on_ack("line", line, label);
+    assert_eq!(root.kept(), (1, 3), "the store's child lacks it");
+    publish(&mut root, b"two");
+    let (label, _) = root.poll("line", now).unwrap();
+    let (word, _) = root.poll_word("store", now).unwrap();
+    assert!(root.on_word_ack("store", word));
+    assert_eq!(root.kept(), (1, 3), "it lacks the second one");
+    // (its sender has it now, and then the other child acknowledges)
+    assert!(root.poll_word("store", now).is_some());
+    root.on_ack("line", line, label);
+    assert_eq!(root.kept(), (0, 0));
+}
+
+#[test]
 fn what_comes_by_a_connection_that_was_left_changes_nothing() {
     let mut tree = Tree::new(2, 16);
     tree.publish_table();

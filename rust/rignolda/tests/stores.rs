@@ -49,6 +49,8 @@ struct Agent {
     /// Whether it has a connection to the store; and what it has set by earlier ones and gave up.
     is_connected: bool,
     given_up: Vec<Vec<(String, Vec<u8>)>>,
+    /// Whether something came or was asked of it since its last step.
+    is_told: bool,
 }
 
 /// Agents that reach one store alone.
@@ -119,6 +121,7 @@ impl Net {
             answer: None,
             is_connected: false,
             given_up: before.map_or(Vec::new(), |it| it.given_up),
+            is_told: true,
         };
         self.agents.insert(name, agent);
     }
@@ -170,7 +173,8 @@ impl Net {
         (late, Ok(got.collect()))
     }
 
-    /// Each agent does all that it can do now.
+    /// Each agent does all that it can do now. That is nothing where it was told nothing and its
+    /// deadline is later: so whoever waits for these two is never late.
     fn step(&mut self) {
         self.now += STEP;
         let now = self.now;
@@ -182,17 +186,21 @@ impl Net {
                 self.keys.extend(late.into_iter().flatten());
             }
             let agent = self.agent(&name);
+            let is_due = agent.peers.deadline(now).map_or(false, |at| now >= at);
+            let mut acts = std::mem::take(&mut agent.is_told) || is_due;
             match &mut agent.answer {
                 Some((late, _)) if *late > 0 => *late -= 1,
                 answer => {
                     if let Some((_, got)) = answer.take() {
                         let to = &mut agent.said;
                         agent.peers.turned(&"store".into(), got, now, to);
+                        acts = true;
                     }
                 }
             }
             agent.peers.tick(now, &mut agent.said);
             while let Some(call) = agent.peers.next_call(now, &mut agent.said) {
+                assert!(acts, "{name} has a call to make, and does not know it");
                 let Call { address, .. } = &call;
                 match address.as_str() {
                     "store" => agent.peers.in_store(call, now),
@@ -202,11 +210,12 @@ impl Net {
                     }
                 }
             }
-            for (_, turn) in agent.peers.turns(now, &mut agent.said) {
+            // (there is one store)
+            if let Some((_, turn)) = agent.peers.turns(now, &mut agent.said).pop() {
+                assert!(acts, "{name} has a turn to begin, and does not know it");
                 let answer = self.turn(&name, turn);
                 let agent = self.agent(&name);
                 assert!(agent.answer.replace(answer).is_none(), "one is under way");
-                break;
             }
         }
     }
@@ -231,6 +240,14 @@ impl Net {
         let (now, agent) = (self.now, self.agent("root"));
         let body = Arc::new(Body::of(text.as_bytes().to_vec()));
         agent.peers.publish(&body, now, &mut agent.said);
+        agent.is_told = true;
+    }
+
+    /// Whether an agent has a parent to say this to.
+    fn report(&mut self, name: &str, report: &[u8]) -> bool {
+        let agent = self.agent(name);
+        agent.is_told = true;
+        agent.peers.report(report)
     }
 
     /// Publishes a dozen items with drawn pauses, waits until all have them, and judges what each
@@ -354,8 +371,8 @@ fn items_travel_through_a_store() {
     assert_eq!(root.relay().least_backlog(), Some(0));
     assert_eq!(net.agents["b"].peers.parent().unwrap().0.to_string(), "a");
     // (what is for watching alone comes up beside it)
-    assert!(net.agent("b").peers.report(b"well"));
-    assert!(!net.agent("root").peers.report(b"well"));
+    assert!(net.report("b", b"well"));
+    assert!(!net.report("root", b"well"));
     net.steps(50);
     assert_eq!(net.said("a", "report of b well"), 1);
 }

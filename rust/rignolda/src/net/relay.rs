@@ -499,6 +499,7 @@ impl Relay {
         };
         let before = link.session.offered();
         let frame = link.session.poll_word(node)?;
+        self.moved |= link.session.offered() != before;
         link.hold(frame, before, node, &self.bodies, now)
     }
 
@@ -513,7 +514,9 @@ impl Relay {
             }
             taken
         });
-        self.forget();
+        if self.moved {
+            self.forget();
+        }
         taken
     }
 
