@@ -116,32 +116,41 @@ fn a_batch_keeps_the_modes_of_the_files_that_it_replaces() {
 #[test]
 fn nobody_else_can_read_a_private_file_while_it_is_written() {
     let place = Place::new("beside");
-    let value = vec![7; 1 << 18];
-    let (seen, more, over) = (AtomicU32::new(0), AtomicU32::new(0), AtomicBool::new(false));
-    let looks = [".new", ".rignolda0.new"].map(|name| place.0.join(name));
+    let value = vec![7; 1 << 20];
+    let (looks, others, over) = (AtomicU32::new(0), AtomicU32::new(0), AtomicBool::new(false));
+    let beside = [".new", ".rignolda0.new"].map(|name| place.0.join(name));
     fs::write(place.0.join("b"), "old").unwrap();
     set_mode(place.0.join("b"), 0o600);
     thread::scope(|scope| {
         scope.spawn(|| {
             while !over.load(Ordering::Relaxed) {
-                for is in looks.iter().filter_map(|path| fs::metadata(path).ok()) {
-                    more.fetch_or(is.permissions().mode() & 0o077, Ordering::Relaxed);
-                    seen.fetch_add(1, Ordering::Relaxed);
+                for is in beside.iter().filter_map(|path| fs::metadata(path).ok()) {
+                    others.fetch_or(is.permissions().mode() & 0o077, Ordering::Relaxed);
+                    looks.fetch_add(1, Ordering::Relaxed);
                 }
             }
         });
-        let (mut folder, mut batch) = (Folder::new(place.0.clone()), Batch::default());
-        for _ in 0..1_000 {
-            folder.put("a", Some(&value), 0o600).unwrap();
-            batch.write(place.0.join("b"), &value).unwrap();
-            batch.commit();
-            if seen.load(Ordering::Relaxed) > 200 {
+        // (until somebody has looked in the middle of it often enough, as far as the system lets)
+        let (mut folder, mut seen) = (Folder::new(place.0.clone()), [0, 0]);
+        for _ in 0..60 {
+            let writes: [&mut dyn FnMut(); 2] = [
+                &mut || folder.put("a", Some(&value), 0o600).unwrap(),
+                &mut || Batch::default().write(place.0.join("b"), &value).unwrap(),
+            ];
+            for (write, seen) in writes.into_iter().zip(&mut seen) {
+                // (what the turn before has left is nothing to look at)
+                let _ = fs::remove_file(&beside[1]);
+                let before = looks.load(Ordering::Relaxed);
+                write();
+                *seen += u32::from(looks.load(Ordering::Relaxed) > before);
+            }
+            if seen.iter().all(|seen| *seen > 4) {
                 break;
             }
         }
         over.store(true, Ordering::Relaxed);
     });
-    assert_eq!(more.into_inner(), 0, "others could read it");
+    assert_eq!(others.into_inner(), 0, "others could read it");
 }
 
 #[test]

@@ -1,6 +1,8 @@
 //! Files that are kept on the disk, several at once.
-use std::fs::{self, File};
-use std::io::{self, Write};
+use std::fs::{self, File, OpenOptions, Permissions};
+use std::io::{self, ErrorKind, Write};
+#[cfg(unix)]
+use std::os::unix::fs::{OpenOptionsExt, PermissionsExt};
 use std::path::{Path, PathBuf};
 use std::thread;
 use std::time::{Duration, Instant};
@@ -46,7 +48,8 @@ impl Batch {
     }
 
     /// Writes a file beside its place, under a name with a dot in front. A batch has at most one
-    /// file of each path, and a folder one batch.
+    /// file of each path, and a folder one batch. Where there is a file in that place, the new one
+    /// gets its permissions, and never has more; else those that the process gives to new files.
     ///
     /// # Errors
     ///
@@ -54,8 +57,13 @@ impl Batch {
     pub fn write(&mut self, path: PathBuf, value: &[u8]) -> io::Result<()> {
         // (a few names, so that one which is killed leaves few files)
         let beside = path.with_file_name(format!(".rignolda{}.new", self.0.len()));
-        let mut file = File::create(&beside)?;
-        if let Err(error) = file.write_all(value) {
+        let before = fs::metadata(&path).ok().filter(|is| is.is_file());
+        let before = before.map(|is| is.permissions());
+        let mut file = create(&beside, before.as_ref())?;
+        let written = file.write_all(value);
+        // (the mask of the process may have taken some away)
+        let written = written.and_then(|()| before.map_or(Ok(()), |it| file.set_permissions(it)));
+        if let Err(error) = written {
             let _ = fs::remove_file(&beside);
             return Err(error);
         }
@@ -76,6 +84,23 @@ impl Batch {
             }
         }
         failed
+    }
+}
+
+/// A new file, in place of one that was left there, with these permissions at most.
+fn create(at: &Path, most: Option<&Permissions>) -> io::Result<File> {
+    let mut options = OpenOptions::new();
+    options.write(true).create_new(true);
+    #[cfg(unix)]
+    options.mode(most.map_or(0o666, |most| most.mode() & 0o777));
+    #[cfg(not(unix))]
+    let _ = most;
+    match options.open(at) {
+        Err(error) if error.kind() == ErrorKind::AlreadyExists => {
+            fs::remove_file(at)?;
+            options.open(at)
+        }
+        done => done,
     }
 }
 
