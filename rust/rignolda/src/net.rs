@@ -1,14 +1,19 @@
 //! What an agent over a network needs beside the calls of its links, without its sockets.
 //!
 //! An item of a link has 32 bits. Here it is the checksum of a [`Body`], which travels in the same
-//! frame: so an agent sends texts, tables or programs of up to 16 MiB. [`wire`] is what goes over a
-//! connection, byte for byte; a [`Relay`] is a node with the bodies of its items and with children
-//! that have names; [`Peers`] are all the connections of an agent: who connects to whom, what each
-//! end says first, who is waited for, and what is sent when. Its caller has the sockets,
-//! certificates and clocks. A link may lie in a [`Store`] in place of a connection.
+//! frame: so an agent sends texts, tables or programs of up to 16 MiB. A body that does not fit its
+//! item is handed on as it came, and whoever takes it looks. That finds accidents alone: whoever
+//! wants to can make another body that fits.
+//!
+//! - [`wire`] is what goes over a connection, byte for byte.
+//! - A [`Relay`] is a node with the bodies of its items, and with children that have names.
+//! - [`Peers`] are all the connections of an agent: who connects to whom, what each end says first,
+//!   who is waited for, and what is sent when. Its caller has the sockets, certificates and clocks.
+//! - A [`Store`] is where a link may lie in place of a connection.
+//! - A server of [`serve`] answers those who watch an agent or tell it what to do.
 //!
 //! Each step of a link is a call that is proved. That a body lies beside its item, and all that is
-//! done about connections, is tested alone.
+//! done about connections and stores, is tested alone.
 mod address;
 mod peers;
 mod relay;

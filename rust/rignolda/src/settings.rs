@@ -2,8 +2,14 @@
 //!
 //! The root has a [`Publisher`]: changes that wait are merged, and a round brings all settings
 //! anew. Every agent has a [`Table`], which says of each body whether it is to be applied; where
-//! that takes longer than they come, [`Waiting`] merges them. So after any fault of any agents the
-//! settings are right after two rounds: one under way, and a whole one.
+//! that takes longer than they come, [`Waiting`] merges them. A [`Folder`] has a file for each, and
+//! a [`Batch`] puts several to the disk at once.
+//!
+//! So after any fault of any agents all have the root's settings after two rounds: one under way,
+//! and a whole one. A round needs [enough harmless items](Publisher::begin_round), and gets to all
+//! before the next one begins. Before it the root takes [its settings](Publisher::replace) anew
+//! from where they are kept, since what it remembers may be spoiled too; and each agent looks at
+//! all of its files when a table comes.
 //!
 //! ```
 //! use rignolda::settings::{Meaning, Publisher, Table};
@@ -342,7 +348,9 @@ impl Publisher {
         self.changed.extend(gone);
     }
 
-    /// A round with `harmless` harmless items begins, unless one is under way.
+    /// A round with `harmless` harmless items begins, unless one is under way. Where the deepest
+    /// agent is `d` links below the root, `2 * d + 3` are enough: more than can be missing after a
+    /// fault, so that an agent whose own number is wrong gets some of them.
     pub fn begin_round(&mut self, harmless: u32) {
         if !self.is_in_a_round() {
             self.round = u64::from(harmless) + 1;
