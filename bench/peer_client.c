@@ -13,8 +13,9 @@
  * What came is put into a file of its own in FOLDER: written beside, and moved. With - it is not.
  *
  * KIND is mqtt, nats, jetstream, redis or stream; numbers are also published by the KIND folder,
- * where PORT is a folder whose files are the settings. The value of a setting is a number in 16 digits,
- * and its key is k and the number modulo PEER_KEYS, which is 100 where it is not set.
+ * where PORT is a folder whose files are the settings. The value of a setting is a number in
+ * PEER_DIGITS digits, and its key is k and the number modulo PEER_KEYS: 16 and 100 where they are
+ * not set.
  */
 #include <errno.h>
 #include <fcntl.h>
@@ -34,7 +35,7 @@
 #include <time.h>
 #include <unistd.h>
 
-enum { MOST = 1000, DIGITS = 16, WINDOW = 500 };
+enum { MOST = 1000, MOST_DIGITS = 48, WINDOW = 500 };
 
 /* What bench/peers reads: all numbers are little-endian, as the machine has them. */
 struct notes {
@@ -47,7 +48,7 @@ struct notes {
 };
 
 static struct notes *notes;
-static int keys = 100, folder = -1;
+static int keys = 100, digits = 16, folder = -1;
 
 static int64_t now(void)
 {
@@ -90,11 +91,11 @@ static void put_file(int key, const char *value, size_t length)
 
 static void note(const char *text, size_t length)
 {
-    char digits[DIGITS + 1] = "";
+    char whole[MOST_DIGITS + 1] = "";
     char *end;
-    if (length != DIGITS) return;
-    memcpy(digits, text, DIGITS);
-    int64_t number = strtoll(digits, &end, 10);
+    if (length != (size_t)digits) return;
+    memcpy(whole, text, digits);
+    int64_t number = strtoll(whole, &end, 10);
     if (*end || number < 0) return;
     if (folder >= 0) put_file(number % keys, text, length);
     notes->values[number % keys] = number + 1;
@@ -110,6 +111,13 @@ static int64_t next_number(struct numbers *it)
     char line[64];
     if (!it->each) return it->next < it->end && now() < it->until ? it->next++ : -1;
     return fgets(line, sizeof line, stdin) ? strtoll(line, NULL, 10) : -1;
+}
+
+/* Writes a key, or what comes before it, and its value: how long that is. */
+static int setting(char *key, const char *form, char *value, int64_t number)
+{
+    snprintf(key, 32, form, (int)(number % keys));
+    return snprintf(value, MOST_DIGITS + 1, "%0*lld", digits, (long long)number);
 }
 
 static void began(int64_t it)
@@ -162,13 +170,12 @@ static void mqtt_publish(int port, struct numbers *numbers)
     while (!__atomic_load_n(&is_up, __ATOMIC_ACQUIRE)) usleep(1000);
     if (!numbers->each) began(now());
     while ((number = next_number(numbers)) >= 0) {
-        char topic[32], value[32];
-        snprintf(topic, sizeof topic, "s/k%d", (int)(number % keys));
-        snprintf(value, sizeof value, "%016lld", (long long)number);
+        char topic[32], value[MOST_DIGITS + 1];
+        int length = setting(topic, "s/k%d", value, number);
         while (__atomic_load_n(&in_flight, __ATOMIC_ACQUIRE) >= WINDOW) usleep(100);
         __atomic_add_fetch(&in_flight, 1, __ATOMIC_ACQ_REL);
         if (numbers->each) began(now());
-        if (mosquitto_publish(it, NULL, topic, DIGITS, value, 1, true)) fail("mqtt", "publish");
+        if (mosquitto_publish(it, NULL, topic, length, value, 1, true)) fail("mqtt", "publish");
     }
     while (__atomic_load_n(&in_flight, __ATOMIC_ACQUIRE) > 0) usleep(1000);
     mosquitto_disconnect(it);
@@ -260,16 +267,14 @@ static void nats_publish(int port, struct numbers *numbers, int is_jetstream)
     natsConnection_FlushTimeout(it, 5000);
     if (!numbers->each) began(now());
     while ((number = next_number(numbers)) >= 0) {
-        char subject[32], value[32];
+        char subject[32], value[MOST_DIGITS + 1];
         natsStatus status;
-        snprintf(value, sizeof value, "%016lld", (long long)number);
-        snprintf(subject, sizeof subject, is_jetstream ? "$KV.S.k%d" : "s.k%d",
-                 (int)(number % keys));
+        int length = setting(subject, is_jetstream ? "$KV.S.k%d" : "s.k%d", value, number);
         if (numbers->each) began(now());
         /* (a time-out: so many are on their way already) */
-        if (is_jetstream) do status = js_PublishAsync(context, subject, value, DIGITS, NULL);
+        if (is_jetstream) do status = js_PublishAsync(context, subject, value, length, NULL);
             while (status == NATS_TIMEOUT);
-        else status = natsConnection_Publish(it, subject, value, DIGITS);
+        else status = natsConnection_Publish(it, subject, value, length);
         if (status != NATS_OK) fail("nats", natsStatus_GetText(status));
         if (numbers->each) natsConnection_FlushTimeout(it, 5000);
     }
@@ -353,9 +358,8 @@ static void redis_publish(int port, struct numbers *numbers, int is_stream)
     int waiting = 0;
     if (!numbers->each) began(now());
     while ((number = next_number(numbers)) >= 0) {
-        char key[32], value[32];
-        snprintf(key, sizeof key, "k%d", (int)(number % keys));
-        snprintf(value, sizeof value, "%016lld", (long long)number);
+        char key[32], value[MOST_DIGITS + 1];
+        setting(key, "k%d", value, number);
         if (numbers->each) began(now());
         if (is_stream) {
             redisAppendCommand(it, "XADD S * %s %s", key, value);
@@ -393,7 +397,7 @@ static void lines_of(char *text, size_t *length, int prints)
 
 static void file_in(const char *path, const char *name)
 {
-    char whole[4096], value[DIGITS + 1];
+    char whole[4096], value[MOST_DIGITS + 1];
     if (name[0] == '.') return;
     snprintf(whole, sizeof whole, "%s/%s", path, name);
     int file = open(whole, O_RDONLY);
@@ -454,9 +458,9 @@ static void folder_publish(const char *path, struct numbers *numbers)
     open_folder(path);
     began(now());
     while ((number = next_number(numbers)) >= 0) {
-        char value[32];
-        snprintf(value, sizeof value, "%016lld", (long long)number);
-        put_file(number % keys, value, DIGITS);
+        char key[32], value[MOST_DIGITS + 1];
+        int length = setting(key, "k%d", value, number);
+        put_file(number % keys, value, length);
     }
 }
 
@@ -465,7 +469,9 @@ int main(int count, char **words)
     const char *what = count > 3 ? words[1] : "", *kind = count > 3 ? words[2] : "";
     prctl(PR_SET_PDEATHSIG, SIGKILL);
     if (getenv("PEER_KEYS")) keys = atoi(getenv("PEER_KEYS"));
+    if (getenv("PEER_DIGITS")) digits = atoi(getenv("PEER_DIGITS"));
     if (keys < 1 || keys > MOST) fail("PEER_KEYS", "1 to 1000");
+    if (digits < 1 || digits > MOST_DIGITS) fail("PEER_DIGITS", "1 to 48");
     if (strcmp(what, "follow") == 0 && count > 5) {
         open_notes(words[2]);
         return follow(strcmp(words[3], "prints") == 0, words[4], words + 5);
