@@ -6,8 +6,7 @@ schema can say has to be refused by it; a schema knows nothing of what two membe
 the number of labels that a capacity needs, and takes 1.0 for a whole number. Of members that only
 `rignolda` reads the schema has to accept and refuse what docs/FORMATS.md says.
 
-It needs the Python package jsonschema. Without it, it says so and counts nothing. The last line is
-'N passed, M failed'.
+It needs the Python package jsonschema; without it, it fails. The last line is 'N passed, M failed'.
 """
 
 import json
@@ -76,9 +75,9 @@ def main():
     try:
         from jsonschema import Draft7Validator
     except ImportError:
-        print("schemas: skipped, since the Python package jsonschema is not there")
-        print("0 passed, 0 failed")
-        return 0
+        print("schemas: there is no Python package jsonschema: apt-get install python3-jsonschema")
+        print("0 passed, 1 failed")
+        return 1
     schemas = {}
     for kind in ("link_job", "job"):
         schema = json.loads((ROOT / "docs" / "schema" / f"{kind}.json").read_text())
