@@ -5,6 +5,7 @@
     tests/daemon/check.py NAME..     the tests whose names contain a word
 """
 import concurrent.futures
+import itertools
 import json
 import os
 import pathlib
@@ -20,7 +21,7 @@ import time
 import traceback
 import zlib
 
-from daemons import PATIENCE, Agent, Tree, binaries, chain, free_port, until
+from daemons import PATIENCE, USUAL, Agent, Tree, binaries, chain, free_port, until
 from relay import Relay
 from reverse import parents_may_connect_to_their_children
 import store
@@ -109,9 +110,8 @@ def kills_do_no_lasting_harm():
             for victim in victims:
                 victim.start()
             time.sleep(draw.choice([0, 0.05, 0.2]))
-        # (two rounds of a second, and the time to connect)
-        sure(tree.right(4), tree.wrong())
-        sure(tree.ready(5), "the tree is not ready")
+        sure(tree.right(), tree.wrong())
+        sure(tree.ready(), "the tree is not ready")
 
 
 @long_test
@@ -129,15 +129,19 @@ def connections_that_break_lose_nothing():
     with Tree(before=between) as tree:
         fill(tree)
         tree.start()
-        end = time.monotonic() + 3
-        changes = 0
-        while time.monotonic() < end:
-            tree.write(f"key{changes % 10}", f"{changes} " + "x" * (changes * 97 % 5_000))
-            changes += 1
-            time.sleep(0.03)
-        # (there is no round that would mend what was lost)
-        sure(tree.right(10), tree.wrong())
-        sure(sum(relay.connections for relay in relays) > 10, "hardly a connection broke")
+        changes = itertools.count()
+
+        def broke_while_it_wrote():
+            at = next(changes)
+            tree.write(f"key{at % 10}", f"{at} " + "x" * (at * 97 % 5_000))
+            return all(relay.connections > 8 for relay in relays)
+
+        sure(until(broke_while_it_wrote, pause=0.03), "hardly a connection broke")
+        # (there is no round that would mend what was lost; and on a slow machine nothing gets
+        # through where each connection breaks at once)
+        for relay in relays:
+            relay.calm = True
+        sure(tree.right(), tree.wrong())
         statuses = {agent.name: agent.status() for agent in tree}
         sure(all(s["gaps"] == 0 for s in statuses.values()), statuses)
         for relay in relays:
@@ -215,14 +219,16 @@ def a_dead_leaf_harms_nobody_and_is_served_when_it_is_back():
         for at in range(150):
             tree.root.ask("publish", f"key{at % 20}", str(at))
             tree.write(f"file{at % 20}", at)
-        sure(tree.right(5, others), tree.wrong(others))
-        sure(until(lambda: tree["left"].said("evicted left1"), 5), "its backlog was kept")
+        sure(tree.right(agents=others), tree.wrong(others))
+        # (its time was over, or there was no room, whichever came first)
+        dropped = lambda: tree["left"].said("evicted left1") + tree["left"].said("left-behind left1")
+        sure(until(dropped), "its backlog was kept")
         tree.write("last", "one")
         dead.start()
         # (there is no round that would bring it)
-        sure(tree.right(3), tree.wrong())
-        children = tree["left"].status()["children"]
-        sure(all(child["connected"] for child in children), children)
+        sure(tree.right(), tree.wrong())
+        children = lambda: tree["left"].status()["children"]
+        sure(until(lambda: all(child["connected"] for child in children())), children())
 
 
 @test
@@ -234,10 +240,10 @@ def a_stopped_agent_harms_nobody():
             agent.signal(signal.SIGSTOP)
         others = [tree["right"], tree["right2"], tree.root]
         tree.write("while", "stopped")
-        sure(tree.right(3, others), tree.wrong(others))
+        sure(tree.right(agents=others), tree.wrong(others))
         for agent in stopped:
             agent.signal(signal.SIGCONT)
-        sure(tree.right(4), tree.wrong())
+        sure(tree.right(), tree.wrong())
 
 
 # ---- Security
@@ -279,33 +285,39 @@ def only_the_right_certificate_is_let_in():
 
     with Tree(shape, before=secure) as tree:
         fill(tree)
-        tree.start()
         good = [tree["root"], tree["inner"], tree["leaf"]]
-        sure(tree.right(15, good), tree.wrong(good))
+        for agent in good:
+            agent.start()
+        sure(tree.right(agents=good), tree.wrong(good))
         bad = [tree["strange"], tree["liar"], tree["plain"]]
-        time.sleep(1.5)
+        for agent in bad:
+            agent.start()
+        # (each says why it has no parent when it was refused first)
+        sure(until(lambda: all(agent.said("parent 127.0.0.1") for agent in bad)), "not refused")
+        sure(until(lambda: tree.root.status()["refused"] >= 3), tree.root.status())
+        tree.write("after", "that")
+        sure(tree.right(agents=good), tree.wrong(good))
         for agent in bad:
             sure(agent.files() == {}, agent.name, "was served")
-            sure(agent.status()["parent"] is None, agent.name)
-        sure(tree.root.status()["refused"] >= 3, tree.root.status())
-        tree.write("after", "that")
-        sure(tree.right(3, good), tree.wrong(good))
+            sure(not agent.said("connected the parent"), agent.name)
         # a leaf's certificate must not do for its parent
-        tree["inner"].kill()
-        false = tree["inner"]
-        false.tables["tls"], real = {**tree["leaf"].tables["tls"]}, false.tables["tls"]
+        false, leaf = tree["inner"], tree["leaf"]
+        false.kill()
+        false.tables["tls"], real = {**leaf.tables["tls"]}, false.tables["tls"]
+        taken, left = leaf.said("connected the parent"), false.said("closed leaf")
         false.start()
-        time.sleep(1)
-        sure(tree["leaf"].status()["parent"] is None, "it took another one for its parent")
+        sure(until(lambda: false.said("closed leaf") > left), "the leaf did not leave it")
+        sure(leaf.status()["parent"] is None, "it took another one for its parent")
+        sure(leaf.said("connected the parent") == taken, "it took another one for its parent")
         false.kill()
         false.tables["tls"] = real
         false.start()
         tree.write("last", "one")
-        sure(tree.right(8, good), tree.wrong(good))
+        sure(tree.right(agents=good), tree.wrong(good))
         # nothing under TLS 1.2, whatever the client offers
         old = subprocess.run(["openssl", "s_client", "-connect", f"127.0.0.1:{tree.root.port}",
                               "-tls1_1", "-cipher", "DEFAULT:@SECLEVEL=0"], capture_output=True,
-                             input=b"", timeout=10)
+                             input=b"", timeout=60)
         sure(b"Cipher is (NONE)" in old.stdout or old.returncode, old.stdout)
 
 
@@ -325,9 +337,9 @@ def frame(label, text, item=None, length=None):
     return b"F" + struct.pack(">HII", label, item, len(text) if length is None else length) + text
 
 
-def closed(sock, seconds=5):
-    """Whether the other end closes within `seconds` seconds."""
-    end = time.monotonic() + seconds * PATIENCE
+def closed(sock):
+    """Whether the other end closes."""
+    end = time.monotonic() + USUAL * PATIENCE
     try:
         while time.monotonic() < end:
             sock.settimeout(max(0.01, end - time.monotonic()))
@@ -349,10 +361,15 @@ def memory(agent):
 @test
 def a_hello_of_garbage_is_refused():
     draw = random.Random(5)
-    with Tree({"left": "root"}) as tree:
+
+    def patient(tree):
+        # (what is said here at once is to come in time)
+        tree.root.tables["link"] = {"ack_timeout": "5s", "evict": "10s"}
+
+    with Tree({"left": "root"}, before=patient) as tree:
         usual(tree)
         before = memory(tree.root)
-        connect = lambda: socket.create_connection(("127.0.0.1", tree.root.port), timeout=20)
+        connect = lambda: socket.create_connection(("127.0.0.1", tree.root.port), timeout=60)
         greetings = [b"GET / HTTP/1.1\r\n\r\n", hello("stranger", "root"), hello("left", "other"),
                      hello("left", "root", version=2), b"RGND" + b"\xff" * 300,
                      hello("root", "root"), hello("../x", "root"), b"\x16\x03\x01\x02\x00"]
@@ -367,7 +384,7 @@ def a_hello_of_garbage_is_refused():
         sure(first.recv(4), "it is not greeted")
         with connect() as second:
             second.sendall(hello("left", "root", life=8))
-            sure(second.recv(4) and closed(first, 2), "a connection that was left is kept")
+            sure(second.recv(4) and closed(first), "a connection that was left is kept")
         first.close()
         # a slow one is dropped, and so are too many
         slow = [connect() for _ in range(150)]
@@ -377,13 +394,13 @@ def a_hello_of_garbage_is_refused():
             except OSError:
                 pass
         tree.write("meanwhile", "1")
-        sure(tree.right(3), tree.wrong())
+        sure(tree.right(), tree.wrong())
         sure(all(closed(sock) for sock in slow), "a slow hello was kept")
         for sock in slow:
             sock.close()
         sure(tree.root.status()["refused"] >= 150)
         sure(memory(tree.root) < before + 4_000, "its memory grew:", before, memory(tree.root))
-        sure(tree.right(2) and tree.root.alive() and tree.ready(3))
+        sure(tree.right() and tree.root.alive() and tree.ready())
 
 
 @test
@@ -391,12 +408,15 @@ def what_a_false_parent_sends_is_bounded_and_checked():
     """The bytes of the protocol, written here a second time."""
     with Tree({}) as tree:
         leaf = tree.add("leaf", "root")
+        # (what is said here at once is to come in time)
+        leaf.tables["link"] = {"ack_timeout": "1m", "evict": "10m"}
         listener = socket.create_server(("127.0.0.1", leaf.parent.port))
+        listener.settimeout(60)
         leaf.start()
 
         def parent():
             sock, _ = listener.accept()
-            sock.settimeout(20)
+            sock.settimeout(60)
             sock.sendall(hello("root", "leaf", label=0))
             greeting = sock.recv(4096)
             sure(greeting[:5] == b"RGND\x01", greeting)
@@ -470,9 +490,9 @@ def what_a_false_parent_sends_is_bounded_and_checked():
         for sequence in range(105, 115):
             send(body(b"H", sequence))
         send(body(b"T", 115, entries(one)))
-        sure(until(lambda: leaf.files() == {"a": b"1"}, 3), leaf.files())
+        sure(until(lambda: leaf.files() == {"a": b"1"}), leaf.files())
         send(body(b"C", 116, entries((b"a", b"2"))))
-        sure(until(lambda: leaf.files() == {"a": b"2"}, 3), leaf.files())
+        sure(until(lambda: leaf.files() == {"a": b"2"}), leaf.files())
         # a frame that comes again is acknowledged again, and not taken again
         received = leaf.status()["received"]
         text = body(b"C", 117, entries((b"a", b"3")))
@@ -487,12 +507,16 @@ def what_a_false_parent_sends_is_bounded_and_checked():
         # and then its real parent has to come through
         fill(tree)
         tree.root.start()
-        sure(tree.right(10), tree.wrong())
+        sure(tree.right(), tree.wrong())
 
 
 @test
 def what_a_child_reports_of_others_harms_nobody():
-    with Tree() as tree:
+    def patient(tree):
+        for agent in tree:
+            agent.tables["link"] = {"ack_timeout": "5s", "evict": "10m"}
+
+    with Tree(before=patient) as tree:
         fill(tree)
         others = [agent for agent in tree if agent.name != "left1"]
         for agent in others:
@@ -509,9 +533,11 @@ def what_a_child_reports_of_others_harms_nobody():
             sure(until(lambda: any(it["strays"] == 77 for it in tree.root.ask("tree"))),
                  tree.root.ask("tree"))
         sure(not tree.root.said("closed left:"), "the root closed an honest agent's connection")
-        seen = [(it["name"], it["parent"], it["strays"]) for it in tree.root.ask("tree")]
-        sure(sorted(seen) == sorted((agent.name, agent.parent.name if agent.parent else "",
-                                     77 if agent.name == "left1" else 0) for agent in tree), seen)
+        seen = lambda: sorted((it["name"], it["parent"], it["strays"])
+                              for it in tree.root.ask("tree"))
+        expected = sorted((agent.name, agent.parent.name if agent.parent else "",
+                           77 if agent.name == "left1" else 0) for agent in tree)
+        sure(until(lambda: seen() == expected), seen())
 
 
 @test
@@ -522,7 +548,7 @@ def who_acknowledges_without_end_is_closed():
         before = memory(tree.root)
         for text in (b"A\x00\x00" * 200_000, b"R" + struct.pack(">I", 2) + b"[]",
                      b"R" + struct.pack(">I", 0xffff_ffff), b"F" * 100):
-            with socket.create_connection(("127.0.0.1", tree.root.port), timeout=20) as sock:
+            with socket.create_connection(("127.0.0.1", tree.root.port), timeout=60) as sock:
                 sock.sendall(hello("left", "root", life=9))
                 try:
                     # (nothing of what comes is read)
@@ -572,13 +598,13 @@ def the_control_socket_is_bounded():
                      b'{"do":"publish","key":"../a","value":"00"}\n', b"\xff\xfe\n",
                      b"[" * 100_000 + b"\n"] + [draw.randbytes(99) + b"\n" for _ in range(30)]:
             with socket.socket(socket.AF_UNIX) as sock:
-                sock.settimeout(20)
+                sock.settimeout(60)
                 sock.connect(str(tree.root.socket))
                 sock.sendall(text)
                 answer = sock.makefile("rb").readline()
                 sure(b"refused" in answer, text[:40], answer)
         with socket.socket(socket.AF_UNIX) as sock:
-            sock.settimeout(20)
+            sock.settimeout(60)
             sock.connect(str(tree.root.socket))
             try:
                 for _ in range(100):
@@ -593,7 +619,7 @@ def the_control_socket_is_bounded():
             many.append(sock)
         for sock in many:
             sock.close()
-        sure(until(lambda: tree.root.ask("status", check=False).get("name") == "root", 5))
+        sure(until(lambda: tree.root.ask("status", check=False).get("name") == "root"))
         sure(memory(tree.root) < before + 8_000, before, memory(tree.root))
 
 
@@ -648,7 +674,7 @@ def commands_say_what_they_did():
 
         def run(agent, *words):
             command = [tree.bin / "rignoldactl", "--socket", agent.socket, *words]
-            done = subprocess.run(command, capture_output=True, text=True, timeout=20)
+            done = subprocess.run(command, capture_output=True, text=True, timeout=120)
             return done.returncode, done.stdout, done.stderr
 
         sure(run(tree["left"], "publish", "a", "b")[0] == 1, "an inner agent publishes")
@@ -656,23 +682,25 @@ def commands_say_what_they_did():
         sure(run(tree.root, "publish")[0] == 2)
         sure(run(tree.root, "child", "add", "left")[0] == 1)
         sure(run(tree["leaf"], "bounds")[0] == 1)
-        text = run(tree.root, "tree")[1].splitlines()
-        sure([line.split()[0] for line in text] == ["agent", "root", "left", "leaf"], text)
-        sure(text[3].startswith("    leaf"), text)
+        text = lambda: run(tree.root, "tree")[1].splitlines()
+        names = lambda: [line.split()[0] for line in text()]
+        sure(until(lambda: names() == ["agent", "root", "left", "leaf"]), text())
+        sure(text()[3].startswith("    leaf"), text())
         # the bounds of a link over connections, at depths 1 and 2
         found = {b["name"]: (b["C"], b["M"], b["N"]) for b in tree.root.ask("bounds")}
         sure(found == {"root": (0, 0, 0), "left": (1, 3, 3), "leaf": (2, 6, 5)}, found)
         tree["leaf"].kill()
         number = tree.root.ask("publish", "a", "b")["sequence"]
-        status, _, error = run(tree.root, "wait", "--everywhere", "--timeout", "300ms", str(number))
-        sure(status == 1 and "leaf is not connected" in error, status, error)
+        late = lambda: run(tree.root, "wait", "--everywhere", "--timeout", "300ms", str(number))
+        sure(until(lambda: "leaf is not connected" in late()[2]), late())
+        sure(late()[0] == 1, late())
         sure(run(tree.root, "wait", str(number))[0] == 0)
         tree["leaf"].start()
         sure(run(tree.root, "wait", "--everywhere", str(number))[0] == 0)
         tree.root.ask("drain")
         sure(run(tree.root, "publish", "a", "c")[0] == 1, "it publishes while it drains")
         tree.root.ask("resume")
-        sure(until(lambda: run(tree.root, "publish", "a", "c")[0] == 0, 3))
+        sure(until(lambda: run(tree.root, "publish", "a", "c")[0] == 0))
         tree.root.kill()
         sure(run(tree.root, "status")[0] == 3)
 
@@ -687,7 +715,7 @@ def a_root_with_too_few_harmless_items_is_told():
         said = lambda: subprocess.run([tree.bin / "rignoldactl", "--socket", tree.root.socket,
                                        "tree"], capture_output=True, text=True).stderr
         # (2 * 3 + 1 can be missing at depth 3, and two more are for an agent's own numbers)
-        sure(until(lambda: "needs 9" in said(), 3), said())
+        sure(until(lambda: "needs 9" in said()), said())
 
 
 @test
@@ -703,7 +731,7 @@ def a_reload_changes_children_and_parents():
         leaf.top["parents"] = [f"right@127.0.0.1:{right.port}"]
         leaf.configure()
         leaf.signal(signal.SIGHUP)
-        sure(until(lambda: leaf.status()["parent"] == "right", 5), leaf.status())
+        sure(until(lambda: leaf.status()["parent"] == "right"), leaf.status())
         tree["left"].children.clear()
         # a child is added, and one removed
         new = tree.add("new", "root")
@@ -713,35 +741,46 @@ def a_reload_changes_children_and_parents():
         new.start()
         tree.write("moved", "1")
         here = [tree.root, right, leaf, new]
-        sure(tree.right(5, here), tree.wrong(here))
-        sure(until(lambda: tree["left"].status()["parent"] is None, 5), "it kept a removed child")
+        sure(tree.right(agents=here), tree.wrong(here))
+        sure(until(lambda: tree["left"].status()["parent"] is None), "it kept a removed child")
         # a wrong file changes nothing, and says so
         tree.root.file.write_text(tree.root.file.read_text().replace("round =", "rund ="))
         tree.root.signal(signal.SIGHUP)
-        sure(until(lambda: tree.root.said("root.rund"), 5), "it says nothing of a wrong file")
+        sure(until(lambda: tree.root.said("root.rund")), "it says nothing of a wrong file")
         tree.write("moved", "2")
-        sure(tree.right(5, here), tree.wrong(here))
+        sure(tree.right(agents=here), tree.wrong(here))
         # a child by command
         extra = tree.add("extra", "root")
         extra.start()
         tree.root.ask("child", "add", "extra")
-        sure(tree.right(5, [extra]), tree.wrong([extra]))
+        sure(tree.right(agents=[extra]), tree.wrong([extra]))
         tree.root.ask("child", "remove", "extra")
-        sure(until(lambda: extra.status()["parent"] is None, 5))
+        sure(until(lambda: extra.status()["parent"] is None))
 
 
 @test
 def the_next_parent_is_tried():
     with Tree({"left": "root", "right": "root"}) as tree:
         leaf = tree.add("leaf", "left")
+        # (one that is late is left, and then the next one is tried too)
+        for agent in tree:
+            agent.tables["link"] = {"ack_timeout": "20s", "evict": "10m"}
         tree["right"].children.append(leaf)
         leaf.top["parents"].append(f"right@127.0.0.1:{tree['right'].port}")
-        usual(tree)
-        sure(leaf.status()["parent"] == "left")
+        # (where the first one does not listen yet, the next one is its parent)
+        fill(tree)
+        above = [agent for agent in tree if agent is not leaf]
+        for agent in above:
+            agent.start()
+        sure(until(lambda: all(agent.up() for agent in above)), "the tree is not ready")
+        leaf.start()
+        sure(tree.ready() and tree.right(), tree.wrong())
+        sure(leaf.status()["parent"] == "left", leaf.status())
         tree["left"].kill()
-        sure(until(lambda: leaf.status()["parent"] == "right", 5), leaf.status())
+        sure(until(lambda: leaf.status()["parent"] == "right"), leaf.status())
         tree.write("moved", "1")
-        sure(tree.right(3, [leaf, tree["right"]]))
+        here = [leaf, tree["right"]]
+        sure(tree.right(agents=here), tree.wrong(here))
 
 
 @long_test
@@ -749,38 +788,42 @@ def hooks_run_beside_the_link():
     def hooks(tree):
         for agent in tree:
             hook = agent.home / "hook"
-            slow = "sleep 2" if agent.name == "left" else ""
+            # (that of one agent lasts until it may end)
+            go = agent.home / "go"
+            waits = f"while [ -d {agent.home} ] && [ ! -e {go} ]; do sleep 0.02; done"
+            slow = waits if agent.name == "left" else ""
             fails = f"[ ! -e {agent.home}/fail ]"
             hook.write_text(f'#!/bin/sh\n{slow}\nv=$(cat)\n'
                             f'echo "$1 $2 $v" >>{agent.home}/calls\n{fails}\n')
             hook.chmod(0o755)
-            agent.tables["apply"]["hook"] = str(hook)
+            agent.tables["apply"].update(hook=str(hook), hook_timeout="10m")
 
     with Tree({"left": "root", "leaf": "left"}, before=hooks) as tree:
         tree.write("a", "1")
         tree.start()
         sure(tree.ready())
-        begun = time.monotonic()
-        sure(tree.right(1.5), "a slow hook held the files back")
+        sure(tree.right(), "a slow hook held the files back")
         number = tree.root.ask("publish", "b", "2")["sequence"]
-        leaf = tree["leaf"]
+        left, leaf = tree["left"], tree["leaf"]
+        sure(tree.right(), "a slow hook held the files back")
         sure(until(lambda: (leaf.home / "calls").exists() and "set b 2" in
-                   (leaf.home / "calls").read_text(), 1.5), "a slow hook held its child back")
-        sure(tree["left"].ask("wait", "--timeout", "50ms", number, check=False).get("error"),
+                   (leaf.home / "calls").read_text()), "a slow hook held its child back")
+        sure(not (left.home / "calls").exists(), "its hook did not wait")
+        sure(left.ask("wait", "--timeout", "50ms", number, check=False).get("error"),
              "applied before its hook ended")
-        tree["left"].ask("wait", number)
-        calls = (tree["left"].home / "calls").read_text()
+        (left.home / "go").touch()
+        left.ask("wait", "--timeout", "60s", number)
+        calls = (left.home / "calls").read_text()
         sure("set b 2" in calls, "applied before its hook ended")
-        sure(time.monotonic() - begun > 2)
         (leaf.home / "fail").touch()
         number = tree.root.ask("publish", "c", "3")["sequence"]
-        sure(until(lambda: leaf.status()["failing"] == 1, 5), leaf.status())
-        error = tree.root.ask("wait", "--everywhere", "--timeout", "1s", number, check=False)
-        error = error["error"]
-        sure("leaf has a file or a hook that failed" in error, error)
+        sure(until(lambda: leaf.status()["failing"] == 1), leaf.status())
+        error = lambda: tree.root.ask("wait", "--everywhere", "--timeout", "300ms", number,
+                                      check=False).get("error", "")
+        sure(until(lambda: "leaf has a file or a hook that failed" in error()), error())
         (leaf.home / "fail").unlink()
         # (a round runs it again)
-        sure(until(lambda: leaf.status()["failing"] == 0, 4), leaf.status())
+        sure(until(lambda: leaf.status()["failing"] == 0), leaf.status())
         calls = (leaf.home / "calls").read_text().splitlines()
         sure(calls[:2] == ["set a 1", "set b 2"] and set(calls[2:]) == {"set c 3"}, calls)
 
@@ -795,7 +838,7 @@ def counts_are_there_for_prometheus():
             agent.top["metrics"] = f"127.0.0.1:{ports[agent.name]}"
 
     def get(agent, path="/metrics", method="GET"):
-        with socket.create_connection(("127.0.0.1", ports[agent.name]), timeout=20) as sock:
+        with socket.create_connection(("127.0.0.1", ports[agent.name]), timeout=60) as sock:
             sock.sendall(f"{method} {path} HTTP/1.1\r\nHost: x\r\n\r\n".encode())
             text = b""
             while piece := sock.recv(65536):
@@ -805,6 +848,7 @@ def counts_are_there_for_prometheus():
 
     with Tree({"left": "root"}, before=watched) as tree:
         usual(tree)
+        sure(until(lambda: 'rignolda_child_connected{child="left"} 1' in get(tree.root)[1]))
         head, text = get(tree.root)
         sure("200" in head, head)
         values, typed = {}, set()
@@ -821,7 +865,7 @@ def counts_are_there_for_prometheus():
         sure(values["rignolda_settings", None] == 8, values)
         sure(values["rignolda_child_connected", "left"] == 1, values)
         tree["left"].kill()
-        sure(until(lambda: 'rignolda_child_connected{child="left"} 0' in get(tree.root)[1], 3))
+        sure(until(lambda: 'rignolda_child_connected{child="left"} 0' in get(tree.root)[1]))
         sure("404" in get(tree.root, "/other")[0] and "404" in get(tree.root, method="POST")[0])
         # each name that an alarm uses is one that is counted
         alarms = pathlib.Path(__file__).resolve().parents[2] / "rust/rignoldad/packaging/alarms.yml"
@@ -834,7 +878,7 @@ def check_names_the_line_and_the_key():
     with Tree({}) as tree:
         tree.root.configure()
         check = lambda: subprocess.run([tree.bin / "rignoldad", "--check", tree.root.file],
-                                       capture_output=True, text=True, timeout=10)
+                                       capture_output=True, text=True, timeout=60)
         sure(check().returncode == 0, check().stderr)
         lines = tree.root.file.read_text().splitlines()
         at = next(n for n, line in enumerate(lines) if line.startswith("round"))

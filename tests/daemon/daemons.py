@@ -39,10 +39,12 @@ def binaries():
 
 # How many times longer than usual things may take, on a machine that has much else to do.
 PATIENCE = float(os.environ.get("PATIENCE", 4))
+# How many seconds is usual for what is only waited for: with patience, it has a minute.
+USUAL = 15.0
 
 
-def until(what, seconds=10.0, pause=0.01):
-    """Whether something holds within `seconds` seconds, and some patience."""
+def until(what, seconds=USUAL, pause=0.01):
+    """Whether something comes to hold within `seconds` seconds, and some patience."""
     end = time.monotonic() + seconds * PATIENCE
     while True:
         if what():
@@ -142,8 +144,13 @@ class Agent:
         """What rignoldactl prints, as JSON; where it is refused, `error`."""
         command = [self.tree.bin / "rignoldactl", "--json", "--socket", self.socket,
                    *map(str, words)]
-        done = subprocess.run(command, input=value, capture_output=True, timeout=60,
-                              stdin=None if value is not None else subprocess.DEVNULL)
+        end = time.monotonic() + USUAL * PATIENCE
+        while True:
+            done = subprocess.run(command, input=value, capture_output=True, timeout=120,
+                                  stdin=None if value is not None else subprocess.DEVNULL)
+            # (on a machine with much else to do it may get no answer in its ten seconds: EAGAIN)
+            if b"(os error 11)" not in done.stderr or time.monotonic() >= end:
+                break
         if check and done.returncode:
             raise RuntimeError(f"{self.name}: {' '.join(map(str, words))}: {done.stderr.decode()}")
         return json.loads(done.stdout or "{}")
@@ -223,7 +230,7 @@ class Tree:
         self.agents[name] = Agent(self, name, self.agents[parent])
         return self.agents[name]
 
-    def ready(self, seconds=15):
+    def ready(self, seconds=USUAL):
         """Whether each agent comes to have its parent and a whole table."""
         return until(lambda: all(agent.up() for agent in self), seconds, 0.05)
 
@@ -235,7 +242,7 @@ class Tree:
         truth = self.truth()
         return [agent.name for agent in (agents or self) if agent.files() != truth]
 
-    def right(self, seconds=10, agents=None):
+    def right(self, seconds=USUAL, agents=None):
         """Whether all agents come to have the settings of the root's folder."""
         return until(lambda: not self.wrong(agents), seconds)
 

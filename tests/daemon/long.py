@@ -309,7 +309,7 @@ def try_tree(tree, chosen, trial):
     trial.done.set()
     publisher.join()
     begun = time.monotonic()
-    good = tree.right(5 if not chosen.loss else 20)
+    good = tree.right()
     took = time.monotonic() - begun
     time.sleep(0.5)
     trial.cut()

@@ -61,7 +61,8 @@ class Relay:
                         other.sendall(piece[:self.draw.randrange(len(piece))])
                         return
                     waiting.append((time.monotonic() + self.delay, other, piece))
-        except OSError:
+        except (OSError, ValueError):
+            # (where it is closed while it waits, a descriptor is none any more)
             pass
         finally:
             near.close()

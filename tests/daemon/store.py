@@ -14,6 +14,7 @@ import ctypes
 import os
 import pathlib
 import random
+import re
 import shutil
 import subprocess
 import sys
@@ -75,7 +76,7 @@ class Redis:
             ["redis-server", "--port", str(self.port), "--bind", "127.0.0.1", "--save", "",
              "--requirepass", "a word", "--dir", self.home], stdout=subprocess.DEVNULL,
             stderr=subprocess.DEVNULL, stdin=subprocess.DEVNULL)
-        sure(until(lambda: self.ask("PING") == b"PONG\n", 5), "there is no server")
+        sure(until(lambda: self.ask("PING") == b"PONG\n"), "there is no server")
 
     def kill(self):
         if self.process:
@@ -174,10 +175,10 @@ def settings_travel_through_a_store():
         first, log = leaf.process, leaf.text()
         leaf.socket = leaf.home / "control2"
         leaf.start()
-        sure(until(lambda: "another process writes there" in leaf.text(), 10), leaf.text())
+        sure(until(lambda: "another process writes there" in leaf.text()), leaf.text())
         first.kill()
         first.wait()
-        sure(until(leaf.up, 10), leaf.text())
+        sure(until(leaf.up), leaf.text())
         tree.write("after", "that")
         sure(tree.right(), tree.wrong())
         sure(not any(agent.said("panicked") for agent in tree))
@@ -209,7 +210,10 @@ def losses_in_a_store_lose_nothing():
             statuses = {agent.name: agent.status() for agent in tree}
             sure(all(it["gaps"] + it["strays"] == 0 for it in statuses.values()), statuses)
             # (each change of state is one line)
-            sure(tree["left1"].said("closed the parent") == 3, tree["left1"].text())
+            text = tree["left1"].text()
+            states = re.findall("^(connected|closed) the parent", text, re.MULTILINE)
+            sure(states.count("closed") >= 3, text)
+            sure(states == (["connected", "closed"] * len(states))[:len(states)], text)
             sure(not any(agent.said("panicked") for agent in tree))
 
 
@@ -235,8 +239,8 @@ def faults_of_a_store_are_mended_by_rounds():
                 victim.start()
             redis.start()
             redis.make_old()
-            sure(tree.right(10), turn, tree.wrong())
-        sure(tree.ready(5), "the tree is not ready")
+            sure(tree.right(), turn, tree.wrong())
+        sure(tree.ready(), "the tree is not ready")
         sure(not any(agent.said("panicked") for agent in tree))
 
 
@@ -274,7 +278,7 @@ def judged(faults, seed):
                 trial.done.set()
                 publisher.join()
             trial.cut()
-            good = tree.right(10)
+            good = tree.right()
             time.sleep(0.5)
             trial.cut()
             wrong, counts, strays, missing, left_out = trial.judge()
