@@ -1,5 +1,6 @@
 #!/usr/bin/env bash
-# The daemon: its tests, the linter, its trials in trees of processes, and its kept programs.
+# The daemon: its tests and those of its library, the linter, its trials in trees of processes, and
+# its kept programs.
 #
 # Where it cannot be built here, the kept programs are tried, and a line says what to run. The last
 # line is 'N passed, M failed'.
@@ -26,13 +27,22 @@ cargo_tests() {
     (cd rust && cargo test --offline --locked --quiet -p rignoldad -p rignolda_redis)
 }
 
+# The library's crate stands outside, and needs no other.
+library_tests() {
+    cargo test --offline --locked --quiet --target-dir rust/target/library \
+        --manifest-path rust/rignolda/Cargo.toml
+}
+
 lints() {
     (cd rust && cargo clippy --offline --locked --quiet -p rignoldad -p rignolda_redis --all-targets \
-        -- -D warnings)
+        -- -D warnings) &&
+        cargo clippy --offline --locked --quiet --target-dir rust/target/library \
+            --manifest-path rust/rignolda/Cargo.toml --all-targets -- -D warnings
 }
 
 formatted() {
-    (cd rust && cargo fmt -p rignoldad -p rignolda_redis --check)
+    (cd rust && cargo fmt -p rignoldad -p rignolda_redis --check) &&
+        cargo fmt --manifest-path rust/rignolda/Cargo.toml --check
 }
 
 short_enough() {
@@ -54,6 +64,7 @@ else
     ! type -P cargo-fmt >/dev/null || works 'the form' formatted
     works 'no line is longer than 100 characters' short_enough
 fi
+! type -P cargo >/dev/null || works 'the tests of the library for Rust' library_tests
 adds tests/daemon/check_judge.py
 adds tests/daemon/check.py
 sum_up
