@@ -1,5 +1,6 @@
 pub mod Counts
 pub mod Entries
+pub mod ForCallers
 pub mod Linked
 pub mod Needed
 pub mod OptionalMembers

@@ -4,6 +4,7 @@ pub mod LinkEntries
 pub mod JobLinks
 pub mod JobOpenings
 pub mod JobValues
+pub mod Replays
 pub mod LinkParams
 pub mod JobMembers
 pub mod BorrowedMembers

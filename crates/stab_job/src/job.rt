@@ -10,7 +10,8 @@ use std::marker::Model;
 /// What a run goes by: the tree, parameters, a start and a script for each of its links in the file
 /// order of their children, the openings of its nodes, the items that the root publishes, the
 /// number of turns, and a schedule. The parameters are lawful, the openings fit the tree, there are
-/// at most 10,000 items and 1 to 1,000,000 turns. No method takes memory.
+/// at most 10,000 items and 1 to 1,000,000 turns. Only [`initial_tree`](Job::initial_tree) and
+/// [`replay`](Job::replay) take memory.
 #[derive(Debug)]
 pub struct Job {
     params: Sequence<Params>,
