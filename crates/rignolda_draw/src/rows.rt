@@ -4,10 +4,10 @@ ghost use Rattle.std.specs.Prelude.{slice_get, IfErr, IfOk, OnOk};
 ghost use Rattle.stab_core.specs.Link.{IsReason, link_at};
 ghost use Rattle.stab_core.specs.Replay.{IsLawful, initial};
 ghost use Rattle.stab_core.specs.Step.{effect, step};
-ghost use Rattle.stab_treecore.specs.Network.{IsNetwork, network_of};
-ghost use Rattle.stab_tree.specs.NodeOpenings.{FitTree};
-ghost use Rattle.stab_treecore.specs.Refusals.{IsScheduleReason, IsStartReason, NamesLink};
-ghost use Rattle.stab_treecore.specs.Refusals.{NamesNoLink, OnePerLink};
+ghost use Rattle.stab_job.specs.JobValues.{network};
+ghost use Rattle.stab_job.specs.Replays.{IsReplayReason};
+ghost use Rattle.stab_treecore.specs.Network.{IsNetwork};
+ghost use Rattle.stab_treecore.specs.Refusals.{IsStartReason, NamesLink, NamesNoLink};
 ghost use Rattle.stab_treecore.specs.TreeReplay.{initial_tree};
 ghost use Rattle.stab_treecore.specs.TreeStep.{tree_step};
 ghost use Rattle.stab_treecore.specs.WholeTree.{link_into};
@@ -16,11 +16,11 @@ ghost use Rattle.rignolda_draw.specs.Rows.{row_of, rows_from, step_row, tree_row
 use crate::cells::held;
 use crate::next::event_on;
 use crate::row::Row;
-use stab_core::{Effect, Event, Link, Start, StartFault};
-use stab_frames::{Item, Params};
+use stab_core::{Effect, Event, Link, StartFault};
+use stab_job::Job;
 use stab_script::LinkJob;
 use stab_tree::{NodeId, Tree};
-use stab_treecore::{Openings, TreeEvent, TreeStartFault, TreeState, TreeStepFault, run_schedule};
+use stab_treecore::{TreeEvent, TreeStartFault, TreeState, TreeStepFault};
 use std::alloc::{AllocError, Global};
 
 /// The rows of a link job's run, one for each event. It refuses a start as `stab link` does.
@@ -73,52 +73,32 @@ fn row_of(child: NodeId, event: Option<Event>, effect: Effect, link: &Link) -> R
     }
 }
 
-/// The rows of a schedule's run, one for each event. It refuses what `run_schedule` refuses.
-#[tactic(auto, using(crate::proofs::Reasons::start_reason))]
-pub fn schedule_rows(
-    alloc: Global,
-    params: &[Params],
-    tree: &Tree,
-    published: &[Item],
-    starts: &[Start],
-    openings: &Openings,
-    events: &[TreeEvent],
-) -> Result<Vec<Row>, TreeStartFault>
-    requires fit { FitTree tree.now.parents openings.now }
-    ensures rows { IfOk result (λ rows. rows.items ≡ tree_rows_from (initial_tree
-        (network_of params.now tree.now published.now starts.now openings.now)) events.now) }
-    ensures params_per_link { OnOk result (OnePerLink tree.now.parents params.now) }
-    ensures one_per_link { OnOk result (OnePerLink tree.now.parents starts.now) }
-    ensures network { OnOk result (IsNetwork
-        (network_of params.now tree.now published.now starts.now openings.now)) }
-    ensures named { OnOk result (All (NamesLink tree.now.parents) events.now) }
-    ensures refused { IfErr result (IsScheduleReason params.now starts.now
-        (network_of params.now tree.now published.now starts.now openings.now) events.now) }
+/// The rows of the run of a job's schedule, one for each event. It refuses what [`Job::replay`]
+/// refuses.
+#[tactic(auto, using(stab_job::proofs::ForCallers::start_reason))]
+pub fn schedule_rows(alloc: Global, job: &Job) -> Result<Vec<Row>, TreeStartFault>
+    ensures rows { IfOk result (λ rows. rows.items
+        ≡ tree_rows_from (initial_tree (network job.now)) job.now.schedule) }
+    ensures network { OnOk result (IsNetwork (network job.now)) }
+    ensures named { OnOk result (All (NamesLink job.now.tree.parents) job.now.schedule) }
+    ensures refused { IfErr result (IsReplayReason job.now) }
 {
-    let end = run_schedule(alloc, params, tree, published, starts, openings, events)?;
+    let end = job.replay(alloc)?;
     drop(end);
-    let rows = stepped(alloc, params, tree, published, starts, openings, events)?;
+    let rows = stepped(alloc, job)?;
     Ok(rows)
 }
 
-/// The rows of a schedule that names links alone, so that nothing but memory is refused once the
-/// tree can begin.
-fn stepped(
-    alloc: Global,
-    params: &[Params],
-    tree: &Tree,
-    published: &[Item],
-    starts: &[Start],
-    openings: &Openings,
-    events: &[TreeEvent],
-) -> Result<Vec<Row>, TreeStartFault>
-    requires fit { FitTree tree.now.parents openings.now }
-    ensures rows { IfOk result (λ rows. rows.items ≡ tree_rows_from (initial_tree
-        (network_of params.now tree.now published.now starts.now openings.now)) events.now) }
-    ensures refused { IfErr result (IsStartReason params.now tree.now.parents starts.now) }
+/// The rows of a job whose schedule names links alone, so that nothing but memory is refused once
+/// the tree can begin.
+fn stepped(alloc: Global, job: &Job) -> Result<Vec<Row>, TreeStartFault>
+    ensures rows { IfOk result (λ rows. rows.items
+        ≡ tree_rows_from (initial_tree (network job.now)) job.now.schedule) }
+    ensures refused { IfErr result
+        (IsStartReason job.now.params job.now.tree.parents job.now.starts) }
 {
-    let mut state = TreeState::new(alloc, params, tree, published, starts, openings)?;
-    match rows_from(alloc, tree, &mut state, events) {
+    let mut state = job.initial_tree(alloc)?;
+    match rows_from(alloc, job.tree(), &mut state, job.schedule()) {
         Ok(rows) => Ok(rows),
         Err(_) => Err(TreeStartFault::Start(StartFault::Memory)),
     }

@@ -1,9 +1,9 @@
 ghost use Rattle.std.specs.Prelude.{◌↔◌, IsErrOf};
 ghost use Rattle.std.specs.Prelude.{◌≡◌, ◌++◌, ◌<◌, All, length, string_bytes, IfErr, IfOk, OnOk};
-ghost use Rattle.stab_treecore.specs.Network.{IsNetwork, network_of};
-ghost use Rattle.stab_tree.specs.NodeOpenings.{FitTree};
-ghost use Rattle.stab_treecore.specs.Refusals.{IsScheduleReason, IsStartReason, NamesLink};
-ghost use Rattle.stab_treecore.specs.Refusals.{NamesNoLink};
+ghost use Rattle.stab_job.specs.JobValues.{network};
+ghost use Rattle.stab_job.specs.Replays.{IsReplayReason};
+ghost use Rattle.stab_treecore.specs.Network.{IsNetwork};
+ghost use Rattle.stab_treecore.specs.Refusals.{IsStartReason, NamesLink, NamesNoLink};
 ghost use Rattle.stab_treecore.specs.TreeStep.{event_on, next_item, tree_effect, tree_step};
 ghost use Rattle.stab_treecore.specs.WholeTree.{link_into};
 ghost use Rattle.rignolda_draw.specs.Schedules.{link_line, link_start_line, node_start_line};
@@ -16,61 +16,42 @@ use crate::cells::{push_act_cell, push_effect_cell, push_name_cell, push_state_c
 use crate::next::event_on;
 use crate::run::push_start_line;
 use crate::words::delivered_by;
-use stab_core::{Effect, Event, Link, Start, StartFault};
-use stab_frames::{Item, Params};
+use stab_core::{Effect, Event, Link, StartFault};
+use stab_job::Job;
 use stab_tree::{NodeId, Tree};
-use stab_treecore::{Openings, TreeEvent, TreeStartFault, TreeState, TreeStepFault, run_schedule};
+use stab_treecore::{TreeEvent, TreeStartFault, TreeState, TreeStepFault};
 use std::alloc::{AllocError, Global};
 
 /// The names of the columns, which are the first line of a schedule's run.
 const HEAD: &str =
     "link      event               effect  label holds acked frames      acks    remembers delivers\n";
 
-/// The run of a schedule: the names of the columns, each link at its start, and a line for each
-/// event with its link after it. It refuses what `run_schedule` refuses.
-#[tactic(auto, using(crate::proofs::Reasons::start_reason))]
-pub fn schedule_run_text(
-    alloc: Global,
-    params: &[Params],
-    tree: &Tree,
-    published: &[Item],
-    starts: &[Start],
-    openings: &Openings,
-    events: &[TreeEvent],
-) -> Result<String, TreeStartFault>
-    requires fit { FitTree tree.now.parents openings.now }
-    ensures text { IfOk result (λ text. string_bytes text ≡ schedule_run_text
-        (network_of params.now tree.now published.now starts.now openings.now) events.now) }
-    ensures network { OnOk result (IsNetwork
-        (network_of params.now tree.now published.now starts.now openings.now)) }
-    ensures named { OnOk result (All (NamesLink tree.now.parents) events.now) }
-    ensures refused { IfErr result (IsScheduleReason params.now starts.now
-        (network_of params.now tree.now published.now starts.now openings.now) events.now) }
+/// The run of a job's schedule: the names of the columns, each link at its start, and a line for
+/// each event with its link after it. It refuses what [`Job::replay`] refuses.
+#[tactic(auto, using(stab_job::proofs::ForCallers::start_reason))]
+pub fn schedule_run_text(alloc: Global, job: &Job) -> Result<String, TreeStartFault>
+    ensures text { IfOk result (λ text.
+        string_bytes text ≡ schedule_run_text (network job.now) job.now.schedule) }
+    ensures network { OnOk result (IsNetwork (network job.now)) }
+    ensures named { OnOk result (All (NamesLink job.now.tree.parents) job.now.schedule) }
+    ensures refused { IfErr result (IsReplayReason job.now) }
 {
-    let end = run_schedule(alloc, params, tree, published, starts, openings, events)?;
+    let end = job.replay(alloc)?;
     drop(end);
-    let text = drawn(alloc, params, tree, published, starts, openings, events)?;
+    let text = drawn(alloc, job)?;
     Ok(text)
 }
 
-/// The run of a schedule that names links alone, so that nothing but memory is refused once the
-/// tree can begin.
-fn drawn(
-    alloc: Global,
-    params: &[Params],
-    tree: &Tree,
-    published: &[Item],
-    starts: &[Start],
-    openings: &Openings,
-    events: &[TreeEvent],
-) -> Result<String, TreeStartFault>
-    requires fit { FitTree tree.now.parents openings.now }
-    ensures text { IfOk result (λ text. string_bytes text ≡ schedule_run_text
-        (network_of params.now tree.now published.now starts.now openings.now) events.now) }
-    ensures refused { IfErr result (IsStartReason params.now tree.now.parents starts.now) }
+/// The run of a job whose schedule names links alone, so that nothing but memory is refused once
+/// the tree can begin.
+fn drawn(alloc: Global, job: &Job) -> Result<String, TreeStartFault>
+    ensures text { IfOk result (λ text.
+        string_bytes text ≡ schedule_run_text (network job.now) job.now.schedule) }
+    ensures refused { IfErr result
+        (IsStartReason job.now.params job.now.tree.parents job.now.starts) }
 {
-    let mut state = TreeState::new(alloc, params, tree, published, starts, openings)?;
-    match text_from(alloc, tree, &mut state, events) {
+    let mut state = job.initial_tree(alloc)?;
+    match text_from(alloc, job.tree(), &mut state, job.schedule()) {
         Ok(text) => Ok(text),
         Err(_) => Err(TreeStartFault::Start(StartFault::Memory)),
     }
