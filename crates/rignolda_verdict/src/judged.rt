@@ -6,7 +6,7 @@ use stab_judge::Judge;
 use std::alloc::{AllocError, Global};
 
 /// The judge of the network of a job.
-pub(crate) fn judge_of<'a>(alloc: Global, job: &'a Job) -> Result<Judge<'a>, AllocError>
+pub fn judge_of<'a>(alloc: Global, job: &'a Job) -> Result<Judge<'a>, AllocError>
     ensures { IfOk result (λ judge. judge ≡ network job.now) }
 {
     Judge::new(

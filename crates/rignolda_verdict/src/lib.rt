@@ -7,8 +7,8 @@
 //! that is broken where it does not. [`link_verdict`] answers true exactly where the offered items
 //! of a link are picked from those of its job and the link law holds, and its text names the first
 //! of both that is broken; [`read_link_report`] reads exactly the texts of links, as `stab link`
-//! prints them. The functions `push_..` and those of one node are the pieces of which another judge
-//! makes its texts.
+//! prints them. [`judge_of`], the functions `push_..` and those of one node are the pieces of which
+//! another judge makes its verdict and texts.
 #![tactic(auto)]
 
 mod bounds;
@@ -27,6 +27,7 @@ mod verdicts;
 
 pub use bounds::bounds_text;
 pub use broken::{push_handed_on, push_items, push_no_count, push_published, push_root_count};
+pub use judged::judge_of;
 pub use law::{push_acked, push_capacity};
 pub use link_read::read_link_report;
 pub use link_report::LinkReport;
