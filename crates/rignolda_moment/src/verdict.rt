@@ -8,6 +8,7 @@ ghost use Rattle.rignolda_moment.specs.VerdictTexts.{SaysSince};
 
 use crate::judged::first_broken;
 use crate::text::push_broken;
+use rignolda_verdict::judge_of;
 use stab_frames::{Item, Sequence};
 use stab_job::Job;
 use stab_judge::{Judge, Report};
@@ -30,14 +31,7 @@ pub fn verdict_since(
     ensures says { IfOk result (λ said. SaysSince (network job.now) lists.now report.now
         said.1 (string_bytes said.0)) }
 {
-    let judge = Judge::new(
-        alloc,
-        job.tree(),
-        job.openings(),
-        job.params(),
-        job.starts(),
-        job.items(),
-    )?;
+    let judge = judge_of(alloc, job)?;
     verdict_of(alloc, &judge, job.tree(), job.items(), lists, report)
 }
 
