@@ -8,6 +8,7 @@ ghost use Rattle.rignolda_logs.specs.ObeysLogs.{ObeysLogs};
 use crate::judged::first_broken;
 use crate::logs::Logs;
 use crate::text::push_broken;
+use rignolda_verdict::judge_of;
 use stab_frames::Item;
 use stab_job::Job;
 use stab_judge::Judge;
@@ -23,14 +24,7 @@ pub fn verdict_of_logs(alloc: Global, job: &Job, logs: &Logs) -> Result<(String,
     ensures says { IfOk result (λ said.
         SaysLogs (network job.now) logs.now said.1 (string_bytes said.0)) }
 {
-    let judge = Judge::new(
-        alloc,
-        job.tree(),
-        job.openings(),
-        job.params(),
-        job.starts(),
-        job.items(),
-    )?;
+    let judge = judge_of(alloc, job)?;
     verdict_by(
         alloc,
         &judge,
