@@ -5,7 +5,7 @@ use Rattle.std.specs.List.{flat_map}
 use Rattle.rignolda_commands.specs.AsJudged.{is_upstream}
 use Rattle.stab_node.specs.declared.account.Ended.{Ended}
 use Rattle.stab_node.specs.declared.account.Ended.TheVariants.{Upstream, Turns}
-use Rattle.rignolda_reports.specs.Texts.{ended_entry as entry_judged}
+use Rattle.stab_report.specs.Texts.{ended_entry as entry_judged}
 use Rattle.stab_run.specs.Reports.{ended_entry as entry_of_run}
 
 -- a node that a judge reads as ended with its upstream is one

@@ -6,7 +6,7 @@ use Rattle.std.specs.Prelude.{Bool, true, false, ℕ, List, map}
 use Rattle.stab_judge.specs.Reports.{ReportValue}
 use Rattle.stab_node.specs.declared.account.Ended.{Ended}
 use Rattle.stab_node.specs.declared.account.Ended.TheVariants.{Upstream, Turns}
-use Rattle.rignolda_reports.specs.Texts.{report_text as text_judged}
+use Rattle.stab_report.specs.Texts.{report_text as text_judged}
 use Rattle.stab_run.specs.Reports.{Reported, report_text as text_of_run}
 use Rattle.stab_tree.specs.Nodes.{Nodes}
 

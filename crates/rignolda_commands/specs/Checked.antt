@@ -25,7 +25,7 @@ use Rattle.rignolda_moment.specs.Backlogs.{backlogs}
 use Rattle.rignolda_moment.specs.ObeysSince.{ObeysSince}
 use Rattle.rignolda_moment.specs.VerdictTexts.{SaysSince}
 use Rattle.stab_judge.specs.Reports.{OnePerNode, ReportValue}
-use Rattle.rignolda_reports.specs.Texts.{IsTextOf}
+use Rattle.stab_report.specs.Texts.{IsTextOf}
 use Rattle.stab_script.specs.declared.link_job.LinkJob.{LinkJob}
 use Rattle.stab_task.specs.Answers.{IsFault}
 use Rattle.stab_task.specs.Loading.{IsUnloaded}

@@ -5,7 +5,7 @@ ghost use Rattle.stab_job.specs.JobValues.{JobValue};
 ghost use Rattle.stab_script.specs.declared.link_job.LinkJob.{LinkJob};
 
 use rignolda_moment::BacklogFault;
-use rignolda_reports::ReportFault;
+use stab_report::ReportFault;
 use stab_task::CliFault;
 use std::alloc::AllocError;
 use thiserror::Error;

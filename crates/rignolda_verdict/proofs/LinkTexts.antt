@@ -9,8 +9,8 @@ use Rattle.std.specs.List.{flat_map, list_any}
 use Rattle.stab_frames.specs.declared.frame.Frame.{Frame}
 use Rattle.stab_core.specs.LinkState.{LinkState}
 use Rattle.stab_core.specs.Texts.{closed_line, frame_entry, frames_line, link_text, newline, number_entry, number_line, numbers_line}
-use Rattle.rignolda_reports.specs.Lines.{AreItems, BeginsWithNoDigit, HasNoDigit, IsOneLine, Shows}
-use Rattle.rignolda_reports.proofs.Nodes.{one_line_both, one_line_decimal}
+use Rattle.stab_report.specs.Lines.{AreItems, BeginsWithNoDigit, HasNoDigit, IsOneLine, Shows}
+use Rattle.stab_report.proofs.Nodes.{one_line_both, one_line_decimal}
 use Rattle.rignolda_verdict.specs.LinkTexts.{AreFrames, AreLabels, IsNoLink, IsPrintable, frame_numbers, frames_after, label_or_zero}
 
 -- a label is one

@@ -8,7 +8,7 @@ use Rattle.std.specs.Prelude.{nat_lt, if◌then◌else◌}
 use Rattle.stab_frames.specs.declared.frame.Frame.{Frame}
 use Rattle.stab_core.specs.LinkState.{LinkState}
 use Rattle.stab_core.specs.Texts.{link_text}
-use Rattle.rignolda_reports.specs.Lines.{AreItems}
+use Rattle.stab_report.specs.Lines.{AreItems}
 
 -- each is a label: a number below 2 ^ 16
 abbrev pub AreLabels : List ℕ → Type 0

@@ -7,14 +7,14 @@ ghost use Rattle.std.specs.List.{flat_map};
 ghost use Rattle.stab_frames.specs.declared.frame.Frame.{Frame};
 ghost use Rattle.stab_core.specs.LinkState.{LinkState};
 ghost use Rattle.stab_core.specs.Texts.{link_text, number_entry};
-ghost use Rattle.rignolda_reports.specs.Lines.{Shows};
+ghost use Rattle.stab_report.specs.Lines.{Shows};
 ghost use Rattle.rignolda_verdict.specs.LinkTexts.{AreFrames, AreLabels, IsNoLink, IsPrintable};
 ghost use Rattle.rignolda_verdict.specs.LinkTexts.{frame_numbers, frames_after, label_or_zero};
 
 use crate::link_report::LinkReport;
 use crate::link_text::link_report_text;
-use rignolda_reports::{ReportFault, count_of, cut_line, items_of, see_same};
 use stab_frames::{Frame, Item, Label, Sequence};
+use stab_report::{ReportFault, count_of, cut_line, items_of, see_same};
 use std::alloc::{AllocError, Global};
 
 /// Reads the text of a link, as `stab link` prints one. What is answered has exactly this text.

@@ -12,7 +12,7 @@ use Rattle.stab_treecore.specs.Network.{Network}
 use Rattle.stab_treecore.specs.NodeLaws.{capacity_into, garbage_into}
 use Rattle.stab_judge.specs.Judged.{LinkLawBelow}
 use Rattle.stab_judge.specs.Obeys.{LinkObeys}
-use Rattle.stab_judge.specs.Reports.{ReportValue, received_at, acked_at}
+use Rattle.stab_report.specs.Reports.{ReportValue, received_at, acked_at}
 
 -- the law of the layer below that this needs
 abbrev pub ReplaysObey : Type 0

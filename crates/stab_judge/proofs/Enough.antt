@@ -18,7 +18,7 @@ use Rattle.stab_tree.proofs.ForCallers.{openings_fit}
 use Rattle.stab_treecore.specs.Paths.{lists_above, sum_above}
 use Rattle.stab_treecore.specs.TreeLaw.{CompleteLaw}
 use Rattle.stab_judge.specs.Obeys.{AllAboveEnded, CompleteBelowEnded, HandsOn, LinkObeys, NodeObeys, RootObeys}
-use Rattle.stab_judge.specs.Reports.{ReportValue, received_at}
+use Rattle.stab_report.specs.Reports.{ReportValue, received_at}
 
 -- the laws of the layers below that this needs
 abbrev pub LinksMakeTheTreeLaw : Type 0

@@ -12,7 +12,7 @@ use Rattle.stab_treecore.specs.NodeLaws.{capacity_into, garbage_into}
 use Rattle.stab_judge.specs.Judged.{LinkLawBelow}
 use Rattle.stab_judge.specs.JudgeInside.{AreWholeBefore}
 use Rattle.stab_judge.specs.Obeys.{HandsOn, IsBroken, IsFirst, IsFirstBroken, LinkObeys, NodeObeys, RootObeys, place_of, turn_of}
-use Rattle.stab_judge.specs.Reports.{OnePerNode, ReportValue, acked_at, received_at}
+use Rattle.stab_report.specs.Reports.{OnePerNode, ReportValue, acked_at, received_at}
 use Rattle.stab_judge.specs.declared.broken.Broken.{Broken}
 use Rattle.stab_judge.specs.declared.broken.Broken.TheVariants as broken
 

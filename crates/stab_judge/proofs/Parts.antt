@@ -7,7 +7,7 @@ use Rattle.stab_treecore.specs.NodeLaws.{capacity_into, garbage_into}
 use Rattle.stab_tree.specs.NodeOpenings.{opening_at}
 use Rattle.stab_judge.specs.Judged.{LinkLawBelow}
 use Rattle.stab_judge.specs.Obeys.{LinkObeys}
-use Rattle.stab_judge.specs.Reports.{ReportValue, received_at, acked_at}
+use Rattle.stab_report.specs.Reports.{ReportValue, received_at, acked_at}
 
 -- under other names for the two lists, what begins with an opening, and what does not
 pub opened : (below first delivered received opening : List ℕ) → below ≡ received → first ≡ opening → below ≡ first ++ delivered

@@ -19,7 +19,7 @@ use Rattle.stab_treecore.specs.declared.event.TreeEvent.{TreeEvent}
 use Rattle.stab_treecore.proofs.Linked.{same_kind}
 use Rattle.stab_treecore.proofs.Replayed.{IsRun, ReplaysObey, StepsReach, opening_is_run, replay_keeps, run_root}
 use Rattle.stab_judge.specs.Obeys.{HandsOn, LinkObeys, RootObeys}
-use Rattle.stab_judge.specs.Reports.{OnePerNode, acked_at, has_ended, received_at, report_of}
+use Rattle.stab_report.specs.Reports.{OnePerNode, acked_at, has_ended, received_at, report_of}
 
 -- nothing, or something
 none_or_some : {A : Type 0} (o : Option A) → (o ≡ None) ⊎ ((x : A) × (o ≡ Some x))

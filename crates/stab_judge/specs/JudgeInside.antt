@@ -9,7 +9,7 @@ use Rattle.stab_tree.specs.NodeOpenings.{FitTree, OpeningsValue}
 use Rattle.stab_treecore.specs.Network.{Network}
 use Rattle.stab_treecore.specs.Refusals.{OnePerLink}
 use Rattle.stab_judge.specs.Obeys.{IsBroken}
-use Rattle.stab_judge.specs.Reports.{ReportValue}
+use Rattle.stab_report.specs.Reports.{ReportValue}
 use Rattle.stab_judge.specs.declared.broken.Broken.{Broken}
 use Rattle.stab_judge.specs.declared.broken.Broken.TheVariants as broken
 

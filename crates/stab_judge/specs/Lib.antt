@@ -1,5 +1,5 @@
 pub mod Judged
-pub mod Reports
+pub use Rattle.stab_report.specs.Reports
 pub mod Obeys
 pub mod NodeBounds
 pub mod JudgeInside

@@ -3,7 +3,7 @@ ghost use Rattle.stab_judge.specs.JudgeInside.{AreWholeBefore};
 ghost use Rattle.stab_judge.specs.Obeys.{HandsOn, IsBroken, IsFirst, IsFirstBroken};
 ghost use Rattle.stab_judge.specs.Obeys.{LinkObeys, NodeObeys};
 ghost use Rattle.stab_judge.specs.Obeys.{Obeys, RootObeys, place_of};
-ghost use Rattle.stab_judge.specs.Reports.{OnePerNode};
+ghost use Rattle.stab_report.specs.Reports.{OnePerNode};
 ghost use Rattle.stab_judge.specs.Judged.{LinkLawBelow};
 ghost use Rattle.stab_tree.specs.Nodes.{parent_at, root_of};
 ghost use Rattle.stab_treecore.specs.NodeLaws.{capacity_into, garbage_into};
@@ -12,8 +12,8 @@ use crate::broken::Broken;
 use crate::judge::Judge;
 use crate::laws;
 use crate::link::obeys_link_law_below;
-use crate::report::Report;
 use stab_frames::Item;
+use stab_report::Report;
 use stab_tree::{NodeId, Tree};
 
 /// Whether each list of a report has one entry for each node of the tree.

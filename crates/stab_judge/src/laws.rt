@@ -4,8 +4,8 @@
 ghost use Rattle.std.specs.Prelude.{◌≡◌, ◌<◌, ℕ, List, Some, length};
 ghost use Rattle.stab_judge.specs.Obeys.{HandsOn, IsFirstBroken, LinkObeys, NodeObeys};
 ghost use Rattle.stab_judge.specs.Obeys.{Obeys, RootObeys};
-ghost use Rattle.stab_judge.specs.Reports.{OnePerNode, ReportValue, acked_at, received_at};
-ghost use Rattle.stab_judge.specs.Reports.{report_of};
+ghost use Rattle.stab_report.specs.Reports.{OnePerNode, ReportValue, acked_at, received_at};
+ghost use Rattle.stab_report.specs.Reports.{report_of};
 ghost use Rattle.stab_judge.specs.declared.broken.Broken.{Broken};
 ghost use Rattle.stab_tree.specs.IsTree.{IsRooted};
 ghost use Rattle.stab_tree.specs.Nodes.{parent_at, root_of};

@@ -16,7 +16,6 @@ mod judge;
 pub mod laws;
 mod link;
 mod picked;
-mod report;
 mod tree;
 
 pub use bounds::Bounds;
@@ -24,5 +23,5 @@ pub use broken::Broken;
 pub use judge::Judge;
 pub use link::{obeys_half_law, obeys_link_law, obeys_link_law_below, obeys_link_law_within};
 pub use picked::{count_picked, is_picked};
-pub use report::Report;
+pub use stab_report::Report;
 pub use tree::{obeys_complete_law, obeys_half_tree_law, obeys_tree_law};

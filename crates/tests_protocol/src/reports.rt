@@ -1,10 +1,8 @@
 //! The reader of a report's text.
 
-use rignolda_reports::{
-    ReportFault, read_report, read_text, read_tree_text, report_text, tree_text,
-};
 use serde_json::Value;
 use stab_judge::Report;
+use stab_report::{ReportFault, read_report, read_text, read_tree_text, report_text, tree_text};
 use stab_tree::{NodeId, Tree, read_tree};
 use std::alloc::Global;
 use std::process::Abort;

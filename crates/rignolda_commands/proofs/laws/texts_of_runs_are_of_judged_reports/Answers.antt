@@ -3,7 +3,7 @@ use Rattle.std.specs.List.{range_with_len}
 use Rattle.rignolda_commands.specs.AsJudged.{as_judged}
 use Rattle.rignolda_commands.proofs.Endings.{same_entry, same_parts}
 use Rattle.stab_core.specs.Texts.{newline, numbers_line}
-use Rattle.rignolda_reports.specs.Texts.{node_report as node_judged, report_text as text_judged, lines_of as lines_judged}
+use Rattle.stab_report.specs.Texts.{node_report as node_judged, report_text as text_judged, lines_of as lines_judged}
 use Rattle.stab_run.specs.Reports.{Reported, node_report as node_of_run, report_text as text_of_run, lines_of as lines_of_run}
 use Rattle.stab_tree.specs.Nodes.{Nodes}
 use Rattle.stab_tree.specs.Steps.{depth_of}

@@ -1,6 +1,6 @@
 use Rattle.std.proofs.Common.{◌∙◌, ◌≢◌}
-use Rattle.rignolda_reports.specs.declared.fault.ReportFault.TheVariants.{Memory}
-use Rattle.rignolda_reports.proofs.Reading.{of_each}
+use Rattle.stab_report.specs.declared.fault.ReportFault.TheVariants.{Memory}
+use Rattle.stab_report.proofs.Reading.{of_each}
 use Rattle.rignolda_verdict.specs.LinkTexts.{IsNoLink}
 use Rattle.rignolda_verdict.proofs.LinkTexts.{no_link}
 use Rattle.rignolda_verdict.proofs.link_read.read_link_report.Goals as goal

@@ -1,8 +1,8 @@
 use Rattle.std.proofs.Common.{[], ◌++◌, ◌∙◌, ap, arith, codes, refl, subst, sym}
 use Rattle.std.specs.List.{flat_map}
 use Rattle.stab_core.specs.Texts.{number_entry}
-use Rattle.rignolda_reports.specs.Lines.{Shows}
-use Rattle.rignolda_reports.proofs.Nodes.{one_line_items, shows_items}
+use Rattle.stab_report.specs.Lines.{Shows}
+use Rattle.stab_report.proofs.Nodes.{one_line_items, shows_items}
 use Rattle.rignolda_verdict.specs.LinkTexts.{frame_numbers, label_or_zero}
 use Rattle.rignolda_verdict.proofs.LinkTexts.{after_acked, after_delivered, after_frames, after_acks, after_offered, after_recv_label, after_send_label}
 use Rattle.rignolda_verdict.proofs.LinkTexts.{closed_cut, closed_told, closed_words, first_of_eight, frames_cut, frames_line_of, labels_are_items}

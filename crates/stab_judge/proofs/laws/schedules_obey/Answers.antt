@@ -1,5 +1,5 @@
 use Rattle.stab_treecore.specs.TreeReplay.{initial_tree, tree_replay}
-use Rattle.stab_judge.specs.Reports.{report_of}
+use Rattle.stab_report.specs.Reports.{report_of}
 use Rattle.stab_judge.proofs.Shown.{all_shown, links_shown, none_ended, root_shown, schedule_is_run}
 use Rattle.stab_judge.proofs.laws.schedules_obey.Goals as goal
 

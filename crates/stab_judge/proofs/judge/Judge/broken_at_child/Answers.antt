@@ -3,7 +3,7 @@ use Rattle.std.proofs.lemmas.Bool.{both_ways, false≢true}
 use Rattle.std.proofs.lemmas.Bool.Decides.{Decides-eqb}
 use Rattle.std.proofs.lemmas.Slice.Eq.{strip_prefix_is}
 use Rattle.stab_tree.specs.NodeOpenings.{opening_at}
-use Rattle.stab_judge.specs.Reports.{received_at, acked_at, has_ended}
+use Rattle.stab_report.specs.Reports.{received_at, acked_at, has_ended}
 use Rattle.stab_judge.proofs.First.{counted_there, law_unbroken, opened_there}
 use Rattle.stab_judge.proofs.Parts.{as_above, link_from, link_to, opened, unopened}
 use Rattle.stab_judge.proofs.judge.Judge.broken_at_child.Goals as goal

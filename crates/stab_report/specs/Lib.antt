@@ -1,0 +1,4 @@
+pub mod Reports
+pub mod Lines
+pub mod Texts
+pub mod LinesInside
