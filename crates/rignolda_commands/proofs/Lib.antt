@@ -1,5 +1,4 @@
 pub mod Begin
-pub mod Endings
 pub mod Offers
 pub mod Told
 pub mod Drawn

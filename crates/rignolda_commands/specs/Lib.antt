@@ -1,4 +1,3 @@
-pub mod AsJudged
 pub mod Begun
 pub mod Checked
 pub mod Drawn

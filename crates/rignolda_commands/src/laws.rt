@@ -2,34 +2,27 @@
 //! law.
 
 ghost use Rattle.std.specs.Prelude.{◌≡◌};
-ghost use Rattle.rignolda_commands.specs.AsJudged.{as_judged, run_text, judged_text};
 ghost use Rattle.stab_core.specs.Replay.{IsLawful, initial, replay};
 ghost use Rattle.stab_frames.specs.Parameters.{AreLawful};
 ghost use Rattle.stab_job.specs.JobValues.{JobValue, network};
 ghost use Rattle.stab_judge.specs.Obeys.{Obeys};
 ghost use Rattle.stab_judge.specs.Reports.{OnePerNode};
-ghost use Rattle.stab_run.specs.Reports.{Reported};
+ghost use Rattle.stab_run.specs.Reports.{Reported, as_report};
 ghost use Rattle.stab_run.specs.Runs.{IsReport};
 ghost use Rattle.stab_links.specs.declared.links.Links.{Links};
 ghost use Rattle.stab_script.specs.declared.link_job.LinkJob.{LinkJob};
-ghost use Rattle.stab_tree.specs.Nodes.{Nodes};
 ghost use Rattle.rignolda_verdict.specs.LinkVerdicts.{ObeysLink};
 
-/// The report of a run obeys, as a judge reads it, and has an entry for each node.
+/// What a run says of its nodes is a report that obeys, with an entry for each node. Its text is
+/// that of this report.
 pub fn runs_are_accepted()
     ensures obeys { (links : Links) (job : JobValue) (report : Reported) → IsReport links job report
-        → Obeys (network job) (as_judged report) }
+        → Obeys (network job) (as_report report) }
     ensures entries { (links : Links) (job : JobValue) (report : Reported)
-        → IsReport links job report → OnePerNode job.tree.parents (as_judged report) }
+        → IsReport links job report → OnePerNode job.tree.parents (as_report report) }
 {
     stab_judge::laws::explained_reports_obey();
 }
-
-/// The text of the report of a run is that of the report that a judge reads.
-pub fn texts_of_runs_are_of_judged_reports()
-    ensures { (nodes : Nodes) (report : Reported)
-        → run_text nodes report ≡ judged_text nodes (as_judged report) }
-{}
 
 /// The link that `stab link` prints obeys, whatever its job does to it: what was offered is picked
 /// from what the job offers, and the link law holds.

@@ -4,8 +4,7 @@ use Rattle.std.proofs.lemmas.Fmt.{decimal_by_steps}
 use Rattle.std.proofs.lemmas.List.{append-nil, append_cancel_right}
 use Rattle.stab_treecore.specs.Texts.{acked_entry}
 use Rattle.stab_report.specs.Lines.{IsCount}
-use Rattle.stab_report.specs.LinesInside.{end_entry}
-use Rattle.stab_report.specs.Texts.{ended_entry}
+use Rattle.stab_report.specs.Texts.{end_entry}
 
 -- the last byte of a text, and another one where it is empty
 abbrev pub last_of : List ℕ → ℕ → ℕ
@@ -54,7 +53,7 @@ module _ (line front : List ℕ) (acked : Option ℕ) (small : IsCount acked) wh
   -- cut from it is what is before it
   pub cut_upstream : (end : Option Bool) (rest : List ℕ) → line ≡ counts ++ end_entry end → line ≡ rest ++ codes " ended upstream"
       → (rest ≡ counts) × (Some true ≡ end)
-  unfolding ended_entry
+  unfolding end_entry
   cut_upstream None rest is cut = absurd (no_letter (rest ++ codes " ended upstream") 109 (omega arith) is cut (last_upstream rest))
   cut_upstream (Some true) rest is cut = (append_cancel_right rest counts (codes " ended upstream") (sym cut ∙ is), refl)
   cut_upstream (Some false) rest is cut =
@@ -64,7 +63,7 @@ module _ (line front : List ℕ) (acked : Option ℕ) (small : IsCount acked) wh
 
   pub cut_turns : (end : Option Bool) (rest : List ℕ) → line ≡ counts ++ end_entry end → line ≡ rest ++ codes " ended turns"
       → (rest ≡ counts) × (Some false ≡ end)
-  unfolding ended_entry
+  unfolding end_entry
   cut_turns None rest is cut = absurd (no_letter (rest ++ codes " ended turns") 115 (omega arith) is cut (last_turns rest))
   cut_turns (Some true) rest is cut =
       let never = one_last line (counts ++ codes " ended upstream") (rest ++ codes " ended turns") 109 115 is cut (last_upstream counts)
@@ -74,7 +73,7 @@ module _ (line front : List ℕ) (acked : Option ℕ) (small : IsCount acked) wh
 
   pub cut_nothing : (end : Option Bool) → line ≡ counts ++ end_entry end → ((rest : List ℕ) → line ≢ rest ++ codes " ended upstream")
       → ((rest : List ℕ) → line ≢ rest ++ codes " ended turns") → (line ≡ counts) × (None ≡ end)
-  unfolding ended_entry
+  unfolding end_entry
   cut_nothing None is not_upstream not_turns = (is ∙ append-nil counts, refl)
   cut_nothing (Some true) is not_upstream not_turns = absurd (not_upstream counts is)
   cut_nothing (Some false) is not_upstream not_turns = absurd (not_turns counts is)

@@ -14,8 +14,7 @@ use Rattle.stab_core.specs.Texts.{newline, number_entry, numbers_line}
 use Rattle.stab_tree.specs.Name.{is_name_byte}
 use Rattle.stab_treecore.specs.Texts.{acked_entry, node_counts}
 use Rattle.stab_report.specs.Lines.{AreItems, BeginsWithNoDigit, HasNoDigit, IsOneLine, Shows}
-use Rattle.stab_report.specs.LinesInside.{end_entry, node_lines}
-use Rattle.stab_report.specs.Texts.{ended_entry}
+use Rattle.stab_report.specs.Texts.{end_entry, node_lines}
 
 -- two texts without a newline
 pub one_line_both : (xs ys : List ℕ) → IsOneLine xs → IsOneLine ys → IsOneLine (xs ++ ys)
@@ -69,7 +68,7 @@ one_line_acked None = refl
 one_line_acked (Some n) = one_line_entry n
 
 one_line_end : (end : Option Bool) → IsOneLine (end_entry end)
-unfolding ended_entry
+unfolding end_entry
 one_line_end None = refl
 one_line_end (Some true) = refl
 one_line_end (Some false) = refl
@@ -122,7 +121,7 @@ shows_items label (n ∷ numbers) none small = (
 pub first_cut : (name : List ℕ) (depth : ℕ) (received : List ℕ) (acked : Option ℕ) (end : Option Bool) (text rest : List ℕ)
     → text ≡ node_lines name depth received acked end ++ rest
     → text ≡ before_acked name depth (length received) ++ acked_entry acked ++ end_entry end ++ newline ++ (numbers_line (codes "items:") received ++ rest)
-unfolding node_counts
+unfolding node_counts node_lines
 first_cut name depth received acked end text rest is =
     is ∙ append_assoc (before_acked name depth (length received) ++ acked_entry acked ++ end_entry end ++ newline)
     (numbers_line (codes "items:") received) rest

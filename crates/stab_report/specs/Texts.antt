@@ -4,46 +4,51 @@
 -- upstream: `a depth 1 received 2 acked 2 ended upstream`, a newline, `items: 7 8`, a newline.
 -- `stab tree` prints these lines without ` ended upstream`.
 -- Source: this project's profile; numbers are in plain decimal, as std prints them.
-use Rattle.std.specs.Prelude.{◌≡◌, ◌≢◌, ◌⊎◌, ℕ, Bool, false, List, [], ◌++◌, All, length, codes}
-use Rattle.std.specs.Prelude.{Option, slice_index_or}
-use Rattle.std.specs.Prelude.{if◌then◌else◌}
+use Rattle.std.specs.Prelude.{◌≡◌, ◌≢◌, ◌⊎◌, ℕ, Bool, true, false, List, [], ◌++◌, All, length}
+use Rattle.std.specs.Prelude.{codes, Option, Some, None, slice_index_or}
+use Rattle.std.specs.Bool.{then_some}
 use Rattle.std.specs.List.{flat_map, range_with_len}
 use Rattle.stab_core.specs.Texts.{newline, numbers_line}
 use Rattle.stab_tree.specs.Nodes.{Nodes}
 use Rattle.stab_tree.specs.Steps.{depth_of}
-use Rattle.stab_treecore.specs.Texts.{node_counts, node_text}
+use Rattle.stab_treecore.specs.Texts.{node_counts}
 use Rattle.stab_report.specs.Reports.{ReportValue, OnePerNode, received_at, acked_at, has_ended}
 use Rattle.stab_report.specs.Lines.{AreItems, IsCount}
 
--- the end of a node's first line
-unfoldable pub ended_entry : Bool → List ℕ
-ended_entry ended = if ended then codes " ended upstream" else codes " ended turns"
+-- the end of a node's first line: why the node ended, and nothing in the text of a tree
+unfoldable pub end_entry : Option Bool → List ℕ
+end_entry None = []
+end_entry (Some true) = codes " ended upstream"
+end_entry (Some false) = codes " ended turns"
 
--- the two lines of a node: its counts with why it ended, and the items that it received
-unfoldable pub node_report : List ℕ → ℕ → List ℕ → Option ℕ → Bool → List ℕ
-node_report name depth received acked ended =
-    node_counts name depth (length received) acked ++ ended_entry ended ++ newline
+-- the two lines of a node: its counts, with this end, and the items that it received
+unfoldable pub node_lines : List ℕ → ℕ → List ℕ → Option ℕ → Option Bool → List ℕ
+node_lines name depth received acked end =
+    node_counts name depth (length received) acked ++ end_entry end ++ newline
     ++ numbers_line (codes "items:") received
 
+-- why a node ended, where the text says so
+abbrev pub end_at : ReportValue → Bool → ℕ → Option Bool
+end_at r says_so node = then_some says_so (has_ended r node)
+
 -- the lines of a node of a tree
-abbrev pub lines_of : Nodes → ReportValue → ℕ → List ℕ
-lines_of nodes r node =
-    node_report (slice_index_or nodes.names node []) (depth_of nodes.parents node)
-    (received_at r node) (acked_at r node) (has_ended r node)
+abbrev pub lines_at : Nodes → ReportValue → Bool → ℕ → List ℕ
+lines_at nodes r says_so node =
+    node_lines (slice_index_or nodes.names node []) (depth_of nodes.parents node)
+    (received_at r node) (acked_at r node) (end_at r says_so node)
 
 -- the lines of each node
-unfoldable pub report_text : Nodes → ReportValue → List ℕ
-report_text nodes r = flat_map (lines_of nodes r) (range_with_len 0 (length nodes.parents))
+unfoldable pub text_of : Nodes → ReportValue → Bool → List ℕ
+text_of nodes r says_so =
+    flat_map (lines_at nodes r says_so) (range_with_len 0 (length nodes.parents))
 
--- the lines of a node of a tree, as `stab tree` prints them
-abbrev pub tree_lines_of : Nodes → ReportValue → ℕ → List ℕ
-tree_lines_of nodes r node =
-    node_text (slice_index_or nodes.names node []) (depth_of nodes.parents node)
-    (received_at r node) (acked_at r node)
+-- the text of a report, which says why each node ended
+abbrev pub report_text : Nodes → ReportValue → List ℕ
+report_text nodes r = text_of nodes r true
 
--- these lines of each node
-unfoldable pub tree_text : Nodes → ReportValue → List ℕ
-tree_text nodes r = flat_map (tree_lines_of nodes r) (range_with_len 0 (length nodes.parents))
+-- the text of a tree, which does not
+abbrev pub tree_text : Nodes → ReportValue → List ℕ
+tree_text nodes r = text_of nodes r false
 
 -- no node ended with its upstream
 abbrev pub IsUnended : ReportValue → Type 0

@@ -6,7 +6,8 @@ ghost use Rattle.std.specs.List.{position};
 ghost use Rattle.stab_core.specs.Texts.{newline};
 ghost use Rattle.stab_treecore.specs.Texts.{acked_entry};
 ghost use Rattle.stab_report.specs.Lines.{IsCount, IsOneLine, Shows};
-ghost use Rattle.stab_report.specs.LinesInside.{end_entry, ended_item, number_after};
+ghost use Rattle.stab_report.specs.LinesInside.{ended_item, number_after};
+ghost use Rattle.stab_report.specs.Texts.{end_entry};
 
 use stab_frames::{Item, Sequence};
 use std::alloc::{AllocError, Global};

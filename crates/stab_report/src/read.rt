@@ -2,15 +2,14 @@ ghost use Rattle.std.specs.Prelude.{◌≡◌, ◌≢◌, ◌≤◌, ℕ, Bool, 
 ghost use Rattle.std.specs.Prelude.{IfErr, IfOk, OnErr, OnOk};
 ghost use Rattle.stab_report.specs.Reports.{OnePerNode, ReportValue};
 ghost use Rattle.stab_report.specs.Lines.{AreItems, IsCount, IsOneLine};
-ghost use Rattle.stab_report.specs.LinesInside.{IsPrint, as_read, node_lines};
-ghost use Rattle.stab_report.specs.Texts.{report_text, tree_text, IsNoReport, IsNoText, IsNoTree};
-ghost use Rattle.stab_report.specs.Texts.{IsTextOf, IsUnended};
+ghost use Rattle.stab_report.specs.LinesInside.{IsPrint, as_read};
+ghost use Rattle.stab_report.specs.Texts.{node_lines, report_text, tree_text};
+ghost use Rattle.stab_report.specs.Texts.{IsNoReport, IsNoText, IsNoTree, IsTextOf, IsUnended};
 
 use crate::fault::ReportFault;
 use crate::lines::{count_of, cut_end, cut_line, items_of};
 use crate::report::Report;
-use crate::text::report_text;
-use crate::tree::tree_text;
+use crate::text::{report_text, tree_text};
 use stab_frames::{Item, Sequence};
 use stab_tree::Tree;
 use std::alloc::{AllocError, Global};
@@ -88,8 +87,8 @@ fn unended(alloc: Global, tree: &Tree, report: Report) -> Result<Report, AllocEr
 /// The report that the counts and items of a text make, whatever else is in it.
 fn shown_report(alloc: Global, tree: &Tree, text: &[u8]) -> Result<Report, AllocError>
     ensures entries { IfOk result (OnePerNode tree.now.parents) }
-    ensures shown { IfOk result (λ shown. (r : ReportValue) (end : ℕ → Option Bool)
-        → IsPrint tree.now text.now r end → shown ≡ as_read tree.now r end) }
+    ensures shown { IfOk result (λ shown. (r : ReportValue) (says_so : Bool)
+        → IsPrint tree.now text.now r says_so → shown ≡ as_read tree.now r says_so) }
 {
     let nodes = usize::from(tree.len());
     let _tree = tree.root();

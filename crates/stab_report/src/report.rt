@@ -1,6 +1,7 @@
 ghost use Rattle.std.specs.Prelude.{◌≡◌, ◌<◌, length};
 ghost use Rattle.stab_report.specs.Reports.{acked_at, has_ended, received_at};
 
+use crate::entries::{Entries, Entry};
 use stab_frames::{Item, Sequence};
 use stab_tree::NodeId;
 use std::marker::Model;
@@ -64,5 +65,17 @@ impl Report {
         ensures { result ≡ has_ended self.now node }
     {
         self.ended_upstream[node.index()]
+    }
+}
+
+impl Entries for Report {
+    ghost report = { λ r. r };
+
+    fn entry(&self, node: NodeId) -> Entry<'_> {
+        Entry {
+            received: self.received_at(node),
+            acked: self.acked_at(node),
+            ended_upstream: self.has_ended(node),
+        }
     }
 }

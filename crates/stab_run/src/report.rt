@@ -1,15 +1,14 @@
-//! What a run of workers answers, and its printed lines.
+//! What a run of workers answers, and its text.
 
-ghost use Rattle.std.specs.Prelude.{◌≡◌, [], ◌++◌, ◌<◌, length, string_bytes, OnOk, IfOk};
-ghost use Rattle.stab_run.specs.Reports.{OnePerNode, ended_entry, node_report, lines_of};
-ghost use Rattle.stab_run.specs.Reports.{report_text};
+ghost use Rattle.std.specs.Prelude.{◌≡◌, [], string_bytes, IfOk};
+ghost use Rattle.stab_report.specs.Texts.{report_text};
+ghost use Rattle.stab_run.specs.Reports.{OnePerNode, as_report, is_upstream};
 
 use crate::kept_links::KeptLinks;
-use stab_core::push_items_line;
 use stab_frames::{Item, Sequence};
 use stab_node::Ended;
+use stab_report::{Entries, Entry};
 use stab_tree::{NodeId, Tree};
-use stab_treecore::push_node_counts;
 use std::alloc::{AllocError, Global};
 use std::marker::Model;
 
@@ -71,67 +70,34 @@ impl Report {
     }
 }
 
-/// The lines of each node in file order: its name, its depth, how many items it received, how many
-/// are acknowledged on the link into it, and why its worker ended; and the items that it received.
-#[tactic(auto, unfolding(crate::specs::Reports::report_text))]
-pub fn report_text(alloc: Global, tree: &Tree, report: &Report) -> Result<String, AllocError>
-    requires { OnePerNode tree.now.parents report.now }
-    ensures { IfOk result (λ text. string_bytes text ≡ report_text tree.now report.now) }
-{
-    let mut text = String::new(alloc);
-    for place in 0..tree.len() {
-        push_node(&mut text, tree, report, NodeId::new(place))?;
+impl Entries for Report {
+    ghost report = { as_report };
+
+    fn entry(&self, node: NodeId) -> Entry<'_> {
+        Entry {
+            received: self.received[node.index()].as_slice(),
+            acked: self.acked[node.index()],
+            ended_upstream: is_upstream(self.ended[node.index()]),
+        }
     }
-    Ok(text)
 }
 
-/// Adds the lines of a node of the tree.
-fn push_node(
-    text: &mut String,
-    tree: &Tree,
-    report: &Report,
-    node: NodeId,
-) -> Result<(), AllocError>
-    requires entries { OnePerNode tree.now.parents report.now }
-    requires known { node < length tree.now.parents }
-    ensures { OnOk result
-        (string_bytes text.new ≡ string_bytes text.old ++ lines_of tree.now report.now node) }
-{
-    push_lines(
-        text,
-        tree.name(node),
-        tree.depth(node),
-        report.received[node.index()].as_slice(),
-        report.acked[node.index()],
-        report.ended[node.index()],
-    )
-}
-
-/// Adds the two lines of a node from its parts.
-#[tactic(auto, unfolding(crate::specs::Reports::node_report))]
-fn push_lines(
-    text: &mut String,
-    name: &str,
-    depth: u16,
-    received: &[Item],
-    acked: Option<u64>,
-    ended: Ended,
-) -> Result<(), AllocError>
-    ensures { OnOk result (string_bytes text.new
-        ≡ string_bytes text.old ++ node_report name.now depth received.now acked ended) }
-{
-    push_node_counts(text, name, depth, received.len() as u64, acked)?;
-    push_ended(text, ended)?;
-    text.push_str("\n")?;
-    push_items_line(text, "items:", received)
-}
-
-/// Adds why a worker made no further turn.
-fn push_ended(text: &mut String, ended: Ended) -> Result<(), AllocError>
-    ensures { OnOk result (string_bytes text.new ≡ string_bytes text.old ++ ended_entry ended) }
+/// Whether a worker ended with its upstream.
+fn is_upstream(ended: Ended) -> bool
+    ensures { result ≡ is_upstream ended }
 {
     match ended {
-        Ended::Upstream => text.push_str(" ended upstream"),
-        Ended::Turns => text.push_str(" ended turns"),
+        Ended::Upstream => true,
+        Ended::Turns => false,
     }
+}
+
+/// The lines of each node in file order: its name, its depth, how many items it received, how many
+/// are acknowledged on the link into it, and why its worker ended; and the items that it received.
+pub fn report_text(alloc: Global, tree: &Tree, report: &Report) -> Result<String, AllocError>
+    requires { OnePerNode tree.now.parents report.now }
+    ensures { IfOk result (λ text.
+        string_bytes text ≡ report_text tree.now (as_report report.now)) }
+{
+    stab_report::report_text(alloc, tree, report)
 }

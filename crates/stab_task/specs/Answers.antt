@@ -22,7 +22,8 @@ use Rattle.stab_job.specs.declared.fault.JobFault.{JobFault}
 use Rattle.stab_job.specs.declared.fault.JobFault.TheVariants.{Memory as no_memory}
 use Rattle.stab_job.specs.JobValues.{JobValue, network}
 use Rattle.stab_job.specs.Jobs.{job as whole_job}
-use Rattle.stab_run.specs.Reports.{Reported, report_text}
+use Rattle.stab_report.specs.Texts.{report_text}
+use Rattle.stab_run.specs.Reports.{Reported, as_report}
 use Rattle.stab_run.specs.RunFaults.{IsRunReason}
 use Rattle.stab_run.specs.Runs.{IsReport}
 use Rattle.stab_links.specs.declared.links.Links.{Links}
@@ -74,7 +75,7 @@ pub record IsTreeAnswer (input text : List ℕ) : Type 0 where
 pub record IsRunText (links : Links) (job : JobValue) (text : List ℕ) : Type 0 where
   pub report : Reported
   pub holds : IsReport links job report
-  pub the_text : text ≡ report_text job.tree report
+  pub the_text : text ≡ report_text job.tree (as_report report)
 
 -- these bytes are a job, and this is the text of some report of a run of it over these links
 pub record IsRunAnswer (links : Links) (input text : List ℕ) : Type 0 where

@@ -1,7 +1,7 @@
 use Rattle.std.proofs.Common.{◌++◌, codes, length}
 use Rattle.stab_core.specs.Texts.{numbers_line}
 use Rattle.stab_treecore.specs.Texts.{acked_entry}
-use Rattle.stab_report.specs.LinesInside.{end_entry}
+use Rattle.stab_report.specs.Texts.{end_entry}
 use Rattle.stab_report.proofs.Nodes.{before_acked, first_cut, one_line_first}
 use Rattle.stab_report.proofs.read.first_end.Goals as goal
 

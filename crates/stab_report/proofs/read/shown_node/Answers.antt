@@ -3,7 +3,7 @@ use Rattle.std.specs.List.{flat_map}
 use Rattle.stab_core.specs.Texts.{number_entry, numbers_line}
 use Rattle.stab_treecore.specs.Texts.{acked_entry}
 use Rattle.stab_report.specs.Lines.{Shows}
-use Rattle.stab_report.specs.LinesInside.{end_entry}
+use Rattle.stab_report.specs.Texts.{end_entry}
 use Rattle.stab_report.proofs.Nodes.{before_acked, first_cut, one_line_first, one_line_items, second_cut, shows_items}
 use Rattle.stab_report.proofs.read.shown_node.Goals as goal
 
