@@ -6,7 +6,7 @@ use Rattle.stab_node.specs.declared.fault.NodeFault.{NodeFault}
 use Rattle.stab_node.specs.declared.fault.NodeFault.TheVariants.{Gate}
 use Rattle.stab_node.specs.declared.workers_fault.WorkersFault.{WorkersFault}
 use Rattle.stab_node.specs.declared.workers_fault.WorkersFault.TheVariants.{Node, Thread, Memory}
-use Rattle.stab_node.specs.FirstFault.{AreOver, GivesUp, StopsAt, first_of}
+use Rattle.stab_node.specs.FirstFault.{AreOver, IsReasonAmong, first_of}
 use Rattle.stab_node.specs.Turns.{IsRefused}
 
 -- what is answered where all goes well: the account, and then the others
@@ -70,50 +70,42 @@ module _ {S A V : Type 0} (items : V → List A) (count capacity : V → ℕ) (n
   all_kept_done (s ∷ workers) (a ∷ accounts) kept =
       All-cons is_done (number s) (map number workers) kept.0.1 (all_kept_done workers accounts kept.1)
 
-  -- a worker that was not started comes after one that was
-  pub unstarted_joined : (s : S) (workers : List S) (answer : Result A NodeFault) (rest result : Result V WorkersFault) → Kept s answer
-      → IfErr rest (λ fault. (node : ℕ) → fault ≡ Thread node → StopsAt is_done (map number workers) node)
-      → IfErr result (FailsFirst (number s) answer rest)
-      → IfErr result (λ fault. (node : ℕ) → fault ≡ Thread node → StopsAt is_done (number s ∷ map number workers) node)
-  unstarted_joined s workers answer rest (Ok new) kept later joined = tt
-  unstarted_joined s workers (Ok a) (Ok more) (Err fault) kept later joined = cc
-  unstarted_joined s workers (Ok a) (Err f) (Err fault) kept later joined = λ node is.
-      inr (kept.1, later node (cc))
-  unstarted_joined s workers (Err why) (Ok more) (Err fault) kept later joined = λ node is. cc
-  unstarted_joined s workers (Err why) (Err (Thread k)) (Err fault) kept later joined = λ node is.
-      inr (kept.1, later node (sym joined ∙ is))
-  unstarted_joined s workers (Err why) (Err (Node k w)) (Err fault) kept later joined = λ node is. cc
-  unstarted_joined s workers (Err why) (Err Memory) (Err fault) kept later joined = λ node is. cc
+  -- why several workers give no accounts
+  abbrev pub Reason : List ℕ → WorkersFault → Type 0
+  Reason = IsReasonAmong has_passed may_refuse is_done turns
 
-  -- a worker that gave up comes after one with an account, or is that of the first node
-  pub gave_up_joined : (s : S) (workers : List S) (answer : Result A NodeFault) (rest result : Result V WorkersFault)
+  -- the reason of the workers after one with an account is the reason of all
+  one_more_before : (s : S) (workers : List S) → AreOver has_passed turns (number s) → is_done (number s) → (fault : WorkersFault)
+      → Reason (map number workers) fault → Reason (number s ∷ map number workers) fault
+  one_more_before s workers over done (Thread k) later = inr (done, later)
+  one_more_before s workers over done (Node k why) later =
+      record { first = inr (over, later.first); done = All-cons is_done (number s) (map number workers) done later.done }
+  one_more_before s workers over done Memory later = tt
+
+  -- a worker gives up that is the first one, and all after it are done
+  gives_up_first : (s : S) (workers : List S) (why : NodeFault)
+      → (why ≡ Gate → IsRefused (has_passed (number s)) (may_refuse (number s)) turns) → is_done (number s)
+      → All is_done (map number workers) → Reason (number s ∷ map number workers) (Node (number s) why)
+  gives_up_first s workers why refused done others =
+      record { first = inl (refl, refused); done = All-cons is_done (number s) (map number workers) done others }
+
+  -- a worker that was not started comes after one that was; a worker that gave up comes after one
+  -- with an account, or is the first one
+  pub refused_joined : (s : S) (workers : List S) (answer : Result A NodeFault) (rest result : Result V WorkersFault)
       → ((a : A) → Q s a → AreOver has_passed turns (number s)) → Kept s answer → IfOk rest (λ others. AllKept workers (items others))
-      → IfErr rest (λ fault. (node : ℕ) (why : NodeFault) → fault ≡ Node node why
-      → GivesUp has_passed may_refuse is_done turns (map number workers) node why)
-      → IfErr result (FailsFirst (number s) answer rest)
-      → IfErr result (λ fault. (node : ℕ) (why : NodeFault) → fault ≡ Node node why
-      → GivesUp has_passed may_refuse is_done turns (number s ∷ map number workers) node why)
-  gave_up_joined s workers answer rest (Ok new) over kept others later joined = tt
-  gave_up_joined s workers (Ok a) (Ok more) (Err fault) over kept others later joined = cc
-  gave_up_joined s workers (Ok a) (Err f) (Err fault) over kept others later joined = λ node why is.
-      let after = later node why (cc) in
-      record {
-        first = inr (over a kept.0, after.first);
-        done = All-cons is_done (number s) (map number workers) kept.1 after.done;
-      }
-  gave_up_joined s workers (Err w) (Ok more) (Err fault) over kept others later joined = λ node why is.
-      let here : node ≡ number s = cc in
-      let same : why ≡ w = cc in
-      record {
-        first = inl (here, λ gate. kept.0 (sym same ∙ gate));
-        done = All-cons is_done (number s) (map number workers) kept.1 (all_kept_done workers (items more) others);
-      }
-  gave_up_joined s workers (Err w) (Err (Node k v)) (Err fault) over kept others later joined = λ node why is.
-      let here : node ≡ number s = cc in
-      let same : why ≡ w = cc in
-      record {
-        first = inl (here, λ gate. kept.0 (sym same ∙ gate));
-        done = All-cons is_done (number s) (map number workers) kept.1 (later k v refl).done;
-      }
-  gave_up_joined s workers (Err w) (Err (Thread k)) (Err fault) over kept others later joined = λ node why is. cc
-  gave_up_joined s workers (Err w) (Err Memory) (Err fault) over kept others later joined = λ node why is. cc
+      → IfErr rest (Reason (map number workers)) → IfErr result (FailsFirst (number s) answer rest)
+      → IfErr result (Reason (number s ∷ map number workers))
+  refused_joined s workers answer rest (Ok new) over kept others later joined = tt
+  refused_joined s workers (Ok a) (Ok more) (Err fault) over kept others later joined = cc
+  refused_joined s workers (Ok a) (Err f) (Err fault) over kept others later joined =
+      let same : f ≡ fault = cc in
+      subst (Reason (number s ∷ map number workers)) same (one_more_before s workers (over a kept.0) kept.1 f later)
+  refused_joined s workers (Err w) (Ok more) (Err fault) over kept others later joined =
+      subst (Reason (number s ∷ map number workers)) (sym joined)
+      (gives_up_first s workers w kept.0 kept.1 (all_kept_done workers (items more) others))
+  refused_joined s workers (Err w) (Err (Node k v)) (Err fault) over kept others later joined =
+      subst (Reason (number s ∷ map number workers)) (sym joined) (gives_up_first s workers w kept.0 kept.1 later.done)
+  refused_joined s workers (Err w) (Err (Thread k)) (Err fault) over kept others later joined =
+      subst (Reason (number s ∷ map number workers)) (sym joined) (inr (kept.1, later))
+  refused_joined s workers (Err w) (Err Memory) (Err fault) over kept others later joined =
+      subst (Reason (number s ∷ map number workers)) (sym joined) tt

@@ -10,7 +10,12 @@ use Rattle.stab_node.specs.Work.{AreNew}
 use Rattle.stab_tree.specs.ByChild.{by_child}
 use Rattle.stab_scatter.proofs.ForCallers.{all_to_children}
 use Rattle.stab_scatter.specs.Scattering.{by_parent, to_children}
-use Rattle.stab_node.specs.FirstFault.{IsFirstOf, StopsAt}
+use Rattle.stab_node.specs.FirstFault.{AreOver, IsFirstOf, IsReasonAmong, StopsAt}
+use Rattle.stab_node.specs.Runs.{IsWorkersReason}
+use Rattle.stab_node.specs.Turns.{IsRefused}
+use Rattle.stab_node.specs.declared.fault.NodeFault.TheVariants.{Gate}
+use Rattle.stab_node.specs.declared.workers_fault.WorkersFault.{WorkersFault}
+use Rattle.stab_node.specs.declared.workers_fault.WorkersFault.TheVariants.{Memory, Node, Thread}
 
 -- ---- what the workers get
 
@@ -115,7 +120,7 @@ at_error (Ok x) e Q is holds = tt
 at_error (Err y) e Q is holds = subst Q (sym is) holds
 
 -- where all nodes are done, each is
-pub each_done : (is_done : ℕ → Type 0) (numbers : List ℕ) (start n node place : ℕ) → numbers ≡ range_with_len start n → All is_done numbers
+each_done : (is_done : ℕ → Type 0) (numbers : List ℕ) (start n node place : ℕ) → numbers ≡ range_with_len start n → All is_done numbers
     → node < n → place ≡ start + node → is_done place
 each_done is_done numbers start zero node place are all inside is = absurd (omega (arith, inside))
 each_done is_done [] start (suc n) node place are all inside is = absurd (omega (arith, ap length are))
@@ -127,7 +132,7 @@ each_done is_done (x ∷ xs) start (suc n) (suc node) place are all inside is =
 
 -- the first of some nodes is one of them, what is said of it holds, and what is said of those
 -- before it as well
-pub first_of_numbers : (before here : ℕ → Type 0) (numbers : List ℕ) (start n node : ℕ) → numbers ≡ range_with_len start n
+first_of_numbers : (before here : ℕ → Type 0) (numbers : List ℕ) (start n node : ℕ) → numbers ≡ range_with_len start n
     → IsFirstOf before here numbers node
     → (node < start + n) × ((earlier : ℕ) → start ≤ earlier → earlier < node → before earlier) × here node
 first_of_numbers before here [] start n node are is_first = absurd is_first
@@ -153,7 +158,7 @@ first_of_numbers before here (x ∷ xs) start (suc n) node are (inr later) =
     )
 
 -- the node whose worker was not started is one of the nodes, and those before it are done
-pub started_before : (is_done : ℕ → Type 0) (numbers : List ℕ) (start n node : ℕ) → numbers ≡ range_with_len start n → StopsAt is_done numbers node
+started_before : (is_done : ℕ → Type 0) (numbers : List ℕ) (start n node : ℕ) → numbers ≡ range_with_len start n → StopsAt is_done numbers node
     → (node < start + n) × ((earlier : ℕ) → start ≤ earlier → earlier < node → is_done earlier)
 started_before is_done [] start n node are stops = absurd stops
 started_before is_done (x ∷ xs) start zero node are stops = absurd (omega (arith, ap length are))
@@ -172,3 +177,23 @@ started_before is_done (x ∷ xs) start (suc n) node are (inr later) =
                 subst is_done same later.0
           ],
     )
+
+-- why the workers of all nodes of a tree give no accounts
+module _ (has_passed may_refuse : ℕ → ℕ → Type 0) (is_done : ℕ → Type 0) (count turns : ℕ) (numbers : List ℕ)
+    (are : numbers ≡ range_with_len 0 count) where
+  pub reason_of_all : (fault : WorkersFault) → IsReasonAmong has_passed may_refuse is_done turns numbers fault
+      → IsWorkersReason has_passed may_refuse is_done count turns fault
+  reason_of_all (Thread node) stops =
+      let found = started_before is_done numbers 0 count node are stops in
+      record { known = omega (arith, found.0); before = λ earlier below. found.1 earlier (omega arith) below }
+  reason_of_all (Node node why) gives_up =
+      let found =
+      first_of_numbers (AreOver has_passed turns) (λ k. why ≡ Gate → IsRefused (has_passed k) (may_refuse k) turns) numbers 0 count node are gives_up.first in (
+        record {
+          known = omega (arith, found.0);
+          before = λ earlier below. found.1 earlier (omega arith) below;
+          done = λ each within. each_done is_done numbers 0 count each each are gives_up.done within (omega arith);
+        },
+        found.2,
+      )
+  reason_of_all Memory memory = tt

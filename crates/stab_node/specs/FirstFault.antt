@@ -8,7 +8,7 @@ use Rattle.stab_node.specs.declared.fault.NodeFault.{NodeFault}
 use Rattle.stab_node.specs.declared.fault.NodeFault.TheVariants.{Gate}
 use Rattle.stab_node.specs.Turns.{IsOver, IsRefused}
 use Rattle.stab_node.specs.declared.workers_fault.WorkersFault.{WorkersFault}
-use Rattle.stab_node.specs.declared.workers_fault.WorkersFault.TheVariants.{Node}
+use Rattle.stab_node.specs.declared.workers_fault.WorkersFault.TheVariants.{Memory, Node, Thread}
 
 -- the fault of a node, put before what those after it came to: before faults of nodes, and not
 -- before others
@@ -39,6 +39,14 @@ pub record GivesUp (has_passed may_refuse : ℕ → ℕ → Type 0) (is_done : �
   pub first : IsFirstOf (AreOver has_passed turns)
       (λ k. why ≡ Gate → IsRefused (has_passed k) (may_refuse k) turns) nodes node
   pub done : All is_done nodes
+
+-- why the workers of these nodes, which are started one after the other, give no accounts
+abbrev pub IsReasonAmong : (ℕ → ℕ → Type 0) → (ℕ → ℕ → Type 0) → (ℕ → Type 0) → ℕ → List ℕ
+    → WorkersFault → Type 0
+IsReasonAmong has_passed may_refuse is_done turns nodes (Thread node) = StopsAt is_done nodes node
+IsReasonAmong has_passed may_refuse is_done turns nodes (Node node why) =
+    GivesUp has_passed may_refuse is_done turns nodes node why
+IsReasonAmong has_passed may_refuse is_done turns nodes Memory = Unit {0}
 
 -- of `count` nodes this is the first whose worker was not started: those before it are done
 pub record IsFirstUnstarted (count : ℕ) (is_done : ℕ → Type 0) (node : ℕ) : Type 0 where

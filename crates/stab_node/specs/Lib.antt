@@ -5,3 +5,4 @@ pub mod Answers
 pub mod ByNode
 pub mod FirstFault
 pub mod InitialItems
+pub mod Runs

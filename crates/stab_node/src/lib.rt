@@ -22,7 +22,6 @@ mod first;
 mod free;
 mod gate;
 mod gathered;
-mod nodes;
 mod run;
 mod scatter;
 mod upstream;

@@ -1,25 +1,19 @@
-ghost use Rattle.std.specs.Prelude.{◌≡◌, ◌≤◌, ◌<◌, ◌++◌, ℕ, Some, true, IfOk, IfErr, All};
-ghost use Rattle.std.specs.Prelude.{length, map};
+ghost use Rattle.std.specs.Prelude.{◌≡◌, ◌≤◌, IfOk, IfErr, All, length, map};
 ghost use Rattle.stab_ends.specs.Accounts.{new_sender, new_receiver};
-ghost use Rattle.stab_node.specs.declared.fault.NodeFault.{NodeFault};
-ghost use Rattle.stab_node.specs.Turns.{IsOver, IsRefused};
-ghost use Rattle.stab_node.specs.Work.{HasAll, IsServed, OffersUnlessRefused};
+ghost use Rattle.stab_node.specs.Runs.{HaveAsked, IsRun, IsWorkersReason};
 ghost use Rattle.stab_tree.specs.Links.{links_of};
-ghost use Rattle.stab_tree.specs.Nodes.{parent_at, root_of};
-ghost use Rattle.stab_tree.specs.NodeOpenings.{FitTree, opening_at};
-ghost use Rattle.stab_node.specs.ByNode.{ended_at, entry_into, received_at};
-ghost use Rattle.stab_node.specs.FirstFault.{IsFirstToGiveUp, IsFirstUnstarted};
+ghost use Rattle.stab_tree.specs.NodeOpenings.{FitTree};
 
-use crate::account::Ended;
-use crate::fault::NodeFault;
 use crate::gate::Gate;
 use crate::gathered::{Gathered, gather_accounts};
-use crate::nodes::run_nodes;
+use crate::scatter::scatter;
+use crate::workers::run_each;
 use crate::workers_fault::WorkersFault;
 use stab_ends::{RecvSide, SendSide};
 use stab_frames::Item;
 use stab_tree::{Openings, Tree};
 use std::alloc::Global;
+use std::collections::VecDeque;
 use std::sync::Wait;
 use std::thread::Threads;
 
@@ -53,69 +47,37 @@ where
     requires receivers { length recvs.items ≡ length (links_of tree.now.parents) }
     requires new_senders { All (λ d. D.sent d ≡ new_sender) sends.items }
     requires new_receivers { All (λ u. U.received u ≡ new_receiver) recvs.items }
-    // There is one list and one reason for each node.
-    ensures received { IfOk result (λ g. length g.received.items ≡ length tree.now.parents) }
-    ensures ended { IfOk result (λ g. length g.ended.items ≡ length tree.now.parents) }
+    // Each node received the published items or its opening, and then what the finished receiver's
+    // end of the link into it delivered; the finished sender's end of each link offered a prefix of
+    // what the parent received, or all of it, as `work` says of one node.
+    ensures run { IfOk result (λ g. IsRun U.done_received D.done_sent
+        (λ done. D.may_refuse_offer (D.done_link done))
+        tree.now.parents openings.now.lists published.now
+        g.received.items g.ended.items g.recvs.items g.sends.items) }
     // The finished ends are of the links of those that were given, in the order of the links.
     ensures sender_links { IfOk result (λ g.
         map D.done_link g.sends.items ≡ map D.link sends.items) }
     ensures receiver_links { IfOk result (λ g.
         map U.done_link g.recvs.items ≡ map U.link recvs.items) }
-    // The root received the published items, and each other node its opening, followed by what the
-    // finished receiver's end of the link into it delivered.
-    ensures root { IfOk result (λ g.
-        received_at g.received.items (root_of tree.now.parents) ≡ published.now) }
-    ensures delivered { IfOk result (λ g. (child : ℕ) (done : U.Done)
-        → entry_into tree.now.parents g.recvs.items child ≡ Some done
-        → received_at g.received.items child
-        ≡ opening_at openings.now.lists child ++ (U.done_received done).delivered) }
-    // The finished sender's end of each link offered a prefix of what the parent received, and is
-    // closed.
-    ensures served { IfOk result (λ g. (child parent : ℕ) (done : D.Done)
-        → parent_at tree.now.parents child ≡ Some parent
-        → entry_into tree.now.parents g.sends.items child ≡ Some done
-        → IsServed (received_at g.received.items parent) (D.done_sent done)) }
-    // It also offered all that the parent received, or the last item that it offered waits for its
-    // acknowledgement, unless it is an end that may refuse an offer.
-    ensures offers { IfOk result (λ g. (child parent : ℕ) (done : D.Done)
-        → parent_at tree.now.parents child ≡ Some parent
-        → entry_into tree.now.parents g.sends.items child ≡ Some done
-        → OffersUnlessRefused D.may_refuse_offer (received_at g.received.items parent)
-        (D.done_link done) (D.done_sent done)) }
-    // Where a node ended as Upstream, the receiver's end of the link into it was shown the close,
-    // and each link to its children offered all that it received and has all of it acknowledged.
-    ensures upstream { IfOk result (λ g. (child : ℕ) (done : U.Done)
-        → entry_into tree.now.parents g.recvs.items child ≡ Some done
-        → ended_at g.ended.items child ≡ Ended.Upstream
-        → (U.done_received done).closed ≡ true) }
-    ensures handed_on { IfOk result (λ g. (child parent : ℕ) (done : D.Done)
-        → parent_at tree.now.parents child ≡ Some parent
-        → entry_into tree.now.parents g.sends.items child ≡ Some done
-        → ended_at g.ended.items parent ≡ Ended.Upstream
-        → HasAll (received_at g.received.items parent) (D.done_sent done)) }
     // The gate let each turn begin that a worker made, and was told by each node that it is done.
-    ensures turns { IfOk result (λ g. (node : ℕ) → node < length tree.now.parents
-        → IsOver (G.has_passed gate.now node) turns (ended_at g.ended.items node)) }
-    ensures done { IfOk result (λ g. (node : ℕ) → node < length tree.now.parents
-        → G.is_done gate.now node) }
+    ensures turns { IfOk result (λ g. HaveAsked (G.has_passed gate.now) (G.is_done gate.now)
+        (length tree.now.parents) turns g.ended.items) }
     // Where a worker could not be started, every node before it is done. Where a worker gave up,
-    // the turns of every node before it are over, and all nodes are done.
-    ensures unstarted { IfErr result (λ fault. (node : ℕ) → fault ≡ WorkersFault.Thread node
-        → IsFirstUnstarted (length tree.now.parents) (G.is_done gate.now) node) }
-    ensures gave_up { IfErr result (λ fault. (node : ℕ) (why : NodeFault)
-        → fault ≡ WorkersFault.Node node why
-        → IsFirstToGiveUp (length tree.now.parents) (G.has_passed gate.now) (G.is_done gate.now)
-        turns node) }
-    // That a gate refused at a node is answered only for a turn of this node that it may refuse,
-    // after it let every turn before that one begin.
-    ensures refused { IfErr result (λ fault. (node : ℕ)
-        → fault ≡ WorkersFault.Node node NodeFault.Gate
-        → IsRefused (G.has_passed gate.now node) (G.may_refuse gate.now node) turns) }
+    // the turns of every node before it are over, and all nodes are done; that its gate refused is
+    // answered only for a turn that it may refuse, after it let every turn before that one begin.
+    ensures refused { IfErr result (IsWorkersReason
+        (G.has_passed gate.now) (G.may_refuse gate.now) (G.is_done gate.now)
+        (length tree.now.parents) turns) }
 {
-    let _root = tree.root();
-    let accounts = run_nodes(
-        rt, pass, alloc, tree, sends, recvs, published, openings, turns, gate,
+    let _count = tree.len();
+    let root = tree.root().place();
+    let workers = scatter(alloc, tree, sends, recvs)?;
+    let room = VecDeque::with_capacity(alloc, workers.len())?;
+    let workers = VecDeque::from(workers);
+    let answered = run_each(
+        rt, pass, alloc, workers, root, published, openings, turns, gate, room,
     )?;
+    let accounts = Vec::from(answered);
     let gathered = gather_accounts(alloc, tree, accounts)?;
     Ok(gathered)
 }

@@ -1,13 +1,11 @@
 ghost use Rattle.std.specs.List.{AllZip};
 ghost use Rattle.std.specs.Thread.{IsSend, IsSync};
 ghost use Rattle.std.specs.Prelude.{◌≡◌, ◌≤◌, ◌<◌, ◌+◌, [], ◌∷◌, All, Err, IfErr, IfOk};
-ghost use Rattle.std.specs.Prelude.{MatchResult};
-ghost use Rattle.std.specs.Prelude.{length, map, ℕ};
+ghost use Rattle.std.specs.Prelude.{MatchResult, length, map};
 ghost use Rattle.std.specs.VecDeque.{deque_capacity, deque_len};
 ghost use Rattle.stab_node.specs.Turns.{IsRefused};
 ghost use Rattle.stab_node.specs.Answers.{HasWorked, node_ends};
-ghost use Rattle.stab_node.specs.FirstFault.{GivesUp, StopsAt, first_of};
-ghost use Rattle.stab_node.specs.declared.fault.NodeFault.{NodeFault};
+ghost use Rattle.stab_node.specs.FirstFault.{IsReasonAmong, first_of};
 ghost use Rattle.stab_node.specs.InitialItems.{initial_at};
 
 use crate::account::NodeAccount;
@@ -95,12 +93,9 @@ where
         × G.is_done gate.now s.node) workers.items accounts.items) }
     ensures len { IfOk result (λ accounts. deque_len accounts ≡ deque_len workers) }
     ensures room { IfOk result (λ new. deque_capacity new ≡ deque_capacity accounts) }
-    ensures unstarted { IfErr result (λ fault. (node : ℕ) → fault ≡ WorkersFault.Thread node
-        → StopsAt (G.is_done gate.now) (map (λ s. s.node) workers.items) node) }
-    ensures gave_up { IfErr result (λ fault. (node : ℕ) (why : NodeFault)
-        → fault ≡ WorkersFault.Node node why
-        → GivesUp (G.has_passed gate.now) (G.may_refuse gate.now) (G.is_done gate.now) turns
-        (map (λ s. s.node) workers.items) node why) }
+    ensures refused { IfErr result (IsReasonAmong
+        (G.has_passed gate.now) (G.may_refuse gate.now) (G.is_done gate.now) turns
+        (map (λ s. s.node) workers.items)) }
 {
     let Some(ends) = workers.pop_front() else {
         return Ok(accounts);
@@ -127,15 +122,9 @@ where
                 × G.is_done gate.entry.now s.node) (ends ∷ workers.items) accounts.items) }
             ensures len { IfOk result (λ accounts. deque_len accounts ≡ deque_len workers + 1) }
             ensures room { IfOk result (λ new. deque_capacity new ≡ deque_capacity accounts) }
-            ensures unstarted { IfErr result (λ fault. (node : ℕ)
-                → fault ≡ WorkersFault.Thread node
-                → StopsAt (G.is_done gate.entry.now)
-                (ends.node ∷ map (λ s. s.node) workers.items) node) }
-            ensures gave_up { IfErr result (λ fault. (node : ℕ) (why : NodeFault)
-                → fault ≡ WorkersFault.Node node why
-                → GivesUp (G.has_passed gate.entry.now) (G.may_refuse gate.entry.now)
-                (G.is_done gate.entry.now) turns
-                (ends.node ∷ map (λ s. s.node) workers.items) node why) }
+            ensures refused { IfErr result (IsReasonAmong (G.has_passed gate.entry.now)
+                (G.may_refuse gate.entry.now) (G.is_done gate.entry.now) turns
+                (ends.node ∷ map (λ s. s.node) workers.items)) }
         {
             let node = ends.node;
             let first = first_items(root, published, openings, node);

@@ -4,7 +4,7 @@ use Rattle.std.proofs.Common.{◌≡◌, inl, inr, ℕ, zero, suc, List, [], ◌
 use Rattle.std.proofs.lemmas.Option.{none-some, same_Some}
 use mathlib.Core.List.{IsPrefix}
 use Rattle.stab_core.specs.LinkSetup.{CanBegin, LinkSetup}
-use Rattle.stab_ends.specs.Accounts.{SenderAccount, ReceiverAccount}
+use Rattle.stab_ends.specs.Accounts.{SenderAccount}
 use Rattle.stab_acts.specs.Scripts.{Acts, receiver_half, sender_half}
 use Rattle.std.specs.List.{AllZip}
 use Rattle.stab_job.specs.JobValues.{JobValue, network}
@@ -20,11 +20,11 @@ use Rattle.stab_word.specs.Interleaving.{AnInterleavingExplains}
 use Rattle.stab_links.specs.AnyLinks.{HasSent, IsFollowed, IsOneOf, IsScriptOf, given_to, kind_of, received_by, sent_by}
 use Rattle.stab_node.specs.Work.{HasOffered, OffersUnlessRefused}
 use Rattle.stab_links.specs.AnyEnds.{MayRefuseOffer}
-use Rattle.stab_run.specs.ByScript.{AreByLockedScript, AreByScript, OffersAll}
+use Rattle.stab_run.specs.ByScript.{AreByLockedScript, AreByScript}
 use Rattle.stab_links.specs.LinkKinds.{LinkKind, behind_lock, kind_for, two_words}
 use Rattle.stab_links.specs.Settled.{IsSettled, IsSettledByScript}
-use Rattle.stab_run.specs.LinkRuns.{AllOfEach, AreSettled, IsRun, acked_of}
-use Rattle.stab_run.specs.Reports.{OnePerNode, Reported}
+use Rattle.stab_run.specs.LinkRuns.{AllOfEach, AreSettled, IsJobRun, acked_of}
+use Rattle.stab_run.specs.Reports.{OnePerNode, Reported, acked_at}
 use Rattle.stab_run.specs.Runs.{AreExplained, HandsOn, RootHas}
 use Rattle.stab_links.specs.Scripted.{FollowPlans, IsLetThrough, LinkPlan, ScriptedRecvFinished, ScriptedSendFinished, ack_stores, frame_stores, plan}
 use Rattle.stab_links.specs.declared.any_link.AnyLink.{AnyLink}
@@ -79,42 +79,65 @@ at_child P w (Some q ∷ parents) (link ∷ links) (send ∷ sends) (recv ∷ re
       holds = below.holds;
     }
 
+-- what holds of each link and the accounts of its two ends, said of the ends
+of_ends : {L S R A B : Type 0} (P : L → A → B → Type 0) (sent : S → A) (delivered : R → B) (links : List L) (sends : List S) (recvs : List R)
+    → AllOfEach P links (map sent sends) (map delivered recvs) → AllOfEach (λ link send recv. P link (sent send) (delivered recv)) links sends recvs
+of_ends P sent delivered [] [] [] all = tt
+of_ends P sent delivered [] [] (recv ∷ recvs) all = absurd all
+of_ends P sent delivered [] (send ∷ sends) recvs all = absurd all
+of_ends P sent delivered (link ∷ links) [] recvs all = absurd all
+of_ends P sent delivered (link ∷ links) (send ∷ sends) [] all = absurd all
+of_ends P sent delivered (link ∷ links) (send ∷ sends) (recv ∷ recvs) all = (all.0, of_ends P sent delivered links sends recvs all.1)
+
 -- the report of what the workers left
 abbrev pub report_of : List (Option ℕ) → List (List ℕ) → List Ended → List SenderAccount → List LinkKind → Reported
 report_of parents received ended sends kinds =
     record { received = received; acked = by_child parents (map acked_of sends); ended = ended; kinds = kinds }
 
-module _ (net : Network) (received : List (List ℕ)) (ended : List Ended) (sends : List SenderAccount) (recvs : List ReceiverAccount)
-    (kinds : List LinkKind) (run : IsRun net received ended sends recvs) where
+module _ (job : JobValue) (made : List AnyLink) (received : List (List ℕ)) (ended : List Ended) (sends : List ScriptedSendFinished)
+    (recvs : List ScriptedRecvFinished) (kinds : List LinkKind) (left : IsJobRun job made received ended recvs sends) where
+  abbrev net : Network
+  net = network job
+
   abbrev parents : List (Option ℕ)
-  parents = net.tree.parents
+  parents = job.tree.parents
 
   abbrev report : Reported
-  report = report_of parents received ended sends kinds
+  report = report_of parents received ended (map sent_by sends) kinds
 
   -- there is one entry per node
   pub one_per_node : OnePerNode parents report
   one_per_node = record {
-    received = run.all_received;
-    acked = length-by_child parents (map acked_of sends);
-    ended = run.all_ended;
+    received = left.run.all_received;
+    acked = length-by_child parents (map acked_of (map sent_by sends));
+    ended = left.run.all_ended;
   }
 
   -- the root has the published items
   pub root_has : parent_at parents (root_of parents) ≡ None → RootHas net report
   root_has none = record {
-    received = run.at_root;
-    acked = no_link_into parents (map acked_of sends) (root_of parents) none;
+    received = left.run.at_root;
+    acked = no_link_into parents (map acked_of (map sent_by sends)) (root_of parents) none;
   }
 
-  module _ (counted : length net.links ≡ length (links_of parents)) (all : AreSettled net.links sends recvs) where
+  module _ (counted : length net.links ≡ length (links_of parents)) (all : AreSettled net.links (map sent_by sends) (map received_by recvs)) where
+    -- the ends of the link into a child are settled, and a number of items is acknowledged on it
+    settled : (child parent : ℕ) → parent_at parents child ≡ Some parent
+        → HoldsAtChild (λ link send recv. IsSettled link (sent_by send) (received_by recv)) parents net.links sends recvs child
+    settled = at_child (λ link send recv. IsSettled link (sent_by send) (received_by recv)) 0 parents net.links sends recvs counted
+        (of_ends IsSettled sent_by received_by net.links sends recvs all)
+
+    acked_into : (child : ℕ) (send : ScriptedSendFinished) → entry_into parents sends child ≡ Some send → acked_at report.acked child ≡ Some send.account.acked
+    acked_into child send there =
+        entry_mapped acked_of parents (map sent_by sends) child (sent_by send) (entry_mapped sent_by parents sends child send there)
+
     -- each link is explained
     pub are_explained : All CanBegin net.links → AreExplained net report
     are_explained can_begin child parent is_child =
-        let link = at_child IsSettled 0 parents net.links sends recvs counted all child parent is_child in
+        let link = settled child parent is_child in
         let agree = link.holds.agree in
-        let served = run.served child parent link.send is_child link.sent in
-        let edge : EdgeLaw link.link.params link.link.start (received_at received parent) link.send.acked link.recv.delivered =
+        let served = left.run.served child parent link.send is_child link.sent in
+        let edge : EdgeLaw link.link.params link.link.start (received_at received parent) link.send.account.acked link.recv.account.delivered =
         record {
           events = link.holds.events;
           closed = sym agree.closed.by_sender ∙ served.closed;
@@ -127,20 +150,19 @@ module _ (net : Network) (received : List (List ℕ)) (ended : List Ended) (send
             link = link.link;
             leads = link.leads;
             begins = holds_by_child CanBegin parents net.links child link.link can_begin link.leads;
-            acked = link.send.acked;
-            delivered = link.recv.delivered;
-            has = run.delivered child link.recv link.delivered;
+            acked = link.send.account.acked;
+            delivered = link.recv.account.delivered;
+            has = left.run.delivered child link.recv link.delivered;
             edge = edge;
           };
-          counted = entry_mapped acked_of parents sends child link.send link.sent;
+          counted = acked_into child link.send link.sent;
         }
 
     -- what a node received whose worker ended with its upstream is acknowledged
     pub hands_on : HandsOn parents report
     hands_on child parent is_child over =
-        let link = at_child IsSettled 0 parents net.links sends recvs counted all child parent is_child in
-        entry_mapped acked_of parents sends child link.send link.sent
-        ∙ ap Some (run.handed_on child parent link.send is_child link.sent over).acked
+        let link = settled child parent is_child in
+        acked_into child link.send link.sent ∙ ap Some (left.run.handed_on child parent link.send is_child link.sent over).acked
 
 -- two words are no lock, so their ends followed what they have to follow
 words_followed : (link : AnyLink) (send : ScriptedSendFinished) (recv : ScriptedRecvFinished) → kind_of link ≡ two_words → IsFollowed link send recv
@@ -163,34 +185,30 @@ locked_followed (Lock link) script send recv is has held =
 locked_followed (Word link) script send recv is has held = absurd (subst IsWord is tt)
 
 module _ (which : Links) (job : JobValue) (made : List AnyLink) (received : List (List ℕ)) (ended : List Ended) (sends : List ScriptedSendFinished)
-    (recvs : List ScriptedRecvFinished) (kinds : List LinkKind)
-    (run : IsRun (network job) received ended (map sent_by sends) (map received_by recvs))
+    (recvs : List ScriptedRecvFinished) (kinds : List LinkKind) (left : IsJobRun job made received ended recvs sends)
     (given : map given_to made ≡ (network job).links) (one_of : All (IsOneOf which) made)
-    (send_plans : map (λ (done : ScriptedSendFinished). done.link.plan) sends ≡ map (plan job.turns) job.scripts)
-    (recv_plans : map (λ (done : ScriptedRecvFinished). done.link.plan) recvs ≡ map (plan job.turns) job.scripts)
     (counted : length made ≡ length (links_of job.tree.parents)) (all : AllOfEach IsFollowed made sends recvs) where
   -- each link of two words is by its own script
-  pub are_by_script : OffersAll job.tree.parents received sends → AllZip HasSent made sends
-      → AreByScript which job (report_of job.tree.parents received ended (map sent_by sends) kinds)
-  are_by_script offers names child parent link script is_child leads its_script two =
+  pub are_by_script : AreByScript which job (report_of job.tree.parents received ended (map sent_by sends) kinds)
+  are_by_script child parent link script is_child leads its_script two =
       let parents = job.tree.parents in
       let at = at_child IsFollowed 0 parents made sends recvs counted all child parent is_child in
       let same_link : given_to at.link ≡ link =
       same_Some (given_to at.link) link
       (sym (entry_mapped given_to parents made child at.link at.leads) ∙ (ap (λ ls. entry_into parents ls child) given ∙ leads)) in
       let send_plan : at.send.link.plan ≡ plan job.turns script =
-      same_entry (λ (done : ScriptedSendFinished). done.link.plan) (plan job.turns) parents sends job.scripts child at.send script send_plans
+      same_entry (λ (done : ScriptedSendFinished). done.link.plan) (plan job.turns) parents sends job.scripts child at.send script left.send_plans
       at.sent its_script in
       let recv_plan : at.recv.link.plan ≡ plan job.turns script =
-      same_entry (λ (done : ScriptedRecvFinished). done.link.plan) (plan job.turns) parents recvs job.scripts child at.recv script recv_plans
+      same_entry (λ (done : ScriptedRecvFinished). done.link.plan) (plan job.turns) parents recvs job.scripts child at.recv script left.recv_plans
       at.delivered its_script in
       let its_kind : kind_of at.link ≡ kind_for which (given_to at.link).params =
       holds_by_child (IsOneOf which) parents made child at.link one_of at.leads in
       let is_two : kind_of at.link ≡ two_words = its_kind ∙ (ap (λ (l : LinkSetup). kind_for which l.params) same_link ∙ two) in
       let kept : FollowPlans (given_to at.link) at.send at.recv = words_followed at.link at.send at.recv is_two at.holds in
-      let named : HasSent at.link at.send = paired_entry HasSent parents made sends child at.link at.send names at.leads at.sent in
+      let named : HasSent at.link at.send = paired_entry HasSent parents made sends child at.link at.send left.sent at.leads at.sent in
       let sent : entry_into parents (map sent_by sends) child ≡ Some (sent_by at.send) = entry_mapped sent_by parents sends child at.send at.sent in
-      let served = run.served child parent (sent_by at.send) is_child sent in
+      let served = left.run.served child parent at.send is_child at.sent in
       record {
         sent = at.send.steps;
         received = at.recv.steps;
@@ -201,9 +219,9 @@ module _ (which : Links) (job : JobValue) (made : List AnyLink) (received : List
         acks = subst (λ (p : LinkPlan). IsLetThrough (receiver_half p.script) p.turns (ack_stores at.recv.steps)) recv_plan kept.acks;
         offers = served.offered;
         offers_all =
-            words_offered at.link (received_at received parent) at.send is_two named (offers child parent at.send is_child at.sent);
+            words_offered at.link (received_at received parent) at.send is_two named (left.run.offers child parent at.send is_child at.sent);
         closed = served.closed;
-        delivers = run.delivered child (received_by at.recv) (entry_mapped received_by parents recvs child at.recv at.delivered);
+        delivers = left.run.delivered child at.recv at.delivered;
         counts = entry_mapped acked_of parents (map sent_by sends) child (sent_by at.send) sent;
       }
 
@@ -223,7 +241,7 @@ module _ (which : Links) (job : JobValue) (made : List AnyLink) (received : List
       subst (λ g. IsSettledByScript g script at.send.account at.recv.account) same_link
       (locked_followed at.link script at.send at.recv (its_kind ∙ (ap (λ (l : LinkSetup). kind_for which l.params) same_link ∙ locked)) has at.holds) in
       let sent : entry_into parents (map sent_by sends) child ≡ Some (sent_by at.send) = entry_mapped sent_by parents sends child at.send at.sent in
-      let served = run.served child parent (sent_by at.send) is_child sent in
+      let served = left.run.served child parent at.send is_child at.sent in
       record {
         events = kept.events;
         sender = at.send.account;
@@ -232,6 +250,6 @@ module _ (which : Links) (job : JobValue) (made : List AnyLink) (received : List
         noted = kept.noted;
         offers = served.offered;
         closed = served.closed;
-        delivers = run.delivered child (received_by at.recv) (entry_mapped received_by parents recvs child at.recv at.delivered);
+        delivers = left.run.delivered child at.recv at.delivered;
         counts = entry_mapped acked_of parents (map sent_by sends) child (sent_by at.send) sent;
       }

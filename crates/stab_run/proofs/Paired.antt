@@ -94,17 +94,6 @@ paired_entry R (Some q ∷ parents) (w ∷ xs) (z ∷ ys) zero x y all at_x at_y
     subst (λ b. R x b) (same_Some z y at_y) (subst (λ a. R a z) (same_Some w x at_x) all.0)
 paired_entry R (Some q ∷ parents) (w ∷ xs) (z ∷ ys) (suc node) x y all at_x at_y = paired_entry R parents xs ys node x y all.1 at_x at_y
 
--- what is read of the entry into a node is that of an entry
-pub entry_read : {A B : Type 0} (f : A → B) (parents : List (Option ℕ)) (xs : List A) (node : ℕ) (y : B) → entry_into parents (map f xs) node ≡ Some y
-    → (x : A) × (entry_into parents xs node ≡ Some x) × (f x ≡ y)
-entry_read f [] xs node y is = absurd (none-some y is)
-entry_read f (None ∷ parents) xs zero y is = absurd (none-some y is)
-entry_read f (None ∷ parents) xs (suc node) y is = entry_read f parents xs node y is
-entry_read f (Some q ∷ parents) [] zero y is = absurd (none-some y is)
-entry_read f (Some q ∷ parents) [] (suc node) y is = entry_read f parents [] node y is
-entry_read f (Some q ∷ parents) (x ∷ xs) zero y is = (x, refl, same_Some (f x) y is)
-entry_read f (Some q ∷ parents) (x ∷ xs) (suc node) y is = entry_read f parents xs node y is
-
 -- where the ends so far are made of the entries so far, one more end is made of the next entry
 pub one_more_end : {E F X : Type 0} (view : E → F) (made_of : X → F) (ends : List E) (end : E) (xs : List X) (place : ℕ) (x copy : X)
     → place < length xs → x ≡ get_or xs place x → copy ≡ x → view end ≡ made_of copy → map view ends ≡ map made_of (take place xs)

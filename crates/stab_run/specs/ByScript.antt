@@ -5,7 +5,7 @@
 -- script: they store no frame, so a load shows none. Where the script drops the first frame alone,
 -- and the job has 2 turns, one frame is stored at most, so a received 7 at most.
 -- Source: this project's own.
-use Rattle.std.specs.Prelude.{◌≡◌, ℕ, true, List, ◌++◌, Option, Some}
+use Rattle.std.specs.Prelude.{◌≡◌, ℕ, true, List, ◌++◌, Some}
 use Rattle.stab_core.specs.declared.event.Event.{Event}
 use Rattle.stab_core.specs.LinkSetup.{LinkSetup}
 use Rattle.stab_core.specs.Replay.{initial, replay}
@@ -20,12 +20,10 @@ use Rattle.stab_word.specs.Interleaving.{AnInterleavingExplains}
 use Rattle.stab_word.specs.declared.view.SendStep.{SendStep}
 use Rattle.stab_word.specs.declared.view.RecvStep.{RecvStep}
 use Rattle.stab_node.specs.ByNode.{entry_into, received_at}
-use Rattle.stab_node.specs.Work.{HasOffered, OffersUnlessRefused}
-use Rattle.stab_links.specs.AnyEnds.{MayRefuseOffer}
+use Rattle.stab_node.specs.Work.{HasOffered}
 use Rattle.stab_links.specs.LinkKinds.{behind_lock, kind_for, two_words}
 use Rattle.stab_run.specs.Reports.{Reported, acked_at}
-use Rattle.stab_links.specs.Scripted.{IsLetThrough, ScriptedSendFinished, ack_stores}
-use Rattle.stab_links.specs.Scripted.{frame_stores}
+use Rattle.stab_links.specs.Scripted.{IsLetThrough, ack_stores, frame_stores}
 use Rattle.stab_links.specs.declared.links.Links.{Links}
 use mathlib.Core.List.{IsPrefix}
 
@@ -83,12 +81,3 @@ AreByLockedScript links job r =
     → entry_into job.tree.parents job.scripts child ≡ Some script
     → kind_for links link.params ≡ behind_lock
     → IsByLockedScript job r link script child parent
-
--- the sender's end of each link of two words offered all that the parent received, or its last item
--- waits
-abbrev pub OffersAll : List (Option ℕ) → List (List ℕ) → List ScriptedSendFinished → Type 0
-OffersAll parents received sends =
-    (child parent : ℕ) (done : ScriptedSendFinished)
-    → parent_at parents child ≡ Some parent
-    → entry_into parents sends child ≡ Some done
-    → OffersUnlessRefused MayRefuseOffer (received_at received parent) done.link.id done.account

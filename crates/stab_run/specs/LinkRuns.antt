@@ -1,18 +1,19 @@
 -- A run of workers over links: what the workers leave, and what settling the links shows.
 -- Source: this project's own.
-use Rattle.std.specs.Prelude.{◌≡◌, ◌<◌, ℕ, List, [], ◌∷◌, ◌++◌, length, Option, Some}
+use Rattle.std.specs.List.{AllZip}
+use Rattle.std.specs.Prelude.{◌≡◌, ◌<◌, ℕ, List, [], ◌∷◌, map, Option, Some}
 use Rattle.stab_core.specs.LinkSetup.{LinkSetup}
 use Rattle.stab_ends.specs.Accounts.{SenderAccount, ReceiverAccount}
+use Rattle.stab_job.specs.JobValues.{JobValue}
+use Rattle.stab_links.specs.AnyEnds.{MayRefuseOffer}
+use Rattle.stab_links.specs.AnyLinks.{HasReceived, HasSent, received_by, sent_by}
+use Rattle.stab_links.specs.Scripted.{ScriptedRecvFinished, ScriptedSendFinished, plan}
 use Rattle.stab_links.specs.Settled.{IsSettled}
+use Rattle.stab_links.specs.declared.any_link.AnyLink.{AnyLink}
 use Rattle.stab_lock.specs.declared.settle.SettleFault.{SettleFault}
 use Rattle.stab_node.specs.declared.account.Ended.{Ended}
-use Rattle.stab_node.specs.declared.account.Ended.TheVariants.{Upstream}
-use Rattle.stab_node.specs.Work.{HasAll, IsServed}
-use Rattle.stab_tree.specs.Links.{links_of}
-use Rattle.stab_tree.specs.Nodes.{parent_at, root_of}
-use Rattle.stab_treecore.specs.Network.{Network}
-use Rattle.stab_tree.specs.NodeOpenings.{opening_at}
-use Rattle.stab_node.specs.ByNode.{ended_at, entry_into, received_at}
+use Rattle.stab_node.specs.ByNode.{entry_into}
+use Rattle.stab_node.specs.Runs.{IsRun}
 
 -- of each link, with its two finished ends, this holds: the three lists are in the same order
 abbrev pub AllOfEach : {L S R : Type 0} → (L → S → R → Type 0) → List L → List S → List R → Type 0
@@ -65,26 +66,19 @@ pub record IsFirstRefused (P : LinkSetup → SenderAccount → ReceiverAccount �
 abbrev pub acked_of : SenderAccount → ℕ
 acked_of send = send.acked
 
--- what the workers leave: the items of each node, why each made no further turn, and the accounts
--- of the two ends of each link
-pub record IsRun (net : Network) (received : List (List ℕ)) (ended : List Ended)
-    (sends : List SenderAccount) (recvs : List ReceiverAccount) : Type 0 where
-  pub all_received : length received ≡ length net.tree.parents
-  pub all_ended : length ended ≡ length net.tree.parents
-  pub all_sent : length sends ≡ length (links_of net.tree.parents)
-  pub all_delivered : length recvs ≡ length (links_of net.tree.parents)
-  pub at_root : received_at received (root_of net.tree.parents) ≡ net.published
-  pub delivered : (child : ℕ) (recv : ReceiverAccount)
-      → entry_into net.tree.parents recvs child ≡ Some recv
-      → received_at received child ≡ opening_at net.openings.lists child ++ recv.delivered
-  pub served : (child parent : ℕ) (send : SenderAccount)
-      → parent_at net.tree.parents child ≡ Some parent
-      → entry_into net.tree.parents sends child ≡ Some send
-      → IsServed (received_at received parent) send
-  pub handed_on : (child parent : ℕ) (send : SenderAccount)
-      → parent_at net.tree.parents child ≡ Some parent
-      → entry_into net.tree.parents sends child ≡ Some send → ended_at ended parent ≡ Upstream
-      → HasAll (received_at received parent) send
+-- What the workers of a job leave over the ends of these links: a run of it, of which the finished
+-- ends are those of the links, in their order, and had the scripts of the job to follow.
+pub record IsJobRun (job : JobValue) (links : List AnyLink) (received : List (List ℕ))
+    (ended : List Ended) (recvs : List ScriptedRecvFinished) (sends : List ScriptedSendFinished)
+    : Type 0 where
+  pub run : IsRun received_by sent_by (λ (send : ScriptedSendFinished). MayRefuseOffer send.link.id)
+      job.tree.parents job.openings.lists job.items received ended recvs sends
+  pub sent : AllZip HasSent links sends
+  pub delivered : AllZip HasReceived links recvs
+  pub send_plans : map (λ (send : ScriptedSendFinished). send.link.plan) sends
+      ≡ map (plan job.turns) job.scripts
+  pub recv_plans : map (λ (recv : ScriptedRecvFinished). recv.link.plan) recvs
+      ≡ map (plan job.turns) job.scripts
 
 -- The first of these links is settled with the first account of each side, and `acked` items are
 -- acknowledged on it; the others are left.

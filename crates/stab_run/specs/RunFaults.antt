@@ -4,13 +4,12 @@
 -- with the fault of that start at a. `IsRunReason` of a fault of a worker asks that every start can
 -- begin, so no such fault is answered there.
 -- Source: this project's own.
-use Rattle.std.specs.Prelude.{◌≡◌, ◌<◌, ℕ, List, length, All, Option}
+use Rattle.std.specs.Prelude.{ℕ, List, length, All, Option}
 use Rattle.stab_core.specs.LinkSetup.{CanBegin, LinkSetup}
 use Rattle.stab_job.specs.JobValues.{JobValue, network}
 use Rattle.stab_ends.specs.Accounts.{SenderAccount, ReceiverAccount}
 use Rattle.stab_node.specs.declared.account.Ended.{Ended}
-use Rattle.stab_node.specs.declared.fault.NodeFault.TheVariants.{Gate}
-use Rattle.stab_node.specs.Turns.{IsOver, IsRefused}
+use Rattle.stab_node.specs.Runs.{HaveAsked, IsWorkersReason}
 use Rattle.stab_links.specs.AnyLinks.{MayDiffer}
 use Rattle.stab_links.specs.LinkKinds.{HaveOnePlace, IsLocked}
 use Rattle.stab_run.specs.LinkRuns.{HoldsInto, IsFirstRefused}
@@ -18,8 +17,6 @@ use Rattle.stab_run.specs.Runs.{IsFirstUnlawful}
 use Rattle.stab_links.specs.declared.links.Links.{Links}
 use Rattle.stab_run.specs.declared.run_fault.RunFault.{RunFault}
 use Rattle.stab_run.specs.declared.run_fault.RunFault.TheVariants as run
-use Rattle.stab_node.specs.ByNode.{ended_at}
-use Rattle.stab_node.specs.FirstFault.{IsFirstToGiveUp, IsFirstUnstarted}
 use Rattle.stab_node.specs.declared.workers_fault.WorkersFault.{WorkersFault}
 use Rattle.stab_node.specs.declared.workers_fault.WorkersFault.TheVariants as workers
 
@@ -29,30 +26,10 @@ of_workers (workers.Thread node) = run.Thread node
 of_workers (workers.Node node fault) = run.Node node fault
 of_workers workers.Memory = run.Memory
 
--- What the workers of `count` nodes asked of their gate, each with these turns and ended for this
--- reason: the gate let each turn begin that a worker made, and was told by each node that it is
--- done.
-pub record HaveAsked (has_passed : ℕ → ℕ → Type 0) (is_done : ℕ → Type 0) (count turns : ℕ)
-    (ended : List Ended) : Type 0 where
-  pub over : (node : ℕ) → node < count → IsOver (has_passed node) turns (ended_at ended node)
-  pub done : (node : ℕ) → node < count → is_done node
-
 -- a start is refused: it is the first in file order that its link cannot begin from
 abbrev pub IsStartReason : List (Option ℕ) → List LinkSetup → RunFault → Type 0
 IsStartReason parents links (run.Start child reason) = IsFirstUnlawful parents links child reason
 IsStartReason parents links fault = ⊥
-
--- The workers of a job give no accounts: the worker of this node is the first that could not be
--- started, or the first that gave up. The gate is named only where it refused a turn of that node.
-abbrev pub IsWorkersReason : JobValue → (ℕ → ℕ → Type 0) → (ℕ → ℕ → Type 0) → (ℕ → Type 0)
-    → RunFault → Type 0
-IsWorkersReason job has_passed may_refuse is_done (run.Thread node) =
-    IsFirstUnstarted (length job.tree.parents) is_done node
-IsWorkersReason job has_passed may_refuse is_done (run.Node node why) =
-    IsFirstToGiveUp (length job.tree.parents) has_passed is_done job.turns node
-    × (why ≡ Gate → IsRefused (has_passed node) (may_refuse node) job.turns)
-IsWorkersReason job has_passed may_refuse is_done run.Memory = Unit {0}
-IsWorkersReason job has_passed may_refuse is_done fault = ⊥
 
 -- the links are not all settled with these accounts: this is the first that is called different
 abbrev pub IsSettlingReason : Links → List (Option ℕ) → List LinkSetup → List SenderAccount
@@ -80,5 +57,10 @@ IsRunReason links job has_passed may_refuse is_done (run.Start child reason) =
 IsRunReason links job has_passed may_refuse is_done (run.Settle child why) =
     CanStart links job × HoldsInto (IsLocked links) job.tree.parents (network job).links child
     × (ended : List Ended) × HaveAsked has_passed is_done (length job.tree.parents) job.turns ended
-IsRunReason links job has_passed may_refuse is_done fault =
-    CanStart links job × IsWorkersReason job has_passed may_refuse is_done fault
+IsRunReason links job has_passed may_refuse is_done (run.Thread node) =
+    CanStart links job × IsWorkersReason has_passed may_refuse is_done (length job.tree.parents)
+    job.turns (workers.Thread node)
+IsRunReason links job has_passed may_refuse is_done (run.Node node why) =
+    CanStart links job × IsWorkersReason has_passed may_refuse is_done (length job.tree.parents)
+    job.turns (workers.Node node why)
+IsRunReason links job has_passed may_refuse is_done run.Memory = CanStart links job

@@ -1,28 +1,20 @@
 //! The two ends of each link of a run, and the workers that take them.
 
 ghost use Rattle.std.specs.List.{AllZip};
-ghost use Rattle.std.specs.Prelude.{◌≡◌, ◌∷◌, ◌<◌, ℕ, All, IfErr, IfOk, Some, length, map};
-ghost use Rattle.stab_job.specs.JobValues.{network};
+ghost use Rattle.std.specs.Prelude.{◌≡◌, ◌∷◌, ◌<◌, All, IfErr, IfOk, length, map};
 ghost use Rattle.stab_ends.specs.Accounts.{new_receiver, new_sender};
-ghost use Rattle.stab_links.specs.AnyLinks.{HasReceived, HasSent, IsOpenedBy, Receives, Sends};
-ghost use Rattle.stab_links.specs.AnyLinks.{received_by, sent_by};
-ghost use Rattle.stab_node.specs.ByNode.{entry_into, received_at};
-ghost use Rattle.stab_node.specs.Work.{OffersUnlessRefused};
-ghost use Rattle.stab_run.specs.ByScript.{OffersAll};
-ghost use Rattle.stab_run.specs.LinkRuns.{IsRun};
-ghost use Rattle.stab_run.specs.RunFaults.{HaveAsked, IsWorkersReason};
+ghost use Rattle.stab_links.specs.AnyLinks.{IsOpenedBy, Receives, Sends};
 ghost use Rattle.stab_links.specs.Scripted.{plan};
+ghost use Rattle.stab_node.specs.Runs.{HaveAsked, IsWorkersReason};
+ghost use Rattle.stab_run.specs.LinkRuns.{IsJobRun};
 ghost use Rattle.stab_tree.specs.Links.{links_of};
-ghost use Rattle.stab_tree.specs.Nodes.{parent_at};
 
-use crate::run_fault::RunFault;
 use stab_acts::Script;
-use stab_ends::{RecvSide, SendSide};
 use stab_job::Job;
 use stab_links::{
     AnyLink, AnyOpening, ScriptedRecv, ScriptedRecvDone, ScriptedSend, ScriptedSendDone,
 };
-use stab_node::{Gate, Gathered, run_workers};
+use stab_node::{Gate, Gathered, WorkersFault, run_workers};
 use std::alloc::{AllocError, Global};
 use std::collections::VecDeque;
 use std::sync::Wait;
@@ -80,77 +72,29 @@ pub(crate) fn run_links<'j, R: Threads + Wait + Send + Sync, G: Gate + Sync>(
     links: &[AnyLink],
     openings: Vec<AnyOpening>,
     gate: &G,
-) -> Result<Gathered<ScriptedRecvDone<'j>, ScriptedSendDone<'j>>, RunFault>
+) -> Result<Gathered<ScriptedRecvDone<'j>, ScriptedSendDone<'j>>, WorkersFault>
     requires links { length links.now ≡ length (links_of job.now.tree.parents) }
     requires openings { AllZip IsOpenedBy links.now openings.items }
-    ensures run { IfOk result (λ g. IsRun (network job.now)
-        g.received.items g.ended.items (map sent_by g.sends.items)
-        (map received_by g.recvs.items)) }
-    ensures offers { IfOk result (λ g.
-        OffersAll job.now.tree.parents g.received.items g.sends.items) }
-    ensures sends { IfOk result (λ g. AllZip HasSent links.now g.sends.items) }
-    ensures recvs { IfOk result (λ g. AllZip HasReceived links.now g.recvs.items) }
-    ensures send_plans { IfOk result (λ g. map (λ done. done.link.plan) g.sends.items
-        ≡ map (plan job.now.turns) job.now.scripts) }
-    ensures recv_plans { IfOk result (λ g. map (λ done. done.link.plan) g.recvs.items
-        ≡ map (plan job.now.turns) job.now.scripts) }
+    ensures run { IfOk result (λ g. IsJobRun job.now links.now
+        g.received.items g.ended.items g.recvs.items g.sends.items) }
     ensures turns { IfOk result (λ g. HaveAsked (G.has_passed gate.now) (G.is_done gate.now)
         (length job.now.tree.parents) job.now.turns g.ended.items) }
-    ensures refused { IfErr result (IsWorkersReason job.now
-        (G.has_passed gate.now) (G.may_refuse gate.now) (G.is_done gate.now)) }
+    ensures refused { IfErr result (IsWorkersReason
+        (G.has_passed gate.now) (G.may_refuse gate.now) (G.is_done gate.now)
+        (length job.now.tree.parents) job.now.turns) }
 {
-    let (sends, recvs) = split_all::<R>(alloc, links, openings, job.scripts(), job.turns())?;
-    let gathered = run_ends(rt, rt, alloc, job, sends, recvs, gate)?;
-    Ok(gathered)
-}
-
-/// Runs the workers of a job over the ends of its links.
-fn run_ends<'e, R: Threads + Wait + Sync, P: Sync, U, D, G>(
-    rt: &'e R,
-    pass: &'e P,
-    alloc: Global,
-    job: &'e Job,
-    sends: Vec<D>,
-    recvs: Vec<U>,
-    gate: &'e G,
-) -> Result<Gathered<U::Done, D::Done>, RunFault>
-where
-    U: RecvSide<Pass = P> + Send,
-    D: SendSide<Pass = P> + Send,
-    G: Gate + Sync,
-    U::Done: Send,
-    D::Done: Send,
-    requires senders { length sends.items ≡ length (links_of job.now.tree.parents) }
-    requires receivers { length recvs.items ≡ length (links_of job.now.tree.parents) }
-    requires new_senders { All (λ d. D.sent d ≡ new_sender) sends.items }
-    requires new_receivers { All (λ u. U.received u ≡ new_receiver) recvs.items }
-    ensures run { IfOk result (λ g. IsRun (network job.now)
-        g.received.items g.ended.items (map D.done_sent g.sends.items)
-        (map U.done_received g.recvs.items)) }
-    ensures offers { IfOk result (λ g. (child parent : ℕ) (done : D.Done)
-        → parent_at job.now.tree.parents child ≡ Some parent
-        → entry_into job.now.tree.parents g.sends.items child ≡ Some done
-        → OffersUnlessRefused D.may_refuse_offer (received_at g.received.items parent)
-        (D.done_link done) (D.done_sent done)) }
-    ensures sender_links { IfOk result (λ g.
-        map D.done_link g.sends.items ≡ map D.link sends.items) }
-    ensures receiver_links { IfOk result (λ g.
-        map U.done_link g.recvs.items ≡ map U.link recvs.items) }
-    ensures turns { IfOk result (λ g. HaveAsked (G.has_passed gate.now) (G.is_done gate.now)
-        (length job.now.tree.parents) job.now.turns g.ended.items) }
-    ensures refused { IfErr result (IsWorkersReason job.now
-        (G.has_passed gate.now) (G.may_refuse gate.now) (G.is_done gate.now)) }
-{
+    let turns = job.turns();
+    let (sends, recvs) = split_all::<R>(alloc, links, openings, job.scripts(), turns)?;
     let gathered = run_workers(
         rt,
-        pass,
+        rt,
         alloc,
         job.tree(),
         sends,
         recvs,
         job.items(),
         job.openings(),
-        job.turns(),
+        turns,
         gate,
     )?;
     Ok(gathered)

@@ -5,15 +5,13 @@ ghost use Rattle.std.specs.List.{AllZip};
 ghost use Rattle.std.specs.Prelude.{◌≡◌, All, IfErr, IfOk, length, map};
 ghost use Rattle.stab_core.specs.LinkSetup.{CanBegin};
 ghost use Rattle.stab_job.specs.JobValues.{network};
-ghost use Rattle.stab_links.specs.AnyLinks.{HasReceived, HasSent, IsOneOf, IsScriptOf, given_to};
-ghost use Rattle.stab_links.specs.AnyLinks.{kind_of};
+ghost use Rattle.stab_links.specs.AnyLinks.{IsOneOf, IsScriptOf, given_to, kind_of};
 ghost use Rattle.stab_links.specs.AnyLinks.{received_by, sent_by};
-ghost use Rattle.stab_run.specs.ByScript.{OffersAll};
 ghost use Rattle.stab_links.specs.LinkKinds.{HaveOnePlace, kind_for};
-ghost use Rattle.stab_run.specs.LinkRuns.{IsRun};
-ghost use Rattle.stab_run.specs.RunFaults.{HaveAsked, IsRunReason, IsSettlingReason};
+ghost use Rattle.stab_node.specs.Runs.{HaveAsked};
+ghost use Rattle.stab_run.specs.LinkRuns.{IsJobRun};
+ghost use Rattle.stab_run.specs.RunFaults.{IsRunReason, IsSettlingReason};
 ghost use Rattle.stab_run.specs.Runs.{IsReport};
-ghost use Rattle.stab_links.specs.Scripted.{plan};
 
 use crate::ends::run_links;
 use crate::kept_links::KeptLinks;
@@ -69,17 +67,8 @@ fn report_of(
     requires lawful { All CanBegin (network job.now).links }
     requires one_of { All (IsOneOf which) links.items }
     requires kinds { map kind_of links.items ≡ map (kind_for which) job.now.params }
-    requires run { IsRun (network job.now)
-        gathered.received.items gathered.ended.items (map sent_by gathered.sends.items)
-        (map received_by gathered.recvs.items) }
-    requires offers { OffersAll job.now.tree.parents
-        gathered.received.items gathered.sends.items }
-    requires sends { AllZip HasSent links.items gathered.sends.items }
-    requires recvs { AllZip HasReceived links.items gathered.recvs.items }
-    requires send_plans { map (λ done. done.link.plan) gathered.sends.items
-        ≡ map (plan job.now.turns) job.now.scripts }
-    requires recv_plans { map (λ done. done.link.plan) gathered.recvs.items
-        ≡ map (plan job.now.turns) job.now.scripts }
+    requires run { IsJobRun job.now links.items
+        gathered.received.items gathered.ended.items gathered.recvs.items gathered.sends.items }
     ensures report { IfOk result (IsReport which job.now) }
     ensures ended { IfOk result (λ report. report.ended ≡ gathered.entry.ended.items) }
     ensures refused { IfErr result (IsSettlingReason which job.now.tree.parents

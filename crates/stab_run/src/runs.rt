@@ -6,9 +6,10 @@ ghost use Rattle.stab_job.specs.JobValues.{network};
 ghost use Rattle.stab_lock.specs.declared.settle.SettleFault.{SettleFault};
 ghost use Rattle.stab_links.specs.LinkKinds.{IsLarge};
 ghost use Rattle.stab_run.specs.LinkRuns.{HoldsInto};
-ghost use Rattle.stab_run.specs.RunFaults.{HaveAsked, IsRunReason};
+ghost use Rattle.stab_run.specs.RunFaults.{IsRunReason};
 ghost use Rattle.stab_run.specs.Runs.{IsReport, TreeLawByDepth};
 ghost use Rattle.stab_node.specs.ByNode.{received_at};
+ghost use Rattle.stab_node.specs.Runs.{HaveAsked};
 
 use crate::laws;
 use crate::report::Report;

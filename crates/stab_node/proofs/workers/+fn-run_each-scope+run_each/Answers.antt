@@ -4,7 +4,7 @@ use Rattle.stab_node.specs.Answers.{HasWorked, node_ends}
 use Rattle.stab_node.specs.InitialItems.{initial_at}
 use Rattle.stab_node.specs.declared.account.NodeAccount.{NodeAccount}
 use Rattle.stab_node.specs.declared.worker_ends.WorkerEnds.{WorkerEnds}
-use Rattle.stab_node.proofs.Joined.{accounts_joined, gave_up_joined, one_more_joined, same_room_joined, unstarted_joined}
+use Rattle.stab_node.proofs.Joined.{accounts_joined, one_more_joined, refused_joined, same_room_joined}
 use Rattle.stab_node.proofs.workers.+fn-run_each-scope+run_each.Goals as goal
 
 -- the promise remembers the ends that the worker took
@@ -37,12 +37,9 @@ scope-returns g t c =
           c.captures.workers.items answer others result kept rest.accounts joined.accounts;
       len = one_more_joined (λ v. v.items) deque_len deque_capacity (deque_len c.captures.workers) answer others result rest.len joined.accounts;
       room = same_room_joined (λ v. v.items) deque_len deque_capacity (deque_capacity c.captures.accounts) answer others result rest.room joined.accounts;
-      unstarted =
-          unstarted_joined (λ v. v.items) deque_len deque_capacity (λ s. s.node) has_passed may_refuse is_done turns worked c.captures.ends
-          c.captures.workers.items answer others result kept rest.unstarted joined.fault;
-      gave_up =
-          gave_up_joined (λ v. v.items) deque_len deque_capacity (λ s. s.node) has_passed may_refuse is_done turns worked c.captures.ends
-          c.captures.workers.items answer others result (λ a done. (a.ended, done.over)) kept rest.accounts rest.gave_up joined.fault;
+      refused =
+          refused_joined (λ v. v.items) deque_len deque_capacity (λ s. s.node) has_passed may_refuse is_done turns worked c.captures.ends
+          c.captures.workers.items answer others result (λ a done. (a.ended, done.over)) kept rest.accounts rest.refused joined.fault;
     }
 
 -- the closure may be called as it is: what it asks is what this asks
@@ -147,8 +144,8 @@ scoped-requires g t c = record {
 pub returns-clause-accounts : goal.returns-clause-accounts
 returns-clause-accounts g t c = rw c.in-Some.ensures.items c.scoped.ensures.1.0
 
-pub returns-clause-gave_up : goal.returns-clause-gave_up
-returns-clause-gave_up g t c = rw c.in-Some.ensures.items c.scoped.ensures.1.1.1.1.1
+pub returns-clause-refused : goal.returns-clause-refused
+returns-clause-refused g t c = rw c.in-Some.ensures.items c.scoped.ensures.1.1.1.1
 
 pub returns-clause-len : goal.returns-clause-len
 returns-clause-len g t c = rw (← c.in-Some.ensures.cases) c.scoped.ensures.1.1.0

@@ -25,6 +25,12 @@ settle_all-requires-clause-links c =
     ∙ (as_many_setups job.params job.starts (its_job.one_params_each ∙ sym its_job.one_start_each)
     ∙ (its_job.one_start_each ∙ ap (λ t. length (links_of t.parents)) (sym c.tree-tree.ensures.tree)))
 
+pub settle_all-requires-clause-sends : goal.settle_all-requires-clause-sends
+settle_all-requires-clause-sends c = c.requires.run.sent
+
+pub settle_all-requires-clause-recvs : goal.settle_all-requires-clause-recvs
+settle_all-requires-clause-recvs c = c.requires.run.delivered
+
 -- the job is a network, since its starts are lawful; each link of the report is explained by
 -- settling it, and so the laws hold
 pub returns-clause-report : goal.returns-clause-report
@@ -33,6 +39,7 @@ returns-clause-report c =
     let its_job = c.tree-tree.ensures.job in
     let net = network job in
     let ran = c.args.gathered in
+    let made = c.args.links.items in
     let sent = map sent_by ran.sends.items in
     let delivered = map received_by ran.recvs.items in
     let kinds = map kind_of c.of.result.value.items in
@@ -53,27 +60,27 @@ returns-clause-report c =
     } in
     let report = report_with c.in_ok-acked.acked.items in
     let root : RootHas net report =
-    subst (λ acked. RootHas net (report_with acked)) counted (root_has net ran.received.items ran.ended.items sent delivered kinds c.requires.run none) in
+    subst (λ acked. RootHas net (report_with acked)) counted (root_has job made ran.received.items ran.ended.items ran.sends.items ran.recvs.items kinds c.requires.run none) in
     let edges : AreExplained net report =
     subst (λ acked. AreExplained net (report_with acked)) counted
-    (are_explained net ran.received.items ran.ended.items sent delivered kinds c.requires.run one_each settled c.requires.lawful) in
+    (are_explained job made ran.received.items ran.ended.items ran.sends.items ran.recvs.items kinds c.requires.run one_each settled c.requires.lawful) in
     let handed_on : HandsOn net.tree.parents report =
     subst (λ acked. HandsOn net.tree.parents (report_with acked)) counted
-    (hands_on net ran.received.items ran.ended.items sent delivered kinds c.requires.run one_each settled) in
-    let made : length c.args.links.items ≡ length (links_of net.tree.parents) = as_many_links given_to c.args.links.items net.links c.requires.given ∙ one_each in
+    (hands_on job made ran.received.items ran.ended.items ran.sends.items ran.recvs.items kinds c.requires.run one_each settled) in
+    let as_many : length made ≡ length (links_of net.tree.parents) = as_many_links given_to made net.links c.requires.given ∙ one_each in
     let scripts : AreByScript c.args.which job report =
     subst (λ acked. AreByScript c.args.which job (report_with acked)) counted
-    (are_by_script c.args.which job c.args.links.items ran.received.items ran.ended.items ran.sends.items ran.recvs.items kinds c.requires.run
-    c.requires.given c.requires.one_of c.requires.send_plans c.requires.recv_plans made c.in_ok-acked.ensures.followed c.requires.offers c.requires.sends) in
+    (are_by_script c.args.which job made ran.received.items ran.ended.items ran.sends.items ran.recvs.items kinds c.requires.run
+    c.requires.given c.requires.one_of as_many c.in_ok-acked.ensures.followed) in
     let locked_scripts : AreByLockedScript c.args.which job report =
     subst (λ acked. AreByLockedScript c.args.which job (report_with acked)) counted
-    (are_by_locked_script c.args.which job c.args.links.items ran.received.items ran.ended.items ran.sends.items ran.recvs.items kinds c.requires.run
-    c.requires.given c.requires.one_of c.requires.send_plans c.requires.recv_plans made c.in_ok-acked.ensures.followed c.requires.scripts) in
+    (are_by_locked_script c.args.which job made ran.received.items ran.ended.items ran.sends.items ran.recvs.items kinds c.requires.run
+    c.requires.given c.requires.one_of as_many c.in_ok-acked.ensures.followed c.requires.scripts) in
     record {
       one_place = c.requires.one_place;
       nodes =
           subst (λ acked. OnePerNode net.tree.parents (report_with acked)) counted
-          (one_per_node net ran.received.items ran.ended.items sent delivered kinds c.requires.run);
+          (one_per_node job made ran.received.items ran.ended.items ran.sends.items ran.recvs.items kinds c.requires.run);
       root = root;
       edges = edges;
       kinds = ap (λ links. map kind_of links.items) c.of.ensures ∙ c.requires.kinds;
