@@ -13,10 +13,6 @@ const LOOKS_EVERY: u32 = 2;
 /// How many turns a worker may be ahead of another before it waits.
 const MOST_AHEAD: u64 = 2;
 
-/// How many turns a worker may be ahead of one that was not seen in a turn so far, and that may
-/// never begin, before it waits.
-const MOST_AHEAD_OF_UNSEEN: u64 = 64;
-
 /// How often a worker gives up the processor for one other, before it waits for that one no more.
 const MOST_WAITS: u32 = 2_000_000;
 
@@ -34,8 +30,8 @@ const LEFT_OUT: u64 = u64::MAX;
 /// One value is for one run.
 #[derive(Drop)]
 pub struct Free {
-    /// The turn that each node was last seen in, where 0 is none. A node of a higher number, which
-    /// no tree has, runs by itself.
+    /// The turn that each node was last seen in. A node of a higher number, which no tree has, runs
+    /// by itself.
     turns: [AtomicU64; MAX_NODES],
 }
 
@@ -66,13 +62,7 @@ impl Free {
 /// in vain.
 fn wait_for(other: &AtomicU64, turn: u64) {
     for _ in 0..MOST_WAITS {
-        let seen = other.load(Ordering::SeqCst);
-        let most = if seen == 0 {
-            MOST_AHEAD_OF_UNSEEN
-        } else {
-            MOST_AHEAD
-        };
-        if seen.saturating_add(most) >= turn {
+        if other.load(Ordering::SeqCst).saturating_add(MOST_AHEAD) >= turn {
             return;
         }
         thread::yield_now();

@@ -23,7 +23,8 @@ pub trait Gate {
         ensures passed { result ≡ true → has_passed self.now node turn };
 
     /// Takes note that this node makes no further turn and has made its last call on its ends but
-    /// `finish`.
+    /// `finish`. It is called once for each node of a run, also for one whose worker could not be
+    /// started.
     fn done(&self, node: u16)
         ensures { is_done self.now node };
 }

@@ -155,7 +155,11 @@ where
                 },
             ) {
                 Ok(worker) => worker,
-                Err(_) => return Err(WorkersFault::Thread(node)),
+                Err(_) => {
+                    gate.done(node);
+                    leave_out(gate, &workers);
+                    return Err(WorkersFault::Thread(node));
+                }
             };
             let rest = run_each(
                 rt, pass, alloc, workers, root, published, openings, turns, gate, accounts,
@@ -163,6 +167,13 @@ where
             put_first(node, worker.join(rt), rest)
         },
     )
+}
+
+/// Tells the gate that none of these makes a turn, so nobody waits for them.
+fn leave_out<U: Drop, D: Drop, G: Gate>(gate: &G, workers: &VecDeque<WorkerEnds<U, D>>) {
+    for worker in workers {
+        gate.done(worker.node);
+    }
 }
 
 /// What a worker answered, put before what those of the nodes after it came to. Its own fault goes
