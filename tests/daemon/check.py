@@ -221,7 +221,8 @@ def a_dead_leaf_harms_nobody_and_is_served_when_it_is_back():
             tree.write(f"file{at % 20}", at)
         sure(tree.right(agents=others), tree.wrong(others))
         # (its time was over, or there was no room, whichever came first)
-        dropped = lambda: tree["left"].said("evicted left1") + tree["left"].said("left-behind left1")
+        said = tree["left"].said
+        dropped = lambda: said("evicted left1") + said("left-behind left1")
         sure(until(dropped), "its backlog was kept")
         tree.write("last", "one")
         dead.start()
