@@ -250,6 +250,8 @@ impl Table {
 #[derive(Debug)]
 pub struct Publisher {
     settings: BTreeMap<String, Vec<u8>>,
+    /// How many bytes a whole table of them has.
+    bytes: usize,
     /// The keys whose last value is not published yet.
     changed: BTreeSet<String>,
     sequence: u64,
@@ -278,6 +280,7 @@ impl Publisher {
     pub fn new(sequence: u64) -> Publisher {
         Publisher {
             settings: BTreeMap::new(),
+            bytes: HEAD,
             changed: BTreeSet::new(),
             sequence,
             since: (0, 0),
@@ -303,23 +306,28 @@ impl Publisher {
 
     /// Whether there is room for this setting beside all others.
     pub fn has_room(&self, key: &str, value: &[u8]) -> bool {
-        let old = self
-            .settings
-            .get(key)
-            .map_or(0, |old| entry_bytes(&(key, Some(old))));
-        let all = Publisher::bytes_of(&self.settings) - old + entry_bytes(&(key, Some(value)));
+        let all = self.bytes - self.bytes_at(key) + entry_bytes(&(key, Some(value)));
         value.len() <= VALUE_BYTES && all <= BODY_BYTES
+    }
+
+    /// How many bytes of them are this setting's.
+    fn bytes_at(&self, key: &str) -> usize {
+        let old = self.settings.get(key);
+        old.map_or(0, |old| entry_bytes(&(key, Some(old))))
     }
 
     /// Makes a setting. It is published even where it is as it was.
     pub fn set(&mut self, key: &str, value: Vec<u8>) {
         self.changed.insert(key.into());
+        self.bytes += entry_bytes(&(key, Some(&value)));
+        self.bytes -= self.bytes_at(key);
         self.settings.insert(key.into(), value);
     }
 
     /// Removes a setting.
     pub fn unset(&mut self, key: &str) {
         self.changed.insert(key.into());
+        self.bytes -= self.bytes_at(key);
         self.settings.remove(key);
     }
 
@@ -334,6 +342,7 @@ impl Publisher {
 
     /// Takes all settings anew: what differs is published.
     pub fn replace(&mut self, settings: BTreeMap<String, Vec<u8>>) {
+        self.bytes = Publisher::bytes_of(&settings);
         let old = std::mem::replace(&mut self.settings, settings);
         let differs = |(key, value): &(&String, &Vec<u8>)| old.get(*key) != Some(value);
         let new = self

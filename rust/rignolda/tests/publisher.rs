@@ -1,0 +1,79 @@
+//! What the root publishes: here, whether there is room for a setting.
+#![cfg(feature = "net")]
+use rignolda::net::BODY_BYTES;
+use rignolda::settings::{Publisher, VALUE_BYTES};
+use std::collections::BTreeMap;
+use std::time::{Duration, Instant};
+
+#[test]
+fn there_is_room_for_what_a_whole_table_has_room_for() {
+    let mut publisher = Publisher::new(1);
+    let mut state = 1_u64;
+    let mut draw = |bound: u64| {
+        state = state
+            .wrapping_mul(6_364_136_223_846_793_005)
+            .wrapping_add(1);
+        (state >> 33) % bound
+    };
+    let none = Publisher::bytes_of(&BTreeMap::new());
+    let all_bytes = |lengths: &BTreeMap<String, usize>| {
+        let entries = lengths.iter();
+        none + entries
+            .map(|(key, length)| key.len() + length + 6)
+            .sum::<usize>()
+    };
+    let mut lengths: BTreeMap<String, usize> = BTreeMap::new();
+    for step in 0..600 {
+        let (key, length) = (
+            format!("k{}", draw(24)),
+            draw(VALUE_BYTES as u64 + 1) as usize,
+        );
+        let mut then = lengths.clone();
+        if draw(8) == 0 {
+            then.remove(&key);
+            publisher.unset(&key);
+        } else if step % 100 == 99 {
+            then.retain(|_, length| *length % 3 > 0);
+            let left = then.iter().map(|(key, it)| (key.clone(), vec![0; *it]));
+            publisher.replace(left.collect());
+        } else {
+            then.insert(key.clone(), length);
+            let has_room = publisher.has_room(&key, &vec![0; length]);
+            assert_eq!(has_room, all_bytes(&then) <= BODY_BYTES, "{step}");
+            match has_room {
+                true => publisher.set(&key, vec![0; length]),
+                false => then = lengths,
+            }
+        }
+        lengths = then;
+    }
+    assert_eq!(
+        Publisher::bytes_of(publisher.settings()),
+        all_bytes(&lengths)
+    );
+}
+
+/// Many files that change at once are each asked about: that must not look at all the others.
+#[test]
+fn whether_there_is_room_is_known_at_once() {
+    let mut publisher = Publisher::new(1);
+    let all: BTreeMap<String, Vec<u8>> =
+        (0..50_000).map(|at| (format!("k{at}"), vec![1])).collect();
+    publisher.replace(all.clone());
+    let took = |what: &dyn Fn()| {
+        let once = || {
+            let began = Instant::now();
+            what();
+            began.elapsed()
+        };
+        (0..5).map(|_| once()).min().unwrap_or(Duration::ZERO)
+    };
+    let whole = took(&|| assert!(Publisher::bytes_of(&all) > 0));
+    let asked = took(&|| (0..200).for_each(|_| assert!(publisher.has_room("k7", b"12"))));
+    assert!(
+        asked < whole * 20,
+        "200 times {:?}, and to count all once {:?}",
+        asked,
+        whole
+    );
+}
