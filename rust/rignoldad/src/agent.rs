@@ -55,7 +55,8 @@ pub struct Agent {
     ready: Vec<u64>,
     /// Whether there is anything else to do.
     is_due: bool,
-    /// The other descriptors that are waited for, each with its number.
+    /// The other descriptors that are waited for, each with its number, and whether until they can
+    /// be written, and not read.
     others: Vec<(RawFd, u64, bool)>,
     listeners: Vec<Listener>,
     /// Until when nobody is accepted, since no descriptor was left.
@@ -297,10 +298,12 @@ impl Agent {
             let _ = registry.deregister(&mut SourceFd(fd));
         }
         for line in lines.iter().filter(|line| self.lines.binary_search(line).is_err()) {
-            watch(registry, line.1, Token(line.0 as usize), line.2)?;
+            let also = if line.2 { Interest::WRITABLE } else { Interest::READABLE };
+            watch(registry, line.1, Token(line.0 as usize), Interest::READABLE | also)?;
         }
         for it in others.iter().filter(|it| !self.others.contains(it)) {
-            watch(registry, it.0, Token(OTHER | it.0 as usize), it.2)?;
+            let alone = if it.2 { Interest::WRITABLE } else { Interest::READABLE };
+            watch(registry, it.0, Token(OTHER | it.0 as usize), alone)?;
         }
         (self.lines, self.others) = (lines, others);
         let deadline = self.deadline(now);
@@ -595,9 +598,8 @@ impl Agent {
 }
 
 /// Waits for a descriptor from now on, and at once if it can be read or written already.
-fn watch(registry: &Registry, fd: RawFd, token: Token, writes: bool) -> io::Result<()> {
-    let (mut it, reads) = (SourceFd(&fd), Interest::READABLE);
-    let interest = if writes { reads | Interest::WRITABLE } else { reads };
+fn watch(registry: &Registry, fd: RawFd, token: Token, interest: Interest) -> io::Result<()> {
+    let mut it = SourceFd(&fd);
     let again = registry.reregister(&mut it, token, interest);
     again.or_else(|_| registry.register(&mut it, token, interest))
 }

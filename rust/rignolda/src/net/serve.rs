@@ -77,6 +77,8 @@ struct Client<S> {
     output: Vec<u8>,
     /// Whether a request of it waits for its answer. Then nothing more is read.
     asked: bool,
+    /// Whether what came before that answer may be a request too.
+    again: bool,
     last: bool,
     until: Instant,
 }
@@ -106,25 +108,27 @@ impl<T, L: Listener> Server<T, L> {
         }
     }
 
-    /// The descriptors to wait for, each with a number that no other one has had, and whether to
-    /// wait until they can be written too.
+    /// The descriptors to wait for, each with a number that no other one has had, and whether until
+    /// they can be written, and not read. (Else one that has closed its end is always ready.)
     pub fn descriptors(&self) -> impl Iterator<Item = (RawFd, u64, bool)> + '_ {
         let client =
             |it: &Client<L::Socket>| (it.socket.as_raw_fd(), it.number, !it.output.is_empty());
+        let clients = self.clients.iter().filter(|it| !it.asked);
         let listener = self
             .full
             .is_none()
             .then_some((self.listener.as_raw_fd(), 0, false));
-        listener.into_iter().chain(self.clients.iter().map(client))
+        listener.into_iter().chain(clients.map(client))
     }
 
     /// When there is something to do although nothing comes.
     pub fn deadline(&self) -> Option<Instant> {
-        self.clients
-            .iter()
-            .map(|client| client.until)
-            .chain(self.full)
-            .min()
+        // (the time before `idle` began has gone by)
+        let due = |it: &Client<L::Socket>| match it.again && it.output.is_empty() {
+            true => it.until - self.idle,
+            false => it.until,
+        };
+        self.clients.iter().map(due).chain(self.full).min()
     }
 
     /// Accepts, reads and writes what there is now, where one of these descriptors is its own: the
@@ -144,6 +148,7 @@ impl<T, L: Listener> Server<T, L> {
             if client.asked || !client.output.is_empty() {
                 return true;
             }
+            client.again = false;
             let goes_on = client.read(self.most);
             let (request, taken) = match (self.parse)(&client.input) {
                 Some(request) => request,
@@ -166,6 +171,7 @@ impl<T, L: Listener> Server<T, L> {
             .find(|c| c.number == ticket.0 && c.asked)
         {
             client.asked = false;
+            client.again = !client.input.is_empty();
             client.last = last;
             client.output.extend_from_slice(bytes);
             let goes_on = client.write() && !(last && client.output.is_empty());
@@ -186,6 +192,7 @@ impl<T, L: Listener> Server<T, L> {
                         input: Vec::new(),
                         output: Vec::new(),
                         asked: false,
+                        again: false,
                         last: false,
                         until: now + self.idle,
                     });

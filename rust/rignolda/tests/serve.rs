@@ -1,0 +1,89 @@
+//! The small server of an agent's loop: what it waits for, and that no request is left unread.
+#![cfg(all(feature = "net", unix))]
+use rignolda::net::serve::{Server, Ticket};
+use std::collections::HashSet;
+use std::io::{Read, Write};
+use std::net::Shutdown;
+use std::os::unix::net::{UnixListener, UnixStream};
+use std::time::{Duration, Instant};
+
+const IDLE: Duration = Duration::from_secs(30);
+
+/// A server whose requests are single bytes, and a client of it.
+fn server(name: &str) -> (Server<u8, UnixListener>, UnixStream) {
+    let name = format!("rignolda-serves-{}-{}", name, std::process::id());
+    let path = std::env::temp_dir().join(name);
+    let _ = std::fs::remove_file(&path);
+    let listener = UnixListener::bind(&path).unwrap();
+    listener.set_nonblocking(true).unwrap();
+    let client = UnixStream::connect(&path).unwrap();
+    std::fs::remove_file(&path).unwrap();
+    client
+        .set_read_timeout(Some(Duration::from_secs(9)))
+        .unwrap();
+    (
+        Server::new(listener, 8, IDLE, |bytes| Some((*bytes.first()?, 1))),
+        client,
+    )
+}
+
+/// The requests that came where all fires that is waited for.
+fn asked(server: &mut Server<u8, UnixListener>, now: Instant) -> Vec<(Ticket, u8)> {
+    let fired: HashSet<_> = server.descriptors().map(|(fd, ..)| fd).collect();
+    server.ready(&fired, now)
+}
+
+#[test]
+fn requests_that_come_together_are_answered_one_after_the_other() {
+    let (mut server, mut client) = server("together");
+    let now = Instant::now();
+    client.write_all(b"abc").unwrap();
+    client.shutdown(Shutdown::Write).unwrap();
+    let mut requests = asked(&mut server, now);
+    for (number, byte) in (0_u32..3).zip(*b"abc") {
+        assert_eq!(requests.iter().map(|it| it.1).collect::<Vec<_>>(), [byte]);
+        server.answer(requests[0].0, &[byte], false);
+        // (nothing more comes, so nothing fires: what is left is due by itself)
+        let is_due = server.deadline().map_or(false, |at| at <= now);
+        assert_eq!(is_due, number < 2, "{number}");
+        requests = server.ready(
+            &HashSet::new(),
+            now + Duration::from_secs(u64::from(number)),
+        );
+    }
+    assert!(requests.is_empty() && asked(&mut server, now).is_empty());
+    let mut answers = String::new();
+    client.read_to_string(&mut answers).unwrap();
+    assert_eq!(answers, "abc");
+}
+
+#[test]
+fn nothing_is_waited_for_that_changes_nothing() {
+    let (mut server, mut client) = server("waits");
+    let now = Instant::now();
+    let clients = |server: &Server<u8, UnixListener>| -> Vec<bool> {
+        server
+            .descriptors()
+            .skip(1)
+            .map(|(_, _, writes)| writes)
+            .collect()
+    };
+    client.write_all(b"a").unwrap();
+    client.shutdown(Shutdown::Write).unwrap();
+    let requests = asked(&mut server, now);
+    // (the client has closed its end, which can be read all the time, and nobody is to read it)
+    assert_eq!(clients(&server), []);
+    let (answer, ticket) = (vec![b'!'; 4 << 20], requests[0].0);
+    server.answer(ticket, &answer, false);
+    assert_eq!(
+        clients(&server),
+        [true],
+        "until it can be written, and not read"
+    );
+    let mut got = vec![0; answer.len()];
+    for part in got.chunks_mut(1 << 16) {
+        client.read_exact(part).unwrap();
+        assert!(asked(&mut server, now).is_empty());
+    }
+    assert!(got == answer && clients(&server).is_empty(), "it has gone");
+}
