@@ -625,6 +625,53 @@ def the_control_socket_is_bounded():
 
 
 @test
+def a_client_that_waits_or_has_gone_costs_nothing():
+    slow = lambda tree: [agent.tables["link"].update(ack_timeout="20s", evict="60s")
+                         for agent in tree]
+
+    def busy():
+        # (for so many nanoseconds it had a processor, or waited for one)
+        stat = pathlib.Path(f"/proc/{tree.root.process.pid}/schedstat").read_text().split()
+        return int(stat[0]) + int(stat[1])
+
+    def behind():
+        tree.write("a", time.monotonic())
+        return tree.root.status()["children"][0]["backlog"] > 1
+
+    with Tree({"left": "root"}, before=slow) as tree, socket.socket(socket.AF_UNIX) as sock:
+        usual(tree)
+        tree["left"].signal(signal.SIGSTOP)
+        sure(until(behind), "the root does not wait for the child")
+        sock.settimeout(20)
+        sock.connect(str(tree.root.socket))
+        sock.sendall(b'{"do":"publish","key":"b","value":"00"}\n{"do":"status"}\n')
+        time.sleep(0.2)
+        sock.shutdown(socket.SHUT_WR)
+        before = busy()
+        time.sleep(1)
+        sure(busy() < before + 500_000_000, "the root is busy with nothing")
+        tree["left"].signal(signal.SIGCONT)
+        lines = sock.makefile("rb")
+        sure(b"published" in lines.readline() and b"status" in lines.readline())
+
+
+@test
+def a_root_without_its_settings_unsets_nothing():
+    with Tree({"left": "root"}) as tree:
+        usual(tree)
+        before = tree["left"].files()
+        tree.root.kill()
+        away = tree.root.truth.rename(tree.home / "away")
+        tree.root.start()
+        sure(until(lambda: tree["left"].status()["parent"]), "it is not connected")
+        time.sleep(1)
+        sure(tree["left"].files() == before, tree["left"].files())
+        sure("error" in tree.root.ask("publish", "a", "1", check=False))
+        away.rename(tree.root.truth)
+        sure(until(tree.root.up) and tree.right(), tree.wrong())
+
+
+@test
 def what_is_answered_is_in_the_folder():
     draw = random.Random(13)
     with Tree({}) as tree:
@@ -905,6 +952,8 @@ def it_is_installed_packed_and_removed():
               "usr/local/lib/systemd/system/rignoldad.service"} <= files, files)
         unit = (house / "usr/local/lib/systemd/system/rignoldad.service").read_text()
         sure("ExecStart=/usr/local/bin/rignoldad" in unit, unit)
+        # (else systemd gives it up after five starts that failed soon)
+        sure("StartLimitIntervalSec=0" in unit.partition("[Service]")[0], unit)
         example = house / "usr/local/share/doc/rignoldad/examples/agent.toml"
         subprocess.run([house / "usr/local/bin/rignoldad", "--check", example], check=True)
         make("uninstall", f"DESTDIR={house}")

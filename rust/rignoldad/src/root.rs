@@ -19,6 +19,8 @@ pub struct Root {
     notify: Option<Inotify>,
     publisher: Publisher,
     pub draining: bool,
+    /// Whether all settings were read once. Before that a table would unset what it does not name.
+    known: bool,
     next_round: Instant,
     next_scan: Option<Instant>,
     /// The keys whose files may have changed, where that is all; else the whole folder is read.
@@ -44,9 +46,10 @@ impl Root {
             notify: Inotify::init().ok(),
             publisher: Publisher::new(clock.as_micros() as u64),
             draining: false,
+            known: false,
             next_round: now,
             next_scan: None,
-            touched: Some(BTreeSet::new()),
+            touched: None,
             batch: Batch::default(),
             asked: Vec::new(),
             failed: Vec::new(),
@@ -125,13 +128,15 @@ impl Root {
         self.next_round = now + self.config.round;
         if !self.publisher.is_in_a_round() && !self.draining {
             self.read();
-            self.publisher.begin_round(self.config.harmless);
+            if self.known {
+                self.publisher.begin_round(self.config.harmless);
+            }
         }
     }
 
     /// Whether something waits to be published.
     pub fn waits(&self) -> bool {
-        !self.draining && self.publisher.waits()
+        self.known && !self.draining && self.publisher.waits()
     }
 
     /// The next body to publish. `limit`: how many items may follow a table at most.
@@ -160,6 +165,7 @@ impl Root {
                 Err(format!("the settings are kept in {}", settings.display()))
             }
             _ if self.draining => Err("it is draining".into()),
+            _ if !self.known => Err(format!("{} cannot be read", settings.display())),
             _ if !is_key(key) => Err("it is no key".into()),
             Some(value) if !self.publisher.has_room(key, value) => Err("it is too long".into()),
             _ => Ok(()),
@@ -210,7 +216,10 @@ impl Root {
             Ok(settings) if Publisher::bytes_of(&settings) > BODY_BYTES => {
                 faults.insert(format!("all settings have more than {BODY_BYTES} bytes"));
             }
-            Ok(settings) => self.publisher.replace(settings),
+            Ok(settings) => {
+                self.known = true;
+                self.publisher.replace(settings);
+            }
             Err(error) => drop(faults.insert(format!("{}: {error}", path.display()))),
         }
         for fault in faults.difference(&self.faults) {
@@ -221,7 +230,7 @@ impl Root {
 
     fn is_read(&mut self) {
         self.next_scan = None;
-        self.touched = Some(BTreeSet::new());
+        self.touched = self.known.then(BTreeSet::new);
     }
 
     /// Reads one setting's file. Whether that is enough; else the whole folder is to be read.
@@ -272,6 +281,10 @@ impl Root {
             match read_value(&entry.path()) {
                 Ok(value) => drop(settings.insert(key.to_owned(), value)),
                 Err(error) if error.kind() == io::ErrorKind::NotFound => (),
+                // (what was found to be no setting is of the kind `Other`)
+                Err(error) if !self.known && error.kind() != io::ErrorKind::Other => {
+                    return Err(io::Error::other(format!("{key}: {error}")));
+                }
                 Err(error) => {
                     faults.insert(format!("{key}: {error}"));
                     let old = self.publisher.settings().get_key_value(key);

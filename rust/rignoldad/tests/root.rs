@@ -285,6 +285,22 @@ fn what_cannot_be_read_unsets_nothing() {
 }
 
 #[test]
+fn what_was_never_read_unsets_nothing() {
+    let folder = Folder::new("unknown");
+    let [away, bad, file] = ["away", "bad", "all.toml"].map(|name| folder.0.join(name));
+    fs::create_dir(&bad).and_then(|()| std::os::unix::fs::symlink("b", bad.join("b"))).unwrap();
+    fs::write(&file, "a = \"1").unwrap();
+    for path in [&away, &bad, &file] {
+        let (mut root, now) = root(path, true);
+        assert!(root.change("c", Some(b"1")).is_err() && !root.waits(), "{path:?}");
+        let _ = fs::remove_dir_all(path);
+        fs::write(path, "a = 1").unwrap();
+        root.tick(now + ROUND);
+        assert_eq!(next(&mut root), Some(('T', vec![entry("a", Some("1"))])), "{path:?}");
+    }
+}
+
+#[test]
 fn a_file_may_hold_all_settings() {
     let folder = Folder::new("file");
     let (toml, json) = (folder.0.join("all.toml"), folder.0.join("all.json"));
