@@ -380,7 +380,9 @@ impl<'a> Check<'a> {
         if let Some(apply) = &config.apply {
             // (what no setting names is removed there)
             let is_shallow = apply.folder.components().count() < 3;
-            let is_truth = config.root.as_ref().is_some_and(|it| it.settings == apply.folder);
+            let truth = config.root.as_ref().map(|root| &root.settings);
+            let is_truth = truth
+                .is_some_and(|it| it.starts_with(&apply.folder) || apply.folder.starts_with(it));
             let text = "it has to be a folder of the agent's own, as /a/b";
             self.refuse("apply.folder", is_shallow || is_truth, text);
         }

@@ -179,6 +179,9 @@ fn says_each_fault_with_its_line_and_key() {
     let folders = [
         ("name = \"a\"\nparents = [\"127.0.0.1:1\"]\n[apply]\nfolder = \"/etc\"", 4),
         ("name = \"a\"\n[root]\nsettings = \"/s/t\"\n[apply]\nfolder = \"/s/t\"", 5),
+        // (a file of the truth would be removed, or be in the place of the folder)
+        ("name = \"a\"\n[root]\nsettings = \"/s/t/u.toml\"\n[apply]\nfolder = \"/s/t\"", 5),
+        ("name = \"a\"\n[root]\nsettings = \"/s/t\"\n[apply]\nfolder = \"/s/t/u\"", 5),
     ];
     let folders = folders.map(|(text, line)| (text, line, "apply.folder", own));
     for (text, line, key, said) in cases.iter().chain(&folders) {
