@@ -41,6 +41,7 @@ pub fn lacks(agent: &Seen, sequence: u64) -> Option<&'static str> {
         () if agent.failing > 0 => Some("has a file or a hook that failed"),
         () if !agent.whole => Some("waits for a whole table"),
         () if agent.applied < sequence => Some("has not applied it"),
+        () if agent.cut => Some("has more agents below it than it can report"),
         () => None,
     }
 }

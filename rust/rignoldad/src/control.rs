@@ -140,6 +140,7 @@ impl Status {
             garbage: self.garbage,
             gaps: self.gaps,
             failing: self.failing,
+            cut: false,
             age: 0,
         }
     }

@@ -33,6 +33,8 @@ pub struct Seen {
     pub gaps: u64,
     /// Settings whose file or hook failed last.
     pub failing: u64,
+    /// Whether agents below it are left out, since the list was too long.
+    pub cut: bool,
     /// How many milliseconds ago it said so.
     pub age: u64,
 }
@@ -105,13 +107,15 @@ impl Below {
     /// The bytes to send to the parent: the list, cut where it would be too long.
     pub fn report(&self, status: &crate::control::Status, now: Instant) -> Vec<u8> {
         let mut list = self.tree(status, now);
-        list.truncate(AGENTS);
+        let mut most = AGENTS;
         loop {
+            list[0].cut |= list.len() > most;
+            list.truncate(most);
             let bytes = serde_json::to_vec(&list).expect("texts, numbers and lists are JSON");
             if bytes.len() <= REPORT_BYTES {
                 return bytes;
             }
-            list.truncate(list.len() / 2);
+            most = list.len() / 2;
         }
     }
 }

@@ -175,7 +175,13 @@ fn a_report_is_never_too_long() {
     let names: Vec<&str> = names.iter().map(String::as_str).collect();
     let bytes = Below::default().report(&status("a", &names), now);
     assert!(bytes.len() <= REPORT_BYTES);
-    assert!(Below::default().heard("a", &bytes, now));
+    let mut root = Below::default();
+    assert!(root.heard("a", &bytes, now));
+    // (of those that are left out nobody knows whether they have it, and so of the others)
+    let list = root.tree(&status("root", &["a"]), now);
+    assert!(list.len() < 9_000 && list[1].connected);
+    assert_eq!(lacks(&list[1], 5), Some("has more agents below it than it can report"));
+    assert!(!tree(now).iter().any(|seen| seen.cut));
 }
 
 #[test]

@@ -261,7 +261,9 @@ fn drained(agent: &mut Agent, timeout: Duration) -> Result<(), Failed> {
     loop {
         let list = tree(agent)?;
         let newest = list.first().map_or(0, |root| root.sequence);
-        let full = |seen: &&Seen| !seen.connected || seen.backlog > 0 || seen.sequence < newest;
+        let full = |seen: &&Seen| {
+            !seen.connected || seen.backlog > 0 || seen.sequence < newest || seen.cut
+        };
         let full: Vec<&str> = list.iter().filter(full).map(|seen| seen.name.as_str()).collect();
         if full.is_empty() && before {
             return Ok(());
