@@ -18,7 +18,8 @@ use std::thread;
 
 /// The folder of the hooks that are due, in the folder of the settings.
 const PENDING: &str = ".pending";
-const STACK_BYTES: usize = 128 << 10;
+/// A folder that is in the way of a file may be deep. (What is not used takes no memory.)
+const STACK_BYTES: usize = 16 << 20;
 
 /// What was done about a setting.
 #[derive(Clone, Debug, PartialEq)]

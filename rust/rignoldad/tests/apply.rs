@@ -175,7 +175,7 @@ fn a_table_mends_whatever_is_in_the_folder() {
     applied(&mut applier, 1);
     let right = place.files();
     let folder = place.folder();
-    let spoil: [&dyn Fn(); 5] = [
+    let spoil: [&dyn Fn(); 6] = [
         &|| {
             fs::write(folder.join("a"), "xxx").unwrap();
             fs::remove_file(folder.join("b")).unwrap();
@@ -200,6 +200,11 @@ fn a_table_mends_whatever_is_in_the_folder() {
             let _ = fs::remove_dir_all(folder.join(".pending"));
             fs::write(folder.join(".pending"), "garbage").unwrap();
             fs::remove_file(folder.join("a")).unwrap();
+        },
+        &|| {
+            // (the system's call for its removal calls itself for each of them)
+            fs::remove_file(folder.join("a")).unwrap();
+            fs::create_dir_all(folder.join("a").join("d/".repeat(850))).unwrap();
         },
     ];
     for (at, spoil) in spoil.iter().enumerate() {
