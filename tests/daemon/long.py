@@ -116,16 +116,18 @@ class Trial:
                 agent.signal(signal.SIGCONT)
 
     def connected(self):
+        """Whether each agent comes to be connected. Not all need be at once: on a machine where it
+        takes ten seconds to ask them all, some link has always just been left."""
+        away = {agent.name for agent in self.tree if agent.parent}
+
         def all_up():
-            for agent in self.tree:
+            for name in sorted(away):
                 try:
-                    status = agent.status()
+                    if self.tree[name].status()["parent"]:
+                        away.discard(name)
                 except RuntimeError:
-                    return False
-                if not all(child["connected"] for child in status["children"]):
-                    return False
-            return True
-        # (all are connected at once after a while, also where links break all the time)
+                    pass
+            return not away
         if until(all_up, 0.5, 0.05):
             return True
         for relay in self.relays:

@@ -27,7 +27,9 @@ class Relay:
             try:
                 near, _ = self.listener.accept()
             except OSError:
-                return
+                # (it is closed, or no descriptor is left for a while)
+                time.sleep(0.01)
+                continue
             threading.Thread(target=self.serve, args=(near,), daemon=True).start()
 
     def serve(self, near):
