@@ -467,18 +467,18 @@ fn a_changed_setup_turns_a_link() {
 fn slow_hellos_and_too_many_are_dropped() {
     let mut net = path([false, false]);
     net.agents.remove("a");
-    let mut ends: Vec<End> = (0..70).map(|_| net.stranger("root", "a", b"RGN")).collect();
+    let mut ends: Vec<End> = (0..71).map(|_| net.stranger("root", "a", b"RGN")).collect();
     net.step();
     let closed = |ends: &[End]| ends.iter().filter(|end| end.from.borrow().closed).count();
     assert_eq!(
         (closed(&ends), closed(&ends[..6])),
         (6, 6),
-        "the oldest ones"
+        "the oldest ones: a child is away"
     );
     net.steps(ACK_TIMEOUT.as_millis() as usize / STEP.as_millis() as usize);
-    assert_eq!(closed(&ends), 70);
+    assert_eq!(closed(&ends), 71);
     ends.clear();
-    assert_eq!(net.agent("root").peers.refused(), 70);
+    assert_eq!(net.agent("root").peers.refused(), 71);
 }
 
 /// The next message that an end has from an agent.

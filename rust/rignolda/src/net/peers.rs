@@ -11,8 +11,11 @@ use std::time::{Duration, Instant};
 mod shown;
 mod words;
 
-/// How many connections there are at most whose hello has not come.
+/// How many connections there are at most whose hello has not come, besides one for each child that
+/// is away: these may come all at once, and must not drive each other out.
 const GREETING: usize = 64;
+/// How often at most somebody is given twice the time, since it was late.
+const LATER: u32 = 5;
 /// How many children there are at most where any may connect.
 const ANY: usize = 10_000;
 /// The slowest line on which a body counts as under way, in bytes a second.
@@ -58,9 +61,9 @@ pub struct Setup<A> {
     /// Those below.
     pub children: Children<A>,
     /// How long the answer to a frame, or a hello, may take before the connection is left. Who was
-    /// late is given twice the time at each try, and a child twice what its last answer took, but
-    /// at most 32 times this: so one that is slow is served slowly, and not again and again in
-    /// vain.
+    /// late is given twice the time at each try, and twice what slow answers took of late, but at
+    /// most 32 times this: so one that is slow is served slowly, and not again and again in vain.
+    /// Where nobody knows who was late, whoever connects is given more from then on.
     pub ack_timeout: Duration,
     /// How long a child may be away before its backlog is dropped.
     pub evict: Duration,
@@ -132,12 +135,15 @@ struct Dial {
     next: Instant,
     failed: u32,
     under_way: bool,
+    /// How long the hello took that came last.
+    took: Duration,
 }
 
 struct Conn<L> {
     line: L,
     /// Whether this end made it.
     made: bool,
+    since: Instant,
     /// Unknown where it was accepted, and its hello has not come.
     whom: Option<(Whom, Connection)>,
     /// Since when its hello has come.
@@ -188,6 +194,8 @@ pub struct Peers<L, A> {
     reconnects: u64,
     refused: u64,
     said_refused: Option<Instant>,
+    /// How often a hello was late on a connection that was accepted: nobody knows whose.
+    late: u32,
     /// Where what is read comes first.
     space: Box<[u8]>,
 }
@@ -213,6 +221,7 @@ impl<L: Line, A: Clone + PartialEq + fmt::Display> Peers<L, A> {
             reconnects: 0,
             refused: 0,
             said_refused: None,
+            late: 0,
             space: vec![0; READ_BYTES].into_boxed_slice(),
         };
         peers.dial_all(now);
@@ -266,6 +275,7 @@ impl<L: Line, A: Clone + PartialEq + fmt::Display> Peers<L, A> {
                 next: now,
                 failed: 0,
                 under_way: false,
+                took: Duration::ZERO,
             };
             self.dials.entry(whom).or_insert(dial);
         }
@@ -398,25 +408,34 @@ impl<L: Line, A: Clone + PartialEq + fmt::Display> Peers<L, A> {
     /// Takes a line that was accepted. Of those whose hello has not come, one too many drives the
     /// oldest one out.
     pub fn accept(&mut self, line: L, now: Instant, to: &mut dyn Handler) {
-        self.open(line, None, now + self.setup.ack_timeout);
+        self.open(line, None, now, self.setup.ack_timeout * (1 << self.late));
         let greeting = self.conns.iter().filter(|(_, conn)| conn.whom.is_none());
         let greeting: Vec<u64> = greeting.map(|(id, _)| *id).collect();
-        if greeting.len() > GREETING {
+        let children = || self.relay.children().map(|(_, link)| link);
+        let away = || children().filter(|link| !link.is_connected()).count();
+        if greeting.len() > GREETING && greeting.len() > GREETING + away() {
             self.close(greeting[0], "too many say no hello", now, to);
         }
     }
 
-    fn open(&mut self, line: L, whom: Option<(Whom, Connection)>, until: Instant) -> u64 {
+    fn open(
+        &mut self,
+        line: L,
+        whom: Option<(Whom, Connection)>,
+        now: Instant,
+        patience: Duration,
+    ) -> u64 {
         self.made += 1;
         let conn = Conn {
             line,
             made: whom.is_some(),
+            since: now,
             whom,
             greeted: None,
             input: Vec::new(),
             output: VecDeque::new(),
             written: 0,
-            until: Some(until),
+            until: Some(now + patience),
         };
         self.conns.insert(self.made, conn);
         self.made
@@ -508,11 +527,13 @@ impl<L: Line, A: Clone + PartialEq + fmt::Display> Peers<L, A> {
             Some(number) => number,
             None => return self.failed(&call.whom, "no number is left", now, to),
         };
+        let mut took = Duration::ZERO;
         if let Some(dial) = self.dials.get_mut(&call.whom) {
             dial.under_way = true;
+            took = dial.took;
         }
-        let patience = self.setup.ack_timeout * (1 << call.failed.min(5));
-        let id = self.open(line, Some((call.whom.clone(), number)), now + patience);
+        let patience = self.later(took, call.failed as u32);
+        let id = self.open(line, Some((call.whom.clone(), number)), now, patience);
         if call.whom == Whom::Parent {
             self.above = Some(id);
         }
@@ -654,6 +675,11 @@ impl<L: Line, A: Clone + PartialEq + fmt::Display> Peers<L, A> {
             .map(|(id, _)| *id)
             .collect();
         for id in late {
+            let is_unknown = self
+                .conns
+                .get(&id)
+                .map_or(false, |conn| conn.whom.is_none());
+            self.late = (self.late + u32::from(is_unknown)).min(LATER);
             let whom = self.conns.get(&id).filter(|conn| conn.greeted.is_some());
             if let Some((Whom::Child(name), _)) = whom.and_then(|conn| conn.whom.clone()) {
                 if let Some(link) = self.relay.child_mut(&name) {
@@ -783,8 +809,7 @@ impl<L: Line, A: Clone + PartialEq + fmt::Display> Peers<L, A> {
                     // (the first one after a hello may be no answer)
                     if let Some(link) = self.relay.child_mut(&name) {
                         if let Some(sent) = link.sent {
-                            link.late = 0;
-                            link.took = now - sent;
+                            link.answered(now - sent);
                         }
                     }
                     self.relay.on_ack(&name, number, label);
@@ -934,6 +959,9 @@ impl<L: Line, A: Clone + PartialEq + fmt::Display> Peers<L, A> {
 
     fn begins(&mut self, id: u64, whom: Whom, number: Connection, now: Instant) {
         if let Some(conn) = self.conns.get_mut(&id) {
+            if let (true, Some(dial)) = (conn.made, self.dials.get_mut(&whom)) {
+                dial.took = now - conn.since;
+            }
             conn.whom = Some((whom, number));
             conn.greeted = Some(now);
             conn.until = None;
@@ -1016,12 +1044,15 @@ impl<L: Line, A: Clone + PartialEq + fmt::Display> Peers<L, A> {
 
     /// How long a child's next answer may take.
     fn patience(&self, name: &str) -> Duration {
-        let most = self.setup.ack_timeout * 32;
         let link = self.relay.child(name);
-        let usual = link.map_or(Duration::ZERO, |link| link.took.saturating_mul(2));
-        let late = link.map_or(0, |link| link.late.min(5));
-        let patience = self.setup.ack_timeout.max(usual).saturating_mul(1 << late);
-        patience.min(most)
+        link.map_or(self.setup.ack_timeout, |it| self.later(it.took, it.late))
+    }
+
+    /// How long it may take where it took so long before, and then was late so often in turn.
+    fn later(&self, took: Duration, late: u32) -> Duration {
+        let usual = self.setup.ack_timeout.max(took.saturating_mul(2));
+        let most = self.setup.ack_timeout * (1 << LATER);
+        usual.saturating_mul(1 << late.min(LATER)).min(most)
     }
 
     /// Sends a child what is to be sent to it now.

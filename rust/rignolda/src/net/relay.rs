@@ -80,7 +80,7 @@ pub struct Link {
     pub timeouts: u64,
     /// How many of these came after the last answer to a frame. It is counted by the caller.
     pub late: u32,
-    /// How long that answer took, as the caller measures it.
+    /// How long that answer took, as the caller measures it, or nearly so long as one before it.
     pub took: Duration,
     /// What was counted in earlier counts of the link.
     acknowledged: u64,
@@ -101,6 +101,12 @@ impl Link {
     /// How many acknowledgements changed nothing.
     pub fn ignored(&self) -> u64 {
         self.ignored + self.session.ignored()
+    }
+
+    /// An answer to a frame took so long. (After a slow one another one soon may be as slow.)
+    pub(super) fn answered(&mut self, took: Duration) {
+        self.late = 0;
+        self.took = took.max(self.took - self.took / 32);
     }
 
     /// The frame that its sender gave, and the body: of a new item that of its place.

@@ -169,7 +169,7 @@ impl<L: Line, A: Clone + PartialEq + fmt::Display> Peers<L, A> {
         if taken {
             (words.waits, words.until) = (None, None);
             if let (Some(link), Some(sent)) = (self.relay.child_mut(name), sent) {
-                (link.late, link.took) = (0, now - sent);
+                link.answered(now - sent);
             }
         }
         Some(taken || changed)
