@@ -1,7 +1,7 @@
 //! Agents over lines in memory that delay, fill up, fall silent and break, where each agent acts
 //! only when a line of it has an event or its deadline has come, as over the sockets of a system:
 //! whoever waits for an event that never comes is not connected in the end.
-use rignolda::net::wire::Hello;
+use rignolda::net::wire::{self, Expect, Hello, Message};
 use rignolda::net::{Body, Call, Children, Handler, Line, Parent, Peers, Setup};
 use std::cell::{Cell, RefCell};
 use std::collections::{BTreeMap, VecDeque};
@@ -296,8 +296,9 @@ impl Net {
 
     fn start(&mut self, name: &'static str) {
         self.lives += 1;
+        let life = self.lives.wrapping_mul(0x9e37_79b9_7f4a_7c15);
         let agent = Agent {
-            peers: Peers::new(self.setup(name), self.lives, 16, self.now()),
+            peers: Peers::new(self.setup(name), life, 16, self.now()),
             said: Said::default(),
             watched: Vec::new(),
             made: Vec::new(),
@@ -509,6 +510,57 @@ fn all_are_connected_soon_after_the_last_fault() {
         }
     }
     eprintln!("{steps} steps, {longest} at most");
+}
+
+/// What a receiver remembers may be another parent's: then no link goes on.
+#[test]
+fn a_parent_after_another_one_is_told_another_life() {
+    let clock = Rc::default();
+    let (mut now, mut said) = (Instant::now(), Said::default());
+    let mut peers: Peers<End, String> = Peers::new(Net::new(1, (0, 0)).setup("c"), 7, 16, now);
+    let mut lives = Vec::new();
+    for greets in [true, true, false, true, false] {
+        now += Duration::from_secs(9);
+        peers.tick(now, &mut said);
+        let call = peers.next_call(now, &mut said).unwrap();
+        let (name, (here, mut there)) = (call.address.clone(), line(&clock, [0, 0]));
+        peers.called(call, Ok(here), now, &mut said);
+        peers.write(now, &mut said);
+        let mut bytes = vec![0; 99];
+        let count = there.read(&mut bytes).unwrap();
+        bytes.truncate(count);
+        let told = match wire::take(&mut bytes, Expect::Hello) {
+            Ok(Some(Message::Hello(hello))) => (name.clone(), hello.life),
+            other => panic!("{:?}", other),
+        };
+        lives.push(told);
+        if greets {
+            let (life, label, from, to) = (9, 255, name, "c".into());
+            let hello = Hello {
+                life,
+                label,
+                from,
+                to,
+            };
+            there.write_all(&hello.bytes()).unwrap();
+            let ids: Vec<u64> = peers.lines().map(|it| it.0).collect();
+            peers.read(ids, now, &mut said);
+            now += Duration::from_secs(9);
+        }
+        drop(there);
+        let ids: Vec<u64> = peers.lines().map(|it| it.0).collect();
+        peers.read(ids, now, &mut said);
+    }
+    let told = |name: &str, life| (name.to_string(), life);
+    // (the third call fails, and so the other parent is next)
+    let expected = [
+        told("a", 7),
+        told("a", 7),
+        told("a", 7),
+        told("b", 8),
+        told("a", 9),
+    ];
+    assert_eq!(lives, expected);
 }
 
 /// A line that takes three times as long as an answer may take at first.

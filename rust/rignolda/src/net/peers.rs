@@ -191,6 +191,8 @@ pub struct Peers<L, A> {
     parent: usize,
     above: Option<u64>,
     above_life: Option<u64>,
+    /// Which parent was told a life last, and how often it was another one than before.
+    told: (Option<String>, u64),
     reconnects: u64,
     refused: u64,
     said_refused: Option<Instant>,
@@ -218,6 +220,7 @@ impl<L: Line, A: Clone + PartialEq + fmt::Display> Peers<L, A> {
             parent: 0,
             above: None,
             above_life: None,
+            told: (None, 0),
             reconnects: 0,
             refused: 0,
             said_refused: None,
@@ -541,7 +544,10 @@ impl<L: Line, A: Clone + PartialEq + fmt::Display> Peers<L, A> {
     }
 
     fn say_hello(&mut self, id: u64, to: String) {
-        let (life, label, from) = (self.life, self.relay.label(), self.setup.name.clone());
+        let conn = self.conns.get(&id);
+        let to_parent = conn.map_or(false, |it| matches!(it.whom, Some((Whom::Parent, _))));
+        let life = if to_parent { self.told() } else { self.life };
+        let (label, from) = (self.relay.label(), self.setup.name.clone());
         self.send(
             id,
             Hello {
@@ -552,6 +558,16 @@ impl<L: Line, A: Clone + PartialEq + fmt::Display> Peers<L, A> {
             }
             .bytes(),
         );
+    }
+
+    /// The life that a parent is told. It is another one than what another parent was told before,
+    /// so that the parent begins a new count: what the receiver remembers may be that parent's, and
+    /// even look as if it had come from this one.
+    fn told(&mut self) -> u64 {
+        let parent = self.setup.parents.get(self.parent).map(Parent::to_string);
+        let is_other = self.told.0.is_some() && self.told.0 != parent;
+        self.told = (parent, self.told.1 + u64::from(is_other));
+        self.life.wrapping_add(self.told.1)
     }
 
     fn send(&mut self, id: u64, bytes: Vec<u8>) {

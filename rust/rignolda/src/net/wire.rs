@@ -35,7 +35,8 @@ pub(super) const FRAME_HEAD: usize = 11;
 /// What an end says first.
 #[derive(Clone, Debug, PartialEq, Eq)]
 pub struct Hello {
-    /// A number that the process drew when it began.
+    /// A number that the process drew when it began. A parent that comes after another
+    /// one is told a further one.
     pub life: u64,
     /// What the receiver remembers.
     pub label: u16,

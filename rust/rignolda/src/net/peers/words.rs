@@ -226,12 +226,11 @@ impl<L: Line, A: Clone + PartialEq + fmt::Display> Peers<L, A> {
         sets: &mut Vec<(String, Vec<u8>)>,
         now: Instant,
     ) {
-        let life = self.life;
         // (a parent's word says nothing of what its own receiver remembers, which changes)
-        let label = if *whom == Whom::Parent {
-            self.relay.label()
+        let (life, label) = if *whom == Whom::Parent {
+            (self.told(), self.relay.label())
         } else {
-            0
+            (self.life, 0)
         };
         let (from, to) = (self.setup.name.clone(), words.other.clone());
         let mut own = Hello {
