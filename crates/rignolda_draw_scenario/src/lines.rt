@@ -1,6 +1,6 @@
 //! The text of a scenario's run.
 
-ghost use Rattle.std.specs.Prelude.{◌≡◌, ◌++◌, codes, length, string_bytes, IfErr, IfOk, OnOk};
+ghost use Rattle.std.specs.Prelude.{◌≡◌, ◌++◌, codes, string_bytes, IfErr, IfOk, OnOk};
 ghost use Rattle.rignolda_draw.specs.Schedules.{link_start_line};
 ghost use Rattle.rignolda_draw_scenario.specs.ScenarioRuns.{after_rounds, begin_line, begin_lines};
 ghost use Rattle.rignolda_draw_scenario.specs.ScenarioRuns.{change_lines, rounds_lines};
@@ -18,7 +18,7 @@ use rignolda_draw::{push_name_cell, push_number_cell, push_start_line};
 use rignolda_scenario::{Scenario, ScenarioFault, Step, reading_round_of_all, state_after};
 use stab_core::Link;
 use stab_faults::{Change, ChangeFault};
-use stab_frames::Params;
+use stab_job::Job;
 use stab_rounds::round_of_all;
 use stab_tree::{NodeId, Tree};
 use stab_treecore::TreeState;
@@ -48,43 +48,28 @@ fn drawn(alloc: Global, scenario: &Scenario) -> Result<String, ChangeFault>
     ensures { IfOk result (λ text. string_bytes text ≡ scenario_run_text scenario.now) }
 {
     let job = &scenario.job;
-    let tree = job.tree();
-    let mut state = TreeState::new(
-        alloc,
-        job.params(),
-        tree,
-        job.items(),
-        job.starts(),
-        job.openings(),
-    )?;
-    let text = text_from(
-        alloc,
-        tree,
-        job.params(),
-        &mut state,
-        scenario.steps.as_slice(),
-    )?;
+    let steps = scenario.steps.as_slice();
+    let mut state = job.initial_tree(alloc)?;
+    let text = text_from(alloc, job, &mut state, steps)?;
     Ok(text)
 }
 
-/// The run of these steps from this state.
+/// The run of these steps of a job from this state.
 #[tactic(auto, unfolding(crate::specs::ScenarioRuns::scenario_head, rignolda_draw::specs::Schedules::tree_head, rignolda_draw::specs::Runs::head))]
 fn text_from(
     alloc: Global,
-    tree: &Tree,
-    params: &[Params],
+    job: &Job,
     state: &mut TreeState,
     steps: &[Step],
 ) -> Result<String, ChangeFault>
-    requires per_link { length params.now ≡ length (links_of tree.now.parents) }
-    requires same_tree { state.old.parents ≡ tree.now.parents }
+    requires same_tree { state.old.parents ≡ job.now.tree.parents }
     ensures { IfOk result (λ text. string_bytes text ≡ scenario_head
-        ++ begin_lines tree.now state.old
-        ++ lines_after tree.now params.now state.old 0 steps.now) }
+        ++ begin_lines job.now.tree state.old
+        ++ lines_after job.now.tree job.now.params state.old 0 steps.now) }
 {
     let mut text = String::from_str(alloc, HEAD)?;
-    push_begin_lines(&mut text, tree, state)?;
-    push_steps(alloc, &mut text, tree, params, state, steps)?;
+    push_begin_lines(&mut text, job.tree(), state)?;
+    push_steps(alloc, &mut text, job, state, steps)?;
     Ok(text)
 }
 
@@ -134,20 +119,18 @@ fn push_link_begin(
 fn push_steps(
     alloc: Global,
     text: &mut String,
-    tree: &Tree,
-    params: &[Params],
+    job: &Job,
     state: &mut TreeState,
     steps: &[Step],
 ) -> Result<(), ChangeFault>
-    requires per_link { length params.now ≡ length (links_of tree.now.parents) }
-    requires same_tree { state.old.parents ≡ tree.now.parents }
+    requires same_tree { state.old.parents ≡ job.now.tree.parents }
     ensures { OnOk result (string_bytes text.new ≡ string_bytes text.old
-        ++ lines_after tree.now params.now state.old 0 steps.now) }
+        ++ lines_after job.now.tree job.now.params state.old 0 steps.now) }
 {
     let mut number = 0;
     for step in steps {
         number += 1;
-        push_step(alloc, text, tree, params, state, number, step)?;
+        push_step(alloc, text, job, state, number, step)?;
     }
     Ok(())
 }
@@ -157,20 +140,19 @@ fn push_steps(
 fn push_step(
     alloc: Global,
     text: &mut String,
-    tree: &Tree,
-    params: &[Params],
+    job: &Job,
     state: &mut TreeState,
     number: usize,
     step: &Step,
 ) -> Result<(), ChangeFault>
-    requires per_link { length params.now ≡ length (links_of tree.now.parents) }
-    requires same_tree { state.old.parents ≡ tree.now.parents }
+    requires same_tree { state.old.parents ≡ job.now.tree.parents }
     ensures lines { OnOk result (string_bytes text.new ≡ string_bytes text.old
-        ++ lines_in number tree.now params.now state.old step.now) }
+        ++ lines_in number job.now.tree job.now.params state.old step.now) }
     ensures after { OnOk result (state.new
-        ≡ changes_replay state.old (changes_in tree.now.parents params.now step.now)) }
-    ensures same_tree { OnOk result (state.new.parents ≡ tree.now.parents) }
+        ≡ changes_replay state.old (changes_in job.now.tree.parents job.now.params step.now)) }
+    ensures same_tree { OnOk result (state.new.parents ≡ job.now.tree.parents) }
 {
+    let tree = job.tree();
     match step {
         Step::One(change) => push_change(alloc, text, tree, state, number, change)?,
         Step::Rounds(count) => {
@@ -178,7 +160,7 @@ fn push_step(
             push_rounds(text, tree, state, number, "round", &round, *count)?;
         }
         Step::ReadingRounds(count) => {
-            push_reading_rounds(alloc, text, tree, params, state, number, *count)?;
+            push_reading_rounds(alloc, text, job, state, number, *count)?;
         }
     }
     Ok(())
@@ -188,22 +170,21 @@ fn push_step(
 fn push_reading_rounds(
     alloc: Global,
     text: &mut String,
-    tree: &Tree,
-    params: &[Params],
+    job: &Job,
     state: &mut TreeState,
     number: usize,
     count: u16,
 ) -> Result<(), ChangeFault>
-    requires per_link { length params.now ≡ length (links_of tree.now.parents) }
-    requires same_tree { state.old.parents ≡ tree.now.parents }
+    requires same_tree { state.old.parents ≡ job.now.tree.parents }
     ensures lines { OnOk result (string_bytes text.new ≡ string_bytes text.old
-        ++ rounds_lines (codes "reading round") number count tree.now state.old
-        (reading_round_of (links_of tree.now.parents) params.now) count) }
+        ++ rounds_lines (codes "reading round") number count job.now.tree state.old
+        (reading_round_of (links_of job.now.tree.parents) job.now.params) count) }
     ensures after { OnOk result (state.new ≡ after_rounds state.old
-        (reading_round_of (links_of tree.now.parents) params.now) count) }
-    ensures same_tree { OnOk result (state.new.parents ≡ tree.now.parents) }
+        (reading_round_of (links_of job.now.tree.parents) job.now.params) count) }
+    ensures same_tree { OnOk result (state.new.parents ≡ job.now.tree.parents) }
 {
-    let round = reading_round_of_all(alloc, tree, params)?;
+    let tree = job.tree();
+    let round = reading_round_of_all(alloc, tree, job.params())?;
     push_rounds(text, tree, state, number, "reading round", &round, count)?;
     Ok(())
 }

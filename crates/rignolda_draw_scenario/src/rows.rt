@@ -38,16 +38,8 @@ fn made_rows(
         ≡ change_rows (initial_tree (network scenario.now.job)) changes.now) }
 {
     let job = &scenario.job;
-    let tree = job.tree();
-    let mut state = TreeState::new(
-        alloc,
-        job.params(),
-        tree,
-        job.items(),
-        job.starts(),
-        job.openings(),
-    )?;
-    let rows = rows_from(alloc, tree, &mut state, changes)?;
+    let mut state = job.initial_tree(alloc)?;
+    let rows = rows_from(alloc, job.tree(), &mut state, changes)?;
     Ok(rows)
 }
 

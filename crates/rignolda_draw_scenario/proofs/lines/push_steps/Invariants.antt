@@ -6,6 +6,6 @@ use Rattle.rignolda_draw_scenario.proofs.lines.push_steps.Given as goal
 abbrev pub invariant-loop-step : goal.invariant-loop-step
 invariant-loop-step l =
     (l.number ≡ l.step-index)
-    × (l.state.parents ≡ l.tree.parents)
-    × (string_bytes l.text ++ lines_after l.tree l.params l.state l.number (drop l.step-index l.steps)
-    ≡ string_bytes l.initial.text ++ lines_after l.tree l.params l.initial.state 0 l.steps)
+    × (l.state.parents ≡ l.job.tree.parents)
+    × (string_bytes l.text ++ lines_after l.job.tree l.job.params l.state l.number (drop l.step-index l.steps)
+    ≡ string_bytes l.initial.text ++ lines_after l.job.tree l.job.params l.initial.state 0 l.steps)
