@@ -12,7 +12,7 @@ use stab_core::StartFault;
 use stab_frames::Params;
 use stab_job::{Job, JobFault};
 use stab_job_stream::read_job;
-use stab_treecore::{TreeStartFault, TreeStepFault, run_schedule};
+use stab_treecore::{TreeStartFault, TreeStepFault};
 use std::alloc::{AllocError, Global};
 use thiserror::Error;
 
@@ -142,15 +142,7 @@ fn replay(alloc: Global, job: &Job) -> Result<(), RandomFault>
     ensures unlike { result ≡ Err RandomFault.Unlike → ¬ IsReplayed job.now }
     ensures fault { (fault : OptionsFault) → result ≢ Err (RandomFault.Options fault) }
 {
-    match run_schedule(
-        alloc,
-        job.params(),
-        job.tree(),
-        job.items(),
-        job.starts(),
-        job.openings(),
-        job.schedule(),
-    ) {
+    match job.replay(alloc) {
         Ok(_) => Ok(()),
         Err(
             TreeStartFault::Start(StartFault::Memory) | TreeStartFault::Step(TreeStepFault::Memory),
