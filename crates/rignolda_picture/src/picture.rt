@@ -1,18 +1,19 @@
 ghost use Rattle.std.specs.Prelude.{All, IfErr, OnOk};
 ghost use Rattle.stab_core.specs.Link.{IsReason};
 ghost use Rattle.stab_core.specs.Replay.{IsLawful};
-ghost use Rattle.stab_treecore.specs.Network.{IsNetwork, network_of};
-ghost use Rattle.stab_tree.specs.NodeOpenings.{FitTree};
-ghost use Rattle.stab_treecore.specs.Refusals.{IsScheduleReason, NamesLink};
+ghost use Rattle.stab_job.specs.JobValues.{network};
+ghost use Rattle.stab_job.specs.Replays.{IsReplayReason};
+ghost use Rattle.stab_treecore.specs.Network.{IsNetwork};
+ghost use Rattle.stab_treecore.specs.Refusals.{NamesLink};
 
 use crate::drawing::Drawing;
 use crate::sheet::Sheet;
 use rignolda_draw::{Row, link_rows, schedule_rows};
 use stab_core::{Start, StartFault};
-use stab_frames::{Item, Params};
+use stab_job::Job;
 use stab_script::LinkJob;
 use stab_tree::{NodeId, Tree};
-use stab_treecore::{Openings, TreeEvent, TreeStartFault};
+use stab_treecore::TreeStartFault;
 use std::alloc::{AllocError, Global};
 
 /// The run of a link job as a picture. It refuses a start as `stab link` does.
@@ -25,26 +26,16 @@ pub fn link_picture(alloc: Global, job: &LinkJob) -> Result<String, StartFault>
     Ok(text)
 }
 
-/// The run of a schedule as a picture, with its links side by side in the file order of their
-/// children. It refuses what `run_schedule` refuses.
-pub fn schedule_picture(
-    alloc: Global,
-    params: &[Params],
-    tree: &Tree,
-    published: &[Item],
-    starts: &[Start],
-    openings: &Openings,
-    events: &[TreeEvent],
-) -> Result<String, TreeStartFault>
-    requires fit { FitTree tree.now.parents openings.now }
-    ensures network { OnOk result (IsNetwork
-        (network_of params.now tree.now published.now starts.now openings.now)) }
-    ensures named { OnOk result (All (NamesLink tree.now.parents) events.now) }
-    ensures refused { IfErr result (IsScheduleReason params.now starts.now
-        (network_of params.now tree.now published.now starts.now openings.now) events.now) }
+/// The run of a job's schedule as a picture, with its links side by side in the file order of their
+/// children. It refuses what [`Job::replay`] refuses.
+pub fn schedule_picture(alloc: Global, job: &Job) -> Result<String, TreeStartFault>
+    ensures network { OnOk result (IsNetwork (network job.now)) }
+    ensures named { OnOk result (All (NamesLink job.now.tree.parents) job.now.schedule) }
+    ensures refused { IfErr result (IsReplayReason job.now) }
 {
-    let rows = schedule_rows(alloc, params, tree, published, starts, openings, events)?;
-    let text = draw_tree(alloc, params, tree, starts, &rows)?;
+    let _tree = job.tree();
+    let rows = schedule_rows(alloc, job)?;
+    let text = draw_tree(alloc, job, &rows)?;
     Ok(text)
 }
 
@@ -77,27 +68,22 @@ fn draw_link(alloc: Global, job: &LinkJob, rows: &[Row]) -> Result<String, Alloc
     drawing.page(alloc, "The run of a link", ABOUT_LINK)
 }
 
-/// The picture of these rows of a tree.
-fn draw_tree(
-    alloc: Global,
-    params: &[Params],
-    tree: &Tree,
-    starts: &[Start],
-    rows: &[Row],
-) -> Result<String, AllocError> {
-    let mut drawing = Drawing::new(alloc, sheet_of(tree, starts, rows.len() as u64));
-    add_links(alloc, &mut drawing, params, tree, starts)?;
-    add_rows(alloc, &mut drawing, Some(tree), rows)?;
+/// The picture of these rows of a job.
+fn draw_tree(alloc: Global, job: &Job, rows: &[Row]) -> Result<String, AllocError> {
+    let mut drawing = Drawing::new(alloc, sheet_of(job, rows.len() as u64));
+    add_links(alloc, &mut drawing, job)?;
+    add_rows(alloc, &mut drawing, Some(job.tree()), rows)?;
     drawing.end(alloc)?;
     drawing.page(alloc, "The run of a schedule", ABOUT_TREE)
 }
 
-/// The sizes of the picture of a tree with `rows` rows.
-pub(crate) fn sheet_of(tree: &Tree, starts: &[Start], rows: u64) -> Sheet {
+/// The sizes of the picture of a job with `rows` rows.
+pub(crate) fn sheet_of(job: &Job, rows: u64) -> Sheet {
     let mut start_rows = 1;
-    for start in starts {
+    for start in job.starts() {
         start_rows = rows_of(start).max(start_rows);
     }
+    let tree = job.tree();
     let mut name = 1;
     for place in 0..tree.len() {
         let letters = tree.name(NodeId::new(place)).len() as u64;
@@ -111,14 +97,9 @@ pub(crate) fn sheet_of(tree: &Tree, starts: &[Start], rows: u64) -> Sheet {
     }
 }
 
-/// Adds the links of a tree at their starts.
-pub(crate) fn add_links(
-    alloc: Global,
-    drawing: &mut Drawing,
-    params: &[Params],
-    tree: &Tree,
-    starts: &[Start],
-) -> Result<(), AllocError> {
+/// Adds the links of a job at their starts.
+pub(crate) fn add_links(alloc: Global, drawing: &mut Drawing, job: &Job) -> Result<(), AllocError> {
+    let (params, tree, starts) = (job.params(), job.tree(), job.starts());
     for place in 0..tree.link_count() {
         let link = usize::from(place);
         if link < params.len() && link < starts.len() {

@@ -35,8 +35,8 @@ fn draw_scenario(alloc: Global, scenario: &Scenario, rows: &[Row]) -> Result<Str
     let tree = job.tree();
     let steps = scenario.steps.as_slice();
     let needed = rows_needed(tree, job.params(), steps);
-    let mut drawing = Drawing::new(alloc, sheet_of(tree, job.starts(), needed));
-    add_links(alloc, &mut drawing, job.params(), tree, job.starts())?;
+    let mut drawing = Drawing::new(alloc, sheet_of(job, needed));
+    add_links(alloc, &mut drawing, job)?;
     add_steps(alloc, &mut drawing, tree, job.params(), steps, rows)?;
     drawing.end(alloc)?;
     drawing.page(alloc, "The run of a scenario", ABOUT)
