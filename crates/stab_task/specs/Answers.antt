@@ -22,6 +22,7 @@ use Rattle.stab_job.specs.declared.fault.JobFault.{JobFault}
 use Rattle.stab_job.specs.declared.fault.JobFault.TheVariants.{Memory as no_memory}
 use Rattle.stab_job.specs.JobValues.{JobValue, network}
 use Rattle.stab_job.specs.Jobs.{job as whole_job}
+use Rattle.stab_job.specs.Replays.{IsReplayReason}
 use Rattle.stab_report.specs.Texts.{report_text}
 use Rattle.stab_run.specs.Reports.{Reported, as_report}
 use Rattle.stab_run.specs.RunFaults.{IsRunReason}
@@ -29,7 +30,7 @@ use Rattle.stab_run.specs.Runs.{IsReport}
 use Rattle.stab_links.specs.declared.links.Links.{Links}
 use Rattle.stab_run.specs.declared.run_fault.RunFault.{RunFault}
 use Rattle.stab_treecore.specs.Network.{IsNetwork}
-use Rattle.stab_treecore.specs.Refusals.{NamesLink, IsScheduleReason}
+use Rattle.stab_treecore.specs.Refusals.{NamesLink}
 use Rattle.stab_treecore.specs.Texts.{schedule_text}
 use Rattle.stab_treecore.specs.TreeReplay.{initial_tree, tree_replay}
 use Rattle.stab_script.specs.LinkJobs.{link_job}
@@ -112,7 +113,7 @@ IsJobFault (RunTask links) input refusal = refusal ≢ no_memory → whole_job i
 abbrev pub IsTreeFault : Task → List ℕ → TreeStartFault → Type 0
 IsTreeFault (Link trace) input refusal = ⊥
 IsTreeFault WholeTreeTask input refusal = (job : JobValue) × (whole_job input ≡ Ok job)
-    × IsScheduleReason job.params job.starts (network job) job.schedule refusal
+    × IsReplayReason job refusal
 IsTreeFault (RunTask links) input refusal = ⊥
 
 -- why a run of a job gives no report under the gate `Free`, which refuses no turn

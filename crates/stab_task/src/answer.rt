@@ -4,10 +4,10 @@ ghost use Rattle.std.specs.Io.KnownBytes.{Appends, Keeps};
 ghost use Rattle.stab_core.specs.Link.{IsReason, link_at};
 ghost use Rattle.stab_core.specs.Replay.{IsLawful, initial, replay};
 ghost use Rattle.stab_job.specs.JobValues.{network};
+ghost use Rattle.stab_job.specs.Replays.{IsReplayReason};
 ghost use Rattle.stab_run.specs.Runs.{IsReport};
 ghost use Rattle.stab_treecore.specs.Network.{IsNetwork};
-ghost use Rattle.stab_treecore.specs.Refusals.{IsScheduleReason, NamesLink};
-ghost use Rattle.stab_treecore.specs.TreeReplay.{initial_tree, tree_replay};
+ghost use Rattle.stab_treecore.specs.Refusals.{NamesLink};
 ghost use Rattle.stab_task.specs.Answers.{IsLinkAnswer, IsTreeAnswer, IsRunAnswer};
 ghost use Rattle.stab_task.specs.Answers.{IsAnswer, IsFault, IsFreeRunReason, IsRunText};
 ghost use Rattle.stab_task.specs.Answers.{IsTaskAnswer, IsTaskFault};
@@ -23,7 +23,7 @@ use stab_node::Free;
 use stab_run::{Job, Links, Report, RunFault, report_text, run_locked, run_mixed, run_words};
 use stab_script::LinkJob;
 use stab_stream::read_link_job;
-use stab_treecore::{TreeStartFault, TreeState, run_schedule, schedule_text};
+use stab_treecore::{TreeStartFault, schedule_text};
 use std::alloc::Global;
 use std::io::{self, Read, Write};
 use std::sync::Wait;
@@ -177,7 +177,7 @@ fn schedule_answer(alloc: Global, job: &Job) -> Result<String, CliFault>
     ensures network { OnOk result (IsNetwork (network job.now)) }
     ensures named { OnOk result (All (NamesLink job.now.tree.parents) job.now.schedule) }
     ensures refused { IfErr result (λ fault. (why : TreeStartFault) × (fault ≡ CliFault.Tree why)
-        × IsScheduleReason job.now.params job.now.starts (network job.now) job.now.schedule why) }
+        × IsReplayReason job.now why) }
 {
     Ok(tree_text(alloc, job)?)
 }
@@ -187,32 +187,10 @@ fn tree_text(alloc: Global, job: &Job) -> Result<String, TreeStartFault>
     ensures text { IfOk result (λ text. string_bytes text ≡ tree_answer job.now) }
     ensures network { OnOk result (IsNetwork (network job.now)) }
     ensures named { OnOk result (All (NamesLink job.now.tree.parents) job.now.schedule) }
-    ensures refused { IfErr result (IsScheduleReason job.now.params job.now.starts
-        (network job.now) job.now.schedule) }
+    ensures refused { IfErr result (IsReplayReason job.now) }
 {
-    let state = replay_tree(alloc, job)?;
+    let state = job.replay(alloc)?;
     Ok(schedule_text(alloc, job.tree(), &state)?)
-}
-
-/// The whole tree of a job after its schedule.
-fn replay_tree(alloc: Global, job: &Job) -> Result<TreeState, TreeStartFault>
-    ensures replay { IfOk result (λ state.
-        state ≡ tree_replay (initial_tree (network job.now)) job.now.schedule) }
-    ensures same_tree { IfOk result (λ state. state.parents ≡ job.now.tree.parents) }
-    ensures network { OnOk result (IsNetwork (network job.now)) }
-    ensures named { OnOk result (All (NamesLink job.now.tree.parents) job.now.schedule) }
-    ensures refused { IfErr result (IsScheduleReason job.now.params job.now.starts
-        (network job.now) job.now.schedule) }
-{
-    run_schedule(
-        alloc,
-        job.params(),
-        job.tree(),
-        job.items(),
-        job.starts(),
-        job.openings(),
-        job.schedule(),
-    )
 }
 
 /// The text of the report of a run, by one worker per node.
