@@ -1,4 +1,4 @@
-pub mod Begin
 pub mod Offers
 pub mod Told
 pub mod Drawn
+pub mod Unread

@@ -57,7 +57,7 @@ pub fn act_check<J: Read, R: Read, W: Write>(
 }
 
 /// What is said of the report that the second reader gives, and whether it obeys.
-#[tactic(auto, using(crate::proofs::Begin::whatever_is_read, crate::proofs::Begin::memory_is_refused))]
+#[tactic(auto, using(crate::proofs::Unread::whatever_is_read, crate::proofs::Unread::memory_is_refused))]
 fn check_input<J: Read, R: Read>(
     alloc: Global,
     job: &mut J,

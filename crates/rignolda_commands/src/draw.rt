@@ -13,13 +13,14 @@ ghost use Rattle.rignolda_draw.specs.Schedules.{schedule_run_text};
 ghost use Rattle.rignolda_draw_scenario.specs.ScenarioRuns.{scenario_run_text};
 ghost use Rattle.rignolda_explain.specs.Kinds.{chosen};
 ghost use Rattle.stab_job.specs.JobValues.{network};
+ghost use Rattle.stab_job.specs.Replays.{IsReplayReason};
 ghost use Rattle.stab_json.specs.Values.{value_of};
 ghost use Rattle.rignolda_scenario.specs.Counts.{IsUnrun};
 ghost use Rattle.rignolda_scenario.specs.Scenarios.{scenario};
 ghost use Rattle.stab_task.specs.Answers.{IsFault};
 ghost use Rattle.stab_task.specs.declared.command.Task.TheVariants.{Link, Tree};
 ghost use Rattle.stab_treecore.specs.Network.{IsNetwork};
-ghost use Rattle.stab_treecore.specs.Refusals.{IsScheduleReason, NamesLink};
+ghost use Rattle.stab_treecore.specs.Refusals.{NamesLink};
 
 use crate::answer::write_text;
 use crate::scenario::StepsFault;
@@ -239,50 +240,11 @@ fn tree_run(alloc: Global, is_picture: bool, job: &Job) -> Result<String, TreeSt
         → string_bytes text ≡ schedule_run_text (network job.now) job.now.schedule) }
     ensures network { OnOk result (IsNetwork (network job.now)) }
     ensures named { OnOk result (All (NamesLink job.now.tree.parents) job.now.schedule) }
-    ensures refused { IfErr result (IsScheduleReason job.now.params job.now.starts
-        (network job.now) job.now.schedule) }
+    ensures refused { IfErr result (IsReplayReason job.now) }
 {
     if is_picture {
-        tree_picture(alloc, job)
+        schedule_picture(alloc, job)
     } else {
-        tree_text(alloc, job)
+        schedule_run_text(alloc, job)
     }
-}
-
-/// The run of the schedule of a job as text.
-fn tree_text(alloc: Global, job: &Job) -> Result<String, TreeStartFault>
-    ensures text { IfOk result (λ text.
-        string_bytes text ≡ schedule_run_text (network job.now) job.now.schedule) }
-    ensures network { OnOk result (IsNetwork (network job.now)) }
-    ensures named { OnOk result (All (NamesLink job.now.tree.parents) job.now.schedule) }
-    ensures refused { IfErr result (IsScheduleReason job.now.params job.now.starts
-        (network job.now) job.now.schedule) }
-{
-    schedule_run_text(
-        alloc,
-        job.params(),
-        job.tree(),
-        job.items(),
-        job.starts(),
-        job.openings(),
-        job.schedule(),
-    )
-}
-
-/// The run of the schedule of a job as a picture.
-fn tree_picture(alloc: Global, job: &Job) -> Result<String, TreeStartFault>
-    ensures network { OnOk result (IsNetwork (network job.now)) }
-    ensures named { OnOk result (All (NamesLink job.now.tree.parents) job.now.schedule) }
-    ensures refused { IfErr result (IsScheduleReason job.now.params job.now.starts
-        (network job.now) job.now.schedule) }
-{
-    schedule_picture(
-        alloc,
-        job.params(),
-        job.tree(),
-        job.items(),
-        job.starts(),
-        job.openings(),
-        job.schedule(),
-    )
 }

@@ -8,10 +8,10 @@ ghost use Rattle.serde_json.specs.View.{view};
 ghost use Rattle.stab_core.specs.Link.{IsReason};
 ghost use Rattle.stab_core.specs.Replay.{IsLawful};
 ghost use Rattle.stab_job.specs.JobValues.{network};
+ghost use Rattle.stab_job.specs.Replays.{IsReplayReason};
 ghost use Rattle.stab_json.specs.Values.{value_of};
 ghost use Rattle.stab_task.specs.Answers.{IsFault};
 ghost use Rattle.stab_treecore.specs.Network.{IsNetwork};
-ghost use Rattle.stab_treecore.specs.Refusals.{IsScheduleReason};
 
 use serde_json::Value;
 use stab_core::{Link, StartFault};
@@ -20,7 +20,7 @@ use stab_job_stream::{read_job, read_job_and_members};
 use stab_script::LinkJob;
 use stab_stream::read_link_job;
 use stab_task::{CliFault, Task};
-use stab_treecore::{TreeStartFault, run_schedule};
+use stab_treecore::TreeStartFault;
 use std::alloc::Global;
 
 /// The job that these bytes are, where each of its links can begin. Otherwise the fault is that of
@@ -49,21 +49,12 @@ pub(crate) fn begun_job_and_members(alloc: Global, bytes: &[u8]) -> Result<(Job,
 }
 
 /// Sees that each link of a job can begin.
-#[tactic(auto, using(crate::proofs::Begin::whatever_the_schedule))]
+#[tactic(auto, using(stab_job::proofs::ForCallers::start_reason))]
 fn begin(alloc: Global, job: &Job) -> Result<(), TreeStartFault>
     ensures network { OnOk result (IsNetwork (network job.now)) }
-    ensures refused { IfErr result (IsScheduleReason job.now.params job.now.starts
-        (network job.now) job.now.schedule) }
+    ensures refused { IfErr result (IsReplayReason job.now) }
 {
-    run_schedule(
-        alloc,
-        job.params(),
-        job.tree(),
-        job.items(),
-        job.starts(),
-        job.openings(),
-        &[],
-    )?;
+    job.initial_tree(alloc)?;
     Ok(())
 }
 
