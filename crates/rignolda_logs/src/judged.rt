@@ -2,6 +2,7 @@
 
 ghost use Rattle.std.specs.Prelude.{◌≡◌, ◌<◌, ◌≤◌, ◌+◌, ◌*◌, ◌↔◌, IfOk, IfSome, IsNone, IsTrue};
 ghost use Rattle.std.specs.Prelude.{length};
+ghost use Rattle.stab_job.specs.JobValues.{network};
 ghost use Rattle.rignolda_logs.specs.ObeysLogs.{IsBrokenLog, IsFirstLog, IsOrdered, LogObeys};
 ghost use Rattle.rignolda_logs.specs.ObeysLogs.{ObeysLogs, counted, kept_for, place_of, strays_at};
 ghost use Rattle.stab_treecore.specs.NodeLaws.{most_missing};
@@ -9,6 +10,7 @@ ghost use Rattle.stab_treecore.specs.NodeLaws.{most_missing};
 use crate::broken::BrokenLog;
 use crate::logs::Logs;
 use stab_frames::Item;
+use stab_job::Job;
 use stab_judge::{Judge, obeys_half_tree_law, obeys_tree_law};
 use stab_tree::{NodeId, Tree};
 use std::alloc::{AllocError, Global};
@@ -18,24 +20,21 @@ use std::alloc::{AllocError, Global};
 pub(crate) fn first_broken(
     alloc: Global,
     judge: &Judge<'_>,
-    tree: &Tree,
-    hold: u16,
-    published: &[Item],
+    job: &Job,
     logs: &Logs,
 ) -> Result<Option<BrokenLog>, AllocError>
-    requires same_tree { judge.now.tree ≡ tree.now }
-    requires same_hold { judge.now.openings.hold ≡ hold }
-    requires same_items { judge.now.published ≡ published.now }
-    requires per_node { length logs.now.received ≡ length tree.now.parents }
+    requires its_judge { judge.now ≡ network job.now }
+    requires per_node { length logs.now.received ≡ length job.now.tree.parents }
     ensures none { IfOk result (λ part. IsNone part ↔ ObeysLogs judge.now logs.now) }
     ensures broken { IfOk result (λ part. IfSome part (IsBrokenLog judge.now logs.now)) }
     ensures first { IfOk result (λ part. IfSome part (IsFirstLog judge.now logs.now)) }
     ensures known { IfOk result (λ part. IfSome part
-        (λ its. place_of its < length tree.now.parents)) }
+        (λ its. place_of its < length job.now.tree.parents)) }
 {
+    let tree = job.tree();
     'nodes: for place in 0..tree.len() {
         let node = NodeId::new(place);
-        if let Some(part) = broken_at(alloc, judge, tree, hold, published, logs, node)? {
+        if let Some(part) = broken_at(alloc, judge, job, logs, node)? {
             return Ok(Some(part));
         }
     }
@@ -47,25 +46,21 @@ pub(crate) fn first_broken(
 fn broken_at(
     alloc: Global,
     judge: &Judge<'_>,
-    tree: &Tree,
-    hold: u16,
-    published: &[Item],
+    job: &Job,
     logs: &Logs,
     node: NodeId,
 ) -> Result<Option<BrokenLog>, AllocError>
-    requires same_tree { judge.now.tree ≡ tree.now }
-    requires same_hold { judge.now.openings.hold ≡ hold }
-    requires same_items { judge.now.published ≡ published.now }
-    requires per_node { length logs.now.received ≡ length tree.now.parents }
-    requires known { node < length tree.now.parents }
+    requires its_judge { judge.now ≡ network job.now }
+    requires per_node { length logs.now.received ≡ length job.now.tree.parents }
+    requires known { node < length job.now.tree.parents }
     ensures none { IfOk result (λ part. IsNone part ↔ LogObeys judge.now logs.now node) }
     ensures broken { IfOk result (λ part. IfSome part (IsBrokenLog judge.now logs.now)) }
     ensures there { IfOk result (λ part. IfSome part (λ its. place_of its ≡ node)) }
 {
-    if !is_ordered(judge, tree, hold, published, logs, node) {
+    if !is_ordered(judge, job, logs, node) {
         return Ok(Some(BrokenLog::Strays(node)));
     }
-    if !log_obeys(alloc, judge, tree, hold, published, logs, node)? {
+    if !log_obeys(alloc, judge, job, logs, node)? {
         return Ok(Some(BrokenLog::Missing(node)));
     }
     Ok(None)
@@ -73,23 +68,14 @@ fn broken_at(
 
 /// Whether what a node received are at most C + E strays and then published items in order. Any
 /// items may be strays, so they are looked for in the list itself.
-fn is_ordered(
-    judge: &Judge<'_>,
-    tree: &Tree,
-    hold: u16,
-    published: &[Item],
-    logs: &Logs,
-    node: NodeId,
-) -> bool
-    requires same_tree { judge.now.tree ≡ tree.now }
-    requires same_hold { judge.now.openings.hold ≡ hold }
-    requires same_items { judge.now.published ≡ published.now }
+fn is_ordered(judge: &Judge<'_>, job: &Job, logs: &Logs, node: NodeId) -> bool
+    requires its_judge { judge.now ≡ network job.now }
     requires listed { node < length logs.now.received }
-    requires known { node < length tree.now.parents }
+    requires known { node < length job.now.tree.parents }
     ensures { IsTrue result ↔ IsOrdered judge.now logs.now node }
 {
-    let counted = counted(judge, published, logs, node);
-    let strays = strays_at(judge, tree, hold, node);
+    let counted = counted(judge, job.items(), logs, node);
+    let strays = strays_at(judge, job.tree(), job.openings().hold(), node);
     let received = logs.received_at(node);
     obeys_half_tree_law(strays as usize, received, counted, received)
 }
@@ -98,22 +84,18 @@ fn is_ordered(
 fn log_obeys(
     alloc: Global,
     judge: &Judge<'_>,
-    tree: &Tree,
-    hold: u16,
-    published: &[Item],
+    job: &Job,
     logs: &Logs,
     node: NodeId,
 ) -> Result<bool, AllocError>
-    requires same_tree { judge.now.tree ≡ tree.now }
-    requires same_hold { judge.now.openings.hold ≡ hold }
-    requires same_items { judge.now.published ≡ published.now }
+    requires its_judge { judge.now ≡ network job.now }
     requires listed { node < length logs.now.received }
-    requires known { node < length tree.now.parents }
+    requires known { node < length job.now.tree.parents }
     ensures { IfOk result (λ yes. IsTrue yes ↔ LogObeys judge.now logs.now node) }
 {
-    let counted = counted(judge, published, logs, node);
-    let strays = strays_at(judge, tree, hold, node);
-    let missing = missing_at(judge, tree, node);
+    let counted = counted(judge, job.items(), logs, node);
+    let strays = strays_at(judge, job.tree(), job.openings().hold(), node);
+    let missing = missing_at(judge, job.tree(), node);
     let received = logs.received_at(node);
     let obeys = obeys_tree_law(
         alloc,

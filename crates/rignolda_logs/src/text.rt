@@ -4,37 +4,36 @@ ghost use Rattle.std.specs.Prelude.{◌≡◌, ◌++◌, ◌<◌, length, string
 ghost use Rattle.rignolda_logs.specs.LogTexts.{broken_log_text, lists_of, log_lists, missing_words};
 ghost use Rattle.rignolda_logs.specs.LogTexts.{strays_words};
 ghost use Rattle.rignolda_logs.specs.ObeysLogs.{place_of};
+ghost use Rattle.stab_job.specs.JobValues.{network};
 
 use crate::broken::BrokenLog;
 use crate::judged::{counted, missing_at, strays_at};
 use crate::logs::Logs;
 use stab_core::push_items_line;
 use stab_frames::Item;
+use stab_job::Job;
 use stab_judge::Judge;
-use stab_tree::{NodeId, Tree};
+use stab_tree::NodeId;
 use std::alloc::AllocError;
 
 /// Adds what is said of a broken part.
 pub(crate) fn push_broken(
     text: &mut String,
     judge: &Judge<'_>,
-    tree: &Tree,
-    hold: u16,
-    published: &[Item],
+    job: &Job,
     logs: &Logs,
     part: BrokenLog,
 ) -> Result<(), AllocError>
-    requires same_tree { judge.now.tree ≡ tree.now }
-    requires same_hold { judge.now.openings.hold ≡ hold }
-    requires same_items { judge.now.published ≡ published.now }
-    requires per_node { length logs.now.received ≡ length tree.now.parents }
-    requires known { place_of part < length tree.now.parents }
+    requires its_judge { judge.now ≡ network job.now }
+    requires per_node { length logs.now.received ≡ length job.now.tree.parents }
+    requires known { place_of part < length job.now.tree.parents }
     ensures { OnOk result (string_bytes text.new ≡ string_bytes text.old
         ++ broken_log_text judge.now logs.now part) }
 {
+    let (tree, published) = (job.tree(), job.items());
     match part {
         BrokenLog::Strays(node) => {
-            let most = strays_at(judge, tree, hold, node);
+            let most = strays_at(judge, tree, job.openings().hold(), node);
             text.push_str(tree.name(node))?;
             push_strays(text, most)?;
             push_lists_of(text, judge, published, logs, node)

@@ -9,10 +9,8 @@ use crate::judged::first_broken;
 use crate::logs::Logs;
 use crate::text::push_broken;
 use rignolda_verdict::judge_of;
-use stab_frames::Item;
 use stab_job::Job;
 use stab_judge::Judge;
-use stab_tree::Tree;
 use std::alloc::{AllocError, Global};
 
 /// What is said of the logs of the nodes of a job, and whether they obey: the job's starts and
@@ -25,38 +23,27 @@ pub fn verdict_of_logs(alloc: Global, job: &Job, logs: &Logs) -> Result<(String,
         SaysLogs (network job.now) logs.now said.1 (string_bytes said.0)) }
 {
     let judge = judge_of(alloc, job)?;
-    verdict_by(
-        alloc,
-        &judge,
-        job.tree(),
-        job.openings().hold(),
-        job.items(),
-        logs,
-    )
+    verdict_by(alloc, &judge, job, logs)
 }
 
-/// What this judge says of logs.
+/// What the judge of a job says of logs.
 fn verdict_by(
     alloc: Global,
     judge: &Judge<'_>,
-    tree: &Tree,
-    hold: u16,
-    published: &[Item],
+    job: &Job,
     logs: &Logs,
 ) -> Result<(String, bool), AllocError>
-    requires same_tree { judge.now.tree ≡ tree.now }
-    requires same_hold { judge.now.openings.hold ≡ hold }
-    requires same_items { judge.now.published ≡ published.now }
-    requires per_node { length logs.now.received ≡ length tree.now.parents }
+    requires its_judge { judge.now ≡ network job.now }
+    requires per_node { length logs.now.received ≡ length job.now.tree.parents }
     ensures exactly { IfOk result (λ said. IsTrue said.1 ↔ ObeysLogs judge.now logs.now) }
     ensures says { IfOk result (λ said.
         SaysLogs judge.now logs.now said.1 (string_bytes said.0)) }
 {
-    match first_broken(alloc, judge, tree, hold, published, logs)? {
+    match first_broken(alloc, judge, job, logs)? {
         None => Ok((String::from_str(alloc, "obeys\n")?, true)),
         Some(part) => {
             let mut text = String::new(alloc);
-            push_broken(&mut text, judge, tree, hold, published, logs, part)?;
+            push_broken(&mut text, judge, job, logs, part)?;
             Ok((text, false))
         }
     }
