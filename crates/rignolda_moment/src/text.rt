@@ -1,55 +1,51 @@
 //! The part of a report since a moment that is broken, as text.
 
 ghost use Rattle.std.specs.Prelude.{◌≡◌, ◌+◌, ◌++◌, ◌<◌, length, string_bytes, unwrap_or, OnOk};
-ghost use Rattle.stab_judge.specs.Reports.{OnePerNode, acked_at, received_at};
+ghost use Rattle.stab_judge.specs.Reports.{acked_at};
 ghost use Rattle.rignolda_moment.specs.Backlogs.{backlog_at};
 ghost use Rattle.rignolda_moment.specs.ObeysSince.{place_since};
 ghost use Rattle.rignolda_moment.specs.VerdictTexts.{broken_since_text, link_since_text};
 ghost use Rattle.rignolda_moment.specs.VerdictTexts.{since_head, since_lists, since_words};
-ghost use Rattle.stab_treecore.specs.NodeLaws.{capacity_into, garbage_into};
 ghost use Rattle.rignolda_verdict.specs.BoundsTexts.{name_at};
 ghost use Rattle.rignolda_verdict.specs.Verdicts.{handed_on_text, list_above, name_above};
 
 use crate::backlogs::backlog_at;
 use crate::broken::BrokenSince;
 use rignolda_verdict::{
-    acked_of, items_of, list_above, name_above, name_of, push_acked, push_capacity, push_handed_on,
-    push_items, push_no_count, push_published, push_root_count,
+    Judged, push_acked, push_capacity, push_handed_on, push_items, push_no_count, push_published,
+    push_root_count,
 };
 use stab_core::push_items_line;
 use stab_frames::{Item, Sequence};
-use stab_judge::{Judge, Report};
-use stab_tree::{NodeId, Tree};
+use stab_tree::NodeId;
 use std::alloc::AllocError;
 
 /// Adds what is said of a broken part.
 pub(crate) fn push_broken(
     text: &mut String,
-    judge: &Judge<'_>,
-    tree: &Tree,
-    published: &[Item],
+    judged: &Judged<'_>,
     lists: &[Sequence<Item>],
-    report: &Report,
     part: BrokenSince,
 ) -> Result<(), AllocError>
-    requires same_tree { judge.now.tree ≡ tree.now }
-    requires same_items { judge.now.published ≡ published.now }
-    requires entries { OnePerNode tree.now.parents report.now }
-    requires per_node { length lists.now ≡ length tree.now.parents }
-    requires known { place_since judge.now part < length tree.now.parents }
+    requires per_node { length lists.now ≡ length judged.now.net.tree.parents }
+    requires known { place_since judged.now.net part < length judged.now.net.tree.parents }
     ensures { OnOk result (string_bytes text.new ≡ string_bytes text.old
-        ++ broken_since_text judge.now lists.now report.now part) }
+        ++ broken_since_text judged.now.net lists.now judged.now.report part) }
 {
     match part {
         BrokenSince::Published => {
-            let root = tree.root();
-            let items = items_of(tree, report, root);
-            push_published(text, name_of(judge, tree, root), published, items)
+            let root = judged.tree().root();
+            push_published(
+                text,
+                judged.name(root),
+                judged.published(),
+                judged.list(root),
+            )
         }
-        BrokenSince::RootCount => push_root_count(text, name_of(judge, tree, tree.root())),
-        BrokenSince::NoCount(child) => push_no_count(text, name_of(judge, tree, child)),
-        BrokenSince::LinkLaw(child) => push_link(text, judge, tree, lists, report, child),
-        BrokenSince::HandedOn(child) => push_unfinished(text, judge, tree, lists, report, child),
+        BrokenSince::RootCount => push_root_count(text, judged.name(judged.tree().root())),
+        BrokenSince::NoCount(child) => push_no_count(text, judged.name(child)),
+        BrokenSince::LinkLaw(child) => push_link(text, judged, lists, child),
+        BrokenSince::HandedOn(child) => push_unfinished(text, judged, lists, child),
     }
 }
 
@@ -57,56 +53,55 @@ pub(crate) fn push_broken(
 /// is acknowledged.
 fn push_unfinished(
     text: &mut String,
-    judge: &Judge<'_>,
-    tree: &Tree,
+    judged: &Judged<'_>,
     lists: &[Sequence<Item>],
-    report: &Report,
     child: NodeId,
 ) -> Result<(), AllocError>
-    requires same_tree { judge.now.tree ≡ tree.now }
-    requires entries { OnePerNode tree.now.parents report.now }
-    requires per_node { length lists.now ≡ length tree.now.parents }
-    requires known { child < length tree.now.parents }
+    requires per_node { length lists.now ≡ length judged.now.net.tree.parents }
+    requires known { child < length judged.now.net.tree.parents }
     ensures { OnOk result (string_bytes text.new ≡ string_bytes text.old
-        ++ handed_on_text (name_at judge.now child) (name_above judge.now child)
-        (length (backlog_at lists.now child) + length (list_above judge.now report.now child))
-        (unwrap_or (acked_at report.now child) 0)) }
+        ++ handed_on_text (name_at judged.now.net child) (name_above judged.now.net child)
+        (length (backlog_at lists.now child)
+        + length (list_above judged.now.net judged.now.report child))
+        (unwrap_or (acked_at judged.now.report child) 0)) }
 {
-    let name = name_of(judge, tree, child);
-    let above = name_above(judge, tree, child);
+    let name = judged.name(child);
+    let above = judged.name_above(child);
     let had = backlog_at(lists, child).len() as u64;
-    let count = had + list_above(judge, tree, report, child).len() as u64;
-    push_handed_on(text, name, above, count, acked_of(tree, report, child))
+    let count = had + judged.list_above(child).len() as u64;
+    push_handed_on(text, name, above, count, judged.acked(child))
 }
 
 /// Adds that the link into a node breaks the link law.
 fn push_link(
     text: &mut String,
-    judge: &Judge<'_>,
-    tree: &Tree,
+    judged: &Judged<'_>,
     lists: &[Sequence<Item>],
-    report: &Report,
     child: NodeId,
 ) -> Result<(), AllocError>
-    requires same_tree { judge.now.tree ≡ tree.now }
-    requires entries { OnePerNode tree.now.parents report.now }
-    requires per_node { length lists.now ≡ length tree.now.parents }
-    requires known { child < length tree.now.parents }
+    requires per_node { length lists.now ≡ length judged.now.net.tree.parents }
+    requires known { child < length judged.now.net.tree.parents }
     ensures { OnOk result (string_bytes text.new ≡ string_bytes text.old
-        ++ link_since_text judge.now lists.now report.now child) }
+        ++ link_since_text judged.now.net lists.now judged.now.report child) }
 {
-    let name = name_of(judge, tree, child);
-    let above = name_above(judge, tree, child);
-    let acked = acked_of(tree, report, child);
-    push_head(text, name, above, judge.capacity_into(child), acked)?;
+    let name = judged.name(child);
+    let above = judged.name_above(child);
+    let judge = judged.judge();
+    push_head(
+        text,
+        name,
+        above,
+        judge.capacity_into(child),
+        judged.acked(child),
+    )?;
     push_lists(
         text,
         judge.garbage_into(child),
         backlog_at(lists, child),
         above,
-        list_above(judge, tree, report, child),
+        judged.list_above(child),
         name,
-        items_of(tree, report, child),
+        judged.list(child),
     )
 }
 

@@ -1,18 +1,20 @@
 //! The verdict of a report since a moment.
 
-ghost use Rattle.std.specs.Prelude.{◌≡◌, ◌↔◌, length, string_bytes, IfOk, IsTrue};
+ghost use Rattle.std.specs.Prelude.{◌≡◌, ◌<◌, ◌↔◌, length, string_bytes, IfOk, IfSome, IsNone};
+ghost use Rattle.std.specs.Prelude.{IsTrue};
 ghost use Rattle.stab_job.specs.JobValues.{network};
 ghost use Rattle.stab_judge.specs.Reports.{OnePerNode};
-ghost use Rattle.rignolda_moment.specs.ObeysSince.{ObeysSince};
+ghost use Rattle.rignolda_moment.specs.ObeysSince.{IsBrokenSince, IsFirstSince, ObeysSince};
+ghost use Rattle.rignolda_moment.specs.ObeysSince.{place_since};
 ghost use Rattle.rignolda_moment.specs.VerdictTexts.{SaysSince};
 
+use crate::broken::BrokenSince;
 use crate::judged::first_broken;
 use crate::text::push_broken;
-use rignolda_verdict::judge_of;
+use rignolda_verdict::Judged;
 use stab_frames::{Item, Sequence};
 use stab_job::Job;
-use stab_judge::{Judge, Report};
-use stab_tree::Tree;
+use stab_judge::Report;
 use std::alloc::{AllocError, Global};
 
 /// What is said of a report that counts from a moment, and whether it obeys: the starts of the job
@@ -31,34 +33,52 @@ pub fn verdict_since(
     ensures says { IfOk result (λ said. SaysSince (network job.now) lists.now report.now
         said.1 (string_bytes said.0)) }
 {
-    let judge = judge_of(alloc, job)?;
-    verdict_of(alloc, &judge, job.tree(), job.items(), lists, report)
+    let judged = Judged::new(alloc, job, report)?;
+    verdict_of(alloc, &judged, lists)
 }
 
-/// What this judge says of a report.
+/// What the judge says of the report.
 fn verdict_of(
     alloc: Global,
-    judge: &Judge<'_>,
-    tree: &Tree,
-    published: &[Item],
+    judged: &Judged<'_>,
     lists: &[Sequence<Item>],
-    report: &Report,
 ) -> Result<(String, bool), AllocError>
-    requires same_tree { judge.now.tree ≡ tree.now }
-    requires same_items { judge.now.published ≡ published.now }
-    requires entries { OnePerNode tree.now.parents report.now }
-    requires per_node { length lists.now ≡ length tree.now.parents }
+    requires { length lists.now ≡ length judged.now.net.tree.parents }
     ensures exactly { IfOk result (λ said.
-        IsTrue said.1 ↔ ObeysSince judge.now lists.now report.now) }
-    ensures says { IfOk result (λ said. SaysSince judge.now lists.now report.now
+        IsTrue said.1 ↔ ObeysSince judged.now.net lists.now judged.now.report) }
+    ensures says { IfOk result (λ said. SaysSince judged.now.net lists.now judged.now.report
         said.1 (string_bytes said.0)) }
 {
-    match first_broken(alloc, judge, tree, published, lists, report)? {
+    match first_part(alloc, judged, lists)? {
         None => Ok((String::from_str(alloc, "obeys\n")?, true)),
         Some(part) => {
             let mut text = String::new(alloc);
-            push_broken(&mut text, judge, tree, published, lists, report, part)?;
+            push_broken(&mut text, judged, lists, part)?;
             Ok((text, false))
         }
     }
+}
+
+/// The first part of the report that is broken, and nothing where the report obeys.
+fn first_part(
+    alloc: Global,
+    judged: &Judged<'_>,
+    lists: &[Sequence<Item>],
+) -> Result<Option<BrokenSince>, AllocError>
+    requires { length lists.now ≡ length judged.now.net.tree.parents }
+    ensures none { IfOk result (λ part.
+        IsNone part ↔ ObeysSince judged.now.net lists.now judged.now.report) }
+    ensures broken { IfOk result (λ part.
+        IfSome part (IsBrokenSince judged.now.net lists.now judged.now.report)) }
+    ensures first { IfOk result (λ part.
+        IfSome part (IsFirstSince judged.now.net lists.now judged.now.report)) }
+    ensures known { IfOk result (λ part. IfSome part
+        (λ its. place_since judged.now.net its < length judged.now.net.tree.parents)) }
+{
+    let judge = judged.judge();
+    let tree = judged.tree();
+    let published = judged.published();
+    let report = judged.report();
+    let found = first_broken(alloc, judge, tree, published, lists, report)?;
+    Ok(found)
 }

@@ -17,6 +17,11 @@ use Rattle.stab_judge.specs.declared.broken.Broken.{Broken}
 use Rattle.stab_judge.specs.declared.broken.Broken.TheVariants as broken
 use Rattle.rignolda_verdict.specs.BoundsTexts.{name_at}
 
+-- a report, and the network that it is judged by
+pub record JudgedReport : Type 0 where
+  pub net : Network
+  pub report : ReportValue
+
 -- the line of the items of a node
 unfoldable pub items_line : List ℕ → List ℕ → List ℕ
 items_line name items = codes "items of " ++ name ++ numbers_line (codes ":") items

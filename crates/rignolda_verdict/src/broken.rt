@@ -1,128 +1,69 @@
 //! The part of a report that is broken, as text.
 
-ghost use Rattle.std.specs.Prelude.{◌≡◌, ◌++◌, ◌<◌, length, string_bytes, IfOk, OnOk};
+ghost use Rattle.std.specs.Prelude.{◌≡◌, ◌++◌, ◌<◌, length, string_bytes, OnOk};
 ghost use Rattle.stab_judge.specs.Obeys.{place_of};
-ghost use Rattle.stab_judge.specs.Reports.{OnePerNode};
 ghost use Rattle.stab_tree.specs.Nodes.{root_of};
 ghost use Rattle.rignolda_verdict.specs.Verdicts.{broken_text, ended_words, entries_text};
 ghost use Rattle.rignolda_verdict.specs.Verdicts.{handed_on_text, items_line, no_count_text};
 ghost use Rattle.rignolda_verdict.specs.Verdicts.{of_them_words, opening_text, own_lists};
 ghost use Rattle.rignolda_verdict.specs.Verdicts.{published_text, root_count_text};
 
-use crate::law::push_link_law;
-use crate::of_node::{acked_of, items_of, list_above, name_above, name_of, opening_of};
+use crate::judged::Judged;
 use stab_core::push_items_line;
 use stab_frames::Item;
-use stab_judge::{Broken, Judge, Report};
-use stab_tree::{NodeId, Tree};
-use std::alloc::{AllocError, Global};
+use stab_judge::Broken;
+use stab_tree::NodeId;
+use std::alloc::AllocError;
 
-/// What is said of a broken part of a report.
-pub(crate) fn broken_text(
-    alloc: Global,
-    judge: &Judge<'_>,
-    tree: &Tree,
-    published: &[Item],
-    report: &Report,
-    broken: Broken,
-) -> Result<String, AllocError>
-    requires same_tree { judge.now.tree ≡ tree.now }
-    requires same_items { judge.now.published ≡ published.now }
-    requires entries { OnePerNode tree.now.parents report.now }
-    requires known { place_of judge.now broken < length tree.now.parents }
-    ensures { IfOk result (λ text. string_bytes text ≡ broken_text judge.now report.now broken) }
-{
-    let mut text = String::new(alloc);
-    push_broken(&mut text, judge, tree, published, report, broken)?;
-    Ok(text)
-}
-
-/// Adds what is said of a broken part.
-fn push_broken(
-    text: &mut String,
-    judge: &Judge<'_>,
-    tree: &Tree,
-    published: &[Item],
-    report: &Report,
-    broken: Broken,
-) -> Result<(), AllocError>
-    requires same_tree { judge.now.tree ≡ tree.now }
-    requires same_items { judge.now.published ≡ published.now }
-    requires entries { OnePerNode tree.now.parents report.now }
-    requires known { place_of judge.now broken < length tree.now.parents }
-    ensures { OnOk result (string_bytes text.new
-        ≡ string_bytes text.old ++ broken_text judge.now report.now broken) }
-{
-    match broken {
-        Broken::Entries => push_entries(text),
-        Broken::Published => push_other_items(text, judge, tree, published, report),
-        Broken::RootCount => push_root_count(text, name_of(judge, tree, tree.root())),
-        Broken::NoCount(child) => push_no_count(text, name_of(judge, tree, child)),
-        Broken::Opening(child) => push_other_opening(text, judge, tree, report, child),
-        Broken::LinkLaw(child) => push_link_law(text, judge, tree, report, child),
-        Broken::HandedOn(child) => push_unfinished(text, judge, tree, report, child),
+impl<'a> Judged<'a> {
+    /// Adds what is said of a broken part.
+    pub(crate) fn push_broken(&self, text: &mut String, broken: Broken) -> Result<(), AllocError>
+        requires { place_of self.now.net broken < length self.now.net.tree.parents }
+        ensures { OnOk result (string_bytes text.new
+            ≡ string_bytes text.old ++ broken_text self.now.net self.now.report broken) }
+    {
+        match broken {
+            Broken::Entries => push_entries(text),
+            Broken::Published => self.push_other_items(text),
+            Broken::RootCount => push_root_count(text, self.name(self.tree.root())),
+            Broken::NoCount(child) => push_no_count(text, self.name(child)),
+            Broken::Opening(child) => self.push_other_opening(text, child),
+            Broken::LinkLaw(child) => self.push_link_law(text, child),
+            Broken::HandedOn(child) => self.push_unfinished(text, child),
+        }
     }
-}
 
-/// Adds that the root of a tree has other items than the published ones.
-fn push_other_items(
-    text: &mut String,
-    judge: &Judge<'_>,
-    tree: &Tree,
-    published: &[Item],
-    report: &Report,
-) -> Result<(), AllocError>
-    requires same_tree { judge.now.tree ≡ tree.now }
-    requires same_items { judge.now.published ≡ published.now }
-    requires entries { OnePerNode tree.now.parents report.now }
-    requires known { root_of tree.now.parents < length tree.now.parents }
-    ensures { OnOk result (string_bytes text.new
-        ≡ string_bytes text.old ++ broken_text judge.now report.now Broken.Published) }
-{
-    let root = tree.root();
-    let name = name_of(judge, tree, root);
-    push_published(text, name, published, items_of(tree, report, root))
-}
+    /// Adds that the root has other items than the published ones.
+    fn push_other_items(&self, text: &mut String) -> Result<(), AllocError>
+        requires { root_of self.now.net.tree.parents < length self.now.net.tree.parents }
+        ensures { OnOk result (string_bytes text.new ≡ string_bytes text.old
+            ++ broken_text self.now.net self.now.report Broken.Published) }
+    {
+        let root = self.tree.root();
+        push_published(text, self.name(root), self.published, self.list(root))
+    }
 
-/// Adds that the list of this node does not begin with its opening.
-fn push_other_opening(
-    text: &mut String,
-    judge: &Judge<'_>,
-    tree: &Tree,
-    report: &Report,
-    child: NodeId,
-) -> Result<(), AllocError>
-    requires same_tree { judge.now.tree ≡ tree.now }
-    requires entries { OnePerNode tree.now.parents report.now }
-    requires known { child < length tree.now.parents }
-    ensures { OnOk result (string_bytes text.new
-        ≡ string_bytes text.old ++ broken_text judge.now report.now (Broken.Opening child)) }
-{
-    let name = name_of(judge, tree, child);
-    let opening = opening_of(judge, tree, child);
-    push_opening(text, name, opening, items_of(tree, report, child))
-}
+    /// Adds that the list of this node does not begin with its opening.
+    fn push_other_opening(&self, text: &mut String, child: NodeId) -> Result<(), AllocError>
+        requires { child < length self.now.net.tree.parents }
+        ensures { OnOk result (string_bytes text.new ≡ string_bytes text.old
+            ++ broken_text self.now.net self.now.report (Broken.Opening child)) }
+    {
+        let opening = self.opening(child);
+        push_opening(text, self.name(child), opening, self.list(child))
+    }
 
-/// Adds that the parent of this node ended with its upstream, and not all of its items are
-/// acknowledged.
-fn push_unfinished(
-    text: &mut String,
-    judge: &Judge<'_>,
-    tree: &Tree,
-    report: &Report,
-    child: NodeId,
-) -> Result<(), AllocError>
-    requires same_tree { judge.now.tree ≡ tree.now }
-    requires entries { OnePerNode tree.now.parents report.now }
-    requires known { child < length tree.now.parents }
-    ensures { OnOk result (string_bytes text.new
-        ≡ string_bytes text.old ++ broken_text judge.now report.now (Broken.HandedOn child)) }
-{
-    let name = name_of(judge, tree, child);
-    let above = name_above(judge, tree, child);
-    let count = list_above(judge, tree, report, child).len() as u64;
-    let acked = acked_of(tree, report, child);
-    push_handed_on(text, name, above, count, acked)
+    /// Adds that the parent of this node ended with its upstream, and not all of its items are
+    /// acknowledged.
+    fn push_unfinished(&self, text: &mut String, child: NodeId) -> Result<(), AllocError>
+        requires { child < length self.now.net.tree.parents }
+        ensures { OnOk result (string_bytes text.new ≡ string_bytes text.old
+            ++ broken_text self.now.net self.now.report (Broken.HandedOn child)) }
+    {
+        let above = self.name_above(child);
+        let count = self.list_above(child).len() as u64;
+        push_handed_on(text, self.name(child), above, count, self.acked(child))
+    }
 }
 
 /// Adds the line of the items of a node.

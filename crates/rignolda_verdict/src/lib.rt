@@ -7,8 +7,8 @@
 //! that is broken where it does not. [`link_verdict`] answers true exactly where the offered items
 //! of a link are picked from those of its job and the link law holds, and its text names the first
 //! of both that is broken; [`read_link_report`] reads exactly the texts of links, as `stab link`
-//! prints them. [`judge_of`], the functions `push_..` and those of one node are the pieces of which
-//! another judge makes its verdict and texts.
+//! prints them. [`judge_of`], the functions `push_..` and what a [`Judged`] report shows of a node
+//! are the pieces of which another judge makes its verdict and texts.
 #![tactic(auto)]
 
 mod bounds;
@@ -22,16 +22,14 @@ mod link_read;
 mod link_report;
 mod link_text;
 mod link_verdicts;
-mod of_node;
 mod verdicts;
 
 pub use bounds::bounds_text;
 pub use broken::{push_handed_on, push_items, push_no_count, push_published, push_root_count};
-pub use judged::judge_of;
+pub use judged::{Judged, judge_of};
 pub use law::{push_acked, push_capacity};
 pub use link_read::read_link_report;
 pub use link_report::LinkReport;
 pub use link_text::link_report_text;
 pub use link_verdicts::link_verdict;
-pub use of_node::{acked_of, items_of, list_above, name_above, name_of};
 pub use verdicts::verdict;

@@ -1,17 +1,14 @@
 //! The verdict of a report.
 
-ghost use Rattle.std.specs.Prelude.{◌≡◌, ◌↔◌, string_bytes, true, IfOk, IsTrue};
+ghost use Rattle.std.specs.Prelude.{◌↔◌, string_bytes, true, IfOk, IsTrue};
 ghost use Rattle.stab_job.specs.JobValues.{network};
 ghost use Rattle.stab_judge.specs.Obeys.{Obeys};
 ghost use Rattle.stab_judge.specs.Reports.{OnePerNode};
 ghost use Rattle.rignolda_verdict.specs.Verdicts.{SaysVerdict};
 
-use crate::broken::broken_text;
-use crate::judged::judge_of;
-use stab_frames::Item;
+use crate::judged::Judged;
 use stab_job::Job;
-use stab_judge::{Judge, Report};
-use stab_tree::Tree;
+use stab_judge::Report;
 use std::alloc::{AllocError, Global};
 
 /// What is said of a report, and whether it obeys the laws of the network of a job. Where it does
@@ -22,30 +19,25 @@ pub fn verdict(alloc: Global, job: &Job, report: &Report) -> Result<(String, boo
     ensures says { IfOk result (λ said.
         SaysVerdict (network job.now) report.now said.1 (string_bytes said.0)) }
 {
-    let judge = judge_of(alloc, job)?;
-    verdict_of(alloc, &judge, job.tree(), job.items(), report)
+    let judged = Judged::new(alloc, job, report)?;
+    judged.verdict(alloc)
 }
 
-/// What this judge says of a report.
-fn verdict_of(
-    alloc: Global,
-    judge: &Judge<'_>,
-    tree: &Tree,
-    published: &[Item],
-    report: &Report,
-) -> Result<(String, bool), AllocError>
-    requires same_tree { judge.now.tree ≡ tree.now }
-    requires same_items { judge.now.published ≡ published.now }
-    requires entries { OnePerNode tree.now.parents report.now }
-    ensures exactly { IfOk result (λ said. IsTrue said.1 ↔ Obeys judge.now report.now) }
-    ensures says { IfOk result (λ said.
-        SaysVerdict judge.now report.now said.1 (string_bytes said.0)) }
-{
-    match judge.first_broken(report) {
-        None => Ok((String::from_str(alloc, "obeys\n")?, true)),
-        Some(broken) => {
-            let text = broken_text(alloc, judge, tree, published, report, broken)?;
-            Ok((text, false))
+impl<'a> Judged<'a> {
+    /// What the judge says of the report.
+    fn verdict(&self, alloc: Global) -> Result<(String, bool), AllocError>
+        ensures exactly { IfOk result (λ said.
+            IsTrue said.1 ↔ Obeys self.now.net self.now.report) }
+        ensures says { IfOk result (λ said.
+            SaysVerdict self.now.net self.now.report said.1 (string_bytes said.0)) }
+    {
+        match self.judge.first_broken(self.report) {
+            None => Ok((String::from_str(alloc, "obeys\n")?, true)),
+            Some(broken) => {
+                let mut text = String::new(alloc);
+                self.push_broken(&mut text, broken)?;
+                Ok((text, false))
+            }
         }
     }
 }
