@@ -2,4 +2,5 @@ pub mod Lists
 pub mod Steps
 pub mod Parts
 pub mod Named
+pub mod Kept
 pub mod ForCallers

@@ -1,11 +1,14 @@
--- Steps: the steps of a schedule, kept with a table of the names of their nodes; and the events
--- over a tree that they are.
+-- Steps: the steps of a schedule, kept with a table of the names of their nodes; the events over a
+-- tree that they are; and what is kept of steps that are only looked at.
 -- Example: The table a, b, and the steps (1, an offer), (0, a close) are an offer on the link into b
 -- and a close of the link into a. In a tree r, b, a the names of the table have the places 2, 1, so
--- the events are (1, an offer), (2, a close).
+-- the events are (1, an offer), (2, a close). Where they are only looked at, the table and their
+-- number, 2, are kept.
 -- Source: this project's own.
-use Rattle.std.specs.Prelude.{◌≡◌, ℕ, ◌<◌, List, [], length, map, get_or, All, Some}
+use Rattle.std.specs.Prelude.{◌≡◌, ℕ, ◌<◌, ◌≤◌, Bool, true, false, List, [], length, map, get_or}
+use Rattle.std.specs.Prelude.{All, Some}
 use Rattle.stab_job.specs.ScheduleEntries.{NamedAct}
+use Rattle.stab_script.specs.LinkJobs.{most_events}
 use Rattle.stab_tree.specs.Nodes.{place_of}
 use Rattle.stab_treecore.specs.declared.event.TreeEvent.{TreeEvent}
 
@@ -29,3 +32,25 @@ AreNodesOf of_tree names nodes = (length nodes ≡ length names)
 -- the event of a step over the nodes that have the names of the table
 abbrev pub event_over : List ℕ → TreeEvent → TreeEvent
 event_over nodes step = record { child = get_or nodes step.child 0; act = step.act }
+
+-- steps or events where they are kept, and otherwise none
+abbrev pub kept_of : Bool → List TreeEvent → List TreeEvent
+kept_of true steps = steps
+kept_of false steps = []
+
+-- a table of names, how many steps there are, whether they are kept, and those that are
+pub record KeptSteps : Type 0 where
+  pub names : List (List ℕ)
+  pub count : ℕ
+  pub are_kept : Bool
+  pub kept : List TreeEvent
+
+-- this is kept of the steps that are these acts, which are not too many
+pub record AreKept (keeps : Bool) (s : KeptSteps) (acts : List NamedAct) : Type 0 where
+  pub steps : List TreeEvent
+  pub within : AreIn s.names steps
+  pub are : acts_in s.names steps ≡ acts
+  pub counted : length steps ≡ s.count
+  pub few : s.count ≤ most_events
+  pub as_said : s.are_kept ≡ keeps
+  pub kept : s.kept ≡ kept_of keeps steps

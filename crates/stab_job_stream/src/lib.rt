@@ -7,7 +7,9 @@
 //! as values, and `stab_job` makes the job of them. Then each name of the table is looked up in the
 //! tree. A job that fails a check, or whose schedule has not the plain form, is read by `stab_job`
 //! from its bytes, so each refusal and their order are its own. [`read_job_and_members`] hands out
-//! those values as well, for a caller to whom another member says something.
+//! those values as well, for a caller to whom another member says something. For one to whom the
+//! schedule says nothing, [`read_unscheduled_job`] looks at each step and keeps none, and
+//! [`read_members`] makes no job.
 #![tactic(auto)]
 
 mod events;
@@ -18,4 +20,4 @@ mod schedule;
 mod step;
 mod value;
 
-pub use read::{read_job, read_job_and_members};
+pub use read::{read_job, read_job_and_members, read_members, read_unscheduled_job};

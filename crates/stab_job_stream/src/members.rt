@@ -21,23 +21,26 @@ pub(crate) struct JobParts<'t> {
 }
 
 /// Reads the member of that name, whose value comes next; false where it has not the plain form.
+/// Steps are kept, or only counted.
 fn read_member<'t>(
     alloc: Global,
     reader: &mut Reader<'t>,
     name: &str,
+    keeps: bool,
     parts: &mut JobParts<'t>,
 ) -> Result<bool, AllocError>
     ensures value { IfOk result (λ done. IsTrue done → (d : Data)
         × (Stands in_member reader.old d reader.new)
         × ((ms : Members)
-        → HasParts (members_view parts.old.others.entries) parts.old.steps ms
-        → HasParts (members_view parts.new.others.entries) parts.new.steps (put name.now d ms))) }
+        → HasParts keeps (members_view parts.old.others.entries) parts.old.steps ms
+        → HasParts keeps (members_view parts.new.others.entries) parts.new.steps
+        (put name.now d ms))) }
     ensures shorter { IfOk result (λ done. IsTrue done → length reader.new < length reader.old) }
 {
     if name != "schedule" {
         return read_other(alloc, reader, &mut parts.others, name);
     }
-    let Some(steps) = read_steps(alloc, reader)? else {
+    let Some(steps) = read_steps(alloc, reader, keeps)? else {
         return Ok(false);
     };
     parts.steps = Some(steps);
@@ -48,10 +51,11 @@ fn read_member<'t>(
 fn read_members<'t>(
     alloc: Global,
     reader: &mut Reader<'t>,
+    keeps: bool,
 ) -> Result<Option<JobParts<'t>>, AllocError>
     ensures { IfOk result (λ found. IfSome found (λ parts. (ms : Members)
         × (MembersMake in_member no_members (length reader.old) reader.old ms reader.new)
-        × HasParts (members_view parts.others.entries) parts.steps ms)) }
+        × HasParts keeps (members_view parts.others.entries) parts.steps ms)) }
 {
     let mut parts = JobParts {
         others: Map::new(alloc),
@@ -64,21 +68,23 @@ fn read_members<'t>(
         let Some(name) = name else {
             return Ok(Some(parts));
         };
-        if !read_member(alloc, reader, name, &mut parts)? {
+        if !read_member(alloc, reader, name, keeps, &mut parts)? {
             return Ok(None);
         }
     }
 }
 
-/// The parts of the job that a text is, where it has the plain form.
+/// The parts of the job that a text is, where it has the plain form. The steps of its schedule are
+/// kept, or only counted.
 pub(crate) fn read_text<'t>(
     alloc: Global,
     text: &'t str,
     scratch: &'t mut Scratch,
+    keeps: bool,
 ) -> Result<Option<JobParts<'t>>, AllocError>
     ensures value { IfOk result (λ found. IfSome found (λ parts. (ms : Members)
         × (Stands in_job (tokens text.now) (object ms) [])
-        × HasParts (members_view parts.others.entries) parts.steps ms)) }
+        × HasParts keeps (members_view parts.others.entries) parts.steps ms)) }
     ensures some { IfOk result (λ found. IfSome found (λ _. 0 < length text.now)) }
     ensures memory { OnErr result (0 < length text.now) }
 {
@@ -86,7 +92,7 @@ pub(crate) fn read_text<'t>(
     let Some(Token::BeginObject) = reader.next() else {
         return Ok(None);
     };
-    let Some(parts) = read_members(alloc, &mut reader)? else {
+    let Some(parts) = read_members(alloc, &mut reader, keeps)? else {
         return Ok(None);
     };
     match reader.next() {

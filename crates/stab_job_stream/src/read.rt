@@ -1,18 +1,20 @@
-ghost use Rattle.std.specs.Prelude.{◌≡◌, ◌≢◌, ◌<◌, length, Some, None, Ok, Err};
-ghost use Rattle.std.specs.Prelude.{MatchResult, IfOk, IfSome, OnErr};
+ghost use Rattle.std.specs.Prelude.{◌≡◌, ◌≢◌, ◌<◌, Bool, length, option_map, Some, None};
+ghost use Rattle.std.specs.Prelude.{Ok, Err, MatchResult, IfOk, IfSome, OnErr};
 ghost use Rattle.serde_json.specs.Data.{Data, Members, object};
 ghost use Rattle.serde_json.specs.View.{view, members_view};
 ghost use Rattle.stab_json.specs.Values.{value_of};
 ghost use Rattle.stab_job.specs.Jobs.{job, job_of_data};
-ghost use Rattle.stab_job_stream.specs.Parts.{HasParts, SameMembers};
+ghost use Rattle.stab_job_stream.specs.Parts.{HasParts, HaveSameMembers, SameMembers};
+ghost use Rattle.stab_job_stream.specs.Unscheduled.{IsKeptOf, IsUnscheduled, unscheduled};
 
 use crate::members::{JobParts, read_text};
 use crate::schedule::Schedule;
 use json::Scratch;
 use serde_json::{Map, Value};
+use stab_frames::Sequence;
 use stab_job::{Job, JobFault, job_of_value};
 use stab_json::read_value;
-use stab_script::{MAX_EVENTS, ScriptFault};
+use stab_script::ScriptFault;
 use stab_tree::TreeFault;
 use std::alloc::{AllocError, Global};
 
@@ -30,7 +32,7 @@ pub fn read_job(alloc: Global, bytes: &[u8]) -> Result<Job, JobFault>
     ensures tree_memory { result ≢ Err (JobFault.Tree TreeFault.Memory) }
     ensures script_memory { result ≢ Err (JobFault.Script ScriptFault.Memory) }
 {
-    match read_plain(alloc, bytes) {
+    match read_plain(alloc, bytes, true) {
         Ok(Some((job, _))) => Ok(job),
         Ok(None) => stab_job::read_job(alloc, bytes),
         Err(_) => Err(JobFault::Memory),
@@ -54,11 +56,52 @@ pub fn read_job_and_members(alloc: Global, bytes: &[u8]) -> Result<(Job, Value),
     ensures tree_memory { result ≢ Err (JobFault.Tree TreeFault.Memory) }
     ensures script_memory { result ≢ Err (JobFault.Script ScriptFault.Memory) }
 {
-    match read_plain(alloc, bytes) {
+    match read_plain(alloc, bytes, true) {
         Ok(Some(read)) => Ok(read),
         Ok(None) => read_by_value(alloc, bytes),
         Err(_) => Err(JobFault::Memory),
     }
+}
+
+/// The same, but for the steps of the schedule: each is looked at, and none is kept. So the job has
+/// an empty schedule, and there is one only where the bytes are a job with the schedule that they
+/// have.
+pub fn read_unscheduled_job(alloc: Global, bytes: &[u8]) -> Result<(Job, Value), JobFault>
+    ensures job { MatchResult result
+        (λ read. IsUnscheduled (job bytes.now) read.0)
+        (λ fault. fault ≢ JobFault.Memory → job bytes.now ≡ Err fault) }
+    ensures members { IfOk result (λ read. (d : Data)
+        × (value_of bytes.now ≡ Some d) × SameMembers d (view read.1)) }
+    // `Json` comes only where the bytes have no value.
+    ensures json { result ≡ Err JobFault.Json → value_of bytes.now ≡ None }
+
+    // Refused memory is reported as that alone, and only where there is at least one byte.
+    ensures memory { result ≡ Err JobFault.Memory → 0 < length bytes.now }
+    ensures tree_memory { result ≢ Err (JobFault.Tree TreeFault.Memory) }
+    ensures script_memory { result ≢ Err (JobFault.Script ScriptFault.Memory) }
+{
+    match read_plain(alloc, bytes, false) {
+        Ok(Some(read)) => Ok(read),
+        Ok(None) => unscheduled_by_value(alloc, bytes),
+        Err(_) => Err(JobFault::Memory),
+    }
+}
+
+/// A value with the members that these bytes have, where that of the name `schedule` may be
+/// missing; or none, where they are no JSON. It takes less memory than the value of the bytes, where
+/// the steps of the schedule have their plain form.
+#[tactic(auto, using(crate::proofs::Parts::same_but_steps, crate::proofs::Parts::same_value))]
+pub fn read_members(alloc: Global, bytes: &[u8]) -> Result<Option<Value>, AllocError>
+    ensures members { IfOk result (λ found.
+        HaveSameMembers (value_of bytes.now) (option_map view found)) }
+    // Memory is refused only where there is at least one byte.
+    ensures memory { OnErr result (0 < length bytes.now) }
+{
+    if let Some(members) = plain_members(alloc, bytes)? {
+        return Ok(Some(members));
+    }
+    let value = read_value(alloc, bytes)?;
+    Ok(value)
 }
 
 /// The same, read as one value.
@@ -84,10 +127,64 @@ fn read_by_value(alloc: Global, bytes: &[u8]) -> Result<(Job, Value), JobFault>
     Ok((job, value))
 }
 
+/// The same without the steps of the schedule.
+fn unscheduled_by_value(alloc: Global, bytes: &[u8]) -> Result<(Job, Value), JobFault>
+    ensures job { MatchResult result
+        (λ read. IsUnscheduled (job bytes.now) read.0)
+        (λ fault. fault ≢ JobFault.Memory → job bytes.now ≡ Err fault) }
+    ensures members { IfOk result (λ read. (d : Data)
+        × (value_of bytes.now ≡ Some d) × SameMembers d (view read.1)) }
+    // `Json` comes only where the bytes have no value.
+    ensures json { result ≡ Err JobFault.Json → value_of bytes.now ≡ None }
+
+    // Refused memory is reported as that alone, and only where there is at least one byte.
+    ensures memory { result ≡ Err JobFault.Memory → 0 < length bytes.now }
+    ensures tree_memory { result ≢ Err (JobFault.Tree TreeFault.Memory) }
+    ensures script_memory { result ≢ Err (JobFault.Script ScriptFault.Memory) }
+{
+    let (job, value) = read_by_value(alloc, bytes)?;
+    Ok((unscheduled(alloc, job), value))
+}
+
+/// The job with an empty schedule.
+fn unscheduled(alloc: Global, job: Job) -> Job
+    ensures { result ≡ unscheduled job }
+{
+    job.with_schedule(Sequence::new(alloc))
+}
+
+/// The job as it is, where steps are kept, and else with an empty schedule.
+#[tactic(auto, using(crate::proofs::Kept::kept_as_it_is, crate::proofs::Kept::kept_without_steps))]
+fn kept_job(alloc: Global, keeps: bool, job: Job) -> Job
+    ensures { IsKeptOf keeps (Ok job) result }
+{
+    if keeps { job } else { unscheduled(alloc, job) }
+}
+
+/// The members of the value of these bytes but the schedule, where they have the plain form;
+/// nothing is said of them where there is none.
+fn plain_members(alloc: Global, bytes: &[u8]) -> Result<Option<Value>, AllocError>
+    ensures members { IfOk result (λ found. IfSome found (λ members. (d : Data)
+        × (value_of bytes.now ≡ Some d) × SameMembers d (view members))) }
+    ensures memory { OnErr result (0 < length bytes.now) }
+{
+    let Ok(text) = std::str::from_utf8(bytes) else {
+        return Ok(None);
+    };
+    let mut scratch = Scratch::new(alloc);
+    let Some(parts) = read_text(alloc, text, &mut scratch, false)? else {
+        return Ok(None);
+    };
+    let JobParts { others, steps: _ } = parts;
+    Ok(Some(Value::Object(others)))
+}
+
 /// The job that these bytes mean, and its members but the schedule, where they have the plain form
-/// and pass each check; nothing is said of them where there is none.
-fn read_plain(alloc: Global, bytes: &[u8]) -> Result<Option<(Job, Value)>, AllocError>
-    ensures job { IfOk result (λ found. IfSome found (λ read. job bytes.now ≡ Ok read.0)) }
+/// and pass each check; nothing is said of them where there is none. The steps of the schedule are
+/// kept, or only counted.
+fn read_plain(alloc: Global, bytes: &[u8], keeps: bool) -> Result<Option<(Job, Value)>, AllocError>
+    ensures job { IfOk result (λ found. IfSome found (λ read.
+        IsKeptOf keeps (job bytes.now) read.0)) }
     ensures members { IfOk result (λ found. IfSome found (λ read. (d : Data)
         × (value_of bytes.now ≡ Some d) × SameMembers d (view read.1))) }
     ensures memory { OnErr result (0 < length bytes.now) }
@@ -96,20 +193,25 @@ fn read_plain(alloc: Global, bytes: &[u8]) -> Result<Option<(Job, Value)>, Alloc
         return Ok(None);
     };
     let mut scratch = Scratch::new(alloc);
-    let Some(parts) = read_text(alloc, text, &mut scratch)? else {
+    let Some(parts) = read_text(alloc, text, &mut scratch, keeps)? else {
         return Ok(None);
     };
-    let Some(read) = whole_job(alloc, parts)? else {
+    let Some(read) = whole_job(alloc, keeps, parts)? else {
         return Ok(None);
     };
     Ok(Some(read))
 }
 
-/// The job of these parts, where they pass each check, and its members but the schedule.
-fn whole_job(alloc: Global, parts: JobParts<'_>) -> Result<Option<(Job, Value)>, AllocError>
+/// The job of these parts, whose steps are kept or not, where they pass each check, and its members
+/// but the schedule.
+fn whole_job(
+    alloc: Global,
+    keeps: bool,
+    parts: JobParts<'_>,
+) -> Result<Option<(Job, Value)>, AllocError>
     ensures job { IfOk result (λ found. IfSome found (λ read. (ms : Members)
-        → HasParts (members_view parts.entry.others.entries) parts.entry.steps ms
-        → job_of_data (object ms) ≡ Ok read.0)) }
+        → HasParts keeps (members_view parts.entry.others.entries) parts.entry.steps ms
+        → IsKeptOf keeps (job_of_data (object ms)) read.0)) }
     ensures members { IfOk result (λ found. IfSome found (λ read.
         view read.1 ≡ object (members_view parts.entry.others.entries))) }
 {
@@ -119,7 +221,7 @@ fn whole_job(alloc: Global, parts: JobParts<'_>) -> Result<Option<(Job, Value)>,
         return Ok(None);
     };
     let Some(steps) = steps else {
-        return Ok(Some((job, members)));
+        return Ok(Some((kept_job(alloc, keeps, job), members)));
     };
     let Some(job) = with_steps(alloc, job, steps)? else {
         return Ok(None);
@@ -139,15 +241,13 @@ fn job_of_others(alloc: Global, others: &Value) -> Result<Option<Job>, AllocErro
     }
 }
 
-/// The job of the members with their schedule, where it passes each check, by that without one.
+/// The job of the members with their schedule, where it passes each check, by that without one. It
+/// has the steps that were kept.
 fn with_steps(alloc: Global, job: Job, steps: Schedule<'_>) -> Result<Option<Job>, AllocError>
-    ensures { IfOk result (λ found. IfSome found (λ whole. (others ms : Members)
-        → HasParts others (Some steps.entry) ms → job_of_data (object others) ≡ Ok job
-        → job_of_data (object ms) ≡ Ok whole)) }
+    ensures { IfOk result (λ found. IfSome found (λ kept. (keeps : Bool) (others ms : Members)
+        → HasParts keeps others (Some steps.entry) ms → job_of_data (object others) ≡ Ok job
+        → IsKeptOf keeps (job_of_data (object ms)) kept)) }
 {
-    if steps.len() > MAX_EVENTS {
-        return Ok(None);
-    }
     let Some(events) = steps.into_events(alloc, job.tree())? else {
         return Ok(None);
     };

@@ -3,7 +3,8 @@ ghost use Rattle.json.specs.Token as token;
 ghost use Rattle.serde_json.specs.Data.{number as number_data, unsigned};
 ghost use Rattle.stab_json.specs.Values.{list_of};
 ghost use Rattle.stab_script.specs.Events.{plain_act, loss_act};
-ghost use Rattle.stab_job.specs.ScheduleEntries.{named_act};
+ghost use Rattle.stab_job.specs.ScheduleEntries.{NamedAct, named_act};
+ghost use Rattle.stab_job_stream.specs.Steps.{AreKept};
 ghost use Rattle.stab_stream.specs.Members.{in_member};
 ghost use Rattle.stab_stream.specs.Standing.{Means, MeansWithin, EntriesMean};
 
@@ -121,17 +122,19 @@ fn next_step<'t>(reader: &mut Reader<'t>) -> Option<Step<'t>>
     Some(Step { child, act })
 }
 
-/// The steps of a list, whose opening bracket was taken.
+/// The steps of a list, whose opening bracket was taken; they are kept, or only counted.
 fn read_entries<'t>(
     alloc: Global,
     reader: &mut Reader<'t>,
+    keeps: bool,
 ) -> Result<Option<Schedule<'t>>, AllocError>
-    ensures value { IfOk result (λ found. IfSome found (λ steps. (depth : ℕ) → 0 < depth
-        → EntriesMean depth named_act (length reader.old) reader.old steps reader.new)) }
+    ensures value { IfOk result (λ found. IfSome found (λ steps. (acts : List NamedAct)
+        × AreKept keeps steps acts × ((depth : ℕ) → 0 < depth
+        → EntriesMean depth named_act (length reader.old) reader.old acts reader.new))) }
     ensures shorter { IfOk result (λ found. IfSome found (λ _.
         length reader.new < length reader.old)) }
 {
-    let mut steps = Schedule::new(alloc);
+    let mut steps = Schedule::new(alloc, keeps);
     'entries: while !reader.take_end_array() {
         let Some(step) = next_step(reader) else {
             return Ok(None);
@@ -143,20 +146,23 @@ fn read_entries<'t>(
     Ok(Some(steps))
 }
 
-/// The schedule that comes next, where each entry of it is a step.
+/// The schedule that comes next, where each entry of it is a step; the steps are kept, or only
+/// counted.
 pub(crate) fn read_steps<'t>(
     alloc: Global,
     reader: &mut Reader<'t>,
+    keeps: bool,
 ) -> Result<Option<Schedule<'t>>, AllocError>
-    ensures value { IfOk result (λ found. IfSome found (λ steps.
-        MeansWithin in_member (list_of named_act) reader.old steps reader.new)) }
+    ensures value { IfOk result (λ found. IfSome found (λ steps. (acts : List NamedAct)
+        × AreKept keeps steps acts
+        × MeansWithin in_member (list_of named_act) reader.old acts reader.new)) }
     ensures shorter { IfOk result (λ found. IfSome found (λ _.
         length reader.new < length reader.old)) }
 {
     let Some(Token::BeginArray) = reader.next() else {
         return Ok(None);
     };
-    let Some(steps) = read_entries(alloc, reader)? else {
+    let Some(steps) = read_entries(alloc, reader, keeps)? else {
         return Ok(None);
     };
     Ok(Some(steps))

@@ -9,11 +9,12 @@ pub returns-then-ne-clause-value : goal.returns-then-ne-clause-value
 returns-then-ne-clause-value c =
     let old = c.args.parts.now in
     let apart : c.args.name.now ≢ the_schedule = search rules in
-    of_what_is_done c.read_member.result (λ done means yes. let first = means yes in (first.0, first.1, λ ms has. rw first.2 (one_more_other (members_view old.others.entries) ms old.steps c.args.name.now first.0 apart has))) c.read_member.ensures.value
+    of_what_is_done c.read_member.result (λ done means yes. let first = means yes in (first.0, first.1, λ ms has. rw first.2 (one_more_other c.args.keeps (members_view old.others.entries) ms old.steps c.args.name.now first.0 apart has))) c.read_member.ensures.value
 
 pub returns-clause-value : goal.returns-clause-value
 returns-clause-value c =
     let old = c.args.parts.now in
     let named : c.args.name.now ≡ the_schedule = search rules in
     let first = rw c.in-Some.is at c.in_ok-steps.ensures.value in
-    λ yes. (first.0, first.1, λ ms has. rw named (the_steps (members_view old.others.entries) ms old.steps first.0 c.in-Some.steps first.2 has))
+    let means = first.2 in
+    λ yes. (means.0, means.1, λ ms has. rw named (the_steps c.args.keeps (members_view old.others.entries) ms old.steps means.0 c.in-Some.steps first.0 means.2 first.1 has))

@@ -10,7 +10,7 @@ use Rattle.stab_job_stream.proofs.Parts.{no_parts}
 use Rattle.stab_job_stream.proofs.members.read_members.Goals as goal
 
 pub members-init : goal.members-init
-members-init c = (length c.args.reader.now, omega arith, omega arith, values.no_members, λ ms rest later. later, rw c.new.ensures.empty no_parts)
+members-init c = (length c.args.reader.now, omega arith, omega arith, values.no_members, λ ms rest later. later, rw c.new.ensures.empty (no_parts c.args.keeps))
 
 pub returns-in_default-name : goal.returns-in_default-name
 returns-in_default-name c =

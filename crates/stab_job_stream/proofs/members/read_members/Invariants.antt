@@ -11,7 +11,7 @@ abbrev pub invariant-members : goal.invariant-members
 invariant-members l =
     (n : ℕ) × (length l.reader ≤ n) × (length l.reader ≤ length l.initial.reader) × (ms : Members)
     × (PutBefore in_member (length l.initial.reader) l.initial.reader ms n l.reader)
-    × HasParts (members_view l.parts.others.entries) l.parts.steps ms
+    × HasParts l.keeps (members_view l.parts.others.entries) l.parts.steps ms
 
 abbrev pub decreases-members : goal.decreases-members
 decreases-members l = length l.reader

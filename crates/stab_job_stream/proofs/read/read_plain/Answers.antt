@@ -4,11 +4,12 @@ use Rattle.serde_json.specs.Data.{object}
 use Rattle.serde_json.specs.Find.{get}
 use Rattle.stab_json.specs.Checks.{◌>>=◌, ◌or◌}
 use Rattle.stab_json.specs.Values.{value_of}
-use Rattle.stab_job.specs.Jobs.{job_of_data}
+use Rattle.stab_job.specs.Jobs.{job, job_of_data}
 use Rattle.stab_job.specs.declared.fault.JobFault.TheVariants as fault
 use Rattle.stab_stream.specs.Members.{in_job}
 use Rattle.stab_stream.specs.Standing.{Stands}
 use Rattle.stab_stream.proofs.Jobs.{whole_text}
+use Rattle.stab_job_stream.specs.Unscheduled.{IsKeptOf}
 use Rattle.stab_job_stream.proofs.read.read_plain.Goals as goal
 
 pub returns-clause-job : goal.returns-clause-job
@@ -17,8 +18,9 @@ returns-clause-job c =
     let text = c.in-Ok.ensures.cases in
     let found = rw c.in-Some.is at c.in_ok-parts.ensures.value in
     let first : Stands in_job (tokens bytes) (object found.0) [] = subst (λ t. Stands in_job (tokens t) (object found.0) []) text.0 found.1 in
-    let is : job_of_data (object found.0) ≡ Ok c.in-Some-2.read.0 = (rw c.in-Some-2.is at c.in_ok-read.ensures.job) found.0 found.2 in
-    ap (λ o. (o or fault.Json) >>= job_of_data) (sym (whole_text bytes (object found.0) text.1 first)) ∙ is
+    let is = (rw c.in-Some-2.is at c.in_ok-read.ensures.job) found.0 found.2 in
+    let read : job_of_data (object found.0) ≡ job bytes = ap (λ o. (o or fault.Json) >>= job_of_data) (whole_text bytes (object found.0) text.1 first) in
+    subst (λ its. IsKeptOf c.args.keeps its c.in-Some-2.read.0) read is
 
 pub returns-clause-members : goal.returns-clause-members
 returns-clause-members c =

@@ -11,4 +11,4 @@ returns-clause-value c =
     let ts = c.next.new.self in
     let is : c.args.reader.now ≡ Token.begin_array ∷ ts = c.in-Some-BeginArray.ensures.value ∙ ap (λ k. token_of k ∷ ts) c.in-Some-BeginArray.field-0-is in
     let inside = rw c.in-Some.is at c.in_ok-steps.ensures.value in
-    rw is (a_list in_member named_act ts c.read_entries.new.reader c.in-Some.steps (omega arith) (inside (in_member - 1) (omega arith)))
+    (inside.0, inside.1, rw is (a_list in_member named_act ts c.read_entries.new.reader inside.0 (omega arith) (inside.2 (in_member - 1) (omega arith))))

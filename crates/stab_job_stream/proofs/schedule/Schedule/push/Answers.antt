@@ -1,19 +1,19 @@
-use Rattle.std.proofs.Common.{◌≡◌, ℕ, [], ◌∷◌, ◌++◌, slice_get, Some, sym, ap, ◌∙◌}
-use Rattle.stab_job.specs.ScheduleEntries.{NamedAct}
-use Rattle.stab_job_stream.specs.Steps.{acts_in}
-use Rattle.stab_job_stream.proofs.Named.{Looked, one_more_step, same_acts_looked}
+use Rattle.std.proofs.Common.{◌≡◌, ◌+◌, [], ◌∷◌, ◌++◌, slice_get, Some, refl, sym, ap, ◌∙◌, subst, arith}
+use Rattle.stab_job_stream.specs.Steps.{AreKept, KeptSteps, kept_of}
+use Rattle.stab_job_stream.proofs.Named.{Looked}
+use Rattle.stab_job_stream.proofs.Kept.{one_more_kept}
 use Rattle.stab_job_stream.proofs.schedule.Schedule.push.Goals as goal
 
 pub returns : goal.returns
 returns c =
-    let names = c.self.inside.names in
-    let kept = c.self.inside.kept.items in
+    let old : KeptSteps = record { names = c.self.inside.names; count = c.self.inside.count; are_kept = c.self.inside.are_kept; kept = c.self.inside.kept.items } in
+    let now : KeptSteps = record { names = c.place.new.self; count = c.self.inside.count + 1; are_kept = c.self.inside.are_kept; kept = c.keep.new.kept.items } in
     let name = c.step.inside.child.now in
-    let now = c.place.new.self in
-    let grown : Looked names name now = c.in_ok-place.ensures.grown in
-    let found : slice_get now c.in-Some.place ≡ Some name = rw c.in-Some.is at c.in_ok-place.ensures.place in
-    λ _. ap (acts_in now) c.in_ok-push.ensures.items
-    ∙ ap (λ (k : ℕ). acts_in now (kept ++ record { child = k; act = c.step.inside.act } ∷ [])) c.new.ensures
-    ∙ one_more_step now kept c.in-Some.place name c.step.inside.act found
-    ∙ ap (λ (s : NamedAct). acts_in now kept ++ s ∷ []) c.step.view_is
-    ∙ ap (λ acts. acts ++ c.args.step ∷ []) (same_acts_looked names name now kept grown c.self.invariant ∙ c.self.view_is)
+    let act = c.step.inside.act in
+    let place = c.in-Some.place in
+    let grown : Looked old.names name now.names = c.in_ok-place.ensures.grown in
+    let found : slice_get now.names place ≡ Some name = rw c.in-Some.is at c.in_ok-place.ensures.place in
+    let made = c.in_ok-keep.ensures.kept ∙ ap (λ k. old.kept ++ kept_of old.are_kept (record { child = k; act = act } ∷ [])) c.new.ensures in
+    λ _ keeps acts k.
+    subst (λ s. AreKept keeps now (acts ++ s ∷ [])) c.step.view_is
+    (one_more_kept keeps old now acts name place act grown found (omega arith) refl refl made (subst (λ s. AreKept keeps s acts) (sym c.self.view_is) k))
