@@ -1,3 +1,5 @@
+pub mod Looks
+pub mod Unscheduled
 pub mod Offers
 pub mod Told
 pub mod Drawn

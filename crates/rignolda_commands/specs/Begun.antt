@@ -10,6 +10,7 @@ use Rattle.stab_core.specs.Replay.{IsLawful}
 use Rattle.stab_job.specs.JobValues.{JobValue, network}
 use Rattle.stab_job.specs.Jobs.{job}
 use Rattle.stab_job.specs.declared.fault.JobFault.TheVariants as tree
+use Rattle.stab_job_stream.specs.Unscheduled.{unscheduled}
 use Rattle.stab_script.specs.declared.link_job.LinkJob.{LinkJob}
 use Rattle.stab_script.specs.declared.link_job.LinkJobFault.TheVariants as link
 use Rattle.stab_script.specs.LinkJobs.{link_job}
@@ -26,6 +27,12 @@ use Rattle.rignolda_commands.specs.declared.bounds.BoundsFault.TheVariants as bo
 pub record IsBegun (input : List ℕ) (its_job : JobValue) : Type 0 where
   pub read : job input ≡ Ok its_job
   pub network : IsNetwork (network its_job)
+
+-- these bytes are a job, each of whose links can begin, and this is it with an empty schedule
+pub record IsBegunUnscheduled (input : List ℕ) (its_job : JobValue) : Type 0 where
+  pub whole : JobValue
+  pub begun : IsBegun input whole
+  pub same : its_job ≡ unscheduled whole
 
 -- these bytes are this link job, and its link can begin
 pub record IsBegunLink (input : List ℕ) (its_job : LinkJob) : Type 0 where

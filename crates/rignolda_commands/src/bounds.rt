@@ -103,6 +103,7 @@ fn bounds_of_input<R: Read>(alloc: Global, reader: &mut R) -> Result<String, Bou
 }
 
 /// The bounds of the job that these bytes are.
+#[tactic(auto, using(crate::proofs::Unscheduled::bounds_of_whole))]
 fn bounds_of_bytes(alloc: Global, bytes: &[u8]) -> Result<String, BoundsFault>
     ensures bounds { IfOk result (λ text. AreBounds bytes.now (string_bytes text)) }
     ensures fault { IfErr result (HasNoBounds bytes.now) }

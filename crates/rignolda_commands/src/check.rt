@@ -6,7 +6,7 @@ ghost use Rattle.serde_json.specs.Find.{get};
 ghost use Rattle.serde_json.specs.View.{view};
 ghost use Rattle.stab_json.specs.Values.{value_of};
 ghost use Rattle.std.specs.Io.KnownBytes.{Appends, Keeps};
-ghost use Rattle.rignolda_commands.specs.Begun.{IsBegun, IsBegunLink};
+ghost use Rattle.rignolda_commands.specs.Begun.{IsBegunLink, IsBegunUnscheduled};
 ghost use Rattle.rignolda_commands.specs.Checked.{IsChecked, IsCheckedAs, IsCheckedLink};
 ghost use Rattle.rignolda_commands.specs.Checked.{IsCheckedTree, IsJudged, IsJudgedBy, IsJudgedLink};
 ghost use Rattle.rignolda_commands.specs.Checked.{IsJudgedSince, given_backlogs};
@@ -145,6 +145,7 @@ fn check_link_text(alloc: Global, job: &LinkJob, text: &[u8]) -> Result<(String,
 }
 
 /// What is said of the report that this text is, of the job of a tree that these bytes are.
+#[tactic(auto, using(crate::proofs::Unscheduled::checked_by_whole))]
 fn check_tree(alloc: Global, bytes: &[u8], text: &[u8]) -> Result<(String, bool), CheckFault>
     ensures checked { IfOk result (λ said.
         IsCheckedTree bytes.now text.now said.1 (string_bytes said.0)) }
@@ -166,7 +167,7 @@ fn check_job(
     bytes: &[u8],
     text: &[u8],
 ) -> Result<(String, bool), CheckFault>
-    requires begun { IsBegun bytes.now job.now }
+    requires begun { IsBegunUnscheduled bytes.now job.now }
     requires backlogs { given_backlogs (value_of bytes.now)
         ≡ get (codes "backlogs") (view members.now) }
     ensures checked { IfOk result (λ said. IsJudgedBy (given_backlogs (value_of bytes.now)) job.now
@@ -189,7 +190,7 @@ fn check_since(
     given: &Value,
     text: &[u8],
 ) -> Result<(String, bool), CheckFault>
-    requires begun { IsBegun bytes.now job.now }
+    requires begun { IsBegunUnscheduled bytes.now job.now }
     requires given { given_backlogs (value_of bytes.now) ≡ Some (view given.now) }
     ensures checked { IfOk result (λ said. IsJudgedBy (Some (view given.now)) job.now
         text.now said.1 (string_bytes said.0)) }
@@ -203,13 +204,14 @@ fn check_since(
 }
 
 /// The backlogs of the job that these bytes are, which this value means.
+#[tactic(auto, using(crate::proofs::Unscheduled::refused_backlogs))]
 fn backlogs_of(
     alloc: Global,
     job: &Job,
     bytes: &[u8],
     given: &Value,
 ) -> Result<Sequence<Sequence<Item>>, CheckFault>
-    requires begun { IsBegun bytes.now job.now }
+    requires begun { IsBegunUnscheduled bytes.now job.now }
     requires given { given_backlogs (value_of bytes.now) ≡ Some (view given.now) }
     ensures read { IfOk result (λ lists. backlogs job.now.tree (view given.now) ≡ Ok lists) }
     ensures per_node { IfOk result (λ lists. length lists ≡ length job.now.tree.parents) }
@@ -234,7 +236,7 @@ fn check_text_since(
     requires per_node { length lists.now ≡ length job.now.tree.parents }
     ensures checked { IfOk result (λ said. IsJudgedSince job.now lists.now
         text.now said.1 (string_bytes said.0)) }
-    ensures fault { IfErr result (λ fault. (input : List ℕ) → IsBegun input job.now
+    ensures fault { IfErr result (λ fault. (input : List ℕ) → IsBegunUnscheduled input job.now
         → IsUncheckedTree input fault) }
     ensures loaded { (fault : CliFault) → result ≢ Err (CheckFault.Unloaded fault) }
     ensures no_write { IfErr result (λ fault. fault ≢ CheckFault.Job CliFault.Write) }
@@ -250,7 +252,7 @@ fn check_text_since(
 /// What is said of the report that this text is.
 fn check_text(alloc: Global, job: &Job, text: &[u8]) -> Result<(String, bool), CheckFault>
     ensures checked { IfOk result (λ said. IsJudged job.now text.now said.1 (string_bytes said.0)) }
-    ensures fault { IfErr result (λ fault. (input : List ℕ) → IsBegun input job.now
+    ensures fault { IfErr result (λ fault. (input : List ℕ) → IsBegunUnscheduled input job.now
         → IsUncheckedTree input fault) }
     ensures loaded { (fault : CliFault) → result ≢ Err (CheckFault.Unloaded fault) }
     ensures no_write { IfErr result (λ fault. fault ≢ CheckFault.Job CliFault.Write) }

@@ -32,8 +32,7 @@ use rignolda_scenario::{Scenario, ScenarioFault, read_scenario};
 use serde_json::Value;
 use stab_core::StartFault;
 use stab_job::Job;
-use stab_job_stream::read_job;
-use stab_json::read_value;
+use stab_job_stream::{read_job, read_members};
 use stab_script::LinkJob;
 use stab_stream::read_link_job;
 use stab_task::{CliFault, load};
@@ -96,13 +95,14 @@ fn draw_bytes(alloc: Global, is_picture: bool, bytes: &[u8]) -> Result<String, S
 
 /// What these bytes are read as, and whether they are an object with the members `tree` and
 /// `steps`.
+#[tactic(auto, using(crate::proofs::Looks::same_kind, crate::proofs::Looks::same_steps))]
 fn looks_of_bytes(alloc: Global, bytes: &[u8]) -> Result<(Kind, bool), CliFault>
     ensures kind { IfOk result (λ looks. looks.0 ≡ chosen None (value_of bytes.now)) }
     ensures has { IfOk result (λ looks. looks.1 ≡ has_steps (value_of bytes.now)) }
     ensures memory { IfErr result (λ fault. fault ≡ CliFault.Memory) }
 {
-    let value = read_value(alloc, bytes)?;
-    Ok((kind_of(value.as_ref()), has_steps(value.as_ref())))
+    let members = read_members(alloc, bytes)?;
+    Ok((kind_of(members.as_ref()), has_steps(members.as_ref())))
 }
 
 /// Whether there is a value, and it is an object with the members `tree` and `steps`.
@@ -181,11 +181,12 @@ fn draw_kind(alloc: Global, kind: Kind, is_picture: bool, bytes: &[u8]) -> Resul
 
 /// What these bytes are read as: an object with a member `tree` is a job of a tree, and everything
 /// else a link job.
+#[tactic(auto, using(crate::proofs::Looks::same_kind))]
 pub(crate) fn kind_of_bytes(alloc: Global, bytes: &[u8]) -> Result<Kind, AllocError>
     ensures { IfOk result (λ kind. kind ≡ chosen None (value_of bytes.now)) }
 {
-    let value = read_value(alloc, bytes)?;
-    Ok(kind_of(value.as_ref()))
+    let members = read_members(alloc, bytes)?;
+    Ok(kind_of(members.as_ref()))
 }
 
 /// What a value is read as, where there is one.

@@ -1,5 +1,5 @@
 ghost use Rattle.std.specs.Prelude.{◌≢◌, ℕ, List};
-ghost use Rattle.rignolda_commands.specs.Begun.{IsBegun, IsBegunLink};
+ghost use Rattle.rignolda_commands.specs.Begun.{IsBegunLink, IsBegunUnscheduled};
 ghost use Rattle.rignolda_commands.specs.Checked.{IsUncheckedLink, IsUncheckedTree};
 ghost use Rattle.stab_job.specs.JobValues.{JobValue};
 ghost use Rattle.stab_script.specs.declared.link_job.LinkJob.{LinkJob};
@@ -73,8 +73,9 @@ impl From<AllocError> for CheckFault {
 }
 
 /// The fault of a text that is not read as a report.
+#[tactic(auto, using(crate::proofs::Unscheduled::no_report))]
 pub(crate) fn unread(fault: ReportFault) -> CheckFault
-    ensures fault { (input : List ℕ) (its_job : JobValue) → IsBegun input its_job
+    ensures fault { (input : List ℕ) (its_job : JobValue) → IsBegunUnscheduled input its_job
         → IsUncheckedTree input result }
     ensures loaded { (unloaded : CliFault) → result ≢ CheckFault.Unloaded unloaded }
     ensures no_write { result ≢ CheckFault.Job CliFault.Write }

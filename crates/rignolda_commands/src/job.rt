@@ -1,58 +1,60 @@
 //! The job of a tree, or of a link, that a command reads.
 
-ghost use Rattle.std.specs.Prelude.{◌≡◌, ◌≢◌, codes, false, IfErr, IfOk, OnOk};
-ghost use Rattle.rignolda_commands.specs.Begun.{IsBegun, IsBegunLink};
+ghost use Rattle.std.specs.Prelude.{◌≡◌, ◌≢◌, List, codes, false, IfErr, IfOk, OnOk};
+ghost use Rattle.rignolda_commands.specs.Begun.{IsBegunLink, IsBegunUnscheduled};
 ghost use Rattle.rignolda_commands.specs.Checked.{given_backlogs};
 ghost use Rattle.serde_json.specs.Find.{get};
 ghost use Rattle.serde_json.specs.View.{view};
 ghost use Rattle.stab_core.specs.Link.{IsReason};
 ghost use Rattle.stab_core.specs.Replay.{IsLawful};
 ghost use Rattle.stab_job.specs.JobValues.{network};
-ghost use Rattle.stab_job.specs.Replays.{IsReplayReason};
 ghost use Rattle.stab_json.specs.Values.{value_of};
 ghost use Rattle.stab_task.specs.Answers.{IsFault};
 ghost use Rattle.stab_treecore.specs.Network.{IsNetwork};
+ghost use Rattle.stab_treecore.specs.Refusals.{IsScheduleReason};
+ghost use Rattle.stab_treecore.specs.declared.event.TreeEvent.{TreeEvent};
 
 use serde_json::Value;
 use stab_core::{Link, StartFault};
 use stab_job::Job;
-use stab_job_stream::{read_job, read_job_and_members};
+use stab_job_stream::read_unscheduled_job;
 use stab_script::LinkJob;
 use stab_stream::read_link_job;
 use stab_task::{CliFault, Task};
 use stab_treecore::TreeStartFault;
 use std::alloc::Global;
 
-/// The job that these bytes are, where each of its links can begin. Otherwise the fault is that of
-/// `stab tree`.
+/// The job that these bytes are, with an empty schedule, where each of its links can begin.
+/// Otherwise the fault is that of `stab tree`.
 pub(crate) fn begun_job(alloc: Global, bytes: &[u8]) -> Result<Job, CliFault>
-    ensures begun { IfOk result (IsBegun bytes.now) }
+    ensures begun { IfOk result (IsBegunUnscheduled bytes.now) }
     ensures fault { IfErr result (IsFault Task.Tree bytes.now) }
     ensures no_write { IfErr result (λ fault. fault ≢ CliFault.Write) }
 {
-    let job = read_job(alloc, bytes)?;
-    begin(alloc, &job)?;
+    let (job, _) = begun_job_and_members(alloc, bytes)?;
     Ok(job)
 }
 
 /// The same, and a value that has the backlogs of the bytes.
+#[tactic(auto, using(crate::proofs::Unscheduled::begun_unscheduled, crate::proofs::Unscheduled::unbegun))]
 pub(crate) fn begun_job_and_members(alloc: Global, bytes: &[u8]) -> Result<(Job, Value), CliFault>
-    ensures begun { IfOk result (λ read. IsBegun bytes.now read.0) }
+    ensures begun { IfOk result (λ read. IsBegunUnscheduled bytes.now read.0) }
     ensures backlogs { IfOk result (λ read. given_backlogs (value_of bytes.now)
         ≡ get (codes "backlogs") (view read.1)) }
     ensures fault { IfErr result (IsFault Task.Tree bytes.now) }
     ensures no_write { IfErr result (λ fault. fault ≢ CliFault.Write) }
 {
-    let read = read_job_and_members(alloc, bytes)?;
+    let read = read_unscheduled_job(alloc, bytes)?;
     begin(alloc, &read.0)?;
     Ok(read)
 }
 
-/// Sees that each link of a job can begin.
+/// Sees that each link of a job can begin, whatever its schedule is.
 #[tactic(auto, using(stab_job::proofs::ForCallers::start_reason))]
 fn begin(alloc: Global, job: &Job) -> Result<(), TreeStartFault>
     ensures network { OnOk result (IsNetwork (network job.now)) }
-    ensures refused { IfErr result (IsReplayReason job.now) }
+    ensures refused { IfErr result (λ fault. (events : List TreeEvent)
+        → IsScheduleReason job.now.params job.now.starts (network job.now) events fault) }
 {
     job.initial_tree(alloc)?;
     Ok(())

@@ -7,6 +7,7 @@ use Rattle.std.specs.Prelude.{◌≡◌, ℕ, ◌↔◌, Bool, List, Option, Som
 use Rattle.serde_json.specs.Data.{Data}
 use Rattle.stab_job.specs.JobValues.{JobValue, network}
 use Rattle.stab_job.specs.Jobs.{job}
+use Rattle.stab_job_stream.specs.Unscheduled.{IsUnscheduled}
 use Rattle.stab_json.specs.Values.{value_of}
 use Rattle.rignolda_logs.specs.Logs.{LogsValue, logs}
 use Rattle.rignolda_logs.specs.LogTexts.{SaysLogs}
@@ -23,6 +24,10 @@ use Rattle.rignolda_judge.specs.declared.fault.JudgeFault.TheVariants.{Job, Logs
 -- these bytes are this job
 abbrev pub IsJob : List ℕ → JobValue → Type 0
 IsJob input its_job = job input ≡ Ok its_job
+
+-- these bytes are a job, and this is it with an empty schedule
+abbrev pub IsUnscheduledJob : List ℕ → JobValue → Type 0
+IsUnscheduledJob input its_job = IsUnscheduled (job input) its_job
 
 -- the logs of the nodes of a tree that a value has, if it is one
 abbrev pub logs_in : Nodes → Option Data → Result LogsValue LogsFault

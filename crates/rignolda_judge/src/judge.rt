@@ -3,7 +3,7 @@
 ghost use Rattle.std.specs.Prelude.{◌≡◌, ◌≢◌, ℕ, List, string_bytes, Ok, IfErr, IfOk, IfSome, OnOk};
 ghost use Rattle.std.specs.Prelude.{length};
 ghost use Rattle.std.specs.Io.KnownBytes.{Appends, Keeps};
-ghost use Rattle.rignolda_judge.specs.Judged.{IsJob, IsJudged, IsUnjudged, logs_in};
+ghost use Rattle.rignolda_judge.specs.Judged.{IsJudged, IsUnjudged, IsUnscheduledJob, logs_in};
 ghost use Rattle.serde_json.specs.View.{view};
 ghost use Rattle.stab_json.specs.Values.{value_of};
 ghost use Rattle.rignolda_logs.specs.Logs.{logs};
@@ -14,7 +14,7 @@ use crate::fault::JudgeFault;
 use rignolda_logs::{Logs, LogsFault, read_logs, verdict_of_logs};
 use serde_json::Value;
 use stab_job::Job;
-use stab_job_stream::read_job_and_members;
+use stab_job_stream::read_unscheduled_job;
 use stab_task::{CliFault, load};
 use std::alloc::Global;
 use std::io::{Read, Write};
@@ -54,6 +54,7 @@ fn judge_input<R: Read>(alloc: Global, reader: &mut R) -> Result<(String, bool),
 }
 
 /// The same of the job that these bytes are.
+#[tactic(auto, using(crate::proofs::Unscheduled::judged_by_whole))]
 fn judge_bytes(alloc: Global, bytes: &[u8]) -> Result<(String, bool), JudgeFault>
     ensures judged { IfOk result (λ said. IsJudged bytes.now said.1 (string_bytes said.0)) }
     ensures fault { IfErr result (IsUnjudged bytes.now) }
@@ -65,23 +66,24 @@ fn judge_bytes(alloc: Global, bytes: &[u8]) -> Result<(String, bool), JudgeFault
     Ok(said)
 }
 
-/// The job that these bytes are, and a value that has their logs.
+/// The job that these bytes are, with an empty schedule, and a value that has their logs.
 fn job_of(alloc: Global, bytes: &[u8]) -> Result<(Job, Value), CliFault>
-    ensures read { IfOk result (λ read. IsJob bytes.now read.0) }
+    ensures read { IfOk result (λ read. IsUnscheduledJob bytes.now read.0) }
     ensures logs { IfOk result (λ read. logs_in read.0.tree (value_of bytes.now)
         ≡ logs read.0.tree (view read.1)) }
     ensures fault { IfErr result (IsFault Task.Tree bytes.now) }
     ensures no_write { IfErr result (λ fault. fault ≢ CliFault.Write) }
 {
-    let read = read_job_and_members(alloc, bytes)?;
+    let read = read_unscheduled_job(alloc, bytes)?;
     Ok(read)
 }
 
 /// The logs that this value has for the nodes of a job.
+#[tactic(auto, using(crate::proofs::Unscheduled::refused_logs))]
 fn logs_of(alloc: Global, job: &Job, members: &Value) -> Result<Logs, JudgeFault>
     ensures has { IfOk result (λ its. logs job.now.tree (view members.now) ≡ Ok its) }
     ensures per_node { IfOk result (λ its. length its.received ≡ length job.now.tree.parents) }
-    ensures fault { IfErr result (λ fault. (input : List ℕ) → IsJob input job.now
+    ensures fault { IfErr result (λ fault. (input : List ℕ) → IsUnscheduledJob input job.now
         → logs_in job.now.tree (value_of input) ≡ logs job.now.tree (view members.now)
         → IsUnjudged input fault) }
     ensures no_write { IfErr result (λ fault. fault ≢ JudgeFault.Job CliFault.Write) }

@@ -1,0 +1,67 @@
+-- What is said of a job that was read without the steps of its schedule is said of the whole job.
+use Rattle.std.proofs.Common.{◌≡◌, ℕ, Bool, List, Option, Some, None, Ok, Err, refl, sym, ap, ◌∙◌, subst}
+use Rattle.serde_json.specs.Data.{Data}
+use Rattle.stab_job.specs.JobValues.{JobValue, network}
+use Rattle.stab_job.specs.Jobs.{job}
+use Rattle.stab_job_stream.specs.Unscheduled.{unscheduled, IsUnscheduled}
+use Rattle.stab_json.specs.Values.{value_of}
+use Rattle.stab_task.specs.Answers.{IsFault}
+use Rattle.stab_task.specs.declared.command.Task.TheVariants.{Tree}
+use Rattle.stab_task.specs.declared.fault.CliFault.TheVariants as task
+use Rattle.stab_treecore.specs.Network.{IsNetwork}
+use Rattle.stab_treecore.specs.Refusals.{IsScheduleReason}
+use Rattle.stab_treecore.specs.declared.event.TreeEvent.{TreeEvent}
+use Rattle.stab_treecore.specs.declared.fault.TreeStartFault.{TreeStartFault}
+use Rattle.rignolda_moment.specs.Backlogs.{backlogs}
+use Rattle.rignolda_moment.specs.declared.backlogs.BacklogFault.{BacklogFault}
+use Rattle.rignolda_verdict.specs.BoundsTexts.{bounds_text}
+use Rattle.rignolda_commands.specs.Begun.{AreBounds, IsBegunUnscheduled}
+use Rattle.rignolda_commands.specs.Checked.{IsCheckedTree, IsJudgedBy, IsUncheckedTree, given_backlogs}
+use Rattle.rignolda_commands.specs.declared.fault.CheckFault.TheVariants.{Backlogs, Line}
+
+-- it can begin
+pub begun_unscheduled : (input : List ℕ) (its_job : JobValue) → IsUnscheduled (job input) its_job → IsNetwork (network its_job) → IsBegunUnscheduled input its_job
+begun_unscheduled input its_job (whole, read, same) begins = record {
+  whole = whole;
+  begun = record { read = read; network = subst (λ j. IsNetwork (network j)) same begins };
+  same = same;
+}
+
+-- or not
+pub unbegun : (input : List ℕ) (its_job : JobValue) (fault : TreeStartFault) → IsUnscheduled (job input) its_job
+    → ((events : List TreeEvent) → IsScheduleReason its_job.params its_job.starts (network its_job) events fault) → IsFault Tree input (task.Tree fault)
+unbegun input its_job fault (whole, read, same) why =
+    (whole, read, subst (λ j. IsScheduleReason j.params j.starts (network j) whole.schedule fault) same (why whole.schedule))
+
+-- its bounds
+pub bounds_of_whole : (input : List ℕ) (its_job : JobValue) (text : List ℕ) → IsBegunUnscheduled input its_job → text ≡ bounds_text (network its_job) → AreBounds input text
+bounds_of_whole input its_job text begun is = record { its_job = begun.whole; begun = begun.begun; the_text = is ∙ ap (λ j. bounds_text (network j)) begun.same }
+
+-- a report of it that is judged
+judged_by_whole : (given : Option Data) (whole : JobValue) (text : List ℕ) (obeys : Bool) (answer : List ℕ) → IsJudgedBy given (unscheduled whole) text obeys answer → IsJudgedBy given whole text obeys answer
+judged_by_whole None whole text obeys answer is =
+    record { report = is.report; its_text = is.its_text; entries = is.entries; exactly = is.exactly; says = is.says }
+judged_by_whole (Some given) whole text obeys answer (lists, means, is) = (
+  lists,
+  means,
+  record { report = is.report; its_text = is.its_text; entries = is.entries; exactly = is.exactly; says = is.says },
+)
+
+pub checked_by_whole : (input : List ℕ) (its_job : JobValue) (text : List ℕ) (obeys : Bool) (answer : List ℕ) → IsBegunUnscheduled input its_job
+    → IsJudgedBy (given_backlogs (value_of input)) its_job text obeys answer → IsCheckedTree input text obeys answer
+checked_by_whole input its_job text obeys answer begun is = record {
+  its_job = begun.whole;
+  begun = begun.begun;
+  judged = judged_by_whole (given_backlogs (value_of input)) begun.whole text obeys answer
+      (subst (λ j. IsJudgedBy (given_backlogs (value_of input)) j text obeys answer) begun.same is);
+}
+
+-- backlogs of it that are refused
+pub refused_backlogs : (input : List ℕ) (its_job : JobValue) (given : Data) (refusal : BacklogFault) → IsBegunUnscheduled input its_job → given_backlogs (value_of input) ≡ Some given
+    → backlogs its_job.tree given ≡ Err refusal → IsUncheckedTree input (Backlogs refusal)
+refused_backlogs input its_job given refusal begun has why =
+    (refl, begun.whole, begun.begun, given, has, ap (λ j. backlogs j.tree given) (sym begun.same) ∙ why)
+
+-- a text that is no report of it
+pub no_report : (input : List ℕ) (its_job : JobValue) (line : ℕ) → IsBegunUnscheduled input its_job → IsUncheckedTree input (Line line)
+no_report input its_job line begun = (refl, (begun.whole, begun.begun))
