@@ -1,0 +1,8 @@
+use Rattle.stab_node.proofs.ForCallers.{at_error}
+use Rattle.rignolda_commands.specs.Checked.{IsUncheckedTree}
+use Rattle.rignolda_commands.proofs.check.check_since.Goals as goal
+
+pub returns-in_err-said-clause-fault : goal.returns-in_err-said-clause-fault
+returns-in_err-said-clause-fault c =
+    at_error _ _ (λ fault. IsUncheckedTree c.args.bytes.now fault) c.from_residual-in_err-said.ensures.1
+    (c.in_err-said.ensures.fault c.args.bytes.now c.requires.begun)
