@@ -14,8 +14,8 @@ The check sees that in every page of the repository each link leads to a file an
 exist. In the pages that speak of these sources each clause that is cited must exist, and so must
 each file and each name that is in backticks. And docs/PROOF.md must name those public functions of
 which no clause says what it says of all others, in sentences that begin a paragraph with the words
-of GAPS: these functions and no others, by name or with a star at the end. The last line is
-'N passed, M failed'.
+of GAPS: these functions and no others, by name or with a star at the end. A symbolic link at the
+top, as the one to the examples, must lead somewhere. The last line is 'N passed, M failed'.
 """
 
 import re
@@ -467,6 +467,11 @@ def check():
         if not found:
             passed += 1
         wrong += [f"{name}:{number}: {what}" for number, what in sorted(found)]
+    for path in sorted(TOP.glob("*")):
+        if path.is_symlink() and path.exists():
+            passed += 1
+        elif path.is_symlink():
+            wrong.append(f"{path.name}: it leads nowhere")
     for line in wrong:
         print(line)
     print(f"{passed} passed, {len(wrong)} failed")
