@@ -40,9 +40,8 @@ The page [PROOF.md](PROOF.md) has the argument, and this page what it is made of
 - *Definitions*: the files of `specs/`, whose words the clauses use. A reader has to judge that they
   say what is meant. Examples that can be worked out with a pencil are beside them, and those of a
   claim `examples::worked_out` are proved.
-- *Lemmas*: the files of `proofs/`. Crates above may cite `ForCallers.antt`, and of `stab_core` also
-  `Growing.antt`. A folder there is named for a file of the code and has what the prover needs for
-  its functions alone.
+- *Lemmas*: the files of `proofs/`. `ForCallers.antt` is for the crates above. A folder there is
+  named for a file of the code and has what the prover needs for its functions alone.
 - *Planted bugs*: edits of the code that the prover must refuse, by their names in `must-fail/`.
 """
 # The endings of the files that a page may name.
