@@ -86,11 +86,16 @@ LINES = [
     (0, "explain worst_start.json"), (1, "explain"),
     (0, "bounds trees/every_member.json"), (1, "bounds worst_start.json"),
     (0, "scenario scenarios/one_restart.json"), (1, "scenario trees/every_member.json"),
+    (0, "draw scenarios/a_struck_link.json"), (0, "draw --svg scenarios/a_struck_link.json"),
+    (1, "judge trees/every_member.json"),
     (0, "check worst_start.json worst_start.out"),
     (1, "check worst_start.json links/two_clean_rounds.out"),
     (0, "check trees/an_offer_of_nothing.json trees/an_offer_of_nothing.out"),
     (1, "check trees/an_offer_of_nothing.json -"), (1, "check worst_start.json no_such_file"),
 ]
+
+# The logs of a chain of three nodes, which obey, and which do not: the last one got a third stray.
+LOGS = [(0, [[1, 2, 3], [9, 2, 3], [8, 9, 3]]), (1, [[1, 2, 3], [9, 2, 3], [7, 8, 9]])]
 
 RUNS = [("run", ["run"]), ("run --words", ["run", "--words"]), ("run --mixed", ["run", "--mixed"])]
 
@@ -428,8 +433,13 @@ def check_stab(check, room, program, all_examples):
 def check_rignolda(check, room, program):
     """Part (d)."""
     program = room.copy(program)
-    for status, line in LINES:
-        name, command = f"rignolda {line}".strip(), [program, *line.split()]
+    cases = [(f"rignolda {line}".strip(), status, line.split()) for status, line in LINES]
+    for status, logs in LOGS:
+        name = f"rignolda judge of logs with status {status}"
+        job = room.write(name, {**chain(3, items=3, turns=1, words=[]), "received": logs})
+        cases.append((name, status, ["judge", job]))
+    for name, status, words in cases:
+        command = [program, *words]
         if check.only not in name:
             continue
         right = check.run(command).seen
