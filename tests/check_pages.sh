@@ -79,7 +79,8 @@ END
     printf '/// A law%s.\npub fn cups_are_%s()\n    ensures { %s }\n{}\n' '' cups '1 ≡ 1' \
         ' that says nothing' round '⊤' >"$house/crates/low/src/laws.rt"
     printf '%s\n' '-- What a cup is.' "-- Source: this project's own; it is round." 'use X' '' \
-        'pub record IsFull : Type where' '  pub level : ⊤' >"$house/crates/low/specs/Cups.antt"
+        'pub record IsFull (level : ℕ)' '    (cup : Cup) : Type 0 where' '  -- (always)' \
+        '  pub level : ⊤' '      × ⊤' '  pub cup : ⊤' >"$house/crates/low/specs/Cups.antt"
     printf '%s\n' '-- Of cups.' >"$house/crates/low/proofs/Lib.antt"
     printf 'file: src/cup.rt\n' >"$house/crates/low/must-fail/cup_without_bottom.edit"
     printf '%s\n' '# Layers' '' '## low' >"$house/docs/LAYERS.md"
@@ -150,11 +151,16 @@ The lowest layer.
 |---|---|
 | `Cups.antt` | What a cup is. It is round. |
 
+**`IsFull`** `(level : ℕ) (cup : Cup)`
+
+- `.level` `⊤ × ⊤`
+- `.cup` `⊤`
+
 Planted bugs: `cup_without_bottom`.
 END
 "$house/tools/pages.py"
 sed '1,/^## /{/^## /!d}' "$house/out/CLAIMS.md" >"$work/said"
-holds 'the page of claims has what is public, its comments and clauses, and says where none is' \
+holds 'the page of claims has what is public, with its clauses, and each record that is cited' \
     cmp -- "$work/wanted" "$work/said"
 "$house/tools/pages.py" "$work/page"
 holds 'it is written to another file as well' cmp -- "$house/out/CLAIMS.md" "$work/page"

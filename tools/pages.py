@@ -6,7 +6,8 @@
 
 The page has, crate by crate: the comment of the crate; its public types and functions, with the
 comments at them, what they require, and each clause with its text; the first comments of the files
-of definitions and of lemmas; and the names of the planted bugs. A comment of `//` lines between the
+of definitions and of lemmas, and the records of which a page cites a field, with the texts of all;
+and the names of the planted bugs. A comment of `//` lines between the
 clauses of a function speaks of those after it, up to the next comment or empty line. Where a
 function has no clause, or none but `⊤`, which says nothing, the page says that it is tested alone.
 
@@ -39,7 +40,8 @@ The page [PROOF.md](PROOF.md) has the argument, and this page what it is made of
   comment says that it takes no memory. Where a function has no clause, that is said.
 - *Definitions*: the files of `specs/`, whose words the clauses use. A reader has to judge that they
   say what is meant. Examples that can be worked out with a pencil are beside them, and those of a
-  claim `examples::worked_out` are proved.
+  claim `examples::worked_out` are proved. A record of which a page cites a field, as it cites a
+  clause, is below them with all its fields.
 - *Lemmas*: the files of `proofs/`. `ForCallers.antt` is for the crates above. A folder there is
   named for a file of the code and has what the prover needs for its functions alone.
 - *Planted bugs*: edits of the code that the prover must refuse, by their names in `must-fail/`.
@@ -269,6 +271,27 @@ def files(crate, folder):
     return [f"| `{path.name}` | {first_comment(path)} |" for path in paths if path.stem != "Lib"]
 
 
+def cited_records():
+    """The names of which a page cites a field, and so the records that are shown."""
+    return {name for page in pages() for name in re.findall(r"`(\w+)\.\w+`", page.read_text())}
+
+
+def records(crate, names):
+    """The lines of those records of a crate's definitions that have these names: each with what it
+    is of, and its fields with their texts."""
+    lines = []
+    for path in sorted((TOP / "crates" / crate / "specs").glob("*.antt")):
+        for block in re.split(r"\n(?=\S)", path.read_text()):
+            record = re.match(r"pub record (\w+) *(.*?) *: Type \S+ where\n(.*)", block, re.S)
+            if record and record[1] in names:
+                of = " ".join(record[2].split())
+                lines += ["", f"**`{record[1]}`**" + (f" `{of}`" if of else ""), ""]
+                fields = re.sub(r" *--.*\n", "", record[3] + "\n")
+                for field in re.findall(r"  pub (\w+) : (.*?)\n(?!    )", fields, re.S):
+                    lines += [f"- `.{field[0]}` `{' '.join(field[1].split())}`"]
+    return lines[1:]
+
+
 def libraries():
     """The crates that others use, without those of tests."""
     return [crate for crate in listed(TOP) if not crate.startswith("tests_")
@@ -277,7 +300,7 @@ def libraries():
 
 def page_of_claims():
     """The text of the page of claims."""
-    lines = [HEAD]
+    lines, cited = [HEAD], cited_records()
     for crate in libraries():
         home = TOP / "crates" / crate
         lines += [f"## `{crate}`", "", first_comment(home / "src/lib.rt", "//!"), ""]
@@ -287,6 +310,8 @@ def page_of_claims():
             rows = files(crate, folder)
             if rows:
                 lines += [f"| {name} | What they say |", "|---|---|", *rows, ""]
+            cited_here = records(crate, cited) if folder == "specs" else []
+            lines += [*cited_here, ""] if cited_here else []
         bugs = [f"`{path.stem}`" for path in sorted((home / "must-fail").glob("*.edit"))]
         if bugs:
             lines += [f"Planted bugs: {', '.join(bugs)}.", ""]
