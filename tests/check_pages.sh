@@ -1,5 +1,5 @@
 #!/usr/bin/env bash
-# Tests the scripts tools/pages.py and tests/check_stale_edits.py in a small house of its own, and
+# Tests the scripts tools/pages.py and tests/edits.py in a small house of its own, and
 # touches nothing else.
 #
 # The last line is 'N passed, M failed'.
@@ -15,8 +15,8 @@ house="$work/a house"
 make_house() {
     rm -rf -- "$house"
     mkdir -p "$house"/{tests,tools,docs} "$house/crates/low"/{src,specs,proofs,must-fail}
-    cp -- "$top"/tools/{pages,crates}.py "$house/tools/"
-    cp -- "$top"/tests/{check_edits,check_stale_edits}.py "$house/tests/"
+    cp -- "$top"/tools/{pages,crates,programs}.py "$house/tools/"
+    cp -- "$top/tests/edits.py" "$house/tests/"
     printf '# crates\nlow may_wait=1: thiserror\n' >"$house/crates.txt"
     cat >"$house/crates/low/src/lib.rt" <<'END'
 //! The lowest layer.
@@ -252,7 +252,7 @@ edit() {
 # Whether the edits are looked at with this status, and all that is said is this.
 looked_at() {
     local status
-    "$house/tests/check_stale_edits.py" >"$work/said" 2>&1
+    "$house/tests/edits.py" >"$work/said" 2>&1
     status=$?
     [ "$status" -eq "$1" ] && [ "$(cat "$work/said")" = "$2" ]
 }
@@ -260,7 +260,7 @@ looked_at() {
 # Whether one fault is said of the edits, at this place, beside $3 that are well. Then the
 # edits are as they were.
 stale() {
-    looked_at 1 "$1: $2"$'\n'"$3 passed, 1 failed" || return
+    looked_at 1 "OTHER  $1"$'\n       '"$2"$'\n'"$3 passed, 1 failed" || return
     make_edits
 }
 

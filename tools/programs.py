@@ -1,10 +1,12 @@
-"""Where the programs `rignolda` and `stab` are that were made of these sources."""
+"""What the checks share: where the programs `rignolda` and `stab` are that were made of these
+sources, and how cases are counted."""
 
 import gzip
 import os
 import subprocess
 import sys
 import tempfile
+import textwrap
 from pathlib import Path
 
 TOP = Path(__file__).resolve().parent.parent
@@ -61,3 +63,31 @@ def run_with(do, *names):
             print("0 passed, 1 failed")
             return 1
         return do(*files.values())
+
+
+class Cases:
+    """How many cases of a check have held."""
+
+    def __init__(self):
+        self.passed = self.failed = 0
+
+    def holds(self, name, is_well, more="", quiet=False):
+        """Counts a case, and says whether it holds: if not, with what there is more to say."""
+        self.passed, self.failed = self.passed + bool(is_well), self.failed + (not is_well)
+        if not is_well or not quiet:
+            print("same  " if is_well else "OTHER ", name, flush=True)
+        if more and not is_well:
+            print(textwrap.indent(str(more), " " * 7), flush=True)
+
+    def sum_up(self):
+        """Says how many there were, and answers the status of the check."""
+        print(f"{self.passed} passed, {self.failed} failed")
+        return 1 if self.failed else 0
+
+
+def counted(faults, quiet=False):
+    """Counts cases, each a name and what is wrong with it, or None."""
+    cases = Cases()
+    for name, fault in faults:
+        cases.holds(name, fault is None, fault, quiet)
+    return cases.sum_up()
