@@ -1,0 +1,263 @@
+#!/usr/bin/env -S python3 -B
+"""Tests the script ./gate in a copy of its own, with small commands in the place of its parts.
+
+Nothing is proved, and nothing of this repository is touched. The test takes some seconds. Its last
+line is 'N passed, M failed'.
+"""
+import json
+import re
+import sys
+
+from house import TOP, House, remove
+
+house = House()
+house.bring("gate", "tools/costs.py", "tools/crates.py", "tools/running.py")
+holds = house.holds
+# The scripts of tests that the gate runs. The first one counts five cases, and the others none.
+SCRIPTS = [it for it in re.findall(r"^(?:tests|tools)/\w+\.\w+", (TOP / "gate").read_text(), re.M)
+           if it != "tools/pages.py"]
+PARTS = "echo 300 passed, 0 failed", "echo 42 passed, 0 failed"
+
+
+def script(at, does="echo 0 passed, 0 failed"):
+    house.command(SCRIPTS[at], f'echo "$PWD: a script of tests"; {does}')
+
+
+def pages_and_release(pages="2 passed, 0 failed", release="3 passed, 0 failed"):
+    house.command("tools/pages.py", f'echo "$PWD: pages $*"; echo {pages}')
+    house.command("release.sh", f'echo "$PWD: release $*"; echo {release}')
+
+
+def run_gate(*words, **env):
+    return house.run(house.top / "gate", *words, TMPDIR=str(house.temporary), **env)
+
+
+def run(first=PARTS[0], second=PARTS[1], *words, **env):
+    """Runs the gate with these two parts. Further words are those of the gate."""
+    house.command(house.bin / "rt", f'[ "$1" = ci ] || {{ echo kit-1; exit; }}\n'
+                  f'echo "$PWD: rt $*, ${{RT_JOBS-none}}"; {first}')
+    house.command("tests/refused/check.py", f'echo "$PWD: check $*"; {second}')
+    return run_gate(*words, **env)
+
+
+def lines():
+    return house.ended.out.split("\n")
+
+
+def ended(status, last):
+    return (house.ended.status, house.ended.last) == (status, last) and house.left_nothing()
+
+
+def gave(status, last):
+    """Whether the gate ended with this status and this last line, after all parts."""
+    return (ended(status, last) and house.ended.out.count(": a script of tests\n") == len(SCRIPTS)
+            and any(re.fullmatch(rf"{house.top}: rt ci, [0-9]+", it) for it in lines())
+            and {f"{house.top}: {it}" for it in ("check ", "release --check", "pages --check")}
+            <= {*lines()})
+
+
+for at in range(len(SCRIPTS)):
+    script(at)
+script(0, "echo 5 passed, 0 failed")
+pages_and_release()
+for first, second, status, last, name in (
+        (*PARTS, 0, "352 passed, 0 failed", "the counts of all parts are added"),
+        ("echo 299 passed, 1 failed; exit 1", PARTS[1], 1, "351 passed, 1 failed",
+         "a failure of the first part fails"),
+        (PARTS[0], "echo 40 passed, 2 failed; exit 1", 1, "350 passed, 2 failed",
+         "failures of the second part fail"),
+        ("echo 08 passed, 3 failed; exit 1", "echo 1 passed, 09 failed; exit 1", 1,
+         "19 passed, 12 failed", "failures of both parts are added"),
+        ("echo 0 passed, 1 failed; exit 2", "echo 0 passed, 1 failed; exit 1", 1,
+         "10 passed, 2 failed", "after a first part that stopped the second one is still run"),
+        (f"{PARTS[0]}; exit 1", PARTS[1], 1, "352 passed, 1 failed",
+         "a status that no count explains is a failure"),
+        ("echo 300 passed, 1 failed", PARTS[1], 1, "352 passed, 1 failed",
+         "a failure with status 0 is a failure"),
+        ("echo nothing", PARTS[1], 1, "52 passed, 1 failed",
+         "a first part without a count is a failure"),
+        (PARTS[0], "exit 0", 1, "310 passed, 1 failed", "a second part without a count is one"),
+        (f"{PARTS[0]}; echo more", PARTS[1], 1, "52 passed, 1 failed",
+         "a count that is not in the last line does not count"),
+        (f"{PARTS[0]}, 1 lost", PARTS[1], 1, "52 passed, 1 failed",
+         "nor does a line of another form"),
+        ("kill -KILL $$", PARTS[1], 1, "52 passed, 1 failed", "a part that is killed is one")):
+    run(first, second)
+    holds(name, gave(status, last))
+script(1, "kill -KILL $$")
+run()
+holds("and so is one beside others", gave(1, "352 passed, 1 failed"))
+holds("which is named",
+      f"gate: {SCRIPTS[1]} ended with status 137, and no count in its last line" in lines())
+script(1, "echo 4 passed, 1 failed; exit 1")
+run(RT_JOBS="1")
+holds("and one at a time they count the same", gave(1, "356 passed, 1 failed"))
+script(1)
+said = run().out
+holds("what a part writes is shown", "\n300 passed, 0 failed\n" in said)
+holds("what each part took is said", re.search(
+    "^gate: rt ci took 0 min .* processor minutes, and .* at its peak$", said, re.M))
+page = house.top / "out/gate.md"
+holds("and in a table", "\n| `rt ci` | 0.0 | 0.0 | 0.0 GB |\n" in page.read_text())
+holds("it says how many tasks run at once, and why", re.search("^gate: [0-9]+ tasks at once: "
+      "[0-9]+ processors, and .* for [0-9]+ tasks of 3.0 GB$", said, re.M))
+run(RT_JOBS="3")
+holds("which the environment decides, if it does",
+      {"gate: 3 tasks at once: as RT_JOBS says", f"{house.top}: rt ci, 3"} <= {*lines()})
+said = run(*PARTS, "--anew").out
+holds("with --anew all of it is proved again",
+      re.search(f"^{house.top}: rt ci --anew, [0-9]+$", said, re.M))
+said = house.run("taskset", "-c", "0", "python3", "-B", house.top / "tools/crates.py", "tasks").out
+holds("never more than the processors", said.startswith("1 "))
+for pages, release, last, name in (
+        ("2 passed, 0 failed", "2 passed, 1 failed; exit 1", "351 passed, 1 failed",
+         "a release that differs fails the gate"),
+        ("1 passed, 1 failed; exit 1", "3 passed, 0 failed", "351 passed, 1 failed",
+         "and so does a page that is out of date")):
+    pages_and_release(pages, release)
+    run()
+    holds(name, ended(1, last))
+pages_and_release()
+for missing, last in ("release.sh", "349 passed, 1 failed"), (
+        "tests/refused/check.py", "310 passed, 1 failed"):
+    run()
+    remove(house.top / missing)
+    run_gate()
+    holds(f"a part that is missing is a failure ({missing})", ended(1, last))
+    pages_and_release()
+run()
+holds("another word is refused", run_gate("--other").status == 2)
+
+# What a whole run is said to take elsewhere: three crates, of which the first one is proved in a
+# minute, and all else begins then. On four processors that ends two minutes later. On two, the
+# longer crates come first: stab_cli for two minutes, by its side mid for one and then its tests for
+# two, and once stab_cli has ended the edits of low; so all ends three minutes later. The run took
+# twice as long as that, and a minute for its other parts.
+house.write("crates.txt", "low:\nmid may_wait=1: low thiserror\nstab_cli: low\n")
+house.write("crates/low/src/lib.rt")
+house.write("crates/mid/src/lib.rt", "1\n2\n")
+house.write("crates/stab_cli/src/lib.rt", "1\n2\n3\n")
+NONE = dict.fromkeys(("proof", "tests", "edits", "programs"), 0)
+NOTES = {"part": "rt ci", "wall": 360, "processor": 420, "status": 0, "peak": 1, "own": 1,
+         "jobs": "4", "largest": [1, "it"], "crates": {
+             "low": {**NONE, "proof": 60, "edits": 60}, "mid": {**NONE, "proof": 60, "tests": 120},
+             "stab_cli": {**NONE, "proof": 100, "programs": 20}}}
+
+
+def table(notes):
+    """The table of the notes of a part, of a gate that took seven minutes."""
+    house.run("python3", "-B", "-c", "import json, sys; sys.path.insert(0, 'tools'); import costs\n"
+              f"costs.write_table([json.load(sys.stdin)], '{house.work}/page', 420.0, 0.0)",
+              given=json.dumps(notes), cwd=house.top)
+    return house.read("page")
+
+
+text = table(NOTES)
+holds("what each crate cost is in the table", {
+    "| `low` | 1.0 | 0.0 | 1.0 | 0.0 | 2.0 |", "| `mid` | 1.0 | 2.0 | 0.0 | 0.0 | 3.0 |",
+    "| all | 3.7 | 2.0 | 1.0 | 0.3 | 7.0 |"} <= {*text.split("\n")})
+for name, part in (
+        ("what two processors would take is computed",
+         "on two processors `./gate` would take 9.0 minutes, on four 7.0;"),
+        ("and so is the first proof, without tests and edits",
+         "`./stab --prove` would take at most 6.0 on four."),
+        ("and it is said how", "so what it computes is multiplied by 2.00.")):
+    holds(name, part in text)
+text = table({**NOTES, "share": "2 of the 9 proofs"})
+holds("nothing is computed of a run that took most from earlier ones",
+      "**This was not a run from nothing:** `rt ci` did 2 of the 9 proofs, and" in text
+      and "Computed" not in text)
+run("echo 'rt: ok; handles allowed: none; done in this run: 3 of the 9 proofs (of crates and of"
+    " their tests); the others are kept from earlier runs of the same files on this machine'\n"
+    "echo 9 passed, 0 failed")
+holds("and what rt says of that is kept", "`rt ci` did 3 of the 9 proofs (of crates and of their "
+      "tests), and took" in page.read_text())
+
+# The loop of a developer, in a house of four crates: a program over mid, which has tests and is
+# over low; and a crate beside them. What rt does with a crate is in the file steps.
+house.command(house.work / "program", '[ "$#" -eq 0 ] || { echo "$*; $(cat); $(ls)"; exit 7; }')
+house.write("crates.txt", "low:\nmid: low\nbeside: low\nprogram: mid\n")
+house.write("crates/mid/src/tests.rt", "#[test]\nfn holds() {}\n")
+house.write("crates/program/src/main.rt")
+for crate in "low", "mid", "beside":
+    house.write(f"crates/{crate}/src/lib.rt")
+for crate in "low", "mid":
+    house.write(f"crates/{crate}/must-fail/a.edit")
+
+
+def run_only(fails, *crates):
+    """Runs the gate with --only, where rt fails at one step."""
+    house.write(house.work / "steps")
+    house.command(house.bin / "rt", f"""at=${{PWD##*/}}
+        [ "$1" != must-fail ] || at=$2
+        echo "$1 $at" >>"$WORK/steps"
+        echo "what rt says of $1 $at"
+        if [ "$1 $at" = 'run program' ] && [ '{fails}' != 'run program' ]; then
+            mkdir -p out
+            cp "$WORK/program" out/program
+            echo 'rt: running out/program; to give it other input, run that file yourself' >&2
+            exit 9
+        fi
+        if [ "$1" = must-fail ]; then
+            echo "rt: must-fail $2/a.edit: refused, as it must be: x"
+            echo "rt: must-fail $2/b.edit: refused, as it must be: x"
+        fi
+        [ "$1 $at" != '{fails}' ] || {{
+            [ "$1" != must-fail ] || echo "rt: must-fail $2/c.edit: NOT REFUSED: x"
+            exit 1; }}""")
+    return run_gate("--only", *crates, RT_JOBS="2")
+
+
+def did(status, last, *steps):
+    """Whether it ended with this status and this last line, after these steps."""
+    return ended(status, last) and house.read("steps").split("\n")[:-1] == [*steps]
+
+
+MID = "lib mid", "test mid", "check program", "must-fail mid"
+PROGRAM = "check program", "run program"
+said = run_only("", "mid").out
+holds("a crate, its tests and those above it, and then planted bugs",
+      did(0, "5 passed, 0 failed", *MID))
+holds("with the time so far",
+      re.search("^gate: 0 min  ?[0-9]+ s: mid is proved: well$", said, re.M))
+holds("without what rt says", "what rt says" not in said)
+run_only("", "program", "beside")
+holds("two crates, and no more", did(0, "3 passed, 0 failed", "lib beside", *PROGRAM))
+FILES = {"args": "one\ntwo words\n", "stdout": "one two words; in; data.txt\n", "stdin": "in",
+         "status": "7\n", "data/data.txt": ""}
+for name, changed, failed in (
+        ("a program that is named is run on its data", {}, 0),
+        ("and fails with another status", {"status": "3\n"}, 1),
+        ("or where it prints something else", {"stdout": f"{FILES['stdout']}more\n"}, 1)):
+    for file, text in {**FILES, **changed}.items():
+        house.write(f"crates/program/{file}", text)
+    run_only("", "program")
+    holds(name, did(failed, f"{2 - failed} passed, {failed} failed", *PROGRAM))
+remove(*(house.top / "crates/program" / it for it in ("out", "data", *FILES)))
+run_only("run program", "program")
+holds("or is not built", did(1, "1 passed, 1 failed", *PROGRAM))
+run_only("", "low")
+holds("all that stand on the lowest", ended(0, "9 passed, 0 failed")
+      and sorted(house.read("steps").split("\n")[:-1]) == [
+          "check program", "lib beside", "lib low", "lib mid", "must-fail low", "must-fail mid",
+          "test mid"])
+said = run_only("lib mid", "mid").out
+holds("after a crate that is not proved nothing follows", did(1, "0 passed, 1 failed", MID[0]))
+holds("and what rt says is shown", "what rt says of lib mid\n" in said)
+run_only("test mid", "mid")
+holds("nor after tests that fail", did(1, "1 passed, 1 failed", *MID[:2]))
+said = run_only("must-fail mid", "mid").out
+holds("a planted bug that is not refused fails", did(1, "5 passed, 1 failed", *MID))
+holds("and is named", "mid/c.edit: NOT REFUSED" in said)
+holds("a crate that is not listed is refused", run_only("", "mid", "no_such").status == 2)
+holds("and so is none", run_only("").status == 2)
+
+# A gate whose first part does not end by itself.
+house.command(house.bin / "rt", """trap 'kill $!; echo ended >"$WORK/ended"; exit 1' TERM
+    sleep 600 & echo started >"$WORK/started"; wait""")
+for name, status in ("TERM", 143), ("INT", 130), ("HUP", 129):
+    for words in [], ["--only", "low"]:
+        house.interrupted(name, house.top / "gate", *words, TMPDIR=str(house.temporary))
+        holds(f"it ends at the signal {name}, with what it started ({' '.join(words)})",
+              house.ended.status == status and house.read("ended") and house.left_nothing())
+sys.exit(house.sum_up())

@@ -1,0 +1,388 @@
+#!/usr/bin/env -S python3 -B
+"""Tests the script ./release.sh in a copy of its own, with small commands in the place of rt.
+
+Nothing is proved, and nothing of this repository is touched. The test takes some seconds. Its last
+line is 'N passed, M failed'. What ./stab makes of a release is tested by check_stab.py.
+"""
+import filecmp
+import gzip
+import re
+import shutil
+import subprocess
+import sys
+
+from house import House, digest, remove
+
+house = House()
+holds, top, work, write, command = house.holds, house.top, house.work, house.write, house.command
+release, manifest = top / "release", top / "release/MANIFEST"
+program = top / "crates/stab_cli/src/main.rt"
+made = top / "crates/stab_cli/out/stab_cli.by-rattle"
+
+# A command like rt, and the compiler that it finds. What they make is the text of the source.
+command(house.bin / "rt", r"""
+case $1 in
+    version) cat "$WORK/kit"; exit ;;
+    doc) echo "$WORK/a kit/START-HERE.md"; exit ;;
+esac
+printf '%s\n' "$*" >>"$WORK/calls"
+mkdir -p out
+case $1 in
+    lib) cat src/lib.rt >"out/lib${PWD##*/}.a" ;;
+    run) cat src/main.rt >"out/${PWD##*/}" && echo 'rt: running it' ;;
+    ci)
+        for file in crates/*/src/main.rt; do
+            [ -e "$file" ] || continue
+            mkdir -p "${file%src/*}out"
+            crate=${file#*/}
+            cat "$file" >"${file%src/*}out/${crate%%/*}.by-rattle"
+        done
+        ! grep -q 'not done' crates/*/src/*
+        ;;
+esac""")
+command(work / "a kit/bin/rattle", r"""
+echo "$*" >"$WORK/compiled"
+[ -z "${NOT_PROVED-}" ] && ! grep -q 'not done' src/*.rt || exit 1
+while [ "$1" != -o ]; do
+    shift
+done
+cat src/*.rt >"$2"
+[ -z "${OTHER-}" ] || echo other >>"$2" """)
+command(work / "a kit/bin/rattle-link", """
+while [ "$1" != -o ]; do
+    shift
+done
+cp "$3" "$2" """)
+write(work / "kit", "kit-1 logic 1\n")
+
+# A house of two crates, the pages and the examples.
+write("crates/low/src/lib.rt", "low\n")
+write(program, "proved 1\n")
+write("crates.txt", "low:\nstab_cli: low\n")
+write("HANDLES", "Handles allowed: none.\n")
+for file in ("README.md", "docs/A.md", "docs/B.md", "crates/low/data/job.json",
+             "crates/low/data/runs/a.json"):
+    write(file, f"{file}\n")
+(top / "examples").symlink_to("crates/low/data")
+write("CHANGELOG.md", "# Changelog\n\nText.\n\n## 0.10.2, 2026-11-23: a release\n\n"
+      "## 2026-11-22: before\n")
+house.bring("release.sh", "tools/launch", "tools/build", "tools/crates.py")
+
+
+def run(*words, at=top, **env):
+    """Runs ./release.sh, and notes how it ended."""
+    write(work / "calls")
+    return house.run(at / "release.sh", *words, TMPDIR=str(house.temporary), **env)
+
+
+def well(calls):
+    """Whether it ended well, and left nothing, after so many calls of rt."""
+    return (house.ended.status == 0 and house.read("calls").count("\n") == calls
+            and house.left_nothing())
+
+
+def released(name, calls, *words):
+    """Makes a release, which has to end well after so many calls of rt."""
+    run(*words)
+    holds(name, well(calls))
+
+
+def refused(name, text, *words):
+    """Whether it ends with status 3, and says so."""
+    ended = run(*words)
+    holds(name, ended.status == 3 and text in ended.err and house.left_nothing())
+
+
+def checked(name, passed, *others, **env):
+    """Whether the check ends with so many cases that hold, and names just these as other ones."""
+    ended = run("--check", **env)
+    holds(name, ended.last == f"{passed} passed, {len(others)} failed"
+          and re.findall("^OTHER  (.*)", ended.out, re.M) == [*others]
+          and ended.status == bool(others) and house.left_nothing())
+
+
+def same(one, other):
+    """Whether two folders have the same files."""
+    return subprocess.run(["diff", "-r", one, other], stdout=subprocess.DEVNULL).returncode == 0
+
+
+def keep():
+    """Keeps a copy of the release."""
+    remove(work / "release")
+    shutil.copytree(release, work / "release")
+
+
+def restore(name):
+    shutil.copy(work / "release" / name, release / name)
+
+
+def add(path, text):
+    """Writes more to a file of the house."""
+    write(path, (top / path).read_text() + text)
+
+
+def change(path, old, new):
+    text = (top / path).read_text()
+    assert old in text, (path, old)
+    write(path, text.replace(old, new))
+
+
+def names_in(archive):
+    """The names in an archive, without the folder that it has."""
+    said = subprocess.run(["tar", "-tf", archive], capture_output=True, text=True, check=True)
+    return [name.partition("/")[2] for name in said.stdout.splitlines()]
+
+
+def sums_are_right(folder):
+    said = subprocess.run(["sha256sum", "-c", "--quiet", "SHA256SUMS"], cwd=folder)
+    return said.returncode == 0
+
+
+WHOLE, MANIFEST, KIT = ("release/ has its files", "the manifest is one", "it names this kit")
+
+
+def of(name):
+    """The cases of an artefact: its sources, its file, and whether that was built again."""
+    return [f"{name}: {case}" for case in (
+        "the manifest names these sources", "the manifest names the file beside it",
+        "the file is what was just built, byte for byte")]
+
+
+SOURCES, BESIDE, EQUAL = of("stab")
+checked("without a release the check fails", 0, WHOLE, MANIFEST, KIT, SOURCES, BESIDE, EQUAL)
+holds("and says what to do", "run ./release.sh and commit" in house.ended.out)
+refused("nor is there an archive", "there is no release: run ./release.sh first", "--archive")
+released("a release is built where nothing was", 1)
+lines = manifest.read_text().splitlines()
+holds("and is one", sorted(it.name for it in release.iterdir()) == ["MANIFEST", "stab.gz"]
+      and gzip.decompress((release / "stab.gz").read_bytes()) == program.read_bytes()
+      and lines[0] == "kit kit-1 logic 1" and len(lines) == 2
+      and re.fullmatch(f"stab sha256 {digest(program)} sources [0-9a-f]{{64}}", lines[1]))
+keep()
+released("a second one takes what was built", 0)
+holds("and is the same", same(work / "release", release))
+released("with --prove everything is built again", 1, "--prove")
+holds("and the same again", same(work / "release", release))
+checked("before the gate has built the program the check fails", 5, EQUAL)
+write(made, "proved 1\n")
+checked("a release that is the program that was built passes", 6)
+write(made, "proved 1\nx")
+checked("another program fails", 5, EQUAL)
+write(made, "proved 1\n")
+add("crates/low/src/lib.rt", "more\n")
+checked("other sources fail, also where the program is the same", 5, SOURCES)
+refused("and are not packed", "the release of stab was made from other sources", "--archive")
+write("crates/low/src/lib.rt", "low\n")
+write(work / "kit", "kit-2 logic 1\n")
+checked("another kit fails", 5, KIT)
+write(work / "kit", "kit-1 logic 1\n")
+write("release/notes", "more\n")
+checked("a third file fails", 5, WHOLE)
+remove(release / "notes")
+(release / "stab.gz").write_bytes(gzip.compress(b"proved 2\n"))
+checked("another program beside the manifest fails", 4, BESIDE, EQUAL)
+refused("and is not packed", "the release is spoiled", "--archive")
+packed = (work / "release/stab.gz").read_bytes()
+(release / "stab.gz").write_bytes(packed[:10])
+checked("so does half a program", 4, BESIDE, EQUAL)
+(release / "stab.gz").write_bytes(packed + b"x")
+checked("and so does more than the program", 5, BESIDE)
+restore("stab.gz")
+for name, text in (("a manifest of one line fails", lines[0] + "\n"),
+                   ("and so does one with a long digest", f"{lines[0]}\n{lines[1]}0\n")):
+    write(manifest, text)
+    holds(name, f"\nOTHER  {MANIFEST}\n" in run("--check").out)
+restore("MANIFEST")
+write(program, "not done\n")
+refused("what is not proved is not released", "the program was not built")
+holds("and the release stays", same(work / "release", release))
+write(program, "proved 1\n")
+released("an archive is packed", 0, "--archive")
+archive = top / "out/rignolda-0.10.2-x86_64-linux.tar.xz"
+shutil.copy(archive, work / "first.tar.xz")
+holds("with the program, the pages, the examples and their digests", names_in(archive) == [
+    "", "CHANGELOG.md", "README.md", "SHA256SUMS", "docs/", "docs/A.md", "docs/B.md", "examples/",
+    "examples/job.json", "examples/runs/", "examples/runs/a.json", "stab"])
+subprocess.run(["tar", "-C", work, "-xf", archive], check=True)
+holds("its digests are right", sums_are_right(work / "rignolda-0.10.2-x86_64-linux"))
+shutil.copytree(top, work / "b", symlinks=True, ignore=shutil.ignore_patterns("out"))
+subprocess.run(f"chmod -R go-rwx '{work}/b'; find '{work}/b' -exec touch -d 2001-01-01 {{}} +",
+               shell=True, check=True)
+house.run("bash", "-c", 'umask 077; exec "$0" --archive', work / "b/release.sh")
+holds("packed elsewhere, with other times and rights, it is the same", filecmp.cmp(
+    work / "first.tar.xz", work / "b/out" / archive.name, shallow=False))
+write("LICENSE", "licence\n")
+run("--archive")
+holds("a licence is packed, if there is one", "LICENSE" in names_in(archive))
+change("CHANGELOG.md", "## 0.10.2, 2026-11-23: a release", "## 2026-11-23: no version")
+refused("a date alone is no version", "the first heading of CHANGELOG.md has no version and date",
+        "--archive")
+holds("another word is refused", run("--other").status == 2)
+
+# A release of several things: a library for C and a module as well.
+LIBRARY_SOURCES, LIBRARY_BESIDE, LIBRARY = of("librignolda.a")
+MODULE_SOURCES, MODULE_BESIDE, MODULE = of("rignolda.wasm")
+IN_PAGE = "rignolda.wasm: page/index.html has it"
+write("crates/stab_c/src/lib.rt", "a library\n")
+write("crates/stab_page/src/lib.rt", "a module\n")
+add("crates.txt", "stab_c staticlib: low itoa\nstab_page staticlib: low\n")
+command("page/build.sh", """cd "$(dirname "$0")/.." || exit
+case $1 in
+    --compare) cmp "$2" page/index.html ;;
+    *) cat crates/stab_page/src/lib.rt >"$1" ;;
+esac""")
+for file in ("include/rignolda.h", "man/stab.1", "docs/schema/job.json", "agents/agent.c",
+             "agents/out/agent", "rust/rignolda/src/lib.rs", "rust/rignolda/target/built"):
+    write(file)
+write("page/index.html", "a module\n")
+write("CHANGELOG.md", "## 1.2.0, 2026-11-24, later: of three\n")
+CARGO = '[package]\nname = "it"\nversion = "1.2.0"\n\n'
+write("rust/rignolda/Cargo.toml", CARGO)
+checked("a release that lacks what crates.txt lists fails", 4, WHOLE, MANIFEST, LIBRARY_SOURCES,
+        LIBRARY_BESIDE, LIBRARY, MODULE_SOURCES, MODULE_BESIDE, MODULE, IN_PAGE)
+released("a release of three is built from nothing, by one call", 1)
+holds("the compiler gets the libraries of the kit and of the tree", re.search(
+    "--extern low=/.*/crates/low/out/rlib/low.rlib --extern itoa=/.*/a kit/rlibs/itoa.rlib ",
+    house.read("compiled")))
+FILES = ["librignolda.a", "rignolda.wasm"]
+holds("and has three files and their lines",
+      sorted(it.name for it in release.iterdir()) == ["MANIFEST", *FILES, "stab.gz"]
+      and re.findall(r"^\S+", manifest.read_text(), re.M) == ["kit", "stab", *FILES])
+for file, crate in zip(FILES, ("stab_c", "stab_page")):
+    holds(f"a library or a module lies there as it is ({file})", filecmp.cmp(
+        release / file, top / f"crates/{crate}/src/lib.rt", shallow=False))
+keep()
+released("a second one takes what was built", 0)
+holds("and is the same", same(work / "release", release))
+write(made, "proved 1\n")
+checked("where rt ci has run, the library and the module are made and compared", 13)
+holds("with no call of rt", well(0))
+write("crates/low/out/rlib/stamp")
+checked("where checks have left the libraries, rt makes it over them", 13)
+holds("by one call", house.read("calls") == "lib\n")
+remove(top / "crates/low/out")
+checked("another library than the one of the release fails", 12, LIBRARY, OTHER="1")
+checked("and so does one that is not proved", 12, LIBRARY, NOT_PROVED="1")
+add("release/librignolda.a", "spoiled\n")
+checked("a library that is spoiled fails", 11, LIBRARY_BESIDE, LIBRARY)
+refused("and is not packed", "the release is spoiled: its librignolda.a is not the one",
+        "--archive")
+restore("librignolda.a")
+add("crates/stab_c/src/lib.rt", "more\n")
+checked("other sources of one fail for this one alone", 11, LIBRARY_SOURCES, LIBRARY)
+write("crates/stab_c/src/lib.rt", "a library\n")
+change("crates.txt", "itoa", "itoa ryu")
+checked("and so does another line of its crate", 12, LIBRARY_SOURCES)
+change("crates.txt", " ryu", "")
+builder = (top / "page/build.sh").read_text()
+command("page/build.sh", builder + "# more")
+checked("the script that makes a module is one of its sources", 12, MODULE_SOURCES)
+write("page/build.sh", builder, 0o755)
+write("page/index.html", "another module\n")
+checked("a page with another module fails", 12, IN_PAGE)
+write("page/index.html", "a module\n")
+change("crates.txt", "stab_page staticlib: low\n", "")
+checked("a file more than the crates give fails", 7, WHOLE, MANIFEST)
+add("crates.txt", "stab_page staticlib: low\n")
+for crate in "stab_c", "stab_cli":
+    (top / f"crates/{crate}/out/incremental").mkdir(parents=True)
+write("crates/stab_c/src/lib.rt", "another library\n")
+released("over what checks have kept, what has changed is built alone", 1)
+holds("by one call", house.read("calls") == "lib\n")
+checked("and released", 13)
+change("rust/rignolda/Cargo.toml", "1.2.0", "1.1.9")
+refused("a crate for Rust of another version is not packed",
+        "CHANGELOG.md has the version 1.2.0, and the crate rignolda for Rust 1.1.9", "--archive")
+write("rust/rignolda/Cargo.toml", CARGO)
+command("tools/pages.py", 'echo claims >"$1"')
+run("--archive")
+archive = top / "out/rignolda-1.2.0-x86_64-linux.tar.xz"
+said = subprocess.run(["tar", "-xOf", archive, "--wildcards", "*/docs/CLAIMS.md"],
+                      capture_output=True)
+holds("the page of claims is written into the archive", said.stdout == b"claims\n")
+holds("the archive has all of it", [
+    it for it in names_in(archive) if not re.search(r"/$|^$|^examples|^[A-Z]|\.md$", it)] == [
+        "agents/agent.c", "docs/schema/job.json", "include/rignolda.h", "lib/librignolda.a",
+        "man/stab.1", "page/index.html", "page/rignolda.wasm", "rust/rignolda/Cargo.toml",
+        "rust/rignolda/lib/x86_64-linux.a", "rust/rignolda/src/lib.rs", "stab"])
+
+# The daemon, whose programs another compiler makes.
+DAEMON = ["rignoldad", "rignoldactl"]
+command(house.bin / "cargo", """mkdir -p target/release
+for program in rignoldad rignoldactl; do
+    cat "rignoldad/src/$program.rs" rignolda/lib/* >"target/release/$program"
+done""")
+command(house.bin / "rustc", 'echo "rustc ${RUSTC:-1.0}"')
+command(house.bin / "dpkg-deb", "")
+for file in "rust/Cargo.toml", "rust/Cargo.lock", "rust/rignolda/build.rs", "tools/debian_crates":
+    write(file)
+write("rust/rignoldad/src/rignoldad.rs", "a daemon\n")
+write("rust/rignoldad/src/rignoldactl.rs", "a control\n")
+write("rust/rignoldad/Cargo.toml", CARGO)
+command("rust/rignoldad/packaging/make_deb", 'cat "$1/rignoldad" "$1/rignoldactl" "$1/stab" >"$4"\n'
+        'echo "$2 $3 $SOURCE_DATE_EPOCH" >>"$4"')
+house.bring("tools/build_daemon")
+remove(top / "out")
+
+
+def daemon(*words, **env):
+    """Runs tools/build_daemon, and notes how it ended."""
+    return house.run(top / "tools/build_daemon", *words, **env)
+
+
+def said(name, status, text, *words, **env):
+    """Whether it ends with this status, and says this."""
+    ended = daemon(*words, **env)
+    holds(name, ended.status == status and text in ended.out)
+
+
+NAMED = [case for program in DAEMON for case in of(program)[:2]]
+checked("a release without the programs of the daemon fails", 11, WHOLE, MANIFEST, *NAMED)
+refused("and is not packed", "the release of rignoldad was made from other sources: run "
+        "tools/build_daemon --keep", "--archive")
+said("they are said to be missing", 1, "run tools/build_daemon --keep", "--check")
+lines = manifest.read_text().splitlines()[:4]
+said("they are kept", 0, "", "--keep")
+daemon("--keep")
+sources = daemon("--sources").out.strip()
+lines += ["rustc 1.0", *(f"{it} sha256 {digest(top / 'rust/target/release' / it)} sources {sources}"
+                         for it in DAEMON)]
+holds("with lines of their own, each once", manifest.read_text().splitlines() == lines)
+checked("then nothing is wrong", 17)
+keep()
+run()
+holds("another release leaves them as they are", same(work / "release", release))
+said("they are what is built of the sources", 0, "", "--check")
+said("another compiler is named, and nothing is compared", 0,
+     "of another compiler than rustc 2.0: not compared", "--check", RUSTC="2.0")
+write(manifest, re.sub("(?<=rignoldad sha256 ).{64}", "0" * 64, manifest.read_text()))
+said("another program is found", 1, "other programs than these sources give", "--check")
+checked("here too", 16, NAMED[1])
+(work / "unpacked").mkdir()
+said("and it is not unpacked", 1, "is not what its MANIFEST says", "--unpack", work / "unpacked")
+restore("MANIFEST")
+daemon("--unpack", work / "unpacked")
+holds("the right ones are", same(top / "rust/target/release", work / "unpacked"))
+add("rust/rignoldad/src/rignoldad.rs", "more\n")
+said("other sources are found", 1, "programs of other sources", "--check")
+checked("for both", 15, NAMED[0], NAMED[2])
+write("rust/rignoldad/src/rignoldad.rs", "a daemon\n")
+change("rust/rignoldad/Cargo.toml", "1.2.0", "1.1.9")
+daemon("--keep")
+refused("a daemon of another version is not packed",
+        "CHANGELOG.md has the version 1.2.0, and the crate rignoldad for Rust 1.1.9", "--archive")
+write("rust/rignoldad/Cargo.toml", CARGO)
+daemon("--keep")
+run("--archive")
+holds("the archive has the programs, and what installs them", [
+    it for it in names_in(archive) if re.search("rignolda[dc]", it) and it[-1] != "/"] == [
+        "rignoldactl", "rignoldad", "rust/rignoldad/Cargo.toml",
+        "rust/rignoldad/packaging/make_deb"])
+# (the first second of 24 November 2026)
+holds("a package is made of the same programs, of the day of the version",
+      (top / "out/rignoldad_1.2.0_amd64.deb").read_text() == "".join(
+          (top / "rust/target/release" / it).read_text() for it in DAEMON)
+      + program.read_text() + "1.2.0 amd64 1795478400\n")
+holds("both have their digests beside them", sums_are_right(top / "out")
+      and (top / "out/SHA256SUMS").read_text().count("\n") == 2)
+sys.exit(house.sum_up())

@@ -1,0 +1,117 @@
+"""A small house for a check of scripts: copies of them, with small commands in the place of what
+they start. Nothing is proved there, and nothing of this repository is touched."""
+import atexit
+import hashlib
+import os
+import shutil
+import signal
+import subprocess
+import sys
+import tempfile
+import time
+from pathlib import Path
+
+TOP = Path(__file__).resolve().parent.parent
+sys.path.insert(0, str(TOP / "tools"))
+from programs import Cases  # noqa: E402
+
+# What could change what a script does.
+UNSET = ("CDPATH", "TMPDIR", "RT_JOBS", "RT_BACKEND")
+
+
+def digest(data):
+    """The digest of a file, or of bytes."""
+    return hashlib.sha256(data.read_bytes() if isinstance(data, Path) else data).hexdigest()
+
+
+def remove(*paths):
+    """Removes files and folders, where they are."""
+    for path in paths:
+        if path.is_dir() and not path.is_symlink():
+            shutil.rmtree(path)
+        elif path.is_symlink() or path.exists():
+            path.unlink()
+
+
+class Ended:
+    """How a command ended, and what it wrote."""
+
+    def __init__(self, status, out, err):
+        self.status, self.out, self.err = status if status >= 0 else 128 - status, out, err
+        self.last = out.rpartition("\n")[0].rpartition("\n")[2]
+
+    def __str__(self):
+        return f"status {self.status}, and it wrote:\n{self.out}{self.err}"
+
+
+class House(Cases):
+    """A house, the commands beside it, and the cases of a check."""
+
+    def __init__(self):
+        super().__init__()
+        self.work = Path(tempfile.mkdtemp())
+        atexit.register(shutil.rmtree, self.work, ignore_errors=True)
+        self.top, self.bin = self.work / "a house", self.work / "bin"
+        self.temporary = self.work / "temporary"
+        self.env = {name: value for name, value in os.environ.items() if name not in UNSET}
+        self.env.update(WORK=str(self.work), PATH=f"{self.bin}:{self.env['PATH']}")
+        self.ended = None
+        for folder in (self.top, self.bin, self.temporary):
+            folder.mkdir()
+
+    def bring(self, *paths):
+        """Copies scripts of this repository to the house."""
+        for path in paths:
+            to = self.top / path
+            to.parent.mkdir(parents=True, exist_ok=True)
+            shutil.copy2(TOP / path, to)
+
+    def write(self, path, text="", mode=0o644):
+        """Writes a file, whose path is one of the house unless it is whole, and answers it."""
+        path = self.top / path
+        path.parent.mkdir(parents=True, exist_ok=True)
+        path.write_text(text)
+        path.chmod(mode)
+        return path
+
+    def command(self, path, text):
+        """Writes a command: what it does in bash."""
+        return self.write(path, f"#!/usr/bin/env bash\n{text}\n", 0o755)
+
+    def read(self, name):
+        """What a command has left in a file of the folder beside the house."""
+        path = self.work / name
+        return path.read_text() if path.exists() else ""
+
+    def run(self, *words, given="", cwd=None, **env):
+        """Runs a command, and notes and answers how it ended. The environment is that of the house
+        with these changes."""
+        done = subprocess.run(words, input=given, capture_output=True, text=True, cwd=cwd,
+                              errors="replace", env={**self.env, **env})
+        self.ended = Ended(done.returncode, done.stdout, done.stderr)
+        return self.ended
+
+    def interrupted(self, number, *words, **env):
+        """Runs a command that writes to the file `started` and does not end by itself, and sends it
+        a signal then."""
+        remove(self.work / "started", self.work / "ended")
+        # (a signal that is ignored here, as HUP under nohup, would be ignored there)
+        with open(self.work / "out", "w+") as out, open(self.work / "err", "w+") as err:
+            started = subprocess.Popen(
+                ["env", "--default-signal=INT,TERM,HUP", *words], stdout=out, stderr=err,
+                stdin=subprocess.DEVNULL, env={**self.env, **env})
+            for _ in range(600):
+                if self.read("started"):
+                    break
+                time.sleep(0.1)
+            started.send_signal(getattr(signal, f"SIG{number}"))
+            self.ended = Ended(started.wait(), self.read("out"), self.read("err"))
+        return self.ended
+
+    def left_nothing(self):
+        """Whether nothing is left in the folder for temporary files."""
+        return not any(self.temporary.iterdir())
+
+    def holds(self, name, is_well, **more):
+        """Counts a case, with how the last command ended if it does not hold."""
+        super().holds(name, is_well, self.ended, **more)
