@@ -1,4 +1,4 @@
-#!/usr/bin/env python3
+#!/usr/bin/env -S python3 -B
 """Compares the drawn runs of this repository with those that `rignolda draw` prints.
 
     tests/check_drawn.py            compares the files NAME.run of the examples, the drawn runs of
@@ -21,13 +21,10 @@ import subprocess
 import sys
 from pathlib import Path
 
-# (nothing is to be left beside the sources)
-sys.dont_write_bytecode = True
-
 TOP = Path(__file__).resolve().parent.parent
 sys.path.insert(0, str(TOP / "tools"))
 
-from programs import run_with
+from programs import counted, run_with
 
 DATA = TOP / "crates/gate_checks/data"
 PAGE = TOP / "docs/PROTOCOL.md"
@@ -239,14 +236,8 @@ def main(drawer):
     if sys.argv[1:]:
         write(drawer)
         return 0
-    passed = failed = 0
-    for name, fault in check(drawer):
-        passed, failed = passed + (fault is None), failed + (fault is not None)
-        print(f"same   {name}" if fault is None else f"OTHER  {name}\n       {fault}")
-    if failed:
-        print(f"drawn: by {drawer}; where the sources are newer, run ./release.sh first")
-    print(f"{passed} passed, {failed} failed")
-    return 0 if failed == 0 else 1
+    print(f"drawn: by {drawer}; where the sources are newer, run ./release.sh first")
+    return counted(check(drawer))
 
 
 if sys.argv[1:] not in ([], ["--write"]):

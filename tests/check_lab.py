@@ -1,4 +1,4 @@
-#!/usr/bin/env python3
+#!/usr/bin/env -S python3 -B
 """Judges the right and the wrong ends of lab/ends/ by lab/check_ends.py, as a student would.
 
 The numbers of states and of events were counted by another program that shares nothing with it. The
@@ -10,6 +10,9 @@ import tempfile
 from pathlib import Path
 
 TOP = Path(__file__).resolve().parent.parent
+sys.path.insert(0, str(TOP / "tools"))
+from programs import Cases  # noqa: E402
+
 NOT_DELIVERED = "counts as acknowledged and was not delivered, and it is not among the first 3"
 NO_MORE = "in the last 3 rounds nothing was lost, and no item counts as acknowledged"
 # For each of them: more words, the status, and what is in the first line.
@@ -53,11 +56,14 @@ SPOILED = [
 ]
 
 
+def judged(ends, *words):
+    return subprocess.run([TOP / "lab/check_ends.py", ends, *words], capture_output=True, text=True)
+
+
 def main():
-    failed = 0
+    cases = Cases()
     for name, words, status, text in CASES:
-        said = subprocess.run([TOP / "lab/check_ends.py", TOP / f"lab/ends/{name}.py", *words],
-                              capture_output=True, text=True, check=False)
+        said = judged(TOP / f"lab/ends/{name}.py", *words)
         first = said.stdout.partition("\n")[0]
         well = said.returncode == status and text in (said.stderr if status == 2 else first)
         # (a run is as long as its first line says, and the page gets its address)
@@ -66,22 +72,17 @@ def main():
             well = (well and first.startswith(f"BROKEN after {len(events)} events")
                     and "page/index.html#job=" in said.stdout
                     and "page/index.html#run=" in said.stdout)
-        failed += not well
-        print("same  " if well else "OTHER ", name, *words, "" if well else first + said.stderr)
+        cases.holds(" ".join([name, *words]), well, first + said.stderr)
     for end, method, status, text in SPOILED:
         with tempfile.TemporaryDirectory() as folder:
             ends = Path(folder, "ends.py")
             ends.write_text(f"import sys; sys.path.insert(0, {str(TOP / 'lab/ends')!r})\n"
                             f"import right; from right import Sender, Receiver\n"
                             f"class {end}(right.{end}):\n    {method}\n")
-            said = subprocess.run([TOP / "lab/check_ends.py", ends],
-                                  capture_output=True, text=True, check=False)
+            said = judged(ends)
         first = (said.stdout + said.stderr).partition("\n")[0]
-        well = said.returncode == status and text in first
-        failed += not well
-        print("same  " if well else "OTHER ", method, "" if well else said.stdout + said.stderr)
-    print(f"{len(CASES) + len(SPOILED) - failed} passed, {failed} failed")
-    return failed > 0
+        cases.holds(method, said.returncode == status and text in first, said.stdout + said.stderr)
+    return cases.sum_up()
 
 
 sys.exit(main())

@@ -1,4 +1,4 @@
-#!/usr/bin/env python3
+#!/usr/bin/env -S python3 -B
 """Gives drawn logs to `rignolda judge`, and compares what it says with a plain judge.
 
     tests/check_logs.py [COUNT [SEED]]     2,000 logs by default, the same each time
@@ -19,14 +19,11 @@ import sys
 from concurrent.futures import ThreadPoolExecutor
 from pathlib import Path
 
-# (nothing is to be left beside the sources)
-sys.dont_write_bytecode = True
-
 TOP = Path(__file__).resolve().parent.parent
 sys.path[:0] = [str(TOP / "tests/faults"), str(TOP / "tools")]
 
 from logs import sums, text_of
-from programs import run_with
+from programs import counted, run_with
 
 TREE = [{"name": "r"}, {"name": "a", "parent": "r"}]
 JOB = {"capacity": 1, "labels": 4, "tree": TREE, "items": [10, 11]}
@@ -132,15 +129,10 @@ def tried(file):
     wanted += [(1, "", text) for _, text in REFUSED]
     with ThreadPoolExecutor(2) as pool:
         said = list(pool.map(lambda case: run(file, case[0]), cases))
-    failed = 0
-    for (job, _), has, want in zip(cases, said, wanted):
-        if has != want:
-            failed += 1
-            print(f"OTHER  {json.dumps(job)}\n       {has}\n       wanted {want}")
     broken = sum(text != "obeys\n" for _, text in cases[:count])
     print(f"logs: {count} drawn, of which {broken} do not obey, and {len(REFUSED)} refused")
-    print(f"{len(cases) - failed} passed, {failed} failed")
-    return 1 if failed else 0
+    return counted(((json.dumps(job), None if has == want else f"{has}\nwanted {want}")
+                    for (job, _), has, want in zip(cases, said, wanted)), quiet=True)
 
 
 if __name__ == "__main__":

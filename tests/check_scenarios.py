@@ -1,4 +1,4 @@
-#!/usr/bin/env python3
+#!/usr/bin/env -S python3 -B
 """Gives random scenarios to `rignolda`, and compares what it prints with independent programs.
 
     tests/check_scenarios.py [COUNT [SEED]]     200 scenarios by default, the same each time
@@ -20,14 +20,11 @@ import xml.etree.ElementTree
 from concurrent.futures import ThreadPoolExecutor
 from pathlib import Path
 
-# (nothing is to be left beside the sources)
-sys.dont_write_bytecode = True
-
 TOP = Path(__file__).resolve().parent.parent
 sys.path[:0] = [str(TOP / "tests/faults"), str(TOP / "tools")]
 
 from drawn import drawn_text
-from programs import run_with
+from programs import counted, run_with
 from scenario import random_job, text_of
 
 VALUES = [None, True, -1, 0, 1, 70000, 0.5, "", "x", "offer", "publish", "lose_frame", [], [0],
@@ -131,12 +128,8 @@ def main(file):
     first = int(sys.argv[2]) if len(sys.argv) > 2 else 49000
     with ThreadPoolExecutor(4) as pool:
         faults = list(pool.map(lambda seed: fault_of(file, seed), range(first, first + count)))
-    for seed, fault in enumerate(faults, first):
-        if fault:
-            print(f"OTHER  scenario {seed}\n       {fault[:2000]}")
-    failed = sum(fault is not None for fault in faults)
-    print(f"{count - failed} passed, {failed} failed")
-    return 0 if failed == 0 else 1
+    return counted(((f"scenario {seed}", fault and fault[:2000])
+                    for seed, fault in enumerate(faults, first)), quiet=True)
 
 
 sys.exit(run_with(main, "rignolda"))

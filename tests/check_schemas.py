@@ -1,4 +1,4 @@
-#!/usr/bin/env python3
+#!/usr/bin/env -S python3 -B
 """Checks the examples against the schemas of docs/schema.
 
 Each accepted job has to be accepted by its schema. A job that is refused for something that a
@@ -14,6 +14,9 @@ import pathlib
 import sys
 
 ROOT = pathlib.Path(__file__).resolve().parent.parent
+sys.path.insert(0, str(ROOT / "tools"))
+from programs import counted  # noqa: E402
+
 DATA = ROOT / "crates" / "gate_checks" / "data"
 
 # the faults that a schema finds as well, wherever they are found
@@ -70,39 +73,39 @@ def kind_of(job):
     return "link_job" if job.parent.name in ("data", "links", "refused") else "job"
 
 
-def main():
-    """Compares the answer of a schema with what is expected, job by job."""
-    try:
-        from jsonschema import Draft7Validator
-    except ImportError:
-        print("schemas: there is no Python package jsonschema: apt-get install python3-jsonschema")
-        print("0 passed, 1 failed")
-        return 1
+def cases():
+    """Compares the answer of a schema with what is expected, job by job: each with what is wrong, or
+    None."""
+    from jsonschema import Draft7Validator
     schemas = {}
     for kind in ("link_job", "job"):
         schema = json.loads((ROOT / "docs" / "schema" / f"{kind}.json").read_text())
         Draft7Validator.check_schema(schema)
         schemas[kind] = Draft7Validator(schema)
-    counts = {True: 0, False: 0}
-    wrong = 0
+    looked_at = set()
     for job in sorted(DATA.rglob("*.json")):
         fault, value = fault_of(job), read(job)
         if value is None or (fault is not None and fault not in FOUND) or job.stem in NOT_FOUND:
             continue
         is_valid = schemas[kind_of(job)].is_valid(value)
-        counts[is_valid] += 1
-        if is_valid != (fault is None):
-            print(f"schemas: {job.relative_to(DATA)}: {fault or 'accepted'}, the schema differs")
-            wrong += 1
+        looked_at.add(is_valid)
+        yield job.relative_to(DATA), None if is_valid == (fault is None) else (
+            f"{fault or 'accepted'}, the schema differs")
+    yield "jobs of both kinds", None if len(looked_at) == 2 else f"all are {looked_at}"
     for is_good, some in ((True, GOOD), (False, BAD)):
         for members in some:
-            if schemas["job"].is_valid({**TREE, **members}) != is_good:
-                print(f"schemas: {members}: it has to be {'accepted' if is_good else 'refused'}")
-                wrong += 1
-    total = sum(counts.values()) + len(GOOD) + len(BAD)
-    wrong += not counts[True] or not counts[False]
-    print(f"{total - wrong} passed, {wrong} failed")
-    return 1 if wrong else 0
+            is_right = schemas["job"].is_valid({**TREE, **members}) == is_good
+            yield members, None if is_right else (
+                f"it has to be {'accepted' if is_good else 'refused'}")
+
+
+def main():
+    try:
+        return counted(cases(), quiet=True)
+    except ImportError:
+        print("schemas: there is no Python package jsonschema: apt-get install python3-jsonschema")
+        print("0 passed, 1 failed")
+        return 1
 
 
 if __name__ == "__main__":

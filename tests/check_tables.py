@@ -1,4 +1,4 @@
-#!/usr/bin/env python3
+#!/usr/bin/env -S python3 -B
 """Runs the programs rignolda and stab on many command lines, and compares what they print.
 
 The files of tests/tables that are named below have a table of rows each: a command line with what
@@ -16,11 +16,9 @@ import tempfile
 from concurrent.futures import ThreadPoolExecutor
 from pathlib import Path
 
-# (nothing is to be left beside the sources)
-sys.dont_write_bytecode = True
 sys.path.insert(0, str(Path(__file__).resolve().parent.parent / "tools"))
 
-from programs import run_with
+from programs import counted, run_with
 from tables import rignolda_bounds, rignolda_check, rignolda_draw, rignolda_explain
 from tables import rignolda_files, rignolda_jobs, rignolda_lines, rignolda_moment
 from tables import rignolda_scenario
@@ -101,15 +99,10 @@ def main(*files):
     """Tries all rows with these programs."""
     files = dict(zip(PROGRAMS, files))
     runs = [(table.PROGRAM, row) for table in TABLES for row in table.ROWS]
-    passed = failed = 0
     with ThreadPoolExecutor(THREADS) as threads:
         faults = threads.map(lambda of: tried(of[0], files[of[0]], of[1]), runs)
-        for (called, row), fault in zip(runs, faults):
-            passed, failed = passed + (fault is None), failed + (fault is not None)
-            if fault:
-                print(f"OTHER  {called}: {row.name}\n       {fault}")
-    print(f"{passed} passed, {failed} failed")
-    return 0 if failed == 0 else 1
+        names = (f"{called}: {row.name}" for called, row in runs)
+        return counted(zip(names, faults), quiet=True)
 
 
 if sys.argv[1:]:

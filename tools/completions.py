@@ -1,4 +1,4 @@
-#!/usr/bin/env python3
+#!/usr/bin/env -S python3 -B
 """Writes the completions of stab and rignolda for bash, zsh and fish, or compares them.
 
     tools/completions.py           writes the files of completions/
@@ -16,9 +16,7 @@ import re
 import subprocess
 import sys
 
-# (nothing is to be left beside the sources)
-sys.dont_write_bytecode = True
-from programs import run_with
+from programs import Cases, run_with
 
 ROOT = pathlib.Path(__file__).resolve().parent.parent
 HOME = ROOT / "completions"
@@ -255,13 +253,11 @@ def write(program):
 
 
 def check(program):
-    """Compares the files, and tries them. It prints each case, and the last line."""
-    passed = failed = 0
-    for name, holds in cases(program):
-        passed, failed = passed + holds, failed + (not holds)
-        print("%s %s" % ("same  " if holds else "OTHER ", name))
-    print("%d passed, %d failed" % (passed, failed))
-    return 1 if failed else 0
+    """Compares the files, and tries them."""
+    found = Cases()
+    for case in cases(program):
+        found.holds(*case)
+    return found.sum_up()
 
 
 if __name__ == "__main__":

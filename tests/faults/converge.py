@@ -1,4 +1,4 @@
-#!/usr/bin/env python3
+#!/usr/bin/env -S python3 -B
 """converge.py: a search for a node that does not come back once faults on its path end.
 
     tests/faults/converge.py [N]     N random trees (10,000 by default)

@@ -1,4 +1,4 @@
-#!/usr/bin/env python3
+#!/usr/bin/env -S python3 -B
 """costs.py: a search for a fault that costs more than `rignolda bounds` says.
 
     tests/faults/costs.py [N]     N random trees (10,000 by default)
@@ -10,16 +10,14 @@ acts made, in any order. Of each node that the fault hits, the strays and the mi
 counted, and may be no more than is said. It uses reference.py alone, and nothing of it is made from
 the crates. What it prints last is how often each bound was reached."""
 import random, sys
-from reference import ACTS, random_tree, strike_at_random
+from reference import ACTS, random_tree, reading_round, strike_at_random
 
 def to_rest(tree, children):
     """Publishes items, and makes reading rounds until all is handed on."""
     tree.published += range(1000, 1002 + sum(2 * tree.links[n].capacity + 2 for n in children))
     for _ in range(len(tree.published) + 9 * len(children)):
         for n in children:
-            c = tree.links[n].capacity
-            for act in (['offer'] + ['recv_frame'] * c + ['send_frame', 'recv_frame']
-                        + ['recv_ack'] * c + ['send_ack', 'recv_ack']):
+            for act in reading_round(tree.links[n].capacity):
                 tree.act(n, act)
     assert all(not tree.backlog(n) and not tree.links[n].frames for n in children)
 

@@ -1,13 +1,9 @@
-#!/usr/bin/env python3
 """drawn.py: the run of a scenario as `rignolda draw` has to draw it, in plain Python, from
-docs/USING.md and the rules of scenario.py beside it.
-
-    tests/faults/drawn.py FILE             prints the lines of the run of a scenario
+docs/USING.md and the rules of scenario.py beside it, for tests/check_scenarios.py.
 
 It is an independent program: nothing of it is made from the crates."""
-import json, sys
+import json
 
-sys.dont_write_bytecode = True
 from scenario import ROUND, Scenario, reading_round
 
 HEAD = ["step", "link", "event", "effect", "label", "holds", "acked", "frames", "acks", "remembers",
@@ -127,8 +123,3 @@ def items(numbers):
 
 def drawn_text(job):
     return "".join(line + "\n" for line in Drawn(job).out)
-
-
-if __name__ == "__main__":
-    with open(sys.argv[1]) as file:
-        sys.stdout.write(drawn_text(json.load(file)))

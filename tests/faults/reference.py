@@ -1,4 +1,4 @@
-#!/usr/bin/env python3
+#!/usr/bin/env -S python3 -B
 """reference.py: a tree of links with faults in plain Python, from the rules in docs/PROTOCOL.md,
 and a search over random trees for a node that breaks the law counted from its last fault.
 
@@ -114,8 +114,13 @@ class Count:
                 return strays - cut, missing - len(gone)
         raise AssertionError((node, strays, missing, published, got))
 
-ACTS = ['offer', 'send_frame', 'recv_frame', 'send_ack', 'recv_ack'] * 4 + [
-    'recv_frame_keep', 'recv_ack_keep', 'lose_frame', 'lose_ack']
+ROUND = ['offer', 'send_frame', 'recv_frame', 'send_ack', 'recv_ack']
+ACTS = ROUND * 4 + ['recv_frame_keep', 'recv_ack_keep', 'lose_frame', 'lose_ack']
+
+def reading_round(capacity):
+    """Each end takes all that can be queued before it sends."""
+    return (['offer'] + ['recv_frame'] * capacity + ['send_frame', 'recv_frame']
+            + ['recv_ack'] * capacity + ['send_ack', 'recv_ack'])
 
 def random_tree(rng):
     parents, links = [None], [None]

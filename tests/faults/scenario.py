@@ -1,27 +1,11 @@
-#!/usr/bin/env python3
 """scenario.py: what `rignolda scenario` has to print, in plain Python, from docs/FORMATS.md and
-from the rules of reference.py beside it.
-
-    tests/faults/scenario.py FILE             prints the lines of a scenario
-    tests/faults/scenario.py --search N N random scenarios, each also given to the program that
-                                              RIGNOLDA in the environment names; any difference ends
-                                              it with status 1
+from the rules of reference.py beside it, and random scenarios, for tests/check_scenarios.py.
 
 It is an independent program: nothing of it is made from the crates. It takes scenarios that are
 well formed; what is refused is in the tables of tests/check_tables.py."""
-import concurrent.futures, json, os, random, subprocess, sys
-
-sys.dont_write_bytecode = True
-from reference import Link, Tree
+from reference import ACTS, ROUND, Link, Tree, reading_round
 
 UNUSED = 65535
-ROUND = ["offer", "send_frame", "recv_frame", "send_ack", "recv_ack"]
-
-
-def reading_round(capacity):
-    """Each end takes all that can be queued before it sends."""
-    return (["offer"] + ["recv_frame"] * capacity + ["send_frame", "recv_frame"]
-            + ["recv_ack"] * capacity + ["send_ack", "recv_ack"])
 
 
 class Closing(Link):
@@ -129,9 +113,6 @@ def text_of(job):
 
 # ---- random scenarios
 
-ACTS = ROUND * 4 + ["recv_frame_keep", "recv_ack_keep", "lose_frame", "lose_ack"]
-
-
 def random_start(rng, capacity, labels):
     def some(make):
         return [make() for _ in range(rng.randint(0, capacity))]
@@ -199,30 +180,3 @@ def random_job(rng):
     steps = rng.randint(0, 60)
     job["steps"] = [random_step(rng, names, links, root) for _ in range(steps)]
     return job
-
-
-def differs(seed):
-    """What the program prints of a random scenario, where it is not what is printed here."""
-    job = random_job(random.Random(seed))
-    done = subprocess.run([os.environ["RIGNOLDA"], "scenario"], input=json.dumps(job).encode(),
-                          capture_output=True)
-    seen = done.returncode, done.stdout.decode(), done.stderr.decode()
-    return None if seen == (0, text_of(job), "") else (seed, job, seen, text_of(job))
-
-
-def search(count):
-    with concurrent.futures.ThreadPoolExecutor(4) as pool:
-        for found in pool.map(differs, range(count)):
-            if found:
-                seed, job, seen, wanted = found
-                print(f"scenario {seed}: {json.dumps(job)}\nprinted {seen}\nwanted {wanted}")
-                return 1
-    print(f"{count} scenarios, no difference")
-    return 0
-
-
-if __name__ == "__main__":
-    if sys.argv[1] == "--search":
-        sys.exit(search(int(sys.argv[2])))
-    with open(sys.argv[1]) as file:
-        sys.stdout.write(text_of(json.load(file)))

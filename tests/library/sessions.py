@@ -1,4 +1,4 @@
-#!/usr/bin/env python3
+#!/usr/bin/env -S python3 -B
 """Searches everything that the two ends of a link and the connections between them can do.
 
     sessions.py             the rules as they are, and each wrong one: some seconds
@@ -12,6 +12,10 @@ last line is 'N passed, M failed'.
 """
 import sys
 from collections import deque
+from pathlib import Path
+
+sys.path.insert(0, str(Path(__file__).resolve().parents[2] / "tools"))
+from programs import Cases  # noqa: E402
 
 LABELS = 4
 NONE_OF_THEM = 9
@@ -219,26 +223,15 @@ def search(rule, items, most):
 
 def main():
     items, most = (int(word) for word in sys.argv[1:]) if sys.argv[1:] else (5, 2)
-    passed = failed = 0
-    try:
-        states, strays, lost = search("", items, most)
-        print(f"same   the rules hold in all {states} states: at most {strays} stray, and "
-              f"{lost} missing")
-        passed += (strays, lost) == (1, 2)
-        failed += (strays, lost) != (1, 2)
-    except Broken as broken:
-        print(f"OTHER  the rules: {broken}")
-        failed += 1
-    for name, rule in WRONG.items():
+    cases = Cases()
+    for name, rule in ("the rules", ""), *WRONG.items():
         try:
-            states = search(rule, items, most)[0]
-            print(f"OTHER  {name}: nothing is broken in {states} states")
-            failed += 1
+            states, strays, lost = search(rule, items, most)
+            said = f"hold in all {states} states: at most {strays} stray, and {lost} missing"
+            cases.holds(f"{name}: they {said}", not rule and (strays, lost) == (1, 2))
         except Broken as broken:
-            print(f"same   {name}: {broken}")
-            passed += 1
-    print(f"{passed} passed, {failed} failed")
-    return failed > 0
+            cases.holds(f"{name}: {broken}", rule)
+    return cases.sum_up()
 
 
 if __name__ == "__main__":
