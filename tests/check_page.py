@@ -38,13 +38,13 @@ and with --pictures it keeps pictures, light and dark, wide and narrow. The last
 """
 import argparse
 import base64
+import contextlib
 import functools
 import json
 import os
 import pathlib
 import random
 import re
-import shutil
 import socket
 import subprocess
 import sys
@@ -53,7 +53,8 @@ import time
 
 TOP = pathlib.Path(__file__).resolve().parent.parent
 sys.path.insert(0, str(TOP / "tools"))
-from programs import built  # noqa: E402
+from links import drawn_link  # noqa: E402
+from programs import Cases, built  # noqa: E402
 
 PAGE = TOP / "page" / "index.html"
 DATA = TOP / "crates" / "gate_checks" / "data"
@@ -241,32 +242,6 @@ def program(job, *words):
     return done.stdout.decode() if done.returncode == 0 else None
 
 
-def drawn_job(draw):
-    """A drawn job: any start that fits, and events that mostly do something."""
-    capacity = draw.choice([1, 1, 1, 2, 2, 3, 4, 8, 64])
-    labels = draw.choice([2 * capacity + 2, 2 * capacity + 3, draw.randint(2 * capacity + 2, 1000)])
-    label = lambda: draw.choice([draw.randrange(labels), draw.randrange(labels),
-        draw.randrange(65536)])
-    item = lambda: draw.choice([draw.randrange(100), draw.randrange(1 << 32)])
-    start = {"frames": [[label(), item()] for _ in range(draw.randint(0, capacity))],
-             "acks": [label() for _ in range(draw.randint(0, capacity))],
-             "send": label(), "recv": label()}
-    words = ["send_frame", "recv_frame", "send_ack", "recv_ack"] * 4
-    words += ["recv_frame_keep", "recv_ack_keep", "lose_frame", "lose_ack", "offer", "offer",
-        "offer"]
-    events = []
-    for _ in range(draw.choice([0, 10, 50, 200, 200, 400])):
-        word = draw.choice(words)
-        if word == "offer":
-            word = [word, item()]
-        elif word.startswith("lose"):
-            word = [word, draw.choice([0, 1, draw.randrange(capacity + 1), 65535])]
-        events.append(word)
-    if draw.random() < 0.1:
-        events.insert(draw.randint(0, len(events)), "close")
-    return json.dumps({"capacity": capacity, "labels": labels, "start": start, "events": events})
-
-
 def long_job():
     """As many events as the page takes, so that the lists are as long as they get."""
     events = []
@@ -294,8 +269,7 @@ def drawn_tree(draw):
     children = [name for name in order if name in above]
     capacity = draw.choice([1, 1, 1, 2, 3, 8])
     job = {"capacity": capacity, "labels": draw.choice([2 * capacity + 2, 2 * capacity + 3, 1000]),
-        "tree": tree,
-           "items": [PUBLISHED + i for i in range(draw.choice([0, 3, 10, 30, 256]))]}
+           "tree": tree, "items": [PUBLISHED + i for i in range(draw.choice([0, 3, 10, 30, 256]))]}
     params = {name: (job["capacity"], job["labels"]) for name in children}
     if draw.random() < 0.5:
         for name in children:
@@ -338,8 +312,8 @@ def fits_page(job):
     job = json.loads(job)
     wide = [job["capacity"]] + [own["capacity"] for own in job.get("links", []) if own]
     held = job.get("version") == 2 and any(len(own) > 8 for own in job.get("openings", []))
-    return len(job["tree"]) <= 8 and len(job.get("schedule",
-        [])) <= 256 and len(job["items"]) <= 256 and max(wide) <= 8 and not held
+    return (len(job["tree"]) <= 8 and len(job.get("schedule", [])) <= 256
+            and len(job["items"]) <= 256 and max(wide) <= 8 and not held)
 
 
 def standing(job, text):
@@ -375,8 +349,9 @@ def tells_apart(job):
     job = json.loads(job)
     strays = {item for start in job.get("starts", []) for _, item in start.get("frames", [])}
     opened = {item for own in job.get("openings", []) for item in own}
-    return len(set(job["items"])) == len(job["items"]) and not (strays | opened) & set(
-        job["items"]) and not strays & opened
+    published = set(job["items"])
+    return (len(published) == len(job["items"]) and not (strays | opened) & published
+            and not strays & opened)
 
 
 def offered(item):
@@ -393,16 +368,10 @@ WORST = [offered(10), "recv_ack", "send_ack", offered(11), "recv_ack", "recv_fra
          offered(12), "recv_ack"]
 
 # for each exercise events that solve it; without the last of them it is not solved
-SOLVED = [
-    one_round(7) + one_round(8),
-    [offered(7), "send_frame", ["lose_frame", 0], "send_frame", "recv_frame", "send_ack",
-        "recv_ack"],
-    ["recv_frame"],
-    WORST,
-    [offered(10), "recv_ack", "send_ack", "recv_frame", *LATE, offered(14), "send_frame",
-     ["lose_frame", 0], "recv_ack"],
-    WORST + one_round(13),
-]
+SOLVED = [one_round(7) + one_round(8), [offered(7), "send_frame", ["lose_frame", 0], "send_frame",
+                                        "recv_frame", "send_ack", "recv_ack"], ["recv_frame"],
+          WORST, [offered(10), "recv_ack", "send_ack", "recv_frame", *LATE, offered(14),
+                  "send_frame", ["lose_frame", 0], "recv_ack"], WORST + one_round(13),]
 
 # events that only seem to solve an exercise, by its number, or after which it cannot be solved, and
 # how what the page says of them begins
@@ -428,48 +397,42 @@ WORST_ON = ["offer", "recv_ack", "send_ack", "offer", "recv_ack", "recv_frame", 
     "recv_ack"]
 ROUND = ["offer", "send_frame", "recv_frame", "send_ack", "recv_ack"]
 A, B = 1, 2
-SOLVED_TREES = [
-    [[A, word] for word in ROUND] + [[B, word] for word in ROUND[:3]],
-    [[A, "recv_frame"], [B, "recv_frame"]] + [[B, word] for word in ROUND[:3]],
-    [[A, word] for word in WORST_ON + ROUND * 3] + [[B, word] for word in WORST_ON + ROUND[:3]],
-    [[B, "recv_ack"], [B, "recv_frame"], *([B, word] for word in ROUND * 2), [A, "recv_ack"],
-     [A, "recv_frame"], *([B, word] for word in ROUND[:3])],
-]
+SOLVED_TREES = [[[A, word] for word in ROUND] + [[B, word] for word in ROUND[:3]],
+                [[A, "recv_frame"], [B, "recv_frame"]] + [[B, word] for word in ROUND[:3]],
+                [[A, word] for word in WORST_ON + ROUND * 3]
+                + [[B, word] for word in WORST_ON + ROUND[:3]], [[B, "recv_ack"], [B, "recv_frame"],
+                    *([B, word] for word in ROUND * 2), [A, "recv_ack"], [A, "recv_frame"],
+                    *([B, word] for word in ROUND[:3])],]
 
 # Of each step of the proof, worked out by hand: how many events have happened, the labels that are
 # nowhere then, how many items are missing, and what is marked.
-PROOF = [
-    (0, [3], 0, "frames"), (0, [3], 0, "acks"), (0, [3], 0, "recv"), (0, [3], 0, "send"),
-    (0, [3], 0, "free"), (0, [3], 0, "labels"),
-    (1, [3], 0, "send acks"), (2, [0, 3], 1, "send"), (3, [0, 3], 1, "recv acks"),
-        (5, [0, 3], 2, "send"),
-    (6, [0, 1, 3], 2, "recv"), (9, [0, 1, 3], 3, "send free"),
-        (9, [0, 1, 3], 3, "frames recv acks"),
-    (10, [0, 1, 3], 3, "send next"),
-    (1, [3], 0, "acks"), (2, [0, 3], 0, "acks"), (5, [1, 2, 3], 0, "frames recv"),
-        (7, [1, 2, 3], 0, "send"),
-    (10, [0, 1, 3], 3, "frames recv acks"), (11, [0, 1], 3, "frames"), (12, [0, 1, 3], 3, "frames"),
-    (14, [0, 1], 3, "recv acks"), (15, [0, 1], 3, "send acks"), (16, [0, 1, 2], 3, "frames recv"),
-    (17, [0, 1, 2], 3, "recv"), (19, [0, 1, 2], 3, "acks"), (20, [0, 1, 2], 3, "frames recv acks"),
-    (21, [0, 1, 2], 3, "send"),
-    (21, [0, 1, 2], 3, "frames recv acks"), (22, [0, 1, 2], 3, "send next"),
-        (24, [1, 2, 3], 3, "frames recv"),
-    (26, [1, 2, 3], 3, "send"), (31, [0, 2, 3], 3, "send next"), (31, [0, 2, 3], 3, ""),
-    (0, [], 0, "labels"), (9, [0, 1], 3, "send"), (10, [0, 1], 3, "send next"),
-        (10, [0, 1], 3, "free"),
-    (14, [1, 2], 3, "send"),
-    (0, [], 0, "labels"), (4, [], 1, "recv"), (7, [], 2, "frames send"), (10, [], 3, "send"),
-    (12, [0], 2, "recv acks"), (14, [0], 3, "send"),
-]
+PROOF = [(0, [3], 0, "frames"), (0, [3], 0, "acks"), (0, [3], 0, "recv"), (0, [3], 0, "send"),
+         (0, [3], 0, "free"), (0, [3], 0, "labels"), (1, [3], 0, "send acks"),
+         (2, [0, 3], 1, "send"), (3, [0, 3], 1, "recv acks"), (5, [0, 3], 2, "send"),
+         (6, [0, 1, 3], 2, "recv"), (9, [0, 1, 3], 3, "send free"),
+         (9, [0, 1, 3], 3, "frames recv acks"), (10, [0, 1, 3], 3, "send next"),
+         (1, [3], 0, "acks"), (2, [0, 3], 0, "acks"), (5, [1, 2, 3], 0, "frames recv"),
+         (7, [1, 2, 3], 0, "send"), (10, [0, 1, 3], 3, "frames recv acks"),
+         (11, [0, 1], 3, "frames"), (12, [0, 1, 3], 3, "frames"), (14, [0, 1], 3, "recv acks"),
+         (15, [0, 1], 3, "send acks"), (16, [0, 1, 2], 3, "frames recv"),
+         (17, [0, 1, 2], 3, "recv"), (19, [0, 1, 2], 3, "acks"),
+         (20, [0, 1, 2], 3, "frames recv acks"), (21, [0, 1, 2], 3, "send"),
+         (21, [0, 1, 2], 3, "frames recv acks"), (22, [0, 1, 2], 3, "send next"),
+         (24, [1, 2, 3], 3, "frames recv"), (26, [1, 2, 3], 3, "send"),
+         (31, [0, 2, 3], 3, "send next"), (31, [0, 2, 3], 3, ""), (0, [], 0, "labels"),
+         (9, [0, 1], 3, "send"), (10, [0, 1], 3, "send next"), (10, [0, 1], 3, "free"),
+         (14, [1, 2], 3, "send"), (0, [], 0, "labels"), (4, [], 1, "recv"),
+         (7, [], 2, "frames send"), (10, [], 3, "send"), (12, [0], 2, "recv acks"),
+         (14, [0], 3, "send"),]
 # how many steps the parts have, and the labels and what is delivered at the end of each
 PROOF_PARTS = [(6, 4, []), (8, 4, [99]), (4, 4, [99, 10]), (10, 4, [99, 13]),
-    (6, 4, [99, 13, 14, 15]),
-    (5, 3, [99, 13]), (6, 2, [99, 11])]
+               (6, 4, [99, 13, 14, 15]), (5, 3, [99, 13]), (6, 2, [99, 11])]
 
 # What is announced now: the texts of the live regions, and which of them are others than before.
-LIVE = """return [...document.querySelectorAll('[role=status], [role=alert], [aria-live]')].map(e => [
-    e.id || e.parentElement.id, e.checkVisibility() && e.getAttribute('aria-live') !== 'off' ?
-        e.textContent : '']);"""
+LIVE = """return [
+    ...document.querySelectorAll('[role=status], [role=alert], [aria-live]')].map(e => [
+    e.id || e.parentElement.id,
+    e.checkVisibility() && e.getAttribute('aria-live') !== 'off' ? e.textContent : '']);"""
 
 
 def announced(before, now):
@@ -512,127 +475,136 @@ TEXTS = """return args[0].map(text => {
 });"""
 
 
-class Checks:
-    def __init__(self):
-        self.passed = self.failed = 0
+class Checks(Cases):
+    """What is seen in one browser after the other."""
 
-    def see(self, name, holds, more=""):
-        self.passed += bool(holds)
-        self.failed += not holds
-        if not holds:
-            print(f"FAILED: {name} {more}")
+    def see(self, name, is_well, more=None):
+        """Counts a case. If it does not hold, the page's last answer is said, or what is given."""
+        more = self.said if more is None else more
+        self.holds(f"{self.name}: {name}", is_well, more, quiet=True)
 
-    def texts(self, browser, name, jobs, wanted):
+    def same(self, name, wanted, script, *args):
+        """Whether a function of the page gives this."""
+        self.see(name, self.run(script, *args) == wanted)
+
+    def run(self, script, *args):
+        """The answer of a function of the page with this body and arguments."""
+        self.said = self.browser.run(script, *args)
+        return self.said
+
+    def go(self, address=None):
+        """Opens an address, or the page, and waits until it is ready."""
+        self.browser.go(address or PAGE.as_uri())
+        end = time.time() + SECONDS
+        while not self.run("return document.documentElement?.dataset.ready ?? ''"):
+            if time.time() > end:
+                raise RuntimeError("the page is not ready: "
+                    + self.run("return document.body.innerText.slice(0, 300)"))
+            time.sleep(0.05)
+
+    def ready(self):
+        times = []
+        for _ in range(5):
+            self.go()
+            times.append(int(self.run("return document.documentElement.dataset.ready")))
+        print(f"{self.name}: ready after {min(times)} ms ({times})")
+        self.see("ready in time", min(times) < MOST_MILLISECONDS, times)
+
+    def answers(self, script, jobs):
+        """What the page says of each job, with its name, its text and what the program says."""
         for first in range(0, len(jobs), 100):
             part = jobs[first:first + 100]
-            said = browser.run(TEXTS, [text for _, text in part])
-            for (job, _), text, want in zip(part, said, wanted[first:first + 100]):
-                self.see(f"{name}: {job}", text == want, f"\n{text}\nand not\n{want}")
+            yield from ((*job, answer) for job, answer in zip(
+                part, self.run(script, [text for _, text, _ in part]), strict=True))
 
-    def trees(self, browser, name, jobs, wanted):
-        for first in range(0, len(jobs), 100):
-            part = jobs[first:first + 100]
-            said = browser.run(TREES, [text for _, text in part])
-            for (job, data), answer, want in zip(part, said, wanted[first:first + 100]):
-                if want is None:
-                    self.see(f"{name}: {job} is refused", answer[0] in (None, "too large"), answer)
-                elif not fits_page(data):
-                    self.see(f"{name}: {job} does not fit", answer[0] == "too large", answer)
-                else:
-                    self.see(f"{name}: {job}", answer[0] == want, f"\n{answer[0]}\nand not\n{want}")
-                    if answer[0] != want:
-                        continue
-                    counts = standing(data, want)
-                    self.see(f"{name}: bounds of {job}",
-                        [row[1::2] for row in answer[1]] == [row[1::2]
-                        for row in counts], answer)
-                    self.see(f"{name}: within bounds of {job}",
-                        all(a <= b and c <= d and e <= f
-                            for a, b, c, d, e, f in answer[1]), answer)
-                    if tells_apart(data):
-                        self.see(f"{name}: counts of {job}", answer[1] == counts,
-                            f"{answer[1]} and not {counts}")
+    def texts(self):
+        for job, _, want, text in self.answers(TEXTS, self.jobs):
+            self.see(job, text == want, f"{text}\nand not\n{want}")
 
-    def tree_exercises(self, browser, name):
+    def trees(self):
+        for job, data, want, answer in self.answers(TREES, self.tree_jobs):
+            if want is None:
+                self.see(f"{job} is refused", answer[0] in (None, "too large"), answer)
+            elif not fits_page(data):
+                self.see(f"{job} does not fit", answer[0] == "too large", answer)
+            elif answer[0] != want:
+                self.see(job, False, f"{answer[0]}\nand not\n{want}")
+            else:
+                counts = standing(data, want)
+                self.see(f"bounds of {job}", [row[1::2] for row in answer[1]]
+                         == [row[1::2] for row in counts], answer)
+                self.see(f"within bounds of {job}", all(
+                    a <= b and c <= d and e <= f for a, b, c, d, e, f in answer[1]), answer)
+                if tells_apart(data):
+                    self.see(f"counts of {job}", answer[1] == counts,
+                             f"{answer[1]} and not {counts}")
+
+    def tree_exercises(self):
         body = "return checkTree(args[0], { ...TREE_TASKS[args[0]].job, events: args[1] });"
         for i, events in enumerate(SOLVED_TREES):
-            self.see(f"{name}: tree exercise {i + 1} is solved", browser.run(body, i, events) == "",
-                browser.run(body, i, events))
-            self.see(f"{name}: tree exercise {i + 1} fails",
-                browser.run(body, i, events[:-1]) != "")
-            self.see(f"{name}: tree exercise {i + 1} from another start",
-                     browser.run("return checkTree(args[0], TREES['A clean tree']);", i) != "")
+            self.same(f"tree exercise {i + 1} is solved", "", body, i, events)
+            self.see(f"tree exercise {i + 1} fails", self.run(body, i, events[:-1]) != "")
+            self.see(f"tree exercise {i + 1} from another start",
+                     self.run("return checkTree(args[0], TREES['A clean tree']);", i) != "")
 
-    def tree_hands(self, browser, name):
+    def tree_hands(self):
         """Buttons, slider, keys and the address of the tree."""
         state = """return [isTreeSeen, treeAt, tree.events.length, tree.names[child],
             [...$('t-nodes').rows].map(row => [...row.cells]
                 .slice(2, 4).map(cell => cell.textContent).join('; '))];"""
-        browser.run("$('see-tree').click(); $('t-runs').value = 'Two links under one schedule'; "
+        self.run("$('see-tree').click(); $('t-runs').value = 'Two links under one schedule'; "
             "$('t-load').click(); $('t-last').click();")
-        said = browser.run(state)
-        self.see(f"{name}: the tree at its end",
-            said[0] and said[1] == said[2] == 48 and said[3] == "b",
-            said)
-        self.see(f"{name}: counts at the nodes", said[4] == ["0 of at most 0; 0 of at most 0",
-            "1 of at most 1; 3 of at most 3",
-                                                             "1 of at most 2; "
-                                                             "5 of at most 6 (sharper: 5)"], said)
-        browser.run("$('t-at').value = 6; $('t-at').dispatchEvent(new Event('input'));")
-        said = browser.run("return [treeAt, $('t-happened').textContent, tree.names[child]];")
-        self.see(f"{name}: the slider of the tree",
-            said[0] == 6 and "99 is delivered: a stray" in said[1]
-            and said[2] == "a", said)
-        browser.run("document.body.dispatchEvent(new KeyboardEvent('keydown', {key: 'ArrowLeft', "
+        said = self.run(state)
+        self.see("the tree at its end", said[0] and said[1] == said[2] == 48 and said[3] == "b")
+        self.see("counts at the nodes", said[4] == ["0 of at most 0; 0 of at most 0",
+                                                    "1 of at most 1; 3 of at most 3",
+                                                    "1 of at most 2; 5 of at most 6 (sharper: 5)"])
+        self.run("$('t-at').value = 6; $('t-at').dispatchEvent(new Event('input'));")
+        said = self.run("return [treeAt, $('t-happened').textContent, tree.names[child]];")
+        self.see("the slider of the tree",
+                 said[0] == 6 and "99 is delivered: a stray" in said[1] and said[2] == "a")
+        self.run("document.body.dispatchEvent(new KeyboardEvent('keydown', {key: 'ArrowLeft', "
             "bubbles: true}));")
-        self.see(f"{name}: the left key in the tree", browser.run(state)[1] == 5)
-        browser.run("document.querySelector('[data-act=recv_frame]').click();")
-        self.see(f"{name}: an event replaces the rest of the schedule",
-            browser.run(state)[1:3] == [6, 6])
-        self.see(f"{name}: the saved schedule",
-            json.loads(browser.run("return treeJobText(tree)"))["schedule"][5] == ["a",
-                "recv_frame"])
-        browser.run("showTree(TREES['A clean chain, nothing done yet'], 'x'); pick(2);")
+        self.see("the left key in the tree", self.run(state)[1] == 5)
+        self.run("document.querySelector('[data-act=recv_frame]').click();")
+        self.see("an event replaces the rest of the schedule", self.run(state)[1:3] == [6, 6])
+        saved = json.loads(self.run("return treeJobText(tree)"))
+        self.see("the saved schedule", saved["schedule"][5] == ["a", "recv_frame"])
+        self.run("showTree(TREES['A clean chain, nothing done yet'], 'x'); pick(2);")
         dim = ("return [...document.querySelectorAll('[data-act]')].filter(b => !isDim(b)).map(b "
             "=> b.dataset.act);")
-        self.see(f"{name}: nothing to offer yet", browser.run(dim) == ["close", "send_ack"],
-            browser.run(dim))
-        browser.run("pick(1);")
-        self.see(f"{name}: the root offers", browser.run(dim) == ["offer", "close", "send_ack"],
-            browser.run(dim))
-        browser.run("showTree(TREES['A wider second link'], 'x'); goTree(12); share();")
-        address = browser.run("return location.href")
-        browser.go(address)
-        self.wait(browser)
-        said = browser.run("return [isTreeSeen, treeAt, tree.events.length, "
-            "$('fault').textContent];")
-        self.see(f"{name}: a tree in the address", said == [True, 12, 22, ""], said)
+        self.same("nothing to offer yet", ["close", "send_ack"], dim)
+        self.run("pick(1);")
+        self.same("the root offers", ["offer", "close", "send_ack"], dim)
+        self.run("showTree(TREES['A wider second link'], 'x'); goTree(12); share();")
+        address = self.run("return location.href")
+        self.go(address)
+        self.same("a tree in the address", [True, 12, 22, ""],
+                  "return [isTreeSeen, treeAt, tree.events.length, $('fault').textContent];")
         many = json.dumps({"capacity": 1, "labels": 4, "items": [],
             "tree": [{"name": f"n{i}", **({"parent": "n0"} if i else {})} for i in range(9)]})
-        said = browser.run("tryJob(args[0]); return $('fault').textContent", many)
-        self.see(f"{name}: a tree that is too large", "this page takes at most 8 nodes" in said,
-            said)
-        said = browser.run("tryJob(args[0], 'x'); return [isTreeSeen, job.events.length]",
-                           json.dumps({"capacity": 1, "labels": 4, "start": {"send": 0, "recv": 1},
-                               "events": ["send_ack"]}))
-        self.see(f"{name}: a link job shows the link", said == [False, 1], said)
+        said = self.run("tryJob(args[0]); return $('fault').textContent", many)
+        self.see("a tree that is too large", "this page takes at most 8 nodes" in said)
+        self.same("a link job shows the link", [False, 1],
+                  "tryJob(args[0], 'x'); return [isTreeSeen, job.events.length]",
+                  json.dumps({"capacity": 1, "labels": 4, "start": {"send": 0, "recv": 1},
+                              "events": ["send_ack"]}))
 
-    def drawn_rows(self, browser, name):
+    def drawn_rows(self):
         """The rows of the runs that docs/PROTOCOL.md draws, stars included; and rounds."""
         page = (TOP / "docs" / "PROTOCOL.md").read_text()
         blocks = re.findall(r"\(`((?:links/)?\w+)`[^)`]*\)[^`]*```\n( +SENDER.*?)```", page, re.S)
         jobs = [(title, (DATA / f"{title}.json").read_text(), block) for title, block in blocks]
         two = re.search(r"## What goes wrong with two labels.*?```\n( +SENDER.*?)```", page,
-            re.S)[1]
-        jobs.append(("two labels", browser.run(
-            "return jobText(RUNS['The shortest run with two labels'])"),
-            two))
-        self.see(f"{name}: there are drawn runs", len(blocks) >= 8, len(blocks))
+                        re.S)[1]
+        jobs.append(("two labels",
+                     self.run("return jobText(RUNS['The shortest run with two labels'])"), two))
+        self.see("there are drawn runs", len(blocks) >= 8, len(blocks))
         for title, text, block in jobs:
             lines = [line for line in block.split("\n")[1:] if line.strip()]
             heads = [(m.group(), m.start()) for m in re.finditer(r"\S+", lines[0])]
             ends = [at for _, at in heads[1:]] + [None]
-            said = browser.run("show(readJob(args[0], true), 'x', 1e9); drawRows(); "
+            said = self.run("show(readJob(args[0], true), 'x', 1e9); drawRows(); "
                 "return [...$('rows').rows].map(r => [...r.cells].map(c => c.textContent));",
                                text)
             for line in lines[1:]:
@@ -642,34 +614,31 @@ class Checks:
                 number = line[:heads[0][1]].strip()
                 row = said[int(number) if number else 0]
                 names = [key[0] for key in keys]
-                self.see(f"{name}: event {number} of {title}", not number
+                self.see(f"event {number} of {title}", not number
                     or row[1] == cell[keys[0]].rstrip("*"), f"{row[1]} and not {cell[keys[0]]}")
                 # (the offered item may have a star here, where it is a stray of the link above)
-                clean = lambda text: " ".join(w for w in text.split()
-                    if w not in ("v", "^", "x")) or "-"
+                clean = lambda text: " ".join(
+                    word for word in text.split() if word not in ("v", "^", "x")) or "-"
                 wanted = [clean(cell[keys[names.index(head)]]) for head in ("frames", "acks")]
                 wanted.append(cell[keys[len(names) - 1 - names[::-1].index("label")]])
                 if "delivers" in names:
                     wanted.append(cell[keys[names.index("delivers")]])
                 found = row[6:8] + row[8:8 + len(wanted) - 2]
-                self.see(f"{name}: row {number} of {title}", found == wanted,
-                    f"{found} and not {wanted}")
+                self.see(f"row {number} of {title}", found == wanted, f"{found} and not {wanted}")
         for title, wanted in (("links/three_rounds_for_an_item", [6, 13, 20]),
             ("links/two_clean_rounds", [5, 10]), ("worst_start", [])):
-            said = browser.run("show(readJob(args[0]), 'x', 1e9); "
-                "return [tracked.rounds, "
-                "$('rounds').textContent];", (DATA / f"{title}.json").read_text())
-            self.see(f"{name}: rounds of {title}", said == [wanted, f"Rounds: {len(wanted)}"], said)
+            self.same(f"rounds of {title}", [wanted, f"Rounds: {len(wanted)}"],
+                      "show(readJob(args[0]), 'x', 1e9); return [tracked.rounds, "
+                      "$('rounds').textContent];", (DATA / f"{title}.json").read_text())
 
-    def lesson(self, browser, name):
+    def lesson(self):
         """The circle, the exercise beside it, questions, the address, and where the focus is."""
-        said = browser.run("""show(RUNS['The worst start'], 'The worst start');
+        said = self.run("""show(RUNS['The worst start'], 'The worst start');
             return [$('happened').textContent, [...$('labels').children].map(c => c.className),
                     ['frames', 'acks'].map(id => $(id).querySelector('button').className),
                         $('of-recv').className];""")
-        self.see(f"{name}: the start", "Nobody knows from when" in said[0]
-            and said[1:] == [[" next", "", "", "free"], ["msg old ", "msg old lie"],
-                "badge msg old "], said)
+        self.see("the start", "Nobody knows from when" in said[0] and said[1:]
+                 == [[" next", "", "", "free"], ["msg old ", "msg old lie"], "badge msg old "])
         says = ("go(args[0]); "
             "return [$('says').textContent, $('says').className, $('happened').textContent];")
         for at, part, style, told in (
@@ -684,105 +653,94 @@ class Checks:
                     "Its label 2 is not the remembered 1, so 99 is delivered: a stray"),
                 (9, "cannot go missing", "done", "This 2 came with a stray."), (11,
                     "will show that it was delivered", "done", "label 3, item 13")):
-            said = browser.run(says, at)
-            self.see(f"{name}: what is said at {at}", part in said[0] and said[1] == style
-                and told in said[2], said)
+            said = self.run(says, at)
+            self.see(f"what is said at {at}", part in said[0] and said[1] == style
+                and told in said[2])
         # (the shape of this circle is always good, and the first item is missing all the same)
-        said = browser.run("show(RUNS['The receiver remembers the first label'], 'x', 4); "
+        said = self.run("show(RUNS['The receiver remembers the first label'], 'x', 4); "
             "return [$('says').textContent, $('missing').textContent];")
-        self.see(f"{name}: a good shape is not enough", "does not show" in said[0]
-            and said[1].startswith("Missing: 0"), said)
+        self.see("a good shape is not enough", "does not show" in said[0]
+            and said[1].startswith("Missing: 0"))
 
         card = ("return [!$('task').hidden, $('task').querySelector('[role=status]').textContent, "
             "$('task').innerText.includes('Show a solution'), "
             "$('task').innerText.includes('Hint'), $('item').value];")
-        browser.run("$('item').value = 77; $('tasks').children[3].click();")
-        said = browser.run(card)
-        self.see(f"{name}: an exercise begins",
-            said == [True, "So far 0 of 3 items are missing.", False,
-            True, "10"], said)
-        browser.run("[...$('task').querySelectorAll('button')].find(b => b.textContent === "
+        self.run("$('item').value = 77; $('tasks').children[3].click();")
+        self.same("an exercise begins", [True, "So far 0 of 3 items are missing.", False,
+            True, "10"], card)
+        self.run("[...$('task').querySelectorAll('button')].find(b => b.textContent === "
             "'Hint').click();")
-        self.see(f"{name}: a hint",
-            "Three labels are on the circle" in browser.run("return $('task').innerText"))
-        browser.run("for (const event of args[0]) { if (event[0] === 'offer') { $('item').value = "
+        self.see("a hint",
+            "Three labels are on the circle" in self.run("return $('task').innerText"))
+        self.run("for (const event of args[0]) { if (event[0] === 'offer') { $('item').value = "
             "event[1]; event.splice(1); "
             "} document.querySelector(`[data-event=${[].concat(event)[0]}]`).click(); }", WORST)
-        said = browser.run(card)
-        self.see(f"{name}: it is solved by hand", said[:4] == [True, "Done.", True, False], said)
-        browser.run("[...$('task').querySelectorAll('button')].find(b => b.textContent === 'Show "
+        said = self.run(card)
+        self.see("it is solved by hand", said[:4] == [True, "Done.", True, False])
+        self.run("[...$('task').querySelectorAll('button')].find(b => b.textContent === 'Show "
             "a solution').click(); $('last').click();")
-        said = browser.run("return [$('task').querySelector('[role=status]').textContent, "
-            "job.events.length, $('task').hidden]")
-        self.see(f"{name}: the solution solves it", said == ["Done.", 9, False], said)
-        self.see(f"{name}: another run has no exercise",
-            browser.run("$('runs').value = 'A clean start'; $('load').click(); "
+        self.same("the solution solves it", ["Done.", 9, False],
+                  "return [$('task').querySelector('[role=status]').textContent, "
+                  "job.events.length, $('task').hidden]")
+        self.see("another run has no exercise",
+            self.run("$('runs').value = 'A clean start'; $('load').click(); "
                 "return $('task').hidden"))
         solved = """return [TASKS.map((task, i) =>
             checkTask(i, { ...task.job, events: task.solution })),
             TREE_TASKS.map((task, i) => checkTree(i, { ...task.job, events: task.solution }))]"""
-        self.see(f"{name}: all solutions solve", browser.run(solved) == [[""] * 6, [""] * 4],
-            browser.run(solved))
+        self.same("all solutions solve", [[""] * 6, [""] * 4], solved)
 
         ask = ("return [$('ask').hidden, at, $('ask').innerText, $('happened').textContent, "
             "$('score').textContent];")
-        browser.run("$('asks').checked = true; show(RUNS['The worst start'], 'x', 1); "
+        self.run("$('asks').checked = true; show(RUNS['The worst start'], 'x', 1); "
             "$('forth').click();")
-        said = browser.run(ask)
-        self.see(f"{name}: a question",
-            said[:2] == [False, 1] and "What will the sender do now?" in said[2],
-            said)
-        browser.run("$('ask').querySelectorAll('button')[0].click();")
-        said = browser.run(ask)
-        self.see(f"{name}: a right answer", said[:2] == [True, 2] and "Right. This 0" in said[3]
-            and said[4] == "1 of 1 right", said)
-        browser.run("go(5); document.querySelector('[data-event=recv_frame]').click(); "
+        said = self.run(ask)
+        self.see("a question", said[:2] == [False, 1] and "What will the sender do now?" in said[2])
+        self.run("$('ask').querySelectorAll('button')[0].click();")
+        said = self.run(ask)
+        self.see("a right answer", said[:2] == [True, 2] and "Right. This 0" in said[3]
+            and said[4] == "1 of 1 right")
+        self.run("go(5); document.querySelector('[data-event=recv_frame]').click(); "
             "$('ask').querySelectorAll('button')[1].click();")
-        said = browser.run(ask)
-        self.see(f"{name}: a wrong answer", said[:2] == [True, 6] and "No. This frame" in said[3]
-            and said[4] == "1 of 2 right", said)
-        browser.run("$('asks').checked = false;")
+        said = self.run(ask)
+        self.see("a wrong answer", said[:2] == [True, 6] and "No. This frame" in said[3]
+            and said[4] == "1 of 2 right")
+        self.run("$('asks').checked = false;")
 
-        said = browser.run("""$('n-capacity').value = 3; fillWorst(); ownStart();
+        said = self.run("""$('n-capacity').value = 3; fillWorst(); ownStart();
             return [job.capacity, job.labels, job.start, name];""")
         worst = {"frames": [[4, 97], [5, 98], [6, 99]], "acks": [0, 1, 2], "send": 0, "recv": 3}
-        self.see(f"{name}: the worst start of capacity 3",
-            said == [3, 8, worst, "a start of your own"], said)
-        browser.run("show(RUNS['A clean start'], 'x'); "
+        self.see("the worst start of capacity 3", said == [3, 8, worst, "a start of your own"])
+        self.run("show(RUNS['A clean start'], 'x'); "
             "document.querySelector('[data-event=offer]').focus(); document.activeElement.click();")
-        self.see(f"{name}: the focus stays",
-            browser.run("return document.activeElement.dataset.event") == "offer")
-        browser.run("document.querySelector('[data-event=send_frame]').click(); "
+        self.same("the focus stays", "offer", "return document.activeElement.dataset.event")
+        self.run("document.querySelector('[data-event=send_frame]').click(); "
             "$('frames').querySelector('button').focus(); document.activeElement.click();")
-        said = browser.run("return [document.activeElement.id, job.events.at(-1), "
+        said = self.run("return [document.activeElement.id, job.events.at(-1), "
             "$('happened').textContent]")
-        self.see(f"{name}: a message is lost by pressing it",
-            said[:2] == ["frames", ["lose_frame", 0]]
-            and "label 0, item 10" in said[2], said)
-        at = browser.run("return at")
-        browser.run("document.querySelector('.table').dispatchEvent(new KeyboardEvent('keydown', "
+        self.see("a message is lost by pressing it",
+                 said[:2] == ["frames", ["lose_frame", 0]] and "label 0, item 10" in said[2])
+        at = self.run("return at")
+        self.run("document.querySelector('.table').dispatchEvent(new KeyboardEvent('keydown', "
             "{key: 'ArrowLeft', bubbles: true}));")
-        self.see(f"{name}: keys in the table do not step", browser.run("return at") == at)
+        self.same("keys in the table do not step", at, "return at")
         for garbage in ("#job=garbage", "#nothing", "#tree=e30"):
-            browser.go(PAGE.as_uri() + garbage)
-            self.wait(browser)
-            said = browser.run("return [$('fault').textContent, job.events.length];")
-            self.see(f"{name}: the address {garbage}",
-                "cannot be read" in said[0] and said[1] == 12, said)
-        said = browser.run("share(); const had = location.hash; $('load').click(); "
-            "return [had.slice(0, 5), location.hash];")
-        self.see(f"{name}: another run clears the address", said == ["#job=", ""], said)
-        said = browser.run(
-            "tryJob('{\"capacity\":1.0,\"labels\":4,\"start\":{\"send\":0,\"recv\":1},"
-            "\"events\":[]}'); return $('fault').textContent")
-        self.see(f"{name}: a number with a point", "and not a number with a point" in said, said)
+            self.go(PAGE.as_uri() + garbage)
+            said = self.run("return [$('fault').textContent, job.events.length];")
+            self.see(f"the address {garbage}", "cannot be read" in said[0] and said[1] == 12)
+        self.same("another run clears the address", ["#job=", ""],
+                  "share(); const had = location.hash; $('load').click(); return [had.slice(0, 5), "
+                  "location.hash];")
+        said = self.run("tryJob('{\"capacity\":1.0,\"labels\":4,\"start\":{\"send\":0,\"recv\":1},"
+                        "\"events\":[]}'); "
+                        "return $('fault').textContent")
+        self.see("a number with a point", "and not a number with a point" in said)
 
-    def proof(self, browser, name):
+    def proof(self):
         """Each step of the proof shows what it says, and only the sentence of the step is
         announced."""
-        self.see(f"{name}: the steps of the proof",
-            sum(count for count, _, _ in PROOF_PARTS) == len(PROOF)
-            == browser.run("return PROOF_STEPS.length"))
+        self.see("the steps of the proof", sum(count for count, _, _ in PROOF_PARTS)
+                 == len(PROOF) == self.run("return PROOF_STEPS.length"))
         state = """const marked = e => /rgb/.test(getComputedStyle(e).boxShadow), ring = $('ring'),
             link = linkAt(job, at);
             return { is: [at, [...$('labels').querySelectorAll('.free')].map(e =>
@@ -795,63 +753,55 @@ class Checks:
                     chips: [...$('labels').children].map(marked),
                 ways: [...ring.querySelectorAll('svg path')].map(e =>
                     getComputedStyle(e).stroke) };"""
-        browser.run("show(RUNS['A clean start'], 'x');")
-        before, step, plain = browser.run(LIVE), 0, browser.run(state)["ways"][0]
+        self.run("show(RUNS['A clean start'], 'x');")
+        before, step, plain = self.run(LIVE), 0, self.run(state)["ways"][0]
         for part, (count, labels, delivered) in enumerate(PROOF_PARTS):
             for _ in range(count):
-                browser.run("$(args[0]).click();", "proof-forth" if step else "proof-begin")
-                said, live = browser.run(state), browser.run(LIVE)
+                self.run("$(args[0]).click();", "proof-forth" if step else "proof-begin")
+                said, live = self.run(state), self.run(LIVE)
                 at, free, missing, marks = PROOF[step]
                 marks = marks.split()
                 chips = ["labels" in marks or "free" in marks and label in free
                          or "next" in marks and label == said["send"] for label in range(labels)]
-                self.see(f"{name}: step {step + 1} of the proof",
-                    said["is"] == list(PROOF[step]) and said["labels"] == labels, said)
-                self.see(f"{name}: what step {step + 1} of the proof marks",
-                    set(said["frames"]) <= {"frames" in marks}
-                        and set(said["acks"]) <= {"acks" in marks}
-                    and said["ends"] == ["send" in marks, "recv" in marks]
-                        and said["chips"] == chips
-                    and [way != plain for way in said["ways"]] == ["frames" in marks,
-                        "acks" in marks], said)
+                self.see(f"step {step + 1} of the proof",
+                    said["is"] == list(PROOF[step]) and said["labels"] == labels)
+                self.see(f"what step {step + 1} of the proof marks", set(said["frames"])
+                         <= {"frames" in marks} and set(said["acks"]) <= {"acks" in marks}
+                         and said["ends"] == ["send" in marks, "recv" in marks]
+                         and said["chips"] == chips and [way != plain for way in said["ways"]]
+                         == ["frames" in marks, "acks" in marks])
                 changed = announced(before, live)
-                self.see(f"{name}: step {step + 1} of the proof is announced once",
+                self.see(f"step {step + 1} of the proof is announced once",
                     changed == ["proof-says"], changed)
                 before, step = live, step + 1
-            self.see(f"{name}: what part {part + 1} of the proof delivers",
-                said["delivered"] == delivered, said)
-        place = "return [proofAt, at, $('proof').hidden, $('proof-part').value, $('ring').dataset.mark];"
-        key = "document.body.dispatchEvent(new KeyboardEvent('keydown', {key: args[0], bubbles: true}));" + place
-        self.see(f"{name}: the proof ends",
-            browser.run("$('proof-forth').click();" + place)[0] == 44)
-        self.see(f"{name}: the left key in the proof",
-            browser.run(key, "ArrowLeft")[:2] == [43, 12])
-        self.see(f"{name}: the first step by a key",
-            browser.run(key, "Home") == [0, 0, False, "0", "frames"])
-        said = browser.run("$('proof-part').value = 3; $('proof-part').onchange();" + place)
-        self.see(f"{name}: a part of the proof", said == [18, 10, False, "3", "frames recv acks"],
-            said)
-        said = browser.run("happen('send_frame'); const own = $('happened').getAttribute('aria-live');"
-            + place.replace("];", ", own];"))
-        self.see(f"{name}: an own event in the proof", said == [18, 11, False, "3", "", "polite"],
-            said)
-        said = browser.run("$('proof-forth').click();" + place)
-        self.see(f"{name}: and on with the proof", said == [19, 11, False, "3", "frames"], said)
-        said = browser.run("share(); const had = location.hash; $('proof-leave').click();"
+            self.see(f"what part {part + 1} of the proof delivers", said["delivered"] == delivered)
+        place = ("return [proofAt, at, $('proof').hidden, $('proof-part').value, "
+                 "$('ring').dataset.mark];")
+        key = ("document.body.dispatchEvent(new KeyboardEvent('keydown', {key: args[0], "
+               "bubbles: true}));" + place)
+        self.see("the proof ends", self.run("$('proof-forth').click();" + place)[0] == 44)
+        self.see("the left key in the proof", self.run(key, "ArrowLeft")[:2] == [43, 12])
+        self.same("the first step by a key", [0, 0, False, "0", "frames"], key, "Home")
+        self.same("a part of the proof", [18, 10, False, "3", "frames recv acks"],
+                  "$('proof-part').value = 3; $('proof-part').onchange();" + place)
+        self.same("an own event in the proof", [18, 11, False, "3", "", "polite"],
+                  "happen('send_frame'); const own = $('happened').getAttribute('aria-live');"
+                  + place.replace("];", ", own];"))
+        self.same("and on with the proof", [19, 11, False, "3", "frames"],
+                  "$('proof-forth').click();" + place)
+        said = self.run("share(); const had = location.hash; $('proof-leave').click();"
             + place.replace("];", ", had, document.activeElement.id];"))
-        self.see(f"{name}: the proof is left",
-            said[0] == -1 and said[2] and said[4:] == ["", "#proof=20",
-            "proof-begin"], said)
+        self.see("the proof is left",
+                 said[0] == -1 and said[2] and said[4:] == ["", "#proof=20", "proof-begin"])
         for address, wanted in (("#proof=24", [23, 16]), ("#proof", [0, 0]),
             ("#proof=99", [44, 14])):
-            browser.go(PAGE.as_uri() + address)
-            self.wait(browser)
-            said = browser.run(place)
-            self.see(f"{name}: the address {address}", said[:3] == [*wanted, False], said)
-        said = browser.run("$('load').click();" + place)
-        self.see(f"{name}: another run ends the proof", said[0] == -1 and said[2], said)
+            self.go(PAGE.as_uri() + address)
+            said = self.run(place)
+            self.see(f"the address {address}", said[:3] == [*wanted, False])
+        said = self.run("$('load').click();" + place)
+        self.see("another run ends the proof", said[0] == -1 and said[2])
 
-    def announced(self, browser, name):
+    def announced(self):
         """A step of a run is announced once, and not again when it is drawn again."""
         # (what is hidden from a screen reader does not count)
         changes = """const seen = new MutationObserver(() => {}), found = new Set();
@@ -862,226 +812,210 @@ class Checks:
                     target.parentElement.id);
             seen.disconnect();
             return [...found].sort();"""
-        browser.run("proofTo(0);")
-        said = browser.run(changes, "proof-forth")
-        self.see(f"{name}: a step of the proof changes its sentence alone",
-            said == ["proof-count", "proof-says"], said)
+        self.run("proofTo(0);")
+        self.same("a step of the proof changes its sentence alone", ["proof-count", "proof-says"],
+                  changes, "proof-forth")
         # the third event of this run puts the label 1 onto the way of the acknowledgements
-        browser.run("show(RUNS['The worst start'], 'x', 2);")
-        said = browser.run(changes, "forth")
-        self.see(f"{name}: an event changes what it changes alone",
-            said == ["acks", "happened", "rows"], said)
+        self.run("show(RUNS['The worst start'], 'x', 2);")
+        said = self.run(changes, "forth")
+        self.see("an event changes what it changes alone", said == ["acks", "happened", "rows"])
         for begin, forth, again in (("show(RUNS['The worst start'], 'x');", "forth", "draw();"),
                 ("showTree(TREES['Two links under one schedule'], 'x');", "t-forth",
                     "pick(1); pick(2);")):
-            browser.run(begin)
-            before = browser.run(LIVE)
+            self.run(begin)
+            before = self.run(LIVE)
             for k in range(12):
-                browser.run("$(args[0]).click();", forth)
-                live = browser.run(LIVE)
+                self.run("$(args[0]).click();", forth)
+                live = self.run(LIVE)
                 changed = announced(before, live)
-                self.see(f"{name}: event {k + 1} is announced once by {forth}",
+                self.see(f"event {k + 1} is announced once by {forth}",
                     changed == [forth.replace("forth", "happened")], changed)
                 before = live
-            said = browser.run("const had = $(args[0]).firstChild; " + again
+            said = self.run("const had = $(args[0]).firstChild; " + again
                 + " return had === $(args[0]).firstChild;",
                 forth.replace("forth", "happened"))
-            self.see(f"{name}: what is drawn again is not announced again by {forth}", said)
+            self.see(f"what is drawn again is not announced again by {forth}", said)
 
-    def spoken(self, browser, name):
+    def spoken(self):
         """Chromium's tree for screen readers, in every state of the page."""
         controls = {"button", "combobox", "spinbutton", "slider", "checkbox", "textbox",
             "DisclosureTriangle"}
         for state in ("show(RUNS['The worst start'], 'x', 6);",
-            "show(RUNS['The worst start of capacity two'], 'x', 20);",
-                "show(readJob(args[0]), 'x', 9);", "proofTo(20);",
-                    "$('tasks').children[3].click();",
-                "$('asks').checked = true; show(RUNS['The worst start'], 'x', 1); $('forth').click();",
-                "document.querySelectorAll('details').forEach(e => { e.open = true; });",
-                "showTree(TREES['A clean tree'], 'x', 20);", "$('t-tasks').children[1].click();",
-                "showTree(TREES['Backlogs at two nodes'], 'x', 6);",
-                "showTree(TREES['A clean chain, nothing done yet'], 'x'); $('t-rest').click(); $('t-strike').click();"):
-            browser.run(state, long_job())
-            tree = browser.spoken()
+                      "show(RUNS['The worst start of capacity two'], 'x', 20);",
+                      "show(readJob(args[0]), 'x', 9);", "proofTo(20);",
+                      "$('tasks').children[3].click();",
+                      "$('asks').checked = true; show(RUNS['The worst start'], 'x', 1); "
+                      "$('forth').click();",
+                      "document.querySelectorAll('details').forEach(e => { e.open = true; });",
+                      "showTree(TREES['A clean tree'], 'x', 20);",
+                      "$('t-tasks').children[1].click();",
+                      "showTree(TREES['Backlogs at two nodes'], 'x', 6);",
+                      "showTree(TREES['A clean chain, nothing done yet'], 'x'); "
+                      "$('t-rest').click(); $('t-strike').click();"):
+            self.run(state, long_job())
+            tree = self.browser.spoken()
             nameless = [one for one in tree
                 if one[0] in controls | {"image", "region", "columnheader"} and not one[1]]
-            self.see(f"{name}: all has a name after {state[:50]}", not nameless, nameless)
+            self.see(f"all has a name after {state[:50]}", not nameless, nameless)
             roleless = [one for one in tree if one[3].get("focusable") and one[0] not in controls
                         | {"RootWebArea", "option", "region", "list", "group"}]
-            self.see(f"{name}: all controls have a role after {state[:50]}", not roleless, roleless)
+            self.see(f"all controls have a role after {state[:50]}", not roleless, roleless)
             twice = [one for one in tree if one[2] and (one[1] in one[2] or one[2] in one[1])]
-            self.see(f"{name}: nothing is said twice after {state[:50]}", not twice, twice)
+            self.see(f"nothing is said twice after {state[:50]}", not twice, twice)
             texts = [one[1] for one in tree]
-            self.see(f"{name}: the picture has a text after {state[:50]}",
-                any(text.startswith(("The run as a picture: ", "The tree: ")) for text in texts),
-                    texts)
-        browser.run("$('asks').checked = false; show(RUNS['The worst start'], 'x', 6);"
+            self.see(f"the picture has a text after {state[:50]}", any(text.startswith(
+                ("The run as a picture: ", "The tree: ")) for text in texts), texts)
+        self.run("$('asks').checked = false; show(RUNS['The worst start'], 'x', 6);"
             "document.querySelectorAll('details').forEach(e => { e.open = false; });")
-        tree = browser.spoken()
+        tree = self.browser.spoken()
         named = lambda role: [one[1] for one in tree if one[0] == role]
         # after six events: no message is on the line, the receiver remembers 2, and 99 was
         # delivered
         items = named("listitem")
-        self.see(f"{name}: the labels and items are said",
-            sorted(filter(None, items)) == ["0: nowhere",
-            "10: acknowledged and missing", "11: acknowledged and missing", "1: nowhere",
-            "2: in the link, the sender's", "3: nowhere",
-            "99: a stray, from place 0 of the start's frames"], items)
-        browser.run("go(0);")
-        tree = browser.spoken()
-        self.see(f"{name}: the messages are said",
-            [name for name in named("button") if "label" in name] == [
-            "front: label 2, item 99, from the start",
-            "front: label 0, from the start, the sender's label, but not from its item"],
-            named("button"))
+        self.see("the labels and items are said", sorted(filter(None, items))
+                 == ["0: nowhere", "10: acknowledged and missing", "11: acknowledged and missing",
+                     "1: nowhere", "2: in the link, the sender's", "3: nowhere",
+                     "99: a stray, from place 0 of the start's frames"], items)
+        self.run("go(0);")
+        tree = self.browser.spoken()
+        self.see("the messages are said", [name for name in named("button") if "label" in name]
+                 == ["front: label 2, item 99, from the start",
+                     "front: label 0, from the start, the sender's label, but not from its item"],
+                 named("button"))
 
-    def lab(self, browser, name):
+    def lab(self):
         """Runs of wrong ends, as lab/check_ends.py writes them into an address."""
-        for ends, events, missing, strays, last in (
-            ("two_labels", 14, "3 of at most 3", "1 of at most 1",
-            "item 3 counts as acknowledged"),
+        for ends, events, missing, strays, last in (("two_labels", 14, "3 of at most 3",
+                                                     "1 of at most 1",
+                                                     "item 3 counts as acknowledged"),
                                                     ("any_acknowledgement", 8, "4 of at most 3",
-                                                        "0 of at most 1",
-                                                        "item 3 counts as acknowledged"),
+                                                     "0 of at most 1",
+                                                     "item 3 counts as acknowledged"),
                                                     ("every_frame", 2, "0 of at most 3",
-                                                        "2 of at most 1",
-                                                        "90 is delivered")):
+                                                     "2 of at most 1", "90 is delivered")):
             said = subprocess.run([TOP / "lab/check_ends.py", TOP / f"lab/ends/{ends}.py"],
                 capture_output=True, text=True).stdout
             address = re.search(r"index.html(#run=\S+)", said)[1]
-            browser.go(PAGE.as_uri() + address)
-            self.wait(browser)
-            found = browser.run("""for (let k = 0; k <= job.events.length; k++) go(k);
+            self.go(PAGE.as_uri() + address)
+            found = self.run("""for (let k = 0; k <= job.events.length; k++) go(k);
                 return [$('fault').textContent, at, $('missing').textContent,
                     $('strays').textContent, $('happened').textContent,
                     [...document.querySelectorAll('[data-event]')].every(isDim),
                         $('says').textContent];""")
-            self.see(f"{name}: a run of {ends}", found[:4] == ["", events, f"Missing: {missing}",
+            self.see(f"a run of {ends}", found[:4] == ["", events, f"Missing: {missing}",
                 f"Strays: {strays}"] and found[4].endswith(last)
                      and found[5] and found[6].startswith("These are other ends"), found)
         text = base64.urlsafe_b64decode(address[5:] + "==").decode()
-        spoiled = base64.urlsafe_b64encode(
-            text.replace('[[65535, 90]]', '[[7, 90]]').replace('[[0, 90]]',
-            '[[7, 90]]', 1).encode()).decode().rstrip("=")
-        browser.go(PAGE.as_uri() + "#run=" + spoiled)
-        self.wait(browser)
-        said = browser.run("return [$('fault').textContent, 'record' in job];")
-        self.see(f"{name}: a run that does not follow", "do not follow" in said[0] and not said[1],
-            said)
+        text = text.replace("[[65535, 90]]", "[[7, 90]]").replace("[[0, 90]]", "[[7, 90]]", 1)
+        spoiled = base64.urlsafe_b64encode(text.encode()).decode().rstrip("=")
+        self.go(PAGE.as_uri() + "#run=" + spoiled)
+        said = self.run("return [$('fault').textContent, 'record' in job];")
+        self.see("a run that does not follow", "do not follow" in said[0] and not said[1])
 
-    def slides(self, browser, name):
+    def slides(self):
         """The runs on the slides of the lesson are drawn as the page draws them, and nothing is cut
         off."""
         drawn = []
         for title in ("The worst start", "The shortest run with two labels"):
-            drawn.append(browser.run("show(RUNS[args[0]], 'x', 1e9); "
+            drawn.append(self.run("show(RUNS[args[0]], 'x', 1e9); "
                 "return [...$('drawn').querySelectorAll('text')].map(e => e.textContent);", title))
         slides = TOP / "lab/slides.html"
         said = [re.findall(r"<text[^>]*>([^<]*)</text>", svg)
             for svg in re.findall(r'<svg class="run".*?</svg>', slides.read_text(), re.S)]
-        self.see(f"{name}: the runs on the slides", said == drawn, f"{said} and not {drawn}")
+        self.see("the runs on the slides", said == drawn, f"{said} and not {drawn}")
         # (Firefox can be asked by a script of the page alone, and these slides take none)
-        if name == "chromium":
-            browser.go(slides.as_uri())
+        if self.name == "chromium":
+            self.browser.go(slides.as_uri())
             time.sleep(0.5)
-            said = browser.run("return [document.querySelectorAll('section').length, "
+            said = self.run("return [document.querySelectorAll('section').length, "
                 "document.documentElement.scrollWidth - innerWidth];")
-            self.see(f"{name}: the slides", said[0] == 12 and said[1] <= 0, said)
-        browser.go(PAGE.as_uri())
-        self.wait(browser)
+            self.see("the slides", said[0] == 12 and said[1] <= 0)
+        self.go(PAGE.as_uri())
 
-    def time(self, browser, name):
-        times = browser.run("""show(readJob(args[0]), 'x', 4000);
+    def time(self):
+        times = self.run("""show(readJob(args[0]), 'x', 4000);
             return [4001, 2000, 4096, 4095, 2100, 4090, 3000, 4001, 2000, 3500].map(to => {
                 const from = performance.now();
                 $('at').value = to;
                 $('at').dispatchEvent(new Event('input'));
                 return Math.round(performance.now() - from);
             });""", long_job())
-        print(f"{name}: steps of the slider take {times} ms")
-        self.see(f"{name}: a step of the slider", min(times) < MOST_MILLISECONDS_OF_A_STEP, times)
+        print(f"{self.name}: steps of the slider take {times} ms")
+        self.see("a step of the slider", min(times) < MOST_MILLISECONDS_OF_A_STEP, times)
 
-    def narrow(self, browser, name):
+    def narrow(self):
         """At 360 pixels, if the browser can be so narrow, and in print."""
-        browser.size(360, 800, False)
+        self.browser.size(360, 800, False)
         for view in ("show(RUNS['The worst start of capacity two'], 'x', 8);",
-            "$('tasks').children[4].click();", "$('see-tree').click();",
-            "showTree(TREES['Backlogs at two nodes'], 'x', 10);", "$('t-tasks').children[3].click();",
-                     "show(readJob(args[0]), 'x', 9);"):
-            browser.run(view, long_job())
-            said = browser.run("return [document.documentElement.scrollWidth, innerWidth, "
+                     "$('tasks').children[4].click();", "$('see-tree').click();",
+                     "showTree(TREES['Backlogs at two nodes'], 'x', 10);",
+                     "$('t-tasks').children[3].click();", "show(readJob(args[0]), 'x', 9);"):
+            self.run(view, long_job())
+            said = self.run("return [document.documentElement.scrollWidth, innerWidth, "
                 "screen.width]")
-            self.see(f"{name}: nothing is cut off at 360 pixels",
-                said[0] <= max(360, said[1] if name == "firefox" else 0), said)
-        browser.size(*WIDE, False)
-        if name == "chromium":
-            browser.run("show(RUNS['The worst start'], 'x', 9);")
-            browser.ask("Emulation.setEmulatedMedia", media="print")
-            said = browser.run("""return [...document.querySelectorAll(
+            self.see("nothing is cut off at 360 pixels",
+                said[0] <= max(360, said[1] if self.name == "firefox" else 0))
+        self.browser.size(*WIDE, False)
+        if self.name == "chromium":
+            self.run("show(RUNS['The worst start'], 'x', 9);")
+            self.browser.ask("Emulation.setEmulatedMedia", media="print")
+            self.same("no control is printed", 0, """return [...document.querySelectorAll(
                     'button, input, select, textarea, summary')].filter(e =>
                 e.checkVisibility() && !e.classList.contains('msg')).length""")
-            self.see(f"{name}: no control is printed", said == 0, said)
-            said = browser.run("""return ['.table',
+            self.same("the table is printed whole, its head where it begins", ["none", "static"],
+                      """return ['.table',
                 '.table thead th'].map(s => getComputedStyle(document.querySelector(s)))
                 .map((style, i) => i ? style.position : style.maxHeight)""")
-            self.see(f"{name}: the table is printed whole, its head where it begins",
-                said == ["none", "static"], said)
-            said = browser.run("proofTo(7); return [$('proof-name'), $('proof-says'), $('proof-forth')].map(e => e.checkVisibility())")
-            self.see(f"{name}: the sentence of the proof is printed", said == [True, True, False],
-                said)
-            browser.ask("Emulation.setEmulatedMedia", media="")
+            self.same("the sentence of the proof is printed", [True, True, False],
+                      "proofTo(7); return [$('proof-name'), $('proof-says'), "
+                      "$('proof-forth')].map(e => e.checkVisibility())")
+            self.browser.ask("Emulation.setEmulatedMedia", media="")
 
-    def faults(self, browser, name):
+    def faults(self):
         """A struck link and a restarted node, against the program's answer to the job that is
         saved."""
         state = ("return [treeAt, isAtRest(stateOf(treeAt)), ['t-rest', 't-strike', "
             "'t-restart'].map(id => isDim($(id)))];")
-        browser.run("showTree(TREES['A clean chain, nothing done yet'], 'x');")
-        self.see(f"{name}: a tree with work left",
-            browser.run(state) == [0, False, [False, True, True]],
-            browser.run(state))
-        browser.run("$('t-strike').click();")
-        self.see(f"{name}: no fault before the rest", browser.run("return tree.since ?? ''") == "")
-        browser.run("$('t-rest').click();")
-        said = browser.run(state)
-        self.see(f"{name}: everything comes to rest", said == [40, True, [True, False, False]],
-            said)
+        self.run("showTree(TREES['A clean chain, nothing done yet'], 'x');")
+        self.same("a tree with work left", [0, False, [False, True, True]], state)
+        self.run("$('t-strike').click();")
+        self.same("no fault before the rest", "", "return tree.since ?? ''")
+        self.run("$('t-rest').click();")
+        said = self.run(state)
+        self.see("everything comes to rest", said == [40, True, [True, False, False]])
         for press, node, start, events in (
                 ("t-strike", 1, {"frames": [[2, 910]], "acks": [0], "send": 0, "recv": 1},
                     WORST_ON + ROUND),
                 ("t-strike", 2, {"frames": [[2, 920]], "acks": [0], "send": 0, "recv": 1},
                     WORST_ON + ROUND),
                 ("t-restart", 1, {"frames": [], "acks": [], "send": 0, "recv": 0}, ROUND)):
-            browser.run("""showTree(TREES['A clean chain, nothing done yet'], 'x');
+            self.run("""showTree(TREES['A clean chain, nothing done yet'], 'x');
                 $('t-rest').click();
                 pick(args[1]); $(args[0]).click();""", press, node)
-            saved = json.loads(browser.run("return treeJobText(tree)"))
-            self.see(f"{name}: the start after {press} at {node}",
-                saved["starts"][node - 1] == start
-                and saved["items"][0] == 14, saved)
+            saved = json.loads(self.run("return treeJobText(tree)"))
+            self.see(f"the start after {press} at {node}",
+                     saved["starts"][node - 1] == start and saved["items"][0] == 14, saved)
             if node == 2:
-                browser.run("pick(1); for (let i = 0; i < 5; "
+                self.run("pick(1); for (let i = 0; i < 5; "
                     "i++) for (const word of args[0]) act(word); pick(2);", ROUND)
-            browser.run("for (const word of args[0]) act(word); $('t-rest').click();", events)
-            text = browser.run("return treeJobText(tree)")
+            self.run("for (const word of args[0]) act(word); $('t-rest').click();", events)
+            text = self.run("return treeJobText(tree)")
             want = program(text.encode(), "tree")
-            said = browser.run("return [treeText(tree), treeAfter(tree, "
+            said = self.run("return [treeText(tree), treeAfter(tree, "
                 "tree.events.length).nodes.map(n => [n.strays, n.mostStrays, n.held, n.mostHeld, "
                 "n.missing, n.mostMissing]), $('t-since').textContent];")
-            self.see(f"{name}: the tree after {press} at {node}", said[0] == want
+            self.see(f"the tree after {press} at {node}", said[0] == want
                 and said[1] == standing(text, want), f"{said} and not {want}")
-            lost = [[0, 0, 0], [1, 0, 3], [1, 0, 3]] if press == "t-strike" and node == 1 else [
-                [0, 0, 0], [0, 0, 0],
-                [1, 0, 3]] if node == 2 else [[0, 0, 0], [0, 0, 1], [0, 0, 2]]
-            self.see(f"{name}: what {press} at {node} costs", [row[::2] for row in said[1]] == lost,
+            lost = [[0, 0, 0], [1, 0, 3], [1, 0, 3]] if press == "t-strike" and node == 1 else [[0,
+                    0, 0], [0, 0, 0], [1, 0, 3]] if node == 2 else [[0, 0, 0], [0, 0, 1], [0, 0, 2]]
+            self.see(f"what {press} at {node} costs", [row[::2] for row in said[1]] == lost,
                 said[1])
-            self.see(f"{name}: it is said", "All numbers count from there" in said[2], said)
-        browser.run("showTree(readTree(args[0]), 'x');",
-            json.dumps({"capacity": 1, "labels": 4, "items": [1],
-            "tree": [{"name": "r"}]}))
-        self.see(f"{name}: a lone root has no link", browser.run("return $('t-one').hidden"))
+            self.see("it is said", "All numbers count from there" in said[2])
+        self.run("showTree(readTree(args[0]), 'x');",
+                 json.dumps({"capacity": 1, "labels": 4, "items": [1], "tree": [{"name": "r"}]}))
+        self.see("a lone root has no link", self.run("return $('t-one').hidden"))
 
-    def backlogs(self, browser, name):
+    def backlogs(self):
         """Inner nodes that begin or come back with a backlog."""
         # the four items of this chain have the labels 0 to 3; then a comes back with 50 and 51, and
         # the root publishes 14 to 18, the first of which has the label 0 that a remembers
@@ -1089,126 +1023,119 @@ class Checks:
                 n.mostHeld, n.missing, n.mostMissing]),
             [...$('t-bounds').children].map(e => e.querySelector('b').textContent)];"""
         press = "for (const word of args[0]) document.querySelector(`[data-act=${word}]`).click();"
-        browser.run("""showTree(TREES['A clean chain, nothing done yet'], 'x');
+        self.run("""showTree(TREES['A clean chain, nothing done yet'], 'x');
             $('t-rest').click(); pick(1); $('t-hold').value = 2;
             $('t-hold').dispatchEvent(new Event('change'));""")
-        said = browser.run("return [$('t-held').value, $('t-held-of').textContent];")
-        self.see(f"{name}: a backlog is filled in", said == ["710 711", "backlog of a"], said)
+        said = self.run("return [$('t-held').value, $('t-held-of').textContent];")
+        self.see("a backlog is filled in", said == ["710 711", "backlog of a"])
         for typed, why in (("50 51 52", "This backlog has 3 items, and h is 2."),
             ("50 x", "A backlog is a row of whole numbers"), ("1.5", "A backlog is a row")):
-            said = browser.run("$('t-held').value = args[0]; $('t-restart').click(); "
+            said = self.run("$('t-held').value = args[0]; $('t-restart').click(); "
                 "return [$('t-why').textContent, tree.since ?? ''];", typed)
-            self.see(f"{name}: the backlog {typed} is refused", said[0].startswith(why)
-                and said[1] == "", said)
-        browser.run("$('t-held').value = '50, 51'; $('t-restart').click();")
-        saved = json.loads(browser.run("return treeJobText(tree)"))
-        self.see(f"{name}: the job after a restart with a backlog",
+            self.see(f"the backlog {typed} is refused", said[0].startswith(why) and said[1] == "")
+        self.run("$('t-held').value = '50, 51'; $('t-restart').click();")
+        saved = json.loads(self.run("return treeJobText(tree)"))
+        self.see("the job after a restart with a backlog",
             [saved.get(key) for key in ("version", "h", "openings", "items", "starts")] == [2, 2,
             [[], [50, 51], []], [14, 15, 16, 17, 18],
             [{"frames": [], "acks": [], "send": 0, "recv": 0},
              {"frames": [], "acks": [], "send": 0, "recv": 3}]], saved)
-        said = browser.run(state)
+        said = self.run(state)
         none, some = [0] * 6, [0, 1, 2, 2, 0, 3]
-        self.see(f"{name}: just after the restart", said == [[none, some, [0, 2, 0, 2, 0, 6]],
+        self.see("just after the restart", said == [[none, some, [0, 2, 0, 2, 0, 6]],
             ["Strays of links at a: 0 of at most C = 1", "Strays of backlogs: 2 of at most E = 2",
-             "Missing: 0 of at most M = 3"]], said)
-        self.see(f"{name}: it is said that a has a backlog",
-            "with a backlog: 50 51. All numbers count from there" in browser.run(
+             "Missing: 0 of at most M = 3"]])
+        self.see("it is said that a has a backlog",
+            "with a backlog: 50 51. All numbers count from there" in self.run(
                 "return $('t-since').textContent"))
-        browser.run("pick(2);" + press, ["offer", "send_frame"])
-        said = browser.run("""const button = $('t-frames').querySelector('button');
+        self.run("pick(2);" + press, ["offer", "send_frame"])
+        said = self.run("""const button = $('t-frames').querySelector('button');
             return [button.className, button.getAttribute('aria-label'),
                 [...$('t-nodes').rows][2].cells[4].textContent,
                 [...$('t-drawn').querySelectorAll('text')].map(e => e.textContent),
                 $('t-sender').textContent, $('t-held').hidden, isDim($('t-begin'))];""")
-        self.see(f"{name}: an item of a backlog on its way", said[0] == "msg held own"
+        self.see("an item of a backlog on its way", said[0] == "msg held own"
             and said[1].startswith("front: label 0, item 50, of the backlog of a")
             and said[2] == "0=50◆" and "1◆ ↓" in said[3] and "2 items, 2◆" in said[3]
-            and "holds50 ◆" in said[4], said)
-        self.see(f"{name}: a leaf has no backlog", said[5:] == [True, True], said)
-        browser.run(press, ["recv_frame"])
-        said = browser.run("return $('t-happened').textContent")
-        self.see(f"{name}: an item of a backlog arrives",
-            said.endswith("so 50 is delivered, item number 0. It is a stray of the backlog of a."),
-            said)
-        browser.run(press, ROUND[3:] + ROUND)
-        browser.run("pick(1);" + press, ROUND * 2)
-        browser.run("pick(2);" + press, ROUND)
-        said = browser.run(state)
+            and "holds50 ◆" in said[4])
+        self.see("a leaf has no backlog", said[5:] == [True, True])
+        self.run(press, ["recv_frame"])
+        said = self.run("return $('t-happened').textContent")
+        self.see("an item of a backlog arrives",
+            said.endswith("so 50 is delivered, item number 0. It is a stray of the backlog of a."))
+        self.run(press, ROUND[3:] + ROUND)
+        self.run("pick(1);" + press, ROUND * 2)
+        self.run("pick(2);" + press, ROUND)
+        said = self.run(state)
         wanted = [none, [0, 1, 2, 2, 1, 3], [0, 2, 2, 2, 1, 6]]
-        self.see(f"{name}: both of the backlog arrive, and one item is missing",
+        self.see("both of the backlog arrive, and one item is missing",
             said == [wanted, ["Strays of links at b: 0 of at most C = 2",
-            "Strays of backlogs: 2 of at most E = 2", "Missing: 1 of at most M = 6"]], said)
-        said = browser.run("""return [treeText(tree), treeJobText(tree),
+            "Strays of backlogs: 2 of at most E = 2", "Missing: 1 of at most M = 6"]])
+        said = self.run("""return [treeText(tree), treeJobText(tree),
             [...$('t-nodes').rows[2].cells[1].querySelectorAll('li')].map(e =>
                 [e.className, e.textContent])];""")
-        self.see(f"{name}: the program says the same",
-            said[0] == program(said[1].encode(), "tree") and standing(said[1], said[0]) == wanted
-            and "items: 50 51 15\n" in said[0], said)
-        self.see(f"{name}: the marks of the list", said[2][1:] == [
-            ["held", "50: a stray of the backlog of a"], ["held", "51: a stray of the backlog of a"],
-            ["sent", "15: published item number 1"]], said)
+        self.see("the program says the same", said[0] == program(said[1].encode(), "tree")
+                 and standing(said[1], said[0]) == wanted and "items: 50 51 15\n" in said[0])
+        self.see("the marks of the list", said[2][1:] == [["held",
+                                                           "50: a stray of the backlog of a"],
+                                                          ["held",
+                                                           "51: a stray of the backlog of a"],
+                                                          ["sent", "15: published item number 1"]])
         # the address has the backlogs, and one that has none is read as before
-        own = "return [tree.hold, tree.openings, treeAt, tree.events.length, $('fault').textContent];"
-        browser.go(browser.run("goTree(7); share(); return location.href"))
-        self.wait(browser)
-        said = browser.run(own)
-        self.see(f"{name}: backlogs in the address", said == [2, [[], [50, 51], []], 7, 25, ""], said)
+        own = ("return [tree.hold, tree.openings, treeAt, tree.events.length, "
+               "$('fault').textContent];")
+        self.go(self.run("goTree(7); share(); return location.href"))
+        self.same("backlogs in the address", [2, [[], [50, 51], []], 7, 25, ""], own)
         old = {"capacity": 1, "labels": 4, "tree": [{"name": "r"}, {"name": "a", "parent": "r"}],
             "items": [7], "links": [{"capacity": 1, "labels": 4}],
             "starts": [{"frames": [], "acks": [], "send": 0, "recv": 65535}],
             "schedule": [["a", "offer"]]}
         packed = base64.urlsafe_b64encode(json.dumps(old).encode()).decode().rstrip("=")
-        browser.go(PAGE.as_uri() + f"#tree={packed}&at=1")
-        self.wait(browser)
-        said = browser.run(own)
-        self.see(f"{name}: an address without backlogs", said == [0, [[], []], 1, 1, ""], said)
+        self.go(PAGE.as_uri() + f"#tree={packed}&at=1")
+        self.same("an address without backlogs", [0, [[], []], 1, 1, ""], own)
         # of this tree a and c are inner nodes, numbers 1 and 3; h counts once for each leaf below
-        browser.run("""showTree(TREES['A clean tree'], 'x'); $('t-hold').value = 3;
+        self.run("""showTree(TREES['A clean tree'], 'x'); $('t-hold').value = 3;
             $('t-hold').dispatchEvent(new Event('change')); $('t-begin-all').click(); pick(3);
             $('t-held').value = '5'; $('t-begin').click();""")
-        said = browser.run("return [tree.openings, tree.events.length]") + browser.run(state)
-        self.see(f"{name}: all begin with backlogs, and one with another",
-            said[:2] == [[[], [710, 711, 712], [], [5], [], []], 0]
-            and [row[2:4] for row in said[2]] == [[0, 0], [3, 3], [0, 3], [1, 3], [0, 3], [0, 3]],
-            said)
-        browser.run("$('t-hold').value = 1; $('t-hold').dispatchEvent(new Event('change'));")
-        self.see(f"{name}: h is at least what the longest backlog has",
-            browser.run("return [tree.hold, $('t-hold').value]") == [3, "3"])
+        said = self.run("return [tree.openings, tree.events.length]") + self.run(state)
+        self.see("all begin with backlogs, and one with another", said[:2]
+                 == [[[], [710, 711, 712], [], [5], [], []], 0] and [row[2:4] for row in said[2]]
+                 == [[0, 0], [3, 3], [0, 3], [1, 3], [0, 3], [0, 3]])
+        self.run("$('t-hold').value = 1; $('t-hold').dispatchEvent(new Event('change'));")
+        self.same("h is at least what the longest backlog has", [3, "3"],
+                  "return [tree.hold, $('t-hold').value]")
         # below two inner nodes E is h twice, and c gets all: 98 is of the link into b
-        browser.run("showTree(TREES['Backlogs at two nodes'], 'x', 1e9); pick(3);")
-        said = browser.run("return treeText(tree)"), browser.run(state)
-        self.see(f"{name}: backlogs of two nodes",
+        self.run("showTree(TREES['Backlogs at two nodes'], 'x', 1e9); pick(3);")
+        said = self.run("return treeText(tree)"), self.run(state)
+        self.see("backlogs of two nodes",
             said[0].splitlines()[7] == "items: 720 721 98 710 711 10"
             and said[1] == [[none, [0, 1, 2, 2, 0, 3], [1, 2, 4, 4, 0, 6], [1, 3, 4, 4, 0, 9]],
             ["Strays of links at c: 1 of at most C = 3", "Strays of backlogs: 4 of at most E = 4",
-             "Missing: 0 of at most M = 9"]], said)
+             "Missing: 0 of at most M = 9"]])
         for job, why in (({"h": 2, "openings": [[], [1, 2, 3], []]}, "3 items are more than h"),
             ({"h": 2, "openings": [[], [], [1]]}, "b is no inner node"),
             ({"h": 9, "openings": [[], list(range(9)), []]}, "this page takes at most 8 items"),
             ({"h": 2, "openings": [[], [1]]}, "there are 3 nodes, and 2 entries")):
-            text = json.dumps(json.loads(browser.run(
-                "return treeJobText(TREES['A clean chain, nothing done yet'])")) | job
-                | {"version": 2})
-            said = browser.run("tryJob(args[0]); return $('fault').textContent", text)
-            self.see(f"{name}: the openings {job} are refused", why in said, said)
-            self.see(f"{name}: by the program too", (program(text.encode(), "tree") is None)
+            text = json.dumps(json.loads(self.run("return treeJobText(TREES['A clean chain, "
+                                                  "nothing done yet'])")) | job | {"version": 2})
+            said = self.run("tryJob(args[0]); return $('fault').textContent", text)
+            self.see(f"the openings {job} are refused", why in said)
+            self.see("by the program too", (program(text.encode(), "tree") is None)
                 == ("page takes" not in why))
 
-    def exercises(self, browser, name):
+    def exercises(self):
         for i, events in enumerate(SOLVED):
             body = "return checkTask(args[0], { ...TASKS[args[0]].job, events: args[1] });"
-            self.see(f"{name}: exercise {i + 1} is solved", browser.run(body, i, events) == "")
-            self.see(f"{name}: exercise {i + 1} fails", browser.run(body, i, events[:-1]) != "")
-            self.see(f"{name}: exercise {i + 1} from another start",
-                     browser.run("return checkTask(args[0], RUNS['Two clean rounds']);", i) != "")
+            self.same(f"exercise {i + 1} is solved", "", body, i, events)
+            self.see(f"exercise {i + 1} fails", self.run(body, i, events[:-1]) != "")
+            self.see(f"exercise {i + 1} from another start",
+                     self.run("return checkTask(args[0], RUNS['Two clean rounds']);", i) != "")
 
         for exercise, events, wanted in UNSOLVED:
-            said = browser.run(body, exercise - 1, events)
-            self.see(f"{name}: what seems to solve exercise {exercise}", said.startswith(wanted),
-                said)
+            said = self.run(body, exercise - 1, events)
+            self.see(f"what seems to solve exercise {exercise}", said.startswith(wanted))
 
-    def labels(self, browser, name):
+    def labels(self):
         """What is said of missing items, by the number of labels, and of one that is under way."""
         body = """show({...RUNS['Two labels are too few'], labels: args[0], capacity: args[1]},
             'x', args[2]);
@@ -1222,93 +1149,75 @@ class Checks:
                 (6, 2, "of at most 5", "only among the first 5 items"),
                 (5, 2, "of at most 5", "The bound holds with 5 labels"),
                 (4, 2, "Missing: ", "with 4 labels there is no bound: with capacity 2 it needs 5")]:
-            said = browser.run(body, labels, capacity, 23)
-            self.see(f"{name}: {labels} labels with capacity {capacity}", missing in said[0]
-                and why in said[1]
-                     and ("at most" in said[0]) == (labels > 2 * capacity)
-                     and ("one more" in said[1]) == (labels < 2 * capacity + 2), said)
-        said = browser.run(body, 2, 1, 7)
-        self.see(f"{name}: an item under way",
+            said = self.run(body, labels, capacity, 23)
+            self.see(f"{labels} labels with capacity {capacity}", missing in said[0]
+                     and why in said[1] and ("at most" in said[0]) == (labels > 2 * capacity)
+                     and ("one more" in said[1]) == (labels < 2 * capacity + 2))
+        said = self.run(body, 2, 1, 7)
+        self.see("an item under way",
             said[2].endswith("is acknowledged, though its frame is still under way.")
-                 and said[3:] == ["gone", "late"], said)
-        said = browser.run(body, 2, 1, 9)
-        self.see(f"{name}: and it comes",
-            "item number 1" in said[2] and said[3:] == ["gone", "sent"], said)
-        said = browser.run(body, 2, 1, 23)
-        self.see(f"{name}: an item that was lost",
-            said[2].endswith("is acknowledged, and it was never delivered."), said)
+                 and said[3:] == ["gone", "late"])
+        said = self.run(body, 2, 1, 9)
+        self.see("and it comes", "item number 1" in said[2] and said[3:] == ["gone", "sent"])
+        said = self.run(body, 2, 1, 23)
+        self.see("an item that was lost",
+            said[2].endswith("is acknowledged, and it was never delivered."))
 
-    def hands(self, browser, name):
+    def hands(self):
         """Buttons, slider, keys and the address."""
         state = ("return [at, job.events.length, $('happened').textContent, "
             "$('strays').textContent];")
-        browser.run("show(RUNS['The worst start'], 'x'); for (let i = 0; i < 12; "
+        self.run("show(RUNS['The worst start'], 'x'); for (let i = 0; i < 12; "
             "i++) $('forth').click();")
-        said = browser.run(state)
-        self.see(f"{name}: forward to the end",
-            said[:2] == [12, 12] and said[3] == "Strays: 1 of at most 1",
-            said)
-        self.see(f"{name}: missing of the worst start",
-            browser.run("return $('missing').textContent") == "Missing: 3 of at most 3")
-        browser.run("$('at').value = 6; $('at').dispatchEvent(new Event('input'));")
-        said = browser.run(state)
-        self.see(f"{name}: the slider", said[0] == 6 and "a stray" in said[2], said)
-        browser.run("document.body.dispatchEvent(new KeyboardEvent('keydown', {key: 'ArrowLeft', "
+        said = self.run(state)
+        self.see("forward to the end", said[:2] == [12, 12] and said[3] == "Strays: 1 of at most 1")
+        self.same("missing of the worst start", "Missing: 3 of at most 3",
+                  "return $('missing').textContent")
+        self.run("$('at').value = 6; $('at').dispatchEvent(new Event('input'));")
+        said = self.run(state)
+        self.see("the slider", said[0] == 6 and "a stray" in said[2])
+        self.run("document.body.dispatchEvent(new KeyboardEvent('keydown', {key: 'ArrowLeft', "
             "bubbles: true}));")
-        self.see(f"{name}: the left key", browser.run(state)[0] == 5)
-        browser.run("$('back').click(); document.querySelector('[data-event=send_ack]').click();")
-        self.see(f"{name}: an event replaces the rest", browser.run(state)[:2] == [5, 5])
-        self.see(f"{name}: its text", browser.run("return jobText(job)").count("send_ack") == 2)
-        browser.run("show(RUNS['A clean start'], 'x');")
+        self.see("the left key", self.run(state)[0] == 5)
+        self.run("$('back').click(); document.querySelector('[data-event=send_ack]').click();")
+        self.see("an event replaces the rest", self.run(state)[:2] == [5, 5])
+        self.see("its text", self.run("return jobText(job)").count("send_ack") == 2)
+        self.run("show(RUNS['A clean start'], 'x');")
         dim = ("return [...document.querySelectorAll('[data-event]')].filter(b => !isDim(b)).map(b "
             "=> b.dataset.event);")
-        self.see(f"{name}: what can happen to a clean link", browser.run(dim) == ["offer", "close",
-            "send_ack"], browser.run(dim))
-        browser.run("show(RUNS['Two labels are too few'], 'x'); go(99); share();")
-        address = browser.run("return location.href")
-        browser.go(address)
-        self.wait(browser)
-        said = browser.run("return [at, job.labels, $('missing-box').className, "
-            "$('fault').textContent];")
-        self.see(f"{name}: a run in the address", said == [23, 2, "over", ""], said)
-        browser.run("tryJob('{\"capacity\":1,\"labels\":4,\"start\":{\"send\":0,\"recv\":1},"
-            "\"events\":[\"send_ack\",\"sent\"]}');")
-        said = browser.run("return $('fault').textContent")
-        self.see(f"{name}: a refused job names the place", "events[1]" in said, said)
+        self.same("what can happen to a clean link", ["offer", "close", "send_ack"], dim)
+        self.run("show(RUNS['Two labels are too few'], 'x'); go(99); share();")
+        address = self.run("return location.href")
+        self.go(address)
+        self.same("a run in the address", [23, 2, "over", ""],
+                  "return [at, job.labels, $('missing-box').className, $('fault').textContent];")
+        self.run("tryJob('{\"capacity\":1,\"labels\":4,\"start\":{\"send\":0,\"recv\":1},"
+                 "\"events\":[\"send_ack\",\"sent\"]}');")
+        said = self.run("return $('fault').textContent")
+        self.see("a refused job names the place", "events[1]" in said)
         names = """return [...document.querySelectorAll(
                 'button, input, select, textarea')].filter(e =>
             !(e.textContent.trim() || e.getAttribute('aria-label') ||
                 e.closest('label'))).length;"""
-        self.see(f"{name}: each control has a name", browser.run(names) == 0)
+        self.same("each control has a name", 0, names)
 
-    def wait(self, browser):
-        end = time.time() + SECONDS
-        while not browser.run("return document.documentElement?.dataset.ready ?? ''"):
-            if time.time() > end:
-                raise RuntimeError("the page is not ready: "
-                    + browser.run("return document.body.innerText.slice(0, 300)"))
-            time.sleep(0.05)
-
-
-def pictures(browser, name, folder, dark):
-    for width, height in (WIDE, NARROW):
-        browser.size(width, height, dark)
-        browser.run("show(RUNS['The worst start of capacity two'], "
-            "'The worst start of capacity two', 20);")
-        time.sleep(0.6)
-        kind = (f"{name}-{'dark' if dark else 'light'}-"
-            f"{'wide' if (width, height) == WIDE else 'narrow'}")
-        pathlib.Path(folder, kind + ".png").write_bytes(browser.picture())
-        wider = browser.run("return document.documentElement.scrollWidth - innerWidth")
-        yield kind, wider
-        for title, at in (("Two links under one schedule", 40), ("A clean tree", 30),
-            ("Backlogs at two nodes", 9)):
-            browser.run("showTree(TREES[args[0]], args[0], args[1]);", title, at)
-            time.sleep(0.6)
-            pathlib.Path(folder, f"{kind}-{title.split()[0].lower()}-tree.png").write_bytes(
-                browser.picture())
-            yield f"{kind}, {title}", browser.run(
-                "return document.documentElement.scrollWidth - innerWidth")
+    def pictures(self, folder, dark):
+        """Keeps pictures of a link and of trees, in which nothing may be cut off."""
+        for width, height in (WIDE, NARROW):
+            self.browser.size(width, height, dark)
+            kind = f"{'dark' if dark else 'light'}-{'narrow' if width == NARROW[0] else 'wide'}"
+            for show, title, at in (
+                    ("RUNS", "The worst start of capacity two", 20),
+                    ("TREES", "Two links under one schedule", 40), ("TREES", "A clean tree", 30),
+                    ("TREES", "Backlogs at two nodes", 9)):
+                call = "show(RUNS" if show == "RUNS" else "showTree(TREES"
+                self.run(call + "[args[0]], args[0], args[1]);", title, at)
+                time.sleep(0.6)
+                more = "" if show == "RUNS" else f"-{title.split()[0].lower()}-tree"
+                pathlib.Path(folder, f"{self.name}-{kind}{more}.png").write_bytes(
+                    self.browser.picture())
+                wider = self.run("return document.documentElement.scrollWidth - innerWidth")
+                self.see(f"{kind}, {title}: nothing is cut off", wider <= 0, wider)
 
 
 def main():
@@ -1319,81 +1228,49 @@ def main():
     words.add_argument("browsers", nargs="*", default=["chromium", "firefox"])
     words = words.parse_args()
     checks, draw = Checks(), random.Random(words.seed)
-    checks.see("the page is at most 120 kB", PAGE.stat().st_size <= MOST_BYTES)
-    files = sorted(DATA.glob("links/*.json")) + sorted(DATA.glob("refused/*.json"))
-    jobs = [(f.name, f.read_bytes()) for f in files + [DATA / "worst_start.json"]]
-    # (what is no UTF-8 cannot be pasted)
-    texts = []
-    for job, data in jobs:
-        try:
-            texts.append((job, data.decode()))
-        except UnicodeDecodeError:
-            pass
-    jobs = texts + [(f"drawn job {i}", drawn_job(draw)) for i in range(words.jobs)]
-    jobs.append(("4096 events", long_job()))
-    wanted = [program(text.encode()) for _, text in jobs]
-    files = sorted(DATA.glob("trees/*.json")) + sorted(DATA.glob("refused_trees/*.json"))
-    trees = [(f.name, f.read_text()) for f in files]
+    checks.holds("the page is at most 120 kB", PAGE.stat().st_size <= MOST_BYTES)
+
+    def examples(*folders):
+        """The examples that can be pasted, since they are UTF-8."""
+        for path in (path for folder in folders for path in sorted(DATA.glob(folder))):
+            with contextlib.suppress(UnicodeDecodeError):
+                yield path.name, path.read_bytes().decode()
+
+    drawn = range(words.jobs)
+    jobs = [*examples("links/*.json", "refused/*.json", "worst_start.json"),
+            *((f"drawn job {i}", json.dumps(drawn_link(draw))) for i in drawn),
+            ("4096 events", long_job())]
     # (the page does not look at scripts and turns)
-    unseen = lambda text: any(f'"{word}"' in text for word in ("scripts", "turns"))
-    trees = [(f.name, text) for f, (_, text) in zip(files, trees) if "refused" not in f.parent.name
-        or not unseen(text)]
-    trees += [(f"drawn tree {i}", drawn_tree(draw)) for i in range(words.jobs)]
-    wanted_trees = [program(text.encode(), "tree") for _, text in trees]
-    fitting = sum(want is not None and fits_page(text)
-        for (_, text), want in zip(trees, wanted_trees))
+    trees = [*examples("trees/*.json"), *(it for it in examples("refused_trees/*.json")
+                                          if '"scripts"' not in it[1] and '"turns"' not in it[1]),
+             *((f"drawn tree {i}", drawn_tree(draw)) for i in drawn)]
+    checks.jobs = [(*job, program(job[1].encode())) for job in jobs]
+    checks.tree_jobs = [(*job, program(job[1].encode(), "tree")) for job in trees]
+    fitting = sum(want is not None and fits_page(text) for _, text, want in checks.tree_jobs)
     print(f"{len(trees)} trees, of which {fitting} fit the page")
-    accepted = sum(text is not None for text in wanted)
+    accepted = sum(want is not None for _, _, want in checks.jobs)
     print(f"{len(jobs)} jobs, of which the program takes {accepted}")
     for name in words.browsers:
-        for dark in (False, True):
-            if dark and not words.pictures:
-                continue
-            folder = tempfile.mkdtemp()
-            browser = Chromium(folder) if name == "chromium" else Firefox(folder, dark)
-            try:
-                browser.size(*WIDE, dark)
-                browser.go(PAGE.as_uri())
-                checks.wait(browser)
-                if not dark:
-                    times = []
-                    for _ in range(5):
-                        browser.go(PAGE.as_uri())
-                        checks.wait(browser)
-                        times.append(int(
-                            browser.run("return document.documentElement.dataset.ready")))
-                    print(f"{name}: ready after {min(times)} ms ({times})")
-                    checks.see(f"{name}: ready in time", min(times) < MOST_MILLISECONDS, times)
-                    checks.texts(browser, name, jobs, wanted)
-                    checks.exercises(browser, name)
-                    checks.labels(browser, name)
-                    checks.hands(browser, name)
-                    checks.drawn_rows(browser, name)
-                    checks.lesson(browser, name)
-                    checks.proof(browser, name)
-                    checks.announced(browser, name)
-                    if name == "chromium":
-                        checks.spoken(browser, name)
-                    checks.lab(browser, name)
-                    checks.slides(browser, name)
-                    checks.time(browser, name)
-                    checks.trees(browser, name, trees, wanted_trees)
-                    checks.tree_exercises(browser, name)
-                    checks.tree_hands(browser, name)
-                    checks.faults(browser, name)
-                    checks.backlogs(browser, name)
-                    checks.narrow(browser, name)
-                if words.pictures:
-                    os.makedirs(words.pictures, exist_ok=True)
-                    browser.go(PAGE.as_uri())
-                    checks.wait(browser)
-                    for kind, wider in pictures(browser, name, words.pictures, dark):
-                        checks.see(f"{kind}: nothing is cut off", wider <= 0, wider)
-            finally:
-                browser.end()
-                shutil.rmtree(folder, ignore_errors=True)
-    print(f"{checks.passed} passed, {checks.failed} failed")
-    sys.exit(checks.failed > 0)
+        for dark in (False, True) if words.pictures else (False,):
+            with tempfile.TemporaryDirectory(ignore_cleanup_errors=True) as folder:
+                checks.name = name
+                browser = checks.browser = (
+                    Chromium(folder) if name == "chromium" else Firefox(folder, dark))
+                try:
+                    browser.size(*WIDE, dark)
+                    for part in () if dark else (
+                            "ready", "texts", "exercises", "labels", "hands", "drawn_rows",
+                            "lesson", "proof", "announced",
+                            *["spoken"] * (name == "chromium"), "lab", "slides", "time", "trees",
+                            "tree_exercises", "tree_hands", "faults", "backlogs", "narrow"):
+                        getattr(checks, part)()
+                    if words.pictures:
+                        os.makedirs(words.pictures, exist_ok=True)
+                        checks.go()
+                        checks.pictures(words.pictures, dark)
+                finally:
+                    browser.end()
+    sys.exit(checks.sum_up())
 
 
 main()

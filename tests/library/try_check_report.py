@@ -1,4 +1,4 @@
-#!/usr/bin/env python3
+#!/usr/bin/env -S python3 -B
 """Tests agents/check_report.py: its link law and its tree law against lists of all that these
 allow, and the reports of `stab run` for the examples of trees, as they are and spoiled. And tests
 how agents/run_tree counts from the last fault on the path of each agent, by logs that were written
@@ -18,9 +18,8 @@ import tempfile
 
 TOP = os.path.dirname(os.path.dirname(os.path.dirname(os.path.realpath(__file__))))
 sys.path.insert(0, os.path.join(TOP, "agents"))
-sys.dont_write_bytecode = True
 import check_report  # noqa: E402
-import compare  # noqa: E402
+from compare import TOP, built, counted, said  # noqa: E402
 
 
 def some_of(items):
@@ -161,7 +160,7 @@ def reports(stab):
     for path in sorted(glob.glob(os.path.join(TOP, "examples", "trees", "*.json"))):
         with open(path, encoding="utf-8") as file:
             job = json.load(file)
-        report = compare.said(stab, ["run", path], "")
+        report = said(stab, ["run", path], "")
         name = os.path.basename(path)
         yield name, check_report.fault(job, report) is check_report.tree_fault(job, report) is None
         yield f"{name}, spoiled", all(check_report.fault(job, spoiled) is not None
@@ -173,14 +172,10 @@ def main():
     cases = [("the link law, as all that it allows", all(laws(draw) for _ in range(300))),
              ("the tree law, as all that it allows", all(tree_laws(draw) for _ in range(60)))]
     with tempfile.TemporaryDirectory() as folder:
-        cases += reports(compare.unpack_stab(folder))
+        cases += reports(built("stab", folder))
         os.chdir(folder)
         cases += [("each path from the last fault on it, by hand", counts_from_faults())]
-    for name, holds in cases:
-        print(f"{'same  ' if holds else 'OTHER '} {name}")
-    passed = sum(holds for _, holds in cases)
-    print(f"{passed} passed, {len(cases) - passed} failed")
-    return passed != len(cases)
+    return counted((name, None if holds else "it does not hold") for name, holds in cases)
 
 
 if __name__ == "__main__":

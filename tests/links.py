@@ -1,0 +1,28 @@
+"""Drawn jobs of a link, for the checks that compare what is said of them."""
+
+
+def drawn_link(draw, top=1 << 32):
+    """A job that `stab link` accepts: any start that fits, and events that mostly do something. Its
+    items are below `top`, so that many are equal where that is small."""
+    capacity = draw.choice([1, 1, 1, 2, 2, 3, 4, 8, draw.randint(1, 64)])
+    least = 2 * capacity + 2
+    labels = draw.choice([least, least + 1, least + draw.randrange(4), draw.randint(least, 1000)])
+    label = lambda: draw.choice([draw.randrange(4), draw.randrange(labels), draw.randrange(labels),
+                                 draw.randrange(1 << 16)])
+    item = lambda: draw.choice([draw.randrange(min(top, 100)), draw.randrange(top), top - 1])
+    start = {"frames": [[label(), item()] for _ in range(draw.randint(0, capacity))],
+             "acks": [label() for _ in range(draw.randint(0, capacity))],
+             "send": label(), "recv": label()}
+    words = ["offer"] * 3 + ["send_frame", "recv_frame", "send_ack", "recv_ack"] * 4
+    words += ["recv_frame_keep", "recv_ack_keep", "lose_frame", "lose_ack"]
+    events = []
+    for _ in range(draw.choice([0, 5, 40, 200, 400])):
+        word = draw.choice(words)
+        if word == "offer":
+            word = [word, item()]
+        elif word.startswith("lose"):
+            word = [word, draw.choice([0, 1, draw.randrange(capacity + 1), 65535])]
+        events.append(word)
+    if draw.random() < 0.1:
+        events.insert(draw.randint(0, len(events)), "close")
+    return {"capacity": capacity, "labels": labels, "start": start, "events": events}
