@@ -23,10 +23,11 @@ import tempfile
 from pathlib import Path
 
 ROOT = Path(__file__).resolve().parent.parent
-sys.dont_write_bytecode = True
 sys.path[:0] = [str(ROOT / "agents"), str(ROOT / "tools")]
 import check_report  # noqa: E402
-from programs import built  # noqa: E402
+from check_report import depth_of, is_subsequence  # noqa: E402
+from links import drawn_link  # noqa: E402
+from programs import Cases, built  # noqa: E402
 
 LINK_LINES = ["delivered", "offered", "acked", "send label", "recv label", "frames", "acks",
     "closed"]
@@ -72,39 +73,6 @@ def drawn_job(draw, words, rignolda):
     return made
 
 
-def drawn_link_job(draw):
-    """A link job that `stab link` accepts, of which the start often has garbage."""
-    most, top = draw.choice([1, 1, 2, 3]), draw.choice([3, 20, 2 ** 32])
-    labels = 2 * most + 2 + draw.randrange(4)
-
-    def event():
-        act = draw.choice(["offer", "offer", "send_frame", "send_frame", "recv_frame", "recv_frame",
-                           "recv_frame_keep", "send_ack", "send_ack", "recv_ack", "recv_ack",
-                           "recv_ack_keep", "lose_frame", "lose_ack"] * 8 + ["close"])
-        if act == "offer":
-            return [act, draw.randrange(top)]
-        return [act, draw.randrange(most)] if act.startswith("lose") else act
-
-    start = {"frames": [[draw.randrange(labels), draw.randrange(top)]
-                        for _ in range(draw.randrange(most + 1))],
-             "acks": [draw.randrange(labels) for _ in range(draw.randrange(most + 1))],
-             "send": draw.randrange(labels), "recv": draw.randrange(labels)}
-    return {"capacity": most, "labels": labels, "start": start,
-            "events": [event() for _ in range(draw.choice([0, 5, 40, 200, 600]))]}
-
-
-def is_picked(part, whole):
-    """Whether some items of `whole`, in their order, are `part`."""
-    at = 0
-    for item in part:
-        while at < len(whole) and whole[at] != item:
-            at += 1
-        if at == len(whole):
-            return False
-        at += 1
-    return True
-
-
 def link_law(above, acked, capacity, frames, delivered):
     """Whether the delivered list can be cut into strays, early items, sure items and one more."""
     if acked > len(above):
@@ -116,15 +84,10 @@ def link_law(above, acked, capacity, frames, delivered):
             continue
         rest = delivered[:len(delivered) - len(sure)]
         for strays in range(min(capacity, len(rest)) + 1):
-            if is_picked(rest[:strays], frames) and is_picked(rest[strays:],
+            if is_subsequence(rest[:strays], frames) and is_subsequence(rest[strays:],
                 above[:min(first, acked)]):
                 return True
     return False
-
-
-def depth_of(node, parents):
-    """How many links there are from the root to a node."""
-    return 0 if parents[node] is None else 1 + depth_of(parents[node], parents)
 
 
 def ended(found, rest, last):
@@ -225,7 +188,7 @@ def judged_link(job, text):
         return said
     offers = [event[1] for event in job["events"] if event[0] == "offer"]
     offered, acked = said["offered"], said["acked"][0]
-    if not is_picked(offered, offers):
+    if not is_subsequence(offered, offers):
         return "offers", None
     frames = [item for _, item in job["start"]["frames"]]
     if len(offered) > acked + 1 or not link_law(offered, acked, job["capacity"], frames,
@@ -316,11 +279,28 @@ def expected(found, is_link):
     return 1, f"{node}: " + SAID.get(part, "")
 
 
+def agrees(job, report, kind, found, status, line):
+    """Whether `rignolda check` answers what the plain checker has found."""
+    is_link = "events" in job
+    answers = [expected(found, is_link)]
+    if kind == "true" and found is not None:
+        return False
+    if kind == "byte" and not is_link and isinstance(found, int) and found % 2 == 0:
+        # (numbers are counted first, so that what is wrong may be their count above)
+        answers.append(expected(found - 1, is_link))
+    if isinstance(found, tuple) and found[0] == "handed on" and " ended upstream with " not in line:
+        return False
+    if not is_link and re.search(r" ended [a-z]+\n", report) and not isinstance(found, int):
+        if (check_report.fault(job, report) is None) != (found is None):
+            return False
+    return any(status == wanted and line.startswith(begin) for wanted, begin in answers)
+
+
 def main():
     """Draws jobs, and compares."""
     count = int(sys.argv[1]) if len(sys.argv) > 1 else 10000
     draw = random.Random(int(sys.argv[2]) if len(sys.argv) > 2 else 1)
-    failed, found_parts = 0, collections.Counter()
+    cases, found_parts = Cases(), collections.Counter()
     with tempfile.TemporaryDirectory() as folder:
         folder = Path(folder)
         stab, rignolda = built("stab", folder), built("rignolda", folder)
@@ -328,43 +308,25 @@ def main():
             is_link = draw.random() < 0.2
             command = ["link"] if is_link else draw.choice(
                 [["run"], ["run", "--words"], ["run", "--mixed"], ["tree"]])
-            job = drawn_link_job(draw) if is_link else drawn_job(
+            job = drawn_link(draw, draw.choice([3, 20, 1 << 32])) if is_link else drawn_job(
                 draw, "--words" in command, rignolda)
             whole = json.dumps(job)
-            done = subprocess.run([stab, *command], input=whole.encode(),
-                                  capture_output=True)
+            done = subprocess.run([stab, *command], input=whole.encode(), capture_output=True)
             text = done.stdout.decode()
             if done.returncode:
-                print(f"FAILED {case}: stab {command}: {done.stderr.decode()}{whole}")
-                failed += 1
+                cases.holds(f"{case}: stab {command}", False, done.stderr.decode() + whole)
                 continue
             way, other = (spoiled_link if is_link else spoiled)(draw, text)
             for kind, report in (("true", text), (way, other)):
                 found = (judged_link if is_link else judged)(job, report)
                 status, line = answer_of(rignolda, folder, whole, report, draw.random() < 0.5)
-                wants, begins = expected(found, is_link)
-                good = status == wants and line.startswith(begins)
-                if kind == "true":
-                    good = good and found is None
-                if kind == "byte" and not is_link and isinstance(found, int) and found % 2 == 0:
-                    # (numbers are counted first, so that what is wrong may be their count above)
-                    wants, begins = expected(found - 1, is_link)
-                    good = good or status == wants and line.startswith(begins)
-                if isinstance(found, tuple) and found[0] == "handed on":
-                    good = good and " ended upstream with " in line
-                if not is_link and re.search(r" ended [a-z]+\n", report) \
-                        and not isinstance(found, int):
-                    good = good and (check_report.fault(job, report) is None) == (found is None)
                 found_parts[kind, "no report" if isinstance(found, int) else
                             found[0] if found else "obeys"] += 1
-                if not good:
-                    failed += 1
-                    print(f"FAILED {case} {kind}: {found}, and the answer is {status} {line}\n"
-                          f"{whole}\n{report}")
+                cases.holds(f"{case}, {kind}", agrees(job, report, kind, found, status, line),
+                            f"{found}, and the answer is {status} {line}\n{whole}\n{report}", True)
     for (kind, part), times in sorted(found_parts.items()):
         print(f"{kind}: {part} {times}")
-    print(f"{2 * count - failed} passed, {failed} failed")
-    return 1 if failed else 0
+    return cases.sum_up()
 
 
 if __name__ == "__main__":

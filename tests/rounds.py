@@ -1,7 +1,8 @@
-#!/usr/bin/env python3
+#!/usr/bin/env -S python3 -B
 """A reference of rounds that shares nothing with the crates: tests/rounds.py
 
-It plays links and trees by rules of its own, and checks what stab_rounds says of them:
+It plays links and trees by the rules of tests/faults/reference.py, and checks what stab_rounds says
+of them:
 
 - the most rounds of a link that acknowledge nothing, by going through every state, are 2c (c to 3);
 - c frames received and then c acknowledgements can be in vain, and no more;
@@ -13,53 +14,13 @@ minute, and its last line is 'N passed, M failed'.
 """
 import itertools
 import random
+import sys
+from pathlib import Path
 
-results = []
-
-
-def case(name, well):
-    results.append(bool(well))
-    print(("ok   " if well else "FAIL ") + name)
-
-
-class Link:
-    """A link of capacity c: labels and items in lists, and the acts that change them."""
-
-    def __init__(self, c, labels, frames, acks, send, recv):
-        self.c, self.labels = c, labels
-        self.frames, self.acks, self.send, self.recv = list(frames), list(acks), send, recv
-        self.offered, self.acked, self.delivered = [], 0, []
-
-    def act(self, what, above):
-        waits = len(self.offered) > self.acked
-        if what == "offer" and not waits and len(self.offered) < len(above):
-            self.offered.append(above[len(self.offered)])
-        elif what == "send_frame" and waits and len(self.frames) < self.c:
-            self.frames.append((self.send, self.offered[-1]))
-        elif what in ("recv_frame", "keep_frame") and self.frames:
-            label, item = self.frames[0]
-            if what == "recv_frame":
-                self.frames.pop(0)
-            if label != self.recv:
-                self.recv = label
-                self.delivered.append(item)
-        elif what == "send_ack" and len(self.acks) < self.c:
-            self.acks.append(self.recv)
-        elif what in ("recv_ack", "keep_ack") and self.acks:
-            label = self.acks[0]
-            if what == "recv_ack":
-                self.acks.pop(0)
-            if waits and label == self.send:
-                self.acked += 1
-                self.send = (self.send + 1) % self.labels
-
-
-ROUND = ["offer", "send_frame", "recv_frame", "send_ack", "recv_ack"]
-
-
-def reading_round(c):
-    return (["offer"] + ["recv_frame"] * c + ["send_frame", "recv_frame"]
-            + ["recv_ack"] * c + ["send_ack", "recv_ack"])
+TOP = Path(__file__).resolve().parent.parent
+sys.path[:0] = [str(TOP / "tests/faults"), str(TOP / "tools")]
+from programs import Cases  # noqa: E402
+from reference import ROUND, Link, Tree, reading_round  # noqa: E402
 
 
 def longest_in_vain(c):
@@ -142,95 +103,79 @@ def receipts_in_vain(c):
 
 def tree_case(rng, reading):
     """One random tree; how many rounds it needed, and how many are said to be enough."""
-    nodes = rng.randint(2, 7)
-    parents = [None] + [rng.choice([n, rng.randrange(n + 1)]) for n in range(nodes - 1)]
+    count = rng.randint(2, 7)
+    parents = [None] + [rng.choice([n, rng.randrange(n + 1)]) for n in range(count - 1)]
     published, hold = list(range(rng.choice((0, 1, 4, 9)))), rng.choice((0, 0, 2))
-    inner = {p for p in parents if p not in (None, 0)}
-    links, opening = [None], [[]]
-    for n in range(1, nodes):
+    inner, nodes = {p for p in parents if p not in (None, 0)}, range(1, count)
+    tree = Tree(parents, [None], published)
+    for n in nodes:
         c = rng.choice((1, 1, 2, 3))
         labels = 2 * c + 2
         full = rng.random() < 0.5
         frames = [(rng.randrange(labels), -100 * n - i)
-            for i in range(c if full else rng.randint(0, c))]
+                  for i in range(c if full else rng.randint(0, c))]
         acks = [rng.randrange(labels) for _ in range(c if full else rng.randint(0, c))]
-        links.append(Link(c, labels, frames, acks, rng.randrange(labels),
-            rng.randrange(labels + 1)))
-        opening.append([-1] * rng.randint(0, hold) if n in inner else [])
-
-    def received(n):
-        return published if n == 0 else opening[n] + links[n].delivered
-
-    def handed_on():
-        return all(links[n].acked == len(received(parents[n])) and not links[n].frames
-                   for n in range(1, nodes))
-
-    def path(n):
-        return [] if n == 0 else [n] + path(parents[n])
-
-    wide = max(l.c for l in links[1:])
+        tree.links.append(Link(c, labels, frames, acks, rng.randrange(labels),
+                               rng.randrange(labels + 1)))
+        tree.openings[n] = [-1] * rng.randint(0, hold) if n in inner else []
+    wide = max(tree.links[n].capacity for n in nodes)
     enough = 0
-    for n in range(1, nodes):
-        above = path(parents[n])
-        best = len(published) + sum(links[a].c + (hold if a in inner else 0) for a in above)
+    for n in nodes:
+        above = list(tree.path(parents[n]))
+        best = len(published) + sum(
+            tree.links[a].capacity + (hold if a in inner else 0) for a in above)
         enough = max(enough, (1 if reading else 2 * wide + 1) * (best + 1) + len(above))
     needed, lossy = 0, rng.random() < 0.3
-    extra = ["send_frame", "send_ack", "keep_frame", "keep_ack"]
-    while not handed_on():
+    extra = ["send_frame", "send_ack", "recv_frame_keep", "recv_ack_keep"]
+    while any(tree.backlog(n) or tree.links[n].frames for n in nodes):
         needed += 1
         if needed > enough:
             return needed, enough
-        for n in sorted(range(1, nodes), reverse=rng.random() < 0.8):
-            for what in reading_round(links[n].c) if reading else ROUND:
-                links[n].act(what, received(parents[n]))
+        for n in sorted(nodes, reverse=rng.random() < 0.8):
+            for what in reading_round(tree.links[n].capacity) if reading else ROUND:
+                tree.act(n, what)
                 for _ in range(rng.choice((0, 0, 1, 3))):
-                    links[n].act(rng.choice(extra), received(parents[n]))
-            if lossy and links[n].frames and rng.random() < 0.3:
-                links[n].frames.pop(rng.randrange(len(links[n].frames)))
+                    tree.act(n, rng.choice(extra))
+            if lossy and tree.links[n].frames and rng.random() < 0.3:
+                tree.links[n].frames.pop(rng.randrange(len(tree.links[n].frames)))
     return needed, enough
 
 
-def chain(rounds, what_each=ROUND):
-    """The chain r, a, b of two worst links with the items 10, 11, 12."""
-    a = Link(1, 4, [(2, 99)], [0], 0, 1)
-    b = Link(1, 4, [(2, 98)], [0], 0, 1)
-    for _ in range(rounds):
-        for link, above in ((a, [10, 11, 12]), (b, a.delivered)):
-            for what in what_each:
-                link.act(what, above)
-    return a, b
+def worst(stray=99):
+    """A link in the worst start."""
+    return Link(1, 4, [(2, stray)], [0], 0, 1)
 
 
 def main():
+    cases = Cases()
     for c in (1, 2, 3):
-        case(f"capacity {c}: 2c rounds can be in vain, and no more", longest_in_vain(c) == 2 * c)
-        case(f"capacity {c}: c frames and then c acknowledgements", receipts_in_vain(c) == (c, c))
+        cases.holds(f"capacity {c}: 2c rounds can be in vain, and no more",
+                    longest_in_vain(c) == 2 * c)
+        cases.holds(f"capacity {c}: c frames and then c acknowledgements",
+                    receipts_in_vain(c) == (c, c))
     rng = random.Random(20261126)
-    for reading in (False, True):
-        worst, late = 0, 0
-        for _ in range(10000):
-            needed, enough = tree_case(rng, reading)
-            late += needed > enough
-            worst = max(worst, needed / enough)
-        name = "reading rounds" if reading else "rounds"
-        case(f"10,000 trees: enough {name}; {worst:.2f} of them were needed at most", late == 0)
-    worst = Link(1, 4, [(2, 99)], [0], 0, 1)
-    for what in ROUND * 3:
-        worst.act(what, [10] * 9)
-    print("three rounds from the worst start:", vars(worst))
-    worst = Link(1, 4, [(2, 99)], [0], 0, 1)
-    for what in reading_round(1):
-        worst.act(what, [10] * 9)
-    print("a reading round from the worst start:", vars(worst))
-    for rounds in (1, 4, 16):
-        a, b = chain(rounds)
-        print(f"chain after {rounds} rounds:", a.delivered, a.acked, b.delivered, b.acked)
-    for rounds in (1, 2, 6):
-        a, b = chain(rounds, reading_round(1))
-        print(f"chain after {rounds} reading rounds:", a.delivered, a.acked, b.delivered, b.acked)
-    print(f"{sum(results)} passed, {len(results) - sum(results)} failed")
-    return 0 if all(results) else 1
+    for name, reading in ("rounds", False), ("reading rounds", True):
+        found = [tree_case(rng, reading) for _ in range(10000)]
+        most = max(needed / enough for needed, enough in found)
+        cases.holds(f"10,000 trees: enough {name}; {most:.2f} of them were needed at most",
+                    all(needed <= enough for needed, enough in found))
+    for name, acts, counts in (("rounds", ROUND, (1, 4, 16)),
+                               ("reading rounds", reading_round(1), (1, 2, 6))):
+        link = worst()
+        for what in acts * (3 if acts == ROUND else 1):
+            link.act(what, [10] * 9)
+        print(f"the worst start after {'three' if acts == ROUND else 'one'} of the {name}:",
+              vars(link))
+        # (the chain r, a, b of two worst links with the items 10, 11, 12)
+        for count in counts:
+            tree = Tree([None, 0, 1], [None, worst(99), worst(98)], [10, 11, 12])
+            for _ in range(count):
+                for child, what in itertools.product((1, 2), acts):
+                    tree.act(child, what)
+            print(f"chain after {count} {name}:", *(
+                it for link in tree.links[1:] for it in (link.delivered, link.acked)))
+    return cases.sum_up()
 
 
 if __name__ == "__main__":
-    raise SystemExit(main())
+    sys.exit(main())
