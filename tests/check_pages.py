@@ -1,0 +1,319 @@
+#!/usr/bin/env -S python3 -B
+"""Tests the scripts tools/pages.py and tests/edits.py in a small house of its own, and touches
+nothing else. The last line is 'N passed, M failed'.
+"""
+import sys
+
+from house import House, remove
+
+house = House()
+holds, top, write = house.holds, house.top, house.write
+CUP = """\
+/// A cup, which [`Cup::fill`](Cup::fill) fills.
+pub struct Cup {
+    level: u16,
+}
+
+impl Cup {
+    /// Fills the cup.
+    pub fn fill(
+        &mut self,
+        by: u16,
+    ) -> bool
+        requires { by ≤ 3 }
+        ensures full { IfOk result (λ x. record {
+          level = 3;
+        }) }
+        // A refusal
+        // changes nothing.
+        ensures kept { self.new ≡ self.old }
+    {
+        self.pour(by)
+    }
+
+    /// How full it is.
+    pub fn level(&self) -> u16 {
+        self.level
+    }
+
+    /// Nobody else calls it.
+    fn pour(&mut self, by: u16) -> bool
+        ensures hidden { ⊤ }
+    {
+        true
+    }
+}
+
+/// What pours.
+pub trait Pours {
+    /// Pours once.
+    fn once(&self)
+        ensures poured { 1 ≡ 1 };
+}
+
+impl Pours for Cup {
+    fn once(&self)
+        ensures more { 1 ≡ 1 }
+    {}
+}
+"""
+LIB = """\
+//! The lowest layer.
+mod cup;
+mod export;
+pub mod laws;
+pub use cup::{Cup, Pours};
+"""
+README = """\
+# A page
+
+## Of `cups`, and more
+
+See `Cup::fill.full`, `.kept` and `laws::cups_are_cups` in `specs/Cups.antt`,
+`IsFull.level`, [here](#of-cups-and-more) and [there](docs/LAYERS.md#low).
+```
+`Cup::fill.no_such`
+```
+"""
+CLAIMS = """\
+## `low`
+
+The lowest layer.
+
+### Claims
+
+**`Cup`** A cup, which `Cup::fill` fills.
+
+**`Cup::fill`** `(&mut self, by: u16) -> bool` Fills the cup.
+
+- *requires* `by ≤ 3`
+- `.full` `IfOk result (λ x. record { level = 3; })`
+- *A refusal changes nothing.*
+- `.kept` `self.new ≡ self.old`
+
+**`Cup::level`** `(&self) -> u16` How full it is. *No clause, tested.*
+
+**`Pours`** What pours.
+
+**`Pours::once`** `(&self)` Pours once.
+
+- `.poured` `1 ≡ 1`
+
+**`Cup::once`** `(&self)` As `Pours` says.
+
+- `.more` `1 ≡ 1`
+
+**`low_fill`** `(cup: &mut Cup)` Fills a cup from C.
+
+- `.filled` `1 ≡ 1`
+
+**`laws::cups_are_cups`** `()` A law.
+
+- `1 ≡ 1`
+
+**`laws::cups_are_round`** `()` A law that says nothing. *No clause, tested.*
+
+- `⊤`
+
+| Definitions | What they say |
+|---|---|
+| `Cups.antt` | What a cup is. It is round. |
+
+**`IsFull`** `(level : ℕ) (cup : Cup)`
+
+- `.level` `⊤ × ⊤`
+- `.cup` `⊤`
+
+Planted bugs: `cup_without_bottom`.
+"""
+# By the path of each file of the house its text: a crate with a type, a trait, laws and a private
+# function, and two pages.
+FILES = {
+    "crates.txt": "# crates\nlow may_wait=1: thiserror\n",
+    "crates/low/src/lib.rt": LIB,
+    "crates/low/src/cup.rt": CUP,
+    "crates/low/src/export.rt": '/// Fills a cup from C.\n#[unsafe(no_mangle)]\npub extern "C" fn '
+    "low_fill(cup: &mut Cup)\n    ensures filled { 1 ≡ 1 }\n{}\n",
+    "crates/low/src/laws.rt": "".join(
+        f"/// A law{more}.\npub fn cups_are_{name}()\n    ensures {{ {clause} }}\n{{}}\n"
+        for more, name, clause in (("", "cups", "1 ≡ 1"), (" that says nothing", "round", "⊤"))),
+    "crates/low/specs/Cups.antt": "-- What a cup is.\n-- Source: this project's own; it is round.\n"
+    "use X\n\npub record IsFull (level : ℕ)\n    (cup : Cup) : Type 0 where\n  -- (always)\n"
+    "  pub level : ⊤\n      × ⊤\n  pub cup : ⊤\n",
+    "crates/low/proofs/Lib.antt": "-- Of cups.\n",
+    "crates/low/must-fail/cup_without_bottom.edit": "file: src/cup.rt\n",
+    "docs/LAYERS.md": "# Layers\n\n## low\n",
+    "README.md": README,
+}
+
+
+def make_house(more=()):
+    """Makes the house anew, with more files."""
+    remove(top)
+    house.bring("tools/pages.py", "tools/crates.py", "tools/programs.py", "tests/edits.py")
+    for path, text in {**FILES, **dict(more)}.items():
+        write(path, text)
+
+
+def says(name, script, status, *lines):
+    """Whether a script ends with this status, and says just these lines."""
+    ended = house.run(top / script, *["--check"] * (script == "tools/pages.py"))
+    holds(name, (ended.status, ended.out) == (status, "".join(f"{it}\n" for it in lines)))
+
+
+def pages(name, passed, *faults):
+    says(name, "tools/pages.py", bool(faults), *faults, f"{passed} passed, {len(faults)} failed")
+
+
+make_house()
+pages("pages that cite what exists are well", 2)
+house.run(top / "tools/pages.py")
+written = (top / "out/CLAIMS.md").read_text()
+holds("the page of claims has what is public, with its clauses, and each record that is cited",
+      written[written.index("## `low`"):] == CLAIMS)
+house.run(top / "tools/pages.py", house.work / "page")
+holds("it is written to another file as well", house.read("page") == written)
+pages("and is none of the pages that are looked at", 2)
+for name, line, fault in (
+        ("a clause that is not there is found", "The clause `Cup::fill.empty`.",
+         "no clause Cup::fill.empty"),
+        ("also of a function named before it", "The clause `.level` of `Cup::fill`.",
+         "no clause .level of what this line names"),
+        ("and of a record", "`IsFull.empty`", "no clause IsFull.empty"),
+        ("a function that is not there is found", "`laws::saucers`",
+         "no such name in the sources: laws::saucers"),
+        ("a file that is not there is found", "`specs/Saucers.antt`", "no file specs/Saucers.antt"),
+        ("a page that is not there is found", "[x](docs/NO.md)", "no file docs/NO.md"),
+        ("a heading that is not there is found", "[x](docs/LAYERS.md#high)",
+         "no heading docs/LAYERS.md#high")):
+    make_house({"README.md": f"{README}{line}\n"})
+    pages(name, 1, f"README.md:10: {fault}")
+
+# What the proof has to say of functions that may be refused.
+WHY, STAYS = "**No clause says why**", "**No clause says what a refusal leaves**"
+CHANGES = "wash(cup: &mut Cup, by: u16) -> Result<(), AllocError>"
+REFUSES = "wash(by: u16) -> Result<u16, WashFault>"
+SILENT = "write the clause, or name it there"
+
+
+def prove(function, clause, line):
+    """Adds a function of the crate low that may be refused, with a page of the proof."""
+    make_house({
+        "crates/low/src/wash.rt":
+            f"/// Washes.\npub fn {function}\n    ensures {{ {clause} }}\n{{}}\n",
+        "crates/low/src/lib.rt": f"{LIB}mod wash;\npub use wash::wash;\n",
+        "docs/PROOF.md": f"# Proof\n{line}\n"})
+
+
+for clause in "OnErr result (cup.new ≡ cup.old)", "cup.new ≡ washed cup.old result":
+    prove(CHANGES, clause, "All is said.")
+    pages(f"a clause says what a refusal leaves ({clause})", 3)
+for clause in "OnOk result (cup.new ≡ cup.old)", "cup.new.level ≡ cup.old.level", "1 ≡ 1":
+    prove(CHANGES, clause, "All is said.")
+    pages(f"and where none does, the proof has to say so ({clause})", 2,
+          "docs/PROOF.md:0: low::wash: no clause says what a refusal leaves of what it is lent, and "
+          f"the sentence {STAYS} does not name it: {SILENT}")
+    for name in "wash", "low::wash", "wa*":
+        prove(CHANGES, clause, f"{STAYS} of `{name}`. And `Cup::fill`.")
+        pages(f"by its name ({name}; {clause})", 3)
+for clause in (
+        "MatchResult result (λ _. ⊤) (λ fault. 1 ≡ 1)", "IfErr result (IsReason by)",
+        "let much = by in IfErr result (IsReason much)",
+        "IfErr result (λ fault. fault ≢ WashFault.Memory → wash by ≡ Err fault)",
+        "result ≡ wash by",
+        "IfErr result (λ fault. (fault ≡ WashFault.Write) ⊎ (fault ≡ WashFault.Memory))",
+        "IfErr result (λ fault. IsFault by fault)", "OnErr result (by ≢ 1)",
+        "IfErr result (λ fault. fault ≢ WashFault.Memory → (at : ℕ) → wash by ≢ at)",
+        "IfErr result (λ fault. (at : ℕ) → fault ≡ WashFault.Other at → IsDirty at)"):
+    prove(REFUSES, clause, "All is said.")
+    pages(f"a clause says why ({clause})", 3)
+for clause in (
+        "IfOk result (λ done. done ≡ by)", "IfErr result (λ fault. fault ≢ WashFault.Other)",
+        "result ≡ Err WashFault.Memory → 0 < by", "OnErr result (by.new ≡ by.old)",
+        "IfErr result (λ fault. (at more : ℕ) → fault ≢ WashFault.Other at more)",
+        "IfErr result (λ fault. fault ≢ WashFault.Write → Keeps by)",
+        "IfErr result (λ fault. (fault ≡ WashFault.Other) ⊎ (fault ≡ WashFault.Memory))"):
+    prove(REFUSES, clause, f"{WHY} `Cup::fill` fails.")
+    pages(f"and where none does, the proof has to say so ({clause})", 2,
+          f"docs/PROOF.md:2: Cup::fill: take it out of the sentence {WHY}, since there is no such "
+          "public function, or nothing for a clause to say",
+          "docs/PROOF.md:2: low::wash: no clause says of every refusal which one it is, and the "
+          f"sentence {WHY} does not name it: {SILENT}")
+    prove(REFUSES, clause, f"{WHY} `wash` fails.")
+    pages(f"by its name ({clause})", 3)
+prove(REFUSES, "IfErr result (IsReason by)", f"{WHY} `wash` fails.")
+pages("and it may not say so where a clause does", 2, "docs/PROOF.md:2: low::wash has a clause on "
+      f"it now: take wash out of the sentence {WHY}")
+holds("another word is refused", house.run(top / "tools/pages.py", "--other").status == 1)
+
+# Edits of the house: one of the gate, of two pairs, and two by hand, one with a control.
+BUGS, MORE = "crates/low/must-fail", "tests/more_edits/low"
+CONTROLS, NEVER = "tests/controls/low", "crates/low/must-fail/never_pours.edit"
+
+
+def edit(*texts, file="src/cup.rt"):
+    """The text of an edit: pairs of an old and a new text."""
+    return f"file: {file}\n" + "".join(
+        f"old: {old}\nnew: {new}\n" for old, new in zip(texts[::2], texts[1::2]))
+
+
+def stale(name, passed, changed, place=None, fault=None):
+    """Whether this fault is found in a house with these edits and files, None where one is gone."""
+    make_house({
+        NEVER: edit("self.pour(by)", "self.pour(0)", "pour(0)", "pour(1)"),
+        f"{MORE}/pours_nothing.edit": edit("        true", "        false"),
+        f"{MORE}/cup_without_level.edit": edit("    level: u16", "    level: u32"),
+        f"{CONTROLS}/pours_nothing.edit": edit("        true", "        !false"),
+        "crates/low/proofs/cup/Cup+pour/returns.antt": ""})
+    remove(top / BUGS / "cup_without_bottom.edit")
+    for path, text in changed.items():
+        remove(top / path)
+        if text is not None:
+            write(path, text)
+    faults = [f"OTHER  {place}", f"       {fault}"] if place else []
+    says(name, "tests/edits.py", bool(place), *faults,
+         f"{passed} passed, {int(bool(place))} failed")
+
+
+stale("edits that fit the code are well", 7, {})
+for name, changed, fault in (
+        ("one whose text is gone is found",
+         {"crates/low/src/cup.rt": CUP.replace("pour(by)", "pour(by + 0)")},
+         "src/cup.rt has this text 0 times, and not once: self.pour(by)"),
+        ("and one whose second text is there twice, after the first pair",
+         {"crates/low/src/cup.rt": f"{CUP}// pour(0)\n"},
+         "src/cup.rt has this text 2 times, and not once: pour(0)"),
+        ("and one that changes a comment alone", {NEVER: edit("Fills the cup", "Fills it")},
+         "it changes no code of src/cup.rt"),
+        ("or spaces", {NEVER: edit("self.pour(by)", "self.pour( by )")},
+         "it changes no code of src/cup.rt"),
+        ("and one of a file that is not there",
+         {NEVER: edit("self.pour(by)", "self.pour(0)", file="src/saucer.rt")},
+         "src/saucer.rt is no file of src/ or specs/ in this crate"),
+        ("or is no code", {NEVER: edit("file", "files", file="must-fail/never_pours.edit")},
+         "must-fail/never_pours.edit is no file of src/ or specs/ in this crate"),
+        *((f"and one that cannot be read ({lines})", {NEVER: f"file: src/cup.rt\n{lines}\n"},
+           "it is not a line 'file: ' and then pairs of lines 'old: ' and 'new: '")
+          for lines in ("new: x", "old: self.pour(by)", "also: x", "", "old:\nnew: x"))):
+    stale(name, 6, changed, NEVER, fault)
+stale("and one with the name of another", 7, {
+    f"{MORE}/never_pours.edit": edit("self.pour(by)", "self.pour(2)")},
+    f"{MORE}/never_pours.edit", "a planted bug of the gate has this name")
+for name, passed, control, place, fault in (
+        ("and one that lacks a control", 5, None, MORE,
+         "pour has a file in proofs/, so a control is needed in tests/controls"),
+        ("and a control of another function", 6, edit("self.pour(by)", "self.pour(by + 0)"), MORE,
+         "its control is not of the same function, pour in src/cup.rt"),
+        ("and a control whose text is gone, once", 6, edit("    false", "    true"), CONTROLS,
+         "src/cup.rt has this text 0 times, and not once:     false")):
+    stale(name, passed, {f"{CONTROLS}/pours_nothing.edit": control}, f"{place}/pours_nothing.edit",
+          fault)
+stale("and a control of no planted bug", 7, {
+    f"{CONTROLS}/pours_all.edit": edit("        true", "        !false")},
+    f"{CONTROLS}/pours_all.edit", "there is no planted bug of this name")
+stale("and a file that nobody tries", 5, {
+    f"{MORE}/cup_without_level.edit": None, f"{MORE}/cup_without_level": "it"}, MORE,
+    "cup_without_level is no edit: nobody tries it")
+stale("and a folder of no crate", 7, {"tests/more_edits/high/it.edit": ""}, "tests/more_edits/high",
+      "crates.txt lists no such crate")
+sys.exit(house.sum_up())
