@@ -66,7 +66,8 @@ for file in ("README.md", "docs/A.md", "docs/B.md", "crates/low/data/job.json",
 (top / "examples").symlink_to("crates/low/data")
 write("CHANGELOG.md", "# Changelog\n\nText.\n\n## 0.10.2, 2026-11-23: a release\n\n"
       "## 2026-11-22: before\n")
-house.bring("release.sh", "tools/launch", "tools/build", "tools/crates.py")
+house.bring("release.sh", "tools/launch", *(
+    f"tools/{it}.py" for it in ("release", "crates", "programs", "running")))
 
 
 def run(*words, at=top, **env):

@@ -210,7 +210,8 @@ write("crates/stab_cli/stdin", "input\n")
 write("crates.txt", "# crates\nlow: itoa\nother:\nmid: low itoa\ntop: other mid\nunused: low\n\n"
       "stab_cli may_wait=4: low top clap\n")
 write("HANDLES", "Handles allowed: none.\n")
-house.bring("stab", "rignolda", "release.sh", "tools/launch", "tools/build", "tools/crates.py")
+house.bring("stab", "rignolda", "release.sh", "tools/launch", *(
+    f"tools/{it}.py" for it in ("release", "crates", "programs", "running")))
 kit("kit-1")
 (work / "without").mkdir()
 for tool in ("bash cat chmod cp dirname env find flock gzip mkdir mktemp mv readlink rm sh "

@@ -1,0 +1,623 @@
+#!/usr/bin/env -S python3 -B
+"""Builds what release/ has, and makes the release. ./release.sh and the launchers start it.
+
+    tools/release.py            makes the files of release/ from the present sources. It takes what
+                                was proved and built of them here, and has the rest built now.
+    tools/release.py --prove    the same, with all of it proved and built from nothing
+    tools/release.py --check    compares release/ with what rt ci has just built, as the gate does.
+                                The last line is 'N passed, M failed'.
+    tools/release.py --archive  packs the release with the pages and the examples for users, as a
+                                file in out/, and its programs as a package for Debian, where
+                                dpkg-deb is here. Both are the same, byte for byte, whoever packs
+                                them, and out/SHA256SUMS has their digests.
+    tools/release.py --run NAME MODE WHY WORD..
+                                builds a program for its launcher, and becomes it
+
+What release/ has is in the table of tools/launch; a program is compressed. The file MANIFEST has
+the line of the kit, and a line for each of these files: its name, the digest of what it holds,
+unpacked if it is a program, and the digest of its sources. The programs of the daemon are made by
+tools/build_daemon --keep, which takes a minute, and stay as they are here; what --check says of
+them is that they and their sources are those of their lines.
+
+A build is over what checks have kept, or by rt ci in a copy of the sources, which takes what it has
+passed before on this machine. Where it begins from nothing, rt ci does not get the crates beside
+which nothing can be proved, since it would not use all processors for them. What was built is kept
+in out/, under names with its digest, that of its sources and the kit. It needs Python 3.8.
+"""
+import contextlib
+import fcntl
+import glob
+import hashlib
+import os
+import re
+import shutil
+import signal
+import stat
+import subprocess
+import sys
+import tempfile
+import time
+import zlib
+from collections import namedtuple
+from pathlib import Path
+
+from crates import below, compiler, kit, listed, read, tasks
+from programs import Cases
+from running import Commands, Interrupted
+
+TOP = Path(__file__).resolve().parent.parent
+RELEASE, KEPT = TOP / "release", TOP / "out"
+LOG = KEPT / "build.log"
+BUILDER = "page/build.sh"
+DAEMON = TOP / "tools/build_daemon"
+# A build during which the sources change is made again, at most so often.
+MAX_BUILDS = 3
+# The modules of tests at the end of a first file.
+TESTS = re.compile(r"^#\[cfg\(test\)\]\nmod ([a-z0-9_]*);\n", re.M)
+TARGET = "x86_64-unknown-linux-gnu"
+
+# What release/ has: its kind, its crate, the digest of its sources, the beginning of the name of
+# what is built of them, and the file that was built, or an empty text.
+Artefact = namedtuple("Artefact", "kind crate sources kept_as built")
+
+
+def digest_of(data):
+    return hashlib.sha256(data).hexdigest()
+
+
+def output(*words, **options):
+    """What a command writes, where it ends well."""
+    return subprocess.run(words, check=True, stdout=subprocess.PIPE, **options).stdout
+
+
+class Release(Commands):
+    """The release and the present sources, and what runs."""
+
+    def __init__(self, speaker, *names):
+        super().__init__()
+        self.speaker, self.names, self.room, self.fresh = speaker, names, None, {}
+        # (the programs of the daemon, where the daemon is here)
+        self.daemon = ("rignoldad", "rignoldactl") if (TOP / "rust/rignoldad").is_dir() else ()
+        self.look()
+
+    def say(self, text):
+        print(f"{self.speaker}: {text}", file=sys.stderr, flush=True)
+
+    def fail(self, text):
+        self.say(text)
+        sys.exit(3)
+
+    def look(self):
+        """Asks tools/launch what is here."""
+        self.artefacts, self.released = {}, {}
+        said = subprocess.run(["bash", "-c", '. "$0/tools/launch"; tell "$@"', TOP, self.speaker,
+                               *self.names], stdout=subprocess.PIPE, text=True)
+        if said.returncode:
+            sys.exit(said.returncode)
+        for line in said.stdout.splitlines():
+            kind, *words = line.split("\t")
+            if kind == "kit":
+                self.kit, self.why, self.released_by, self.daemon_by = words
+            elif kind == "artefact":
+                self.artefacts[words[0]] = Artefact(*words[1:])
+            else:
+                self.released[words[0]] = tuple(words[1:])
+
+    def sources(self):
+        return {name: it.sources for name, it in self.artefacts.items()}
+
+    def file(self, name):
+        """The file of an artefact in release/."""
+        is_program = name in self.daemon or self.artefacts[name].kind == "program"
+        return RELEASE / (f"{name}.gz" if is_program else name)
+
+    def contents(self, name):
+        """What the file of an artefact holds, and whether it is whole and nothing follows it."""
+        file = self.file(name)
+        try:
+            data = file.read_bytes()
+            if file.suffix != ".gz":
+                return data, True
+            reader = zlib.decompressobj(31)
+            return reader.decompress(data), reader.eof and not reader.unused_data
+        except (OSError, zlib.error):
+            return b"", False
+
+    def is_named(self, name):
+        """Whether an artefact of the release is the one that the manifest names."""
+        data, is_whole = self.contents(name)
+        return is_whole and digest_of(data) == self.released.get(name, "?")[0]
+
+    # How it is built.
+
+    def start(self, words, folder, **options):
+        """Starts a command in a folder."""
+        env = {name: value for name, value in os.environ.items() if name != "RT_BACKEND"}
+        return super().start(words, cwd=folder, env=env, stderr=subprocess.STDOUT, **options)
+
+    def does(self, words, folder, **options):
+        """Runs a command in a folder, whose words go to the log, and answers whether it ends well.
+        """
+        with open(LOG, "a", encoding="utf-8") as log:
+            return self.end(self.start(words, folder, stdout=log, **options)) == 0
+
+    def take_lock(self):
+        """Waits until no other script builds in this folder. The lock is free again when this one
+        has ended, however it ends."""
+        try:
+            self.lock = open(KEPT / "lock", "a", encoding="utf-8")
+            fcntl.flock(self.lock, fcntl.LOCK_EX | fcntl.LOCK_NB)
+        except BlockingIOError:
+            self.say("another build runs here: waiting for it")
+            fcntl.flock(self.lock, fcntl.LOCK_EX)
+            self.look()
+        except OSError as fault:
+            # (on a file system without locks only those of rt keep builds apart)
+            if fault.filename:
+                self.fail(f"the file {KEPT}/lock cannot be written")
+
+    def copy_sources(self, to, needed, crates):
+        """Copies what artefacts need to a folder, without the tests in it, which would be proved as
+        well, and moves the last crates beside it."""
+        paths = ["HANDLES"]
+        paths += [BUILDER for it in self.artefacts.values() if it.kind == "module"]
+        for crate in needed:
+            parts = ["src", "specs", "proofs"]
+            if (TOP / f"crates/{crate}/src/main.rt").is_file():
+                parts += ["stdin", "stdout", "args", "status", "data"]
+            paths += [f"crates/{crate}/{part}" for part in parts]
+        for path in paths:
+            (to / path).parent.mkdir(parents=True, exist_ok=True)
+            if (TOP / path).is_dir():
+                shutil.copytree(TOP / path, to / path, symlinks=True)
+            elif (TOP / path).exists() or path == "HANDLES":
+                shutil.copy(TOP / path, to / path)
+        (to / "crates.txt").write_text("".join(
+            f"{crates[it].line}\n" for it in needed if it not in self.last))
+        for file in to.glob("crates/*/src/*.rt"):
+            if file.stem in ("lib", "main"):
+                text = read(file)
+                for module in TESTS.findall(text):
+                    file.with_name(f"{module}.rt").unlink(missing_ok=True)
+                    shutil.rmtree(file.with_name(module), ignore_errors=True)
+                # (the layout is right again without the empty lines that are then at the end)
+                file.write_text(TESTS.sub("", text).rstrip("\n") + "\n")
+        for crate in self.last:
+            shutil.move(to / "crates" / crate, to.parent / crate)
+
+    def tell(self, line):
+        """Writes what rt says to the log, and says how far it is."""
+        self.log.write(line)
+        found = re.match(r"rt: ([a-z0-9_]+) (proved$|is kept:)", line)
+        if found:
+            self.proved += 1
+            how = "proved" if found[2] == "proved" else "proved, as before"
+            self.say(f"{found[1]} is {how}: {self.proved} of {self.needed} crates, after "
+                     f"{int(time.monotonic() - self.begin) // 60} min")
+
+    def find_last(self, needed, crates):
+        """The crates at the end of those that are needed, each of which is over all before it. The
+        lowest of all is not one of them."""
+        last = []
+        for place in range(len(needed) - 1, 0, -1):
+            if not {*needed[:place]} <= {*below(needed[place], crates)}:
+                break
+            last.insert(0, needed[place])
+        return last
+
+    def compile(self, tree, crate, source, to, *words, log=None):
+        """Has the compiler prove and compile a crate over what rt ci has left of the libraries below
+        it: the first file, the file to make, and what else the compiler is to be told."""
+        words = [*compiler("build", crate, source, tree), "-o", str(to), *words]
+        home = f"{tree}/crates/{crate}"
+        return self.does(words, home) if log is None else self.end(
+            self.start(words, home, stdout=log)) == 0
+
+    def prove_last(self, tree, crate):
+        """Proves a crate with all processors, over what rt ci has left of those below it, and builds
+        it if it is a program. It makes the same files as rt ci, and says so in the same words."""
+        out = tree / "crates" / crate / "out"
+        (out / "rlib").mkdir(parents=True, exist_ok=True)
+        # (of more than four processes there is no gain)
+        jobs = str(min(tasks()[0], 4))
+        self.log.flush()
+        if (out.parent / "src/main.rt").is_file():
+            made, home = out / f"{crate}.by-rattle", kit()
+            link = [f"{home}/bin/rattle-link", "--target", TARGET, "--toolchain",
+                    f"{home}/toolchain", "-o", str(made), f"{made}.o", f"{home}/c/libos_c.a",
+                    f"{home}/c/liblibc_c.a"]
+            is_well = self.compile(tree, crate, "src/main.rt", f"{made}.o", "--backend", "rattle",
+                                   "--jobs", jobs) and self.does(link, out)
+        else:
+            is_well = self.compile(tree, crate, "src/lib.rt", out / f"rlib/{crate}.rlib",
+                                   "--statements", "--jobs", jobs)
+        if is_well:
+            self.tell(f"rt: {crate} proved\n")
+        return is_well
+
+    def make_after_ci(self, tree, name):
+        """Makes an artefact in a tree where rt ci has proved its crates, and answers its file, or
+        None. rt ci has made the programs, each by two compilers; those of a release are made by
+        Rattle's own. It makes no file of a library for C."""
+        kind, crate = self.artefacts[name][:2]
+        home = tree / "crates" / crate
+        made = home / "out" / (f"{crate}.by-rattle" if kind == "program" else name)
+        made.parent.mkdir(exist_ok=True)
+        is_well = True
+        if kind != "program":
+            made.unlink(missing_ok=True)
+        if kind == "module":
+            is_well = self.does([f"./{BUILDER}", str(made)], tree)
+        elif kind == "library":
+            # (a check has left the libraries below with stamps, as rt lib takes them)
+            if any((tree / f"crates/{it}/out/rlib/stamp").is_file() for it in below(crate, listed())):
+                made = home / f"out/lib{crate}.a"
+                made.unlink(missing_ok=True)
+                is_well = self.does(["rt", "lib"], home)
+            else:
+                is_well = self.compile(tree, crate, "src/lib.rt", made, "--crate-type", "staticlib",
+                                       "--backend", "llvm", "--jobs", "2")
+        return made if is_well and made.is_file() else None
+
+    def keep(self, name, made):
+        """Keeps a file that was built as a fresh one of an artefact, whole or not at all, and at no
+        time as one that somebody else may write to."""
+        fresh = KEPT / f"new-{name}"
+        try:
+            if fresh.is_symlink() or fresh.exists():
+                fresh.unlink()
+            to = os.open(fresh, os.O_WRONLY | os.O_CREAT | os.O_EXCL, 0o700)
+            with open(made, "rb") as data, open(to, "wb") as to:
+                shutil.copyfileobj(data, to)
+                os.fchmod(to.fileno(), 0o755)
+        except OSError:
+            self.fail(f"{name} cannot be kept in {KEPT}")
+        self.fresh[name] = fresh
+
+    def build_in_copy(self, *words):
+        """Proves and builds the artefacts, as the gate does, in a copy of the sources: each crate
+        once, side by side where they do not depend on each other. Further words are those of rt ci:
+        with --anew it does not get the last crates."""
+        crates, needed = listed(), []
+        for it in self.artefacts.values():
+            below(it.crate, crates, needed)
+        self.needed, self.proved, self.begin = len(needed), 0, time.monotonic()
+        self.last = self.find_last(needed, crates) if words else []
+        self.room = Path(tempfile.mkdtemp())
+        tree = self.room / "tree"
+        try:
+            self.copy_sources(tree, needed, crates)
+        except OSError:
+            self.fail(f"the sources cannot be copied to {self.room}")
+        with open(LOG, "a", encoding="utf-8") as self.log:
+            process = self.start(["rt", "ci", *words], tree, stdout=subprocess.PIPE)
+            for line in process.stdout:
+                self.tell(line)
+            is_well = self.end(process) == 0
+            for crate in self.last if is_well else ():
+                shutil.move(self.room / crate, tree / "crates" / crate)
+                is_well = is_well and self.prove_last(tree, crate)
+        for name in self.artefacts if is_well else ():
+            made = self.make_after_ci(tree, name)
+            if not made:
+                return False
+            self.keep(name, made)
+        self.remove_room()
+        return is_well
+
+    def remove_room(self):
+        if self.room:
+            # (what rt had started ends a moment after it)
+            for _ in range(20):
+                shutil.rmtree(self.room, ignore_errors=True)
+                if not self.room.exists():
+                    break
+                time.sleep(0.1)
+        self.room = None
+
+    def build_over_kept(self, name):
+        """Proves and builds what has changed of an artefact since the last time, crate after crate.
+        """
+        kind, crate = self.artefacts[name][:2]
+        home = TOP / "crates" / crate
+        LOG.write_text("")
+        if kind == "program":
+            words = read(home / "args").splitlines()
+            given = home / "stdin" if (home / "stdin").is_file() else os.devnull
+            with open(given, "rb") as given:
+                self.does(["rt", "run", "--backend", "rattle", *["--"] * bool(words), *words], home,
+                          stdin=given)
+            made = home / "out" / crate
+            # (the status is that of the program, which rt runs once it is built)
+            is_well = re.search("^rt: running ", read(LOG), re.M)
+        elif kind == "library":
+            made, is_well = home / f"out/lib{crate}.a", self.does(["rt", "lib"], home)
+        else:
+            made = KEPT / "module"
+            made.unlink(missing_ok=True)
+            is_well = self.does([f"./{BUILDER}", str(made)], TOP)
+        if not is_well:
+            self.fail(f"{name} was not built, and what rt said is in {LOG}")
+        self.keep(name, made)
+
+    def name_fresh(self):
+        """Gives fresh artefacts their names in out/, and removes what was built of them before."""
+        for name, fresh in self.fresh.items():
+            built = self.artefacts[name].kept_as + digest_of(fresh.read_bytes())
+            try:
+                os.rename(fresh, built)
+            except OSError:
+                self.fail(f"{name} cannot be kept as {built}")
+            for other in glob.glob(f"{glob.escape(str(KEPT))}/{name}-*"):
+                if other != built and re.search("-[0-9a-f]{64}$", other):
+                    os.unlink(other)
+            self.artefacts[name] = self.artefacts[name]._replace(built=built)
+
+    def is_kept_own(self):
+        """Makes the folder of what is kept, if there is none. Answers whether what lies there can
+        only be of this user or of root."""
+        if not KEPT.exists():
+            KEPT.mkdir(mode=0o755)
+            KEPT.chmod(0o755)
+        it = KEPT.lstat()
+        return stat.S_ISDIR(it.st_mode) and it.st_uid in (0, os.geteuid()) and not it.st_mode & 0o022
+
+    def build(self, why, anew):
+        """Proves and builds the artefacts. With `anew` this begins from nothing; else it takes what
+        was built before, and what checks or the gate have kept."""
+        if not shutil.which("rt"):
+            self.fail(f"{why}: the command rt of the Rattle kit is needed to prove and build the "
+                      "program")
+        try:
+            if not self.is_kept_own():
+                self.fail(f"{why}, and nothing is built in {KEPT}:\n    it is not a folder of this "
+                          "user to which nobody else may write; delete it")
+            LOG.write_text("")
+        except OSError:
+            self.fail(f"the file {LOG} cannot be written")
+        self.take_lock()
+        is_over, how = False, "which takes up to half an hour"
+        if anew:
+            how = "from nothing, which takes up to half an hour"
+        elif any((TOP / f"crates/{it.crate}/out/incremental").is_dir()
+                 for it in self.artefacts.values()):
+            is_over, how = True, "over what was kept, which takes minutes"
+        for count in range(MAX_BUILDS):
+            if not anew and all(it.built for it in self.artefacts.values()):
+                return
+            self.say("the sources have changed during the build: building again" if count else
+                     f"{why}: proving and building {' '.join(self.artefacts)} {how}")
+            self.fresh, before = {}, self.sources()
+            if is_over:
+                for name in self.artefacts:
+                    if not self.artefacts[name].built:
+                        self.build_over_kept(name)
+            elif not self.build_in_copy(*["--anew"] * anew):
+                self.fail(f"the program was not built, and what rt said is in {LOG}")
+            self.look()
+            if self.sources() == before:
+                self.name_fresh()
+                return
+        self.fail("the program was not built: the sources keep changing")
+
+    def compare(self, name):
+        """Says how a program that was built from nothing compares with that of the release."""
+        digest, sources = self.released.get(name, ("", ""))
+        if self.why or not digest:
+            self.say(f"nothing was compared: {self.why or f'the release has no {name}'}")
+        elif sources != self.artefacts[name].sources:
+            self.say("nothing was compared: the release was made from other sources")
+        elif self.artefacts[name].built.endswith(digest):
+            self.say("the release is the same program, byte for byte"
+                     if digest_of(self.contents(name)[0]) == digest else
+                     f"MANIFEST names the same program, but {name}.gz beside it is ANOTHER one")
+        elif self.released_by != self.kit:
+            self.say("the release is ANOTHER program of these sources; it was built by "
+                     f"{self.released_by}")
+        else:
+            self.say("the release is ANOTHER program than these sources give, which runs now")
+
+    def become(self, name, mode, why, *words):
+        """Builds a program for its launcher, and starts it in the place of this script, under its own
+        name, as the newest one of out/."""
+        self.build(why, mode == "prove")
+        if mode == "prove":
+            self.compare(name)
+        built = self.artefacts[name].built
+        with contextlib.suppress(OSError):
+            os.utime(built)
+        for it in (signal.SIGPIPE, signal.SIGXFSZ):
+            signal.signal(it, signal.SIG_DFL)
+        os.execv(built, [name, *words])
+
+    # How it is released.
+
+    def make(self, anew):
+        """Makes the files of release/, which are built first if that was not done yet."""
+        if anew or not all(it.built for it in self.artefacts.values()):
+            self.build("a release is to be made", anew)
+        if not self.kit:
+            self.fail("the command rt of the Rattle kit is needed for a release")
+        files, lines = {}, [f"kit {self.kit}"]
+        for name, it in self.artefacts.items():
+            data = Path(it.built).read_bytes()
+            if it.kind == "program":
+                data = output("gzip", "-9n", input=data)
+            files[self.file(name)] = data
+            lines.append(f"{name} sha256 {it.built[-64:]} sources {it.sources}")
+        if self.daemon and not self.why and self.daemon_by:
+            lines.append(self.daemon_by)
+            for name in self.daemon:
+                if not self.file(name).is_file():
+                    self.fail(f"the release has no {name}.gz: run tools/build_daemon --keep")
+                files[self.file(name)] = self.file(name).read_bytes()
+                lines.append("{} sha256 {} sources {}".format(name, *self.released[name]))
+        # (what is no more of a release goes)
+        files[RELEASE / "MANIFEST"] = "".join(f"{line}\n" for line in lines).encode()
+        shutil.rmtree(RELEASE, ignore_errors=True)
+        RELEASE.mkdir(exist_ok=True)
+        for file, data in files.items():
+            file.write_bytes(data)
+        # (the package of the crate for Rust has the archive of its target inside)
+        if (TOP / "rust/rignolda").is_dir() and (RELEASE / "librignolda.a").is_file():
+            (TOP / "rust/rignolda/lib").mkdir(exist_ok=True)
+            shutil.copy(RELEASE / "librignolda.a", TOP / "rust/rignolda/lib/x86_64-linux.a")
+        self.say(f"release/ has what these sources give ({' '.join(self.artefacts)}); commit all of "
+                 "it")
+        if self.daemon:
+            self.say("the daemon has this library inside: where that differs, run "
+                     "tools/build_daemon --keep")
+
+    def sources_of_daemon(self):
+        return output(DAEMON, "--sources", text=True).strip() if self.daemon else ""
+
+    def cases(self):
+        """Compares the release with what was just proved and built of the present sources: each case
+        with whether it holds, and what is wrong if it does not."""
+        wanted = {RELEASE / "MANIFEST", *map(self.file, [*self.artefacts, *self.daemon])}
+        yield ("release/ has its files", {*RELEASE.glob("*")} == wanted
+               and all(it.is_file() and not it.is_symlink() for it in wanted),
+               f"it has not exactly MANIFEST and a file for {' '.join(self.artefacts)}")
+        yield ("the manifest is one", {*self.released} == {*self.artefacts, *self.daemon},
+               f"{RELEASE}/MANIFEST is missing or spoiled, or lists other files")
+        yield ("it names this kit", self.released_by == self.kit,
+               f"the release was built by another kit: {self.released_by}")
+        sources = {**self.sources(), **dict.fromkeys(self.daemon, self.sources_of_daemon())}
+        for name in [*self.artefacts, *self.daemon]:
+            yield (f"{name}: the manifest names these sources",
+                   self.released.get(name, "??")[1] == sources[name],
+                   "run tools/build_daemon --keep" if name in self.daemon else
+                   "the release was made from other sources")
+            yield (f"{name}: the manifest names the file beside it", self.is_named(name),
+                   "it is another one, or spoiled")
+            if name in self.daemon:
+                continue
+            made = self.make_after_ci(TOP, name)
+            data = self.contents(name)[0]
+            yield (f"{name}: the file is what was just built, byte for byte",
+                   made and data == made.read_bytes(),
+                   f"it differs, or that was not built: see {LOG}")
+            if self.artefacts[name].kind == "module":
+                with tempfile.NamedTemporaryFile() as file:
+                    file.write(data)
+                    file.flush()
+                    is_in_page = data and self.does([f"./{BUILDER}", "--compare", file.name], TOP)
+                yield f"{name}: page/index.html has it", is_in_page, f"run ./{BUILDER}"
+
+    def check(self):
+        try:
+            self.is_kept_own()
+            LOG.write_text("")
+        except OSError:
+            self.fail(f"the file {LOG} cannot be written")
+        cases = Cases()
+        for case in self.cases():
+            cases.holds(*case)
+        if cases.failed:
+            print("release: run ./release.sh and commit what it makes\n"
+                  "release: where it makes the same again, run ./release.sh --prove")
+        return cases.sum_up()
+
+    def pack(self, to):
+        """Puts the artefacts of the release into the folder of an archive, and then the pages, the
+        examples and what else is for users: the sources of agents and of the Rust crate too, which
+        take the library from lib/ there."""
+        sources = {**self.sources(), **dict.fromkeys(self.daemon, self.sources_of_daemon())}
+        for name in sources:
+            if self.released.get(name, "??")[1] != sources[name]:
+                made_by = "tools/build_daemon --keep" if name in self.daemon else "./release.sh"
+                self.fail(f"the release of {name} was made from other sources: run {made_by} first")
+            if not self.is_named(name):
+                self.fail(f"the release is spoiled: its {name} is not the one that its MANIFEST "
+                          "names")
+            is_program = self.file(name).suffix == ".gz"
+            folder = "" if is_program else "lib/" if name.endswith(".a") else "page/"
+            file = to / folder / name
+            file.parent.mkdir(parents=True, exist_ok=True)
+            file.write_bytes(self.contents(name)[0])
+            file.chmod(0o755 if is_program else 0o644)
+        # (what was built there by hand stays)
+        ignore = shutil.ignore_patterns("__pycache__", "out", "target")
+        for part in ("README.md CHANGELOG.md examples LICENSE Makefile docs man completions include "
+                     "agents rust/rignolda rust/rignoldad/Cargo.toml rust/rignoldad/packaging "
+                     "page/index.html").split():
+            if (TOP / part).is_dir():
+                shutil.copytree(TOP / part, to / part, ignore=ignore, dirs_exist_ok=True)
+            elif (TOP / part).exists():
+                (to / part).parent.mkdir(parents=True, exist_ok=True)
+                shutil.copy(TOP / part, to / part)
+        if (TOP / "tools/pages.py").exists():
+            output(TOP / "tools/pages.py", to / "docs/CLAIMS.md")
+
+    def package(self, folder, version, day):
+        """Makes the package for Debian, from the folder of an archive, and answers its name."""
+        maker = folder / "rust/rignoldad/packaging/make_deb"
+        if not os.access(maker, os.X_OK) or not shutil.which("dpkg-deb"):
+            self.say("no package for Debian is made: there is no daemon or no dpkg-deb")
+            return []
+        name = f"rignoldad_{version}_amd64.deb"
+        second = output("date", "-u", "-d", day, "+%s", text=True).strip()
+        output(maker, folder, version, "amd64", KEPT / name, env={
+            **os.environ, "SOURCE_DATE_EPOCH": second, "DPKG_DEB_COMPRESSOR_TYPE": "xz",
+            "DPKG_DEB_COMPRESSOR_LEVEL": "6", "DPKG_DEB_THREADS_MAX": "1"})
+        self.say(f"{KEPT}/{name}")
+        return [name]
+
+    def archive(self):
+        """Packs the release. Its version is at the top of CHANGELOG.md, with the day, and that of the
+        crates for Rust is the same."""
+        if self.why:
+            self.fail(f"{self.why}: run ./release.sh first")
+        heading = re.search("^## .*$", read(TOP / "CHANGELOG.md"), re.M)
+        found = heading and re.fullmatch(
+            r"## ([0-9]+(?:\.[0-9]+){2}), ([0-9]{4}(?:-[0-9]{2}){2})(?:[,:].*)?", heading[0])
+        if not found:
+            self.fail("the first heading of CHANGELOG.md has no version and date")
+        version, day = found.groups()
+        for part in ("rignolda", "rignoldad"):
+            own = re.search('^version = "(.*)"$', read(TOP / f"rust/{part}/Cargo.toml"), re.M)
+            if own and own[1] != version:
+                self.fail(f"CHANGELOG.md has the version {version}, and the crate {part} for Rust "
+                          f"{own[1]}")
+        self.is_kept_own()
+        self.room = Path(tempfile.mkdtemp())
+        folder = self.room / f"rignolda-{version}-x86_64-linux"
+        folder.mkdir()
+        self.pack(folder)
+        files = sorted(str(it.relative_to(folder)) for it in folder.rglob("*") if it.is_file())
+        (folder / "SHA256SUMS").write_text(
+            "".join(f"{digest_of((folder / it).read_bytes())}  {it}\n" for it in files))
+        names = [f"{folder.name}.tar.xz"]
+        output("tar", "-C", self.room, "--format=ustar", "--sort=name", f"--mtime={day} 00:00:00Z",
+               "--owner=0", "--group=0", "--numeric-owner", "--mode=u=rwX,go=rX", "-cf",
+               self.room / "tar", folder.name, env={**os.environ, "LC_ALL": "C"})
+        (KEPT / names[0]).write_bytes(output("xz", "-T1", "-c", self.room / "tar"))
+        self.say(f"{KEPT}/{names[0]}")
+        names += self.package(folder, version, day)
+        sums = "".join(f"{digest_of((KEPT / it).read_bytes())}  {it}\n" for it in names)
+        (KEPT / "SHA256SUMS").write_text(sums)
+        print(sums, end="")
+
+
+def main(words):
+    runs = words[:1] == ["--run"] and len(words) > 3
+    does = {(): lambda it: it.make(False), ("--prove",): lambda it: it.make(True),
+            ("--check",): Release.check, ("--archive",): Release.archive}
+    if not runs and tuple(words) not in does:
+        print("release: it takes one of --prove, --check and --archive, or nothing", file=sys.stderr)
+        return 2
+    release = Release(words[1], words[1]) if runs else Release("release")
+    try:
+        return release.become(*words[1:]) if runs else does[tuple(words)](release)
+    except Interrupted:
+        release.end_all()
+        release.say("interrupted: nothing was built")
+    except (OSError, subprocess.CalledProcessError) as fault:
+        release.fail(str(fault))
+    finally:
+        release.remove_room()
+    release.end_as_interrupted()
+
+
+if __name__ == "__main__":
+    sys.exit(main(sys.argv[1:]))
