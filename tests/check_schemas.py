@@ -74,7 +74,7 @@ def kind_of(job):
 
 
 def cases():
-    """Compares the answer of a schema with what is expected, job by job: each with what is wrong, or
+    """Compares the answer of a schema with what is expected, job by job: each with its fault, or
     None."""
     from jsonschema import Draft7Validator
     schemas = {}

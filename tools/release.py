@@ -103,8 +103,12 @@ class Release(Commands):
             else:
                 self.released[words[0]] = tuple(words[1:])
 
-    def sources(self):
-        return {name: it.sources for name, it in self.artefacts.items()}
+    def sources(self, *more):
+        """The digest of the sources of each artefact, and of these programs of the daemon."""
+        found = {name: it.sources for name, it in self.artefacts.items()}
+        if more:
+            found.update(dict.fromkeys(more, output(DAEMON, "--sources", text=True).strip()))
+        return found
 
     def file(self, name):
         """The file of an artefact in release/."""
@@ -205,17 +209,15 @@ class Release(Commands):
             last.insert(0, needed[place])
         return last
 
-    def compile(self, tree, crate, source, to, *words, log=None):
-        """Has the compiler prove and compile a crate over what rt ci has left of the libraries below
-        it: the first file, the file to make, and what else the compiler is to be told."""
+    def compile(self, tree, crate, source, to, *words):
+        """Has the compiler prove and compile a crate over what rt ci has left of the libraries
+        below it: the first file, the file to make, and what else the compiler is to be told."""
         words = [*compiler("build", crate, source, tree), "-o", str(to), *words]
-        home = f"{tree}/crates/{crate}"
-        return self.does(words, home) if log is None else self.end(
-            self.start(words, home, stdout=log)) == 0
+        return self.does(words, f"{tree}/crates/{crate}")
 
     def prove_last(self, tree, crate):
-        """Proves a crate with all processors, over what rt ci has left of those below it, and builds
-        it if it is a program. It makes the same files as rt ci, and says so in the same words."""
+        """Proves a crate with all processors, over what rt ci has left of those below it, and
+        builds it if it is a program. It makes the same files as rt ci, and says so in its words."""
         out = tree / "crates" / crate / "out"
         (out / "rlib").mkdir(parents=True, exist_ok=True)
         # (of more than four processes there is no gain)
@@ -250,7 +252,8 @@ class Release(Commands):
             is_well = self.does([f"./{BUILDER}", str(made)], tree)
         elif kind == "library":
             # (a check has left the libraries below with stamps, as rt lib takes them)
-            if any((tree / f"crates/{it}/out/rlib/stamp").is_file() for it in below(crate, listed())):
+            if any((tree / f"crates/{it}/out/rlib/stamp").is_file()
+                   for it in below(crate, listed())):
                 made = home / f"out/lib{crate}.a"
                 made.unlink(missing_ok=True)
                 is_well = self.does(["rt", "lib"], home)
@@ -263,15 +266,12 @@ class Release(Commands):
         """Keeps a file that was built as a fresh one of an artefact, whole or not at all, and at no
         time as one that somebody else may write to."""
         fresh = KEPT / f"new-{name}"
-        try:
-            if fresh.is_symlink() or fresh.exists():
-                fresh.unlink()
-            to = os.open(fresh, os.O_WRONLY | os.O_CREAT | os.O_EXCL, 0o700)
-            with open(made, "rb") as data, open(to, "wb") as to:
-                shutil.copyfileobj(data, to)
-                os.fchmod(to.fileno(), 0o755)
-        except OSError:
-            self.fail(f"{name} cannot be kept in {KEPT}")
+        with contextlib.suppress(FileNotFoundError):
+            fresh.unlink()
+        to = os.open(fresh, os.O_WRONLY | os.O_CREAT | os.O_EXCL, 0o700)
+        with open(made, "rb") as data, open(to, "wb") as to:
+            shutil.copyfileobj(data, to)
+            os.fchmod(to.fileno(), 0o755)
         self.fresh[name] = fresh
 
     def build_in_copy(self, *words):
@@ -285,10 +285,7 @@ class Release(Commands):
         self.last = self.find_last(needed, crates) if words else []
         self.room = Path(tempfile.mkdtemp())
         tree = self.room / "tree"
-        try:
-            self.copy_sources(tree, needed, crates)
-        except OSError:
-            self.fail(f"the sources cannot be copied to {self.room}")
+        self.copy_sources(tree, needed, crates)
         with open(LOG, "a", encoding="utf-8") as self.log:
             process = self.start(["rt", "ci", *words], tree, stdout=subprocess.PIPE)
             for line in process.stdout:
@@ -360,7 +357,8 @@ class Release(Commands):
             KEPT.mkdir(mode=0o755)
             KEPT.chmod(0o755)
         it = KEPT.lstat()
-        return stat.S_ISDIR(it.st_mode) and it.st_uid in (0, os.geteuid()) and not it.st_mode & 0o022
+        return (stat.S_ISDIR(it.st_mode) and it.st_uid in (0, os.geteuid())
+                and not it.st_mode & 0o022)
 
     def build(self, why, anew):
         """Proves and builds the artefacts. With `anew` this begins from nothing; else it takes what
@@ -418,8 +416,8 @@ class Release(Commands):
             self.say("the release is ANOTHER program than these sources give, which runs now")
 
     def become(self, name, mode, why, *words):
-        """Builds a program for its launcher, and starts it in the place of this script, under its own
-        name, as the newest one of out/."""
+        """Builds a program for its launcher, and starts it in the place of this script, under its
+        own name, as the newest one of out/."""
         self.build(why, mode == "prove")
         if mode == "prove":
             self.compare(name)
@@ -462,18 +460,15 @@ class Release(Commands):
         if (TOP / "rust/rignolda").is_dir() and (RELEASE / "librignolda.a").is_file():
             (TOP / "rust/rignolda/lib").mkdir(exist_ok=True)
             shutil.copy(RELEASE / "librignolda.a", TOP / "rust/rignolda/lib/x86_64-linux.a")
-        self.say(f"release/ has what these sources give ({' '.join(self.artefacts)}); commit all of "
-                 "it")
+        names = " ".join(self.artefacts)
+        self.say(f"release/ has what these sources give ({names}); commit all of it")
         if self.daemon:
             self.say("the daemon has this library inside: where that differs, run "
                      "tools/build_daemon --keep")
 
-    def sources_of_daemon(self):
-        return output(DAEMON, "--sources", text=True).strip() if self.daemon else ""
-
     def cases(self):
-        """Compares the release with what was just proved and built of the present sources: each case
-        with whether it holds, and what is wrong if it does not."""
+        """Compares the release with what was just proved and built of the present sources: each
+        case with whether it holds, and what is wrong if it does not."""
         wanted = {RELEASE / "MANIFEST", *map(self.file, [*self.artefacts, *self.daemon])}
         yield ("release/ has its files", {*RELEASE.glob("*")} == wanted
                and all(it.is_file() and not it.is_symlink() for it in wanted),
@@ -482,8 +477,8 @@ class Release(Commands):
                f"{RELEASE}/MANIFEST is missing or spoiled, or lists other files")
         yield ("it names this kit", self.released_by == self.kit,
                f"the release was built by another kit: {self.released_by}")
-        sources = {**self.sources(), **dict.fromkeys(self.daemon, self.sources_of_daemon())}
-        for name in [*self.artefacts, *self.daemon]:
+        sources = self.sources(*self.daemon)
+        for name in sources:
             yield (f"{name}: the manifest names these sources",
                    self.released.get(name, "??")[1] == sources[name],
                    "run tools/build_daemon --keep" if name in self.daemon else
@@ -522,7 +517,7 @@ class Release(Commands):
         """Puts the artefacts of the release into the folder of an archive, and then the pages, the
         examples and what else is for users: the sources of agents and of the Rust crate too, which
         take the library from lib/ there."""
-        sources = {**self.sources(), **dict.fromkeys(self.daemon, self.sources_of_daemon())}
+        sources = self.sources(*self.daemon)
         for name in sources:
             if self.released.get(name, "??")[1] != sources[name]:
                 made_by = "tools/build_daemon --keep" if name in self.daemon else "./release.sh"
@@ -538,9 +533,9 @@ class Release(Commands):
             file.chmod(0o755 if is_program else 0o644)
         # (what was built there by hand stays)
         ignore = shutil.ignore_patterns("__pycache__", "out", "target")
-        for part in ("README.md CHANGELOG.md examples LICENSE Makefile docs man completions include "
-                     "agents rust/rignolda rust/rignoldad/Cargo.toml rust/rignoldad/packaging "
-                     "page/index.html").split():
+        for part in ("README.md CHANGELOG.md examples LICENSE Makefile docs man completions "
+                     "include agents rust/rignolda rust/rignoldad/Cargo.toml "
+                     "rust/rignoldad/packaging page/index.html").split():
             if (TOP / part).is_dir():
                 shutil.copytree(TOP / part, to / part, ignore=ignore, dirs_exist_ok=True)
             elif (TOP / part).exists():
@@ -564,8 +559,8 @@ class Release(Commands):
         return [name]
 
     def archive(self):
-        """Packs the release. Its version is at the top of CHANGELOG.md, with the day, and that of the
-        crates for Rust is the same."""
+        """Packs the release. Its version is at the top of CHANGELOG.md, with the day, and that of
+        the crates for Rust is the same."""
         if self.why:
             self.fail(f"{self.why}: run ./release.sh first")
         heading = re.search("^## .*$", read(TOP / "CHANGELOG.md"), re.M)
@@ -604,7 +599,7 @@ def main(words):
     does = {(): lambda it: it.make(False), ("--prove",): lambda it: it.make(True),
             ("--check",): Release.check, ("--archive",): Release.archive}
     if not runs and tuple(words) not in does:
-        print("release: it takes one of --prove, --check and --archive, or nothing", file=sys.stderr)
+        sys.stderr.write("release: it takes one of --prove, --check and --archive, or nothing\n")
         return 2
     release = Release(words[1], words[1]) if runs else Release("release")
     try:
