@@ -3,7 +3,8 @@
 
 Makes the jobs in bench/build/ (the same bytes each time), runs each job five times, and prints the
 median of the processor time, the events per second and the peak memory. Nothing is subtracted: a
-time is that of the whole process. Run it by hand; the gate does not. Needs Python 3.9 or later.
+time is that of the whole process. Run it by hand; the gate does not. Needs Python 3.9 or later,
+and the kit, whose clang builds tests/hostile/measure.c.
 Without --stab it measures the program of ./stab, which builds it if that was not done yet for these
 sources.
 """
@@ -12,15 +13,15 @@ import json
 import os
 import random
 import statistics
-import subprocess
 import sys
 import time
 
 HERE = os.path.dirname(os.path.abspath(__file__))
 BUILD = os.path.join(HERE, "build")
+TOP = os.path.dirname(HERE)
 sys.dont_write_bytecode = True
-sys.path.insert(0, os.path.join(os.path.dirname(HERE), "tools"))
-from programs import built  # noqa: E402
+sys.path[:0] = [os.path.join(TOP, "tools"), os.path.join(TOP, "tests", "hostile")]
+from largest import build_measure, built, run  # noqa: E402
 
 RUNS = 5
 MAX_TREE_STEPS = 900_000  # more do not fit a file of 16,777,216 bytes
@@ -114,30 +115,6 @@ def path_of(words, name, count, job):
     return path
 
 
-def high_water(pid):
-    """The peak memory of a process so far in kilobytes, 0 where it has ended."""
-    try:
-        with open(f"/proc/{pid}/status", encoding="ascii") as status:
-            return next((int(line.split()[1]) for line in status if line.startswith("VmHWM")), 0)
-    except OSError:
-        return 0
-
-
-def run(program, words, path):
-    """Processor seconds and peak kilobytes of one run, or None if the program refuses. The kernel
-    is asked for the peak while the program runs, since the peak that `wait4` reports includes this
-    interpreter's own; the peak of a very short run is missed."""
-    quiet = {"stdout": subprocess.DEVNULL, "stderr": subprocess.DEVNULL}
-    child = subprocess.Popen([program, *words, path], **quiet)
-    peak = 0
-    while True:
-        pid, status, usage = os.wait4(child.pid, os.WNOHANG)
-        if pid:
-            return (usage.ru_utime + usage.ru_stime, peak) if status == 0 else None
-        peak = max(peak, high_water(child.pid))
-        time.sleep(0.0002)
-
-
 def main():
     parser = argparse.ArgumentParser(description=__doc__.splitlines()[0])
     parser.add_argument("--stab", metavar="PROGRAM", help="measure it, not the program of ./stab")
@@ -147,19 +124,21 @@ def main():
     program = options.stab or built("stab", BUILD)
     if not os.access(program, os.X_OK):
         sys.exit(f"there is no program at {program}")
+    measure = build_measure()
     load = os.getloadavg()[0]
     print(f"{time.strftime('%Y-%m-%d')}, {os.cpu_count()} processors, load {load:.1f}")
     print(f"{'job':24} {'events':>9} {'MB':>6} {'ms':>8} {'events/s':>11} {'peak MB':>8}")
     for words, name, count, job in jobs(options.quick):
         path = path_of(words, name, count, job)
-        found = [one for one in (run(program, words, path) for _ in range(RUNS)) if one]
+        runs = [run(measure, program, words, path) for _ in range(RUNS)]
+        found = [(processor, peak) for _, processor, peak, status, _ in runs if status == 0]
         if not found:
             print(f"{name:24} {count:9} refused")
             continue
         seconds, peak = statistics.median(one[0] for one in found), max(one[1] for one in found)
         rate = f"{count / seconds:11.0f}" if seconds and count else f"{'-':>11}"
         megabytes = os.path.getsize(path) / 1e6
-        times = f"{seconds * 1000:8.1f} {rate} {peak / 1024:8.1f}"
+        times = f"{seconds * 1000:8.1f} {rate} {peak / 2**20:8.1f}"
         print(f"{name:24} {count:9} {megabytes:6.2f} {times}")
 
 

@@ -29,7 +29,6 @@ MAX_NODES = 64
 MAX_HELD = 64
 MAX_ACTS = 100_000
 MAX_TURNS = 1_000_000
-MAX_LEVELS = 127
 
 TEXT = None  # what is expected of a job that is accepted
 
@@ -210,6 +209,7 @@ def build_measure():
     of_kit = lambda names: [os.path.join(kit, "lib", name) for name in names.split()]
     flags = "-O2 -Wall -Wextra -Werror -ffreestanding -fPIE -pie -nostdlib -fuse-ld=lld".split()
     made, loader = os.path.join(BUILD, "measure"), "/lib64/ld-linux-x86-64.so.2"
+    os.makedirs(BUILD, exist_ok=True)
     subprocess.run(
         [os.path.join(kit, "bin", "clang"), *flags, f"-Wl,--dynamic-linker={loader}",
          *of_kit("Scrt1.o crti.o"), os.path.join(HERE, "measure.c"),
@@ -238,7 +238,6 @@ def main():
     parser.add_argument("--stab", metavar="PROGRAM", help="measure it, not the program of ./stab")
     parser.add_argument("--runs", action="store_true", help="also runs of 64 nodes to their end")
     given = parser.parse_args()
-    os.makedirs(BUILD, exist_ok=True)
     program = os.path.abspath(given.stab or built("stab", BUILD))
     measure = build_measure()
     passed = failed = 0
