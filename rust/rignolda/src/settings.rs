@@ -201,8 +201,13 @@ pub struct Table {
     pub strays: u64,
     /// How often a number was left out before a body that is no whole table.
     pub gaps: u64,
+    /// Whether the last whole table was that of a round, or the first one since something was
+    /// missing: then all files are to be looked at. Others come between rounds.
+    pub looks: bool,
     /// Whether the harmless items of a round that is older came last.
     old_round: bool,
+    /// Whether harmless items came since the last whole table.
+    in_a_round: bool,
 }
 
 impl Table {
@@ -213,6 +218,7 @@ impl Table {
     /// that is wrong, or the root's clock was set back: then that table is taken.
     pub fn takes(&mut self, sequence: u64, meaning: &Meaning<'_>) -> bool {
         let is_table = matches!(meaning, Meaning::Table(_));
+        self.in_a_round |= *meaning == Meaning::Harmless;
         let fresh = sequence > self.sequence;
         if !(fresh || is_table && self.old_round) {
             self.strays += 1;
@@ -230,6 +236,7 @@ impl Table {
         match meaning {
             Meaning::Table(entries) => {
                 self.round = sequence;
+                self.looks = std::mem::take(&mut self.in_a_round) || !self.whole;
                 self.whole = true;
                 self.keys = entries.iter().map(|(key, _)| (*key).to_owned()).collect();
             }

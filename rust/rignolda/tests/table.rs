@@ -35,6 +35,33 @@ fn newer_ones_are_taken_and_older_ones_are_strays() {
 }
 
 #[test]
+fn all_files_are_looked_at_when_a_round_comes_and_after_a_gap() {
+    let mut table = Table::default();
+    let mut looks = |sequence, meaning: &Meaning<'_>| {
+        assert!(table.takes(sequence, meaning));
+        table.looks
+    };
+    // (nothing is known of what is there at first)
+    assert!(looks(7, &TABLE));
+    looks(8, &CHANGE);
+    assert!(!looks(9, &TABLE));
+    looks(10, &Meaning::Harmless);
+    looks(11, &CHANGE);
+    assert!(looks(12, &TABLE));
+    assert!(!looks(13, &TABLE));
+    looks(15, &CHANGE);
+    assert!(looks(16, &TABLE) && !looks(17, &TABLE));
+}
+
+#[test]
+fn an_older_round_is_one_too() {
+    let mut table = Table::default();
+    assert!(table.takes(7, &TABLE) && table.takes(100, &TABLE) && !table.looks);
+    assert!(!table.takes(20, &Meaning::Harmless));
+    assert!(table.takes(21, &TABLE) && table.looks);
+}
+
+#[test]
 fn it_is_whole_from_its_first_table_on() {
     let mut table = Table::default();
     assert!(table.takes(3, &CHANGE) && !table.whole);

@@ -74,6 +74,7 @@ pub struct Agent {
 }
 
 /// What came, and what became of it.
+#[derive(Default)]
 struct State {
     is_root: bool,
     table: Table,
@@ -81,7 +82,7 @@ struct State {
     below: Below,
     received: u64,
     garbage: u64,
-    round_at: Instant,
+    round_at: Option<Instant>,
     /// Whether there is something new to say upwards.
     changed: bool,
     /// Whether files are being applied.
@@ -184,9 +185,10 @@ impl Handler for State {
             return false;
         };
         let takes = self.table.takes(sequence, &meaning);
+        let is_table = matches!(meaning, Meaning::Table(_));
         // (before a line is written, so that the files wait for nothing)
         if let (true, Some(applier)) = (takes, &mut self.applier) {
-            applier.take(&meaning, sequence);
+            applier.take(&meaning, sequence, is_table && self.table.looks);
             self.applying = true;
         }
         if self.traces {
@@ -197,9 +199,8 @@ impl Handler for State {
             fact!("stray", "{sequence}");
             return false;
         }
-        let is_table = matches!(meaning, Meaning::Table(_));
         if is_table {
-            self.round_at = now;
+            self.round_at = Some(now);
         }
         is_table
     }
@@ -260,15 +261,11 @@ impl Agent {
             root: config.root.as_ref().map(|root| Root::new(root, now)),
             state: State {
                 is_root: config.root.is_some(),
-                table: Table::default(),
                 applier: applier.transpose()?,
-                below: Below::default(),
-                received: 0,
-                garbage: 0,
-                round_at: now,
+                round_at: Some(now),
                 changed: true,
-                applying: false,
                 traces: std::env::var_os("RIGNOLDA_TRACE").is_some(),
+                ..State::default()
             },
             control: control.transpose()?,
             metrics: metrics.transpose()?,
@@ -490,7 +487,7 @@ impl Agent {
             sequence: table.sequence,
             applied: applier.as_ref().map_or(table.sequence, |it| it.applied(table.sequence)),
             round: table.round,
-            round_age: millis(self.state.round_at),
+            round_age: self.state.round_at.map_or(0, millis),
             whole: table.whole,
             settings: table.keys.len() as u64,
             draining: self.root.as_ref().is_some_and(|root| root.draining),

@@ -60,8 +60,9 @@ struct Shared {
 #[derive(Default)]
 struct State {
     config: Apply,
-    /// What waits for its file.
+    /// What waits for its file, and whether all files are to be looked at.
     files: Waiting,
+    looks: bool,
     /// The first sequence number of what the thread for files has in hand.
     writing: Option<u64>,
     /// The key whose file is being written.
@@ -101,9 +102,11 @@ impl Applier {
         self.shared.lock().config = config.clone();
     }
 
-    /// Makes the files what this body says.
-    pub fn take(&mut self, meaning: &Meaning<'_>, sequence: u64) {
-        self.shared.lock().files.take(sequence, meaning);
+    /// Makes the files what this body says; where it `looks`, whatever was done to them.
+    pub fn take(&mut self, meaning: &Meaning<'_>, sequence: u64, looks: bool) {
+        let mut state = self.shared.lock();
+        state.files.take(sequence, meaning);
+        state.looks |= looks;
         self.shared.files.notify_one();
     }
 
@@ -170,10 +173,6 @@ impl Shared {
         };
         state.done.push(Applied { key: key.into(), sequence, status });
     }
-
-    fn pending(&self, key: &str) -> PathBuf {
-        self.folder.join(PENDING).join(key)
-    }
 }
 
 /// The thread that keeps the files.
@@ -182,17 +181,23 @@ fn keep_files(shared: &Shared) {
         state.writing = state.files.first();
         state.writing?;
         let (files, due) = (std::mem::take(&mut state.files), std::mem::take(&mut state.due));
-        Some((files, due, state.config.clone()))
+        let looks = std::mem::take(&mut state.looks) || !files.is_whole();
+        Some((files, due, looks, state.config.clone()))
     };
     let mut folder = Folder::new(shared.folder.clone());
-    while let Some((mut files, mut due, config)) = shared.next(&shared.files, take) {
+    while let Some((mut files, mut due, looks, config)) = shared.next(&shared.files, take) {
         if files.is_whole() {
             // (another folder is no setting, and may be somebody's)
-            files.unset_others(folder.names().into_iter().chain(due.iter().cloned()));
+            let there = if looks { folder.names() } else { folder.keys() };
+            files.unset_others(there.into_iter().chain(due.iter().cloned()));
         }
         for (key, change) in files.in_order() {
-            let was_due = due.remove(&key);
-            keep_file(shared, &mut folder, &config, &key, change, was_due);
+            let (value, was_due) = (change.value.as_deref(), due.remove(&key));
+            let had = !looks && value.is_some_and(|value| folder.had(&key, value));
+            let differs = !had && folder.differs(&key, value, config.mode);
+            if differs || was_due {
+                keep_file(shared, &mut folder, &config, &key, change, differs);
+            }
         }
         let mut state = shared.lock();
         state.due.append(&mut due);
@@ -200,24 +205,19 @@ fn keep_files(shared: &Shared) {
     }
 }
 
-/// Makes one file what it should be, and lets its hook wait if it changed or is due.
+/// Makes one file what it should be, where it differs, and lets its hook wait.
 fn keep_file(
     shared: &Shared,
     folder: &mut Folder,
     config: &Apply,
     key: &str,
     change: Change,
-    was_due: bool,
+    differs: bool,
 ) {
-    let value = change.value.as_deref();
-    let differs = folder.differs(key, value, config.mode);
-    if !differs && !was_due {
-        return;
-    }
     shared.lock().key = Some(key.into());
     let kept = if differs {
         let announced = config.hook.as_ref().map_or(Ok(()), |_| announce(shared, key));
-        announced.and_then(|()| folder.put(key, value, config.mode))
+        announced.and_then(|()| folder.put(key, change.value.as_deref(), config.mode))
     } else {
         Ok(())
     };
@@ -245,7 +245,7 @@ fn announce(shared: &Shared, key: &str) -> io::Result<()> {
         remove(&folder)?;
         fs::create_dir_all(&folder)?;
     }
-    let path = shared.pending(key);
+    let path = folder.join(key);
     if !path.is_file() {
         remove(&path)?;
         File::create(&path)?;
@@ -261,17 +261,14 @@ fn run_hooks(shared: &Shared) {
         Some((key, change, state.config.clone()))
     };
     while let Some((key, change, config)) = shared.next(&shared.hooks, take) {
-        let status = match &config.hook {
-            Some(hook) => run_hook(&shared.folder, hook, &config, &key, &change),
-            None => Ok(()),
-        };
+        let status = run_hook(&shared.folder, &config, &key, &change);
         let mut state = shared.lock();
         state.running = None;
         let outcome = match status {
             Ok(()) => {
                 let again = state.hooks.has(&key) || state.key.as_ref() == Some(&key);
                 if !again {
-                    let _ = fs::remove_file(shared.pending(&key));
+                    let _ = fs::remove_file(shared.folder.join(PENDING).join(&key));
                 }
                 Outcome::Done
             }
@@ -287,13 +284,8 @@ fn run_hooks(shared: &Shared) {
 }
 
 /// Runs the hook of a change to its end, or until its time is up.
-fn run_hook(
-    folder: &Path,
-    hook: &Path,
-    config: &Apply,
-    key: &str,
-    change: &Change,
-) -> Result<(), String> {
+fn run_hook(folder: &Path, config: &Apply, key: &str, change: &Change) -> Result<(), String> {
+    let Some(hook) = &config.hook else { return Ok(()) };
     // (a file and not a pipe, since a hook need not read it)
     let input = match change.value.as_deref() {
         None => Stdio::null(),

@@ -76,16 +76,16 @@ trait Bodies {
 
 impl Bodies for Applier {
     fn set(&mut self, key: &str, value: &[u8], sequence: u64) {
-        self.take(&Meaning::Changes(vec![(key, Some(value))]), sequence);
+        self.take(&Meaning::Changes(vec![(key, Some(value))]), sequence, false);
     }
 
     fn unset(&mut self, key: &str, sequence: u64) {
-        self.take(&Meaning::Changes(vec![(key, None)]), sequence);
+        self.take(&Meaning::Changes(vec![(key, None)]), sequence, false);
     }
 
     fn table<const N: usize>(&mut self, entries: [(&str, &[u8]); N], sequence: u64) {
         let entries = entries.map(|(key, value)| (key, Some(value)));
-        self.take(&Meaning::Table(entries.into()), sequence);
+        self.take(&Meaning::Table(entries.into()), sequence, true);
     }
 }
 
@@ -220,6 +220,38 @@ fn a_table_mends_whatever_is_in_the_folder() {
         }
     }
     assert_eq!(fs::read_to_string(place.0.join("elsewhere")).unwrap(), "three");
+}
+
+#[test]
+fn a_table_between_rounds_looks_at_no_file_that_is_as_it_was_put() {
+    let place = Place::new();
+    let mut applier = start(&place.with_hook(LOG));
+    let folder = place.folder();
+    applier.table([("a", b"1"), ("b", b"2"), ("c", b"3")], 1);
+    applied(&mut applier, 1);
+    fs::write(folder.join("a"), "spoiled").unwrap();
+    fs::write(folder.join("unknown"), "1").unwrap();
+    let between = |it: &mut Applier, sequence| {
+        let entries = [("a", &b"1"[..]), ("b", b"4")].map(|(key, value)| (key, Some(value)));
+        it.take(&Meaning::Table(entries.into()), sequence, false);
+    };
+    // (what changed, or is not named, is applied)
+    between(&mut applier, 2);
+    applied(&mut applier, 2);
+    assert_eq!(place.files(), map([("a", "spoiled"), ("b", "4"), ("unknown", "1")]));
+    applier.table([("a", b"1"), ("b", b"4")], 3);
+    between(&mut applier, 4);
+    applied(&mut applier, 4);
+    assert_eq!(place.files(), map([("a", "1"), ("b", "4")]));
+    let calls = ["set a 1 1", "set b 2 1", "set c 3 1", "set b 4 2", "unset c  2"];
+    assert_eq!(place.calls()[..5], calls);
+    // (of one that began anew every file is looked at that it has not put)
+    drop(applier);
+    let mut applier = start(&place.config());
+    fs::write(folder.join("a"), "spoiled").unwrap();
+    between(&mut applier, 5);
+    applied(&mut applier, 5);
+    assert_eq!(place.files(), map([("a", "1"), ("b", "4")]));
 }
 
 #[test]

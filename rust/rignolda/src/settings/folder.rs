@@ -1,8 +1,9 @@
 //! Files of settings.
 use super::is_key;
-use crate::net::checksum;
+use std::collections::hash_map::RandomState;
 use std::collections::BTreeMap;
 use std::fs::{self, File, OpenOptions, Permissions};
+use std::hash::{BuildHasher, Hasher};
 use std::io::{self, ErrorKind, Read, Write};
 use std::os::unix::fs::{OpenOptionsExt, PermissionsExt};
 use std::path::{Path, PathBuf};
@@ -24,6 +25,7 @@ const NEW: &str = ".new";
 /// folder.put("colour", Some(b"red"), 0o640)?;
 /// assert!(!folder.differs("colour", Some(b"red"), 0o640));
 /// assert!(folder.differs("colour", Some(b"blue"), 0o640));
+/// assert!(folder.had("colour", b"red"));
 /// assert_eq!(folder.names(), ["colour"]);
 /// std::fs::remove_dir_all(path)?;
 /// # Ok::<(), std::io::Error>(())
@@ -31,8 +33,10 @@ const NEW: &str = ".new";
 #[derive(Debug)]
 pub struct Folder {
     path: PathBuf,
-    /// The checksums of the values that were put last.
-    put: BTreeMap<String, u32>,
+    /// The digests of the values that were put, or found there, last. Their key is drawn, so nobody
+    /// makes two values with one digest.
+    put: BTreeMap<String, u64>,
+    digest: RandomState,
     /// The mode that a new file of it had by itself, as it was seen last.
     exact: Option<u32>,
 }
@@ -43,6 +47,7 @@ impl Folder {
         Folder {
             path,
             put: BTreeMap::new(),
+            digest: RandomState::new(),
             exact: None,
         }
     }
@@ -59,10 +64,31 @@ impl Folder {
     /// Whether a setting's file is to be put: it is no plain file with this value and mode, or,
     /// without a value, something is there; or another value was put last, since then nobody looks.
     pub fn differs(&mut self, key: &str, value: Option<&[u8]>, mode: u32) -> bool {
-        match (self.put.get(key), value) {
-            (Some(last), Some(value)) if *last != checksum(value) => true,
-            _ => !self.is_as(key, value, mode),
+        let had = value.map_or(true, |value| self.had(key, value));
+        if !had && self.put.contains_key(key) || !self.is_as(key, value, mode) {
+            return true;
         }
+        if let (false, Some(value)) = (had, value) {
+            self.put.insert(key.into(), self.digest(value));
+        }
+        false
+    }
+
+    /// Whether this value was put, or found there, last. No file is looked at, so what somebody
+    /// else did in the folder is not seen.
+    pub fn had(&self, key: &str, value: &[u8]) -> bool {
+        self.put.get(key) == Some(&self.digest(value))
+    }
+
+    /// The keys of the values that were put, or found there, last.
+    pub fn keys(&self) -> Vec<String> {
+        self.put.keys().cloned().collect()
+    }
+
+    fn digest(&self, value: &[u8]) -> u64 {
+        let mut hasher = self.digest.build_hasher();
+        hasher.write(value);
+        hasher.finish()
     }
 
     fn is_as(&mut self, key: &str, value: Option<&[u8]>, mode: u32) -> bool {
@@ -116,7 +142,7 @@ impl Folder {
             remove(&path)?;
             fs::rename(&new, &path)?;
         }
-        self.put.insert(key.into(), checksum(value));
+        self.put.insert(key.into(), self.digest(value));
         Ok(())
     }
 
