@@ -100,6 +100,8 @@ class Agent:
         else:
             self.truth = self.home / "truth"
             self.truth.mkdir()
+            # (without a setting too it is the truth)
+            (self.truth / ".empty").touch()
             self.tables["root"] = {"settings": str(self.truth), "round": "1s"}
 
     @property

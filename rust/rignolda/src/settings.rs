@@ -7,9 +7,9 @@
 //!
 //! So after any fault of any agents all have the root's settings after two rounds: one under way,
 //! and a whole one. A round needs [enough harmless items](Publisher::begin_round), and gets to all
-//! before the next one begins. Before it the root takes [its settings](Publisher::replace) anew
-//! from where they are kept, since what it remembers may be spoiled too; and each agent looks at
-//! all of its files when a table comes.
+//! before the next one begins. Before [each table](Publisher::is_table_next) the root takes [its
+//! settings](Publisher::replace) anew from where they are kept, since what it remembers may be
+//! spoiled too; and each agent looks at all of its files when [that of a round](Table::looks) comes.
 //!
 //! ```
 //! use rignolda::settings::{Meaning, Publisher, Table};
@@ -383,17 +383,25 @@ impl Publisher {
         self.table_first || self.round > 0 || !self.changed.is_empty()
     }
 
+    /// Whether the next body is the whole table, where `limit` items may follow one at most. Before
+    /// that the root takes [its settings](Publisher::replace) anew, since what it remembers may be
+    /// spoiled.
+    pub fn is_table_next(&self, limit: u64) -> bool {
+        let (items, bytes) = self.since;
+        // (tables never take more than the changes between them, but where these are very many)
+        let is_long = bytes > self.table_bytes && (items >= MANY || bytes > VALUE_BYTES);
+        let is_due = self.table_first || (self.changed.is_empty() && self.round == 1);
+        self.waits() && (is_due || is_long || items >= limit)
+    }
+
     /// The next body to publish. `limit`: how many items may follow a table at most.
     pub fn next(&mut self, limit: u64) -> Option<Published> {
         if !self.waits() {
             return None;
         }
-        self.sequence += 1;
         let (items, bytes) = self.since;
-        // (tables never take more than the changes between them, but where these are very many)
-        let is_long = bytes > self.table_bytes && (items >= MANY || bytes > VALUE_BYTES);
-        let is_long = is_long || items >= limit;
-        let is_table = self.table_first || (self.changed.is_empty() && self.round == 1) || is_long;
+        let is_table = self.is_table_next(limit);
+        self.sequence += 1;
         if is_table {
             // (the table of a round comes behind its harmless items)
             self.round -= u64::from(self.round == 1);

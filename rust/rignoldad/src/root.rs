@@ -126,11 +126,9 @@ impl Root {
     /// A round begins now. One that is under way goes on instead.
     pub fn begin_round(&mut self, now: Instant) {
         self.next_round = now + self.config.round;
-        if !self.publisher.is_in_a_round() && !self.draining {
-            self.read();
-            if self.known {
-                self.publisher.begin_round(self.config.harmless);
-            }
+        self.read();
+        if self.known && !self.draining {
+            self.publisher.begin_round(self.config.harmless);
         }
     }
 
@@ -141,10 +139,13 @@ impl Root {
 
     /// The next body to publish. `limit`: how many items may follow a table at most.
     pub fn next(&mut self, limit: u64) -> Option<Published> {
+        // (what it remembers may be spoiled: no table is made of that)
+        if self.waits() && self.publisher.is_table_next(limit) {
+            self.read();
+        }
         let next = self.waits().then(|| self.publisher.next(limit))?;
         if self.overdue && !self.publisher.is_in_a_round() {
             self.overdue = false;
-            self.read();
             self.publisher.begin_round(self.config.harmless);
         }
         next
@@ -204,6 +205,7 @@ impl Root {
 
     /// Reads the settings, and notes what differs. What cannot be read stays as it was.
     fn read(&mut self) {
+        self.sync();
         self.is_read();
         let mut faults = BTreeSet::new();
         self.watch();
@@ -236,20 +238,17 @@ impl Root {
     /// Reads one setting's file. Whether that is enough; else the whole folder is to be read.
     fn read_key(&mut self, key: &str) -> bool {
         let settings = &self.config.settings;
-        match read_value(&settings.join(key)) {
-            Ok(value) if self.publisher.settings().get(key) == Some(&value) => true,
-            Ok(value) if self.publisher.has_room(key, &value) => {
-                self.publisher.put(key, Some(value));
-                true
-            }
-            Err(e) if e.kind() == io::ErrorKind::NotFound && settings.is_dir() => {
-                if self.publisher.settings().contains_key(key) {
-                    self.publisher.put(key, None);
-                }
-                true
-            }
-            _ => false,
+        let value = match read_value(&settings.join(key)) {
+            Ok(value) => Some(value),
+            Err(e) if e.kind() == io::ErrorKind::NotFound && settings.is_dir() => None,
+            Err(_) => return false,
+        };
+        let differs = self.publisher.settings().get(key) != value.as_ref();
+        let fits = value.as_ref().is_none_or(|value| self.publisher.has_room(key, value));
+        if differs && fits {
+            self.publisher.put(key, value);
         }
+        fits || !differs
     }
 
     fn watch(&mut self) {
@@ -292,7 +291,10 @@ impl Root {
                 }
             }
         }
-        Ok(settings)
+        match settings.is_empty() && !folder.join(".empty").exists() {
+            true => Err(io::Error::other("it is empty: is a mount missing, or else `.empty`?")),
+            false => Ok(settings),
+        }
     }
 }
 
@@ -310,6 +312,8 @@ fn read_settings(path: &Path) -> io::Result<BTreeMap<String, Vec<u8>>> {
     if path.extension().is_some_and(|it| it == "json") {
         let all: serde_json::Map<_, serde_json::Value> = serde_json::from_str(&text)?;
         values(all, |value| value.as_str())
+    } else if text.trim().is_empty() {
+        Err(io::Error::other("it is empty: a comment would say that this is meant"))
     } else if let Some(line) = too_deep(&text) {
         Err(io::Error::other(format!("line {line}: {TOO_DEEP}")))
     } else {
@@ -326,9 +330,7 @@ fn values<V: ToString>(
         let bytes = text(&value).map_or_else(|| value.to_string(), str::to_owned).into_bytes();
         match is_key(&key) && bytes.len() <= VALUE_BYTES {
             true => Ok((key, bytes)),
-            false => {
-                Err(io::Error::other(format!("{key}: it is no key, or its value is too long")))
-            }
+            false => Err(io::Error::other(format!("{key}: it is no key, or its value too long"))),
         }
     };
     all.into_iter().map(bytes).collect()

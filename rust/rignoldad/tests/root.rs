@@ -16,6 +16,7 @@ impl Folder {
             std::env::temp_dir().join(format!("rignolda-root-{name}-{}", std::process::id()));
         let _ = fs::remove_dir_all(&path);
         fs::create_dir(&path).unwrap();
+        fs::write(path.join(".empty"), "").unwrap();
         Folder(path)
     }
 }
@@ -192,11 +193,18 @@ fn changes_that_are_asked_for_together_come_to_their_places_together() {
         (vec!["a".into(), "c".into()], b"2".into())
     );
     assert_eq!(next(&mut root), Some(('C', vec![entry("a", Some("2")), entry("b", None)])));
+    // (a round that begins before they are there reads them)
+    root.ask("c", Some(b"4")).unwrap();
+    root.begin_round(now);
+    assert_eq!(root.commit(), []);
+    let round: Vec<_> = std::iter::from_fn(|| next(&mut root)).collect();
+    assert_eq!(round[0], ('C', vec![entry("c", Some("4"))]));
+    assert_eq!(round.last(), Some(&('T', vec![entry("a", Some("2")), entry("c", Some("4"))])));
     // (all of it is its own, so there is nothing new in the folder)
     root.notified(now);
     root.tick(root.deadline());
     assert_eq!(next(&mut root), None);
-    assert!(names() == ["a", "c"] && fs::read_dir(&folder.0).unwrap().count() == 2);
+    assert!(names() == ["a", "c"] && fs::read_dir(&folder.0).unwrap().count() == 3);
 }
 
 #[test]
@@ -301,6 +309,77 @@ fn what_was_never_read_unsets_nothing() {
 }
 
 #[test]
+fn an_empty_folder_unsets_nothing_unless_it_says_so() {
+    let folder = Folder::new("empty");
+    let marker = folder.0.join(".empty");
+    fs::remove_file(&marker).unwrap();
+    // (a folder where nothing is mounted, at the start)
+    let (mut root, now) = root(&folder.0, true);
+    assert!(root.change("c", Some(b"1")).is_err() && !root.waits());
+    fs::write(folder.0.join(".other"), "").unwrap();
+    root.tick(now + ROUND);
+    assert!(!root.waits());
+    fs::write(folder.0.join("a"), "1").unwrap();
+    root.tick(now + 2 * ROUND);
+    assert_eq!(next(&mut root), Some(('T', vec![entry("a", Some("1"))])));
+    while root.next(100).is_some() {}
+    // (and later)
+    let away = folder.0.with_extension("mounted");
+    fs::rename(&folder.0, &away).and_then(|()| fs::create_dir(&folder.0)).unwrap();
+    root.notified(now);
+    root.tick(root.deadline());
+    assert_eq!((next(&mut root), root.settings()), (None, 1));
+    root.tick(now + 3 * ROUND);
+    let all = std::iter::from_fn(|| next(&mut root)).last();
+    assert_eq!(all, Some(('T', vec![entry("a", Some("1"))])));
+    fs::write(&marker, "").unwrap();
+    root.tick(now + 4 * ROUND);
+    let all = std::iter::from_fn(|| next(&mut root)).last();
+    assert_eq!(all, Some(('T', vec![])));
+    fs::remove_dir_all(away).unwrap();
+}
+
+#[test]
+fn a_file_that_is_removed_is_unset_though_it_was_the_last() {
+    let folder = Folder::new("last");
+    fs::write(folder.0.join("a"), "1").unwrap();
+    fs::remove_file(folder.0.join(".empty")).unwrap();
+    let (mut root, now) = root(&folder.0, true);
+    fs::remove_file(folder.0.join("a")).unwrap();
+    root.notified(now);
+    root.tick(root.deadline());
+    assert_eq!(next(&mut root), Some(('C', vec![entry("a", None)])));
+    root.tick(now + ROUND);
+    let all = std::iter::from_fn(|| next(&mut root)).last();
+    assert_eq!(all, Some(('T', vec![])));
+}
+
+/// What the root remembers is wrong here since nobody tells it that a file changed.
+#[test]
+fn each_table_is_what_the_folder_has() {
+    let folder = Folder::new("remembered");
+    for key in ["a", "b", "c"] {
+        fs::write(folder.0.join(key), "1").unwrap();
+    }
+    let (mut root, now) = root(&folder.0, true);
+    let all = |b: &str| vec![entry("a", Some("2")), entry("b", Some(b)), entry("c", Some("1"))];
+    let changed = |root: &mut Root| {
+        root.change("a", Some(b"2")).unwrap();
+        said(&root.next(5).unwrap().body)
+    };
+    // (between two rounds)
+    fs::write(folder.0.join("b"), "3").unwrap();
+    let table = std::iter::from_fn(|| Some(changed(&mut root))).find(|(kind, _)| *kind == 'T');
+    assert_eq!(table, Some(('T', all("3"))));
+    // (and while one is under way)
+    root.tick(now + ROUND);
+    assert_eq!(next(&mut root), Some(('H', vec![])));
+    fs::write(folder.0.join("b"), "4").unwrap();
+    let table = std::iter::from_fn(|| next(&mut root)).find(|(kind, _)| *kind == 'T');
+    assert_eq!(table, Some(('T', all("4"))));
+}
+
+#[test]
 fn a_file_may_hold_all_settings() {
     let folder = Folder::new("file");
     let (toml, json) = (folder.0.join("all.toml"), folder.0.join("all.json"));
@@ -313,11 +392,15 @@ fn a_file_may_hold_all_settings() {
         assert_eq!(next(&mut root), Some(('T', expected)));
         assert!(root.change("a", Some(b"1")).is_err(), "it is edited by hand");
         // (what is no such file changes nothing)
-        fs::write(path, "{").unwrap();
-        root.notified(now);
-        root.tick(now + ROUND / 2);
-        assert_eq!(root.settings(), 2);
+        for text in ["{", "", " \n"] {
+            fs::write(path, text).unwrap();
+            root.notified(now);
+            root.tick(now + ROUND / 2);
+            assert_eq!(root.settings(), 2);
+        }
     }
+    fs::write(&toml, "# none\n").unwrap();
+    assert_eq!(next(&mut self::root(&toml, false).0), Some(('T', vec![])));
 }
 
 #[test]
