@@ -176,7 +176,7 @@ impl Root {
         }
         let done = match value {
             Some(value) => self.batch.write(path.clone(), value),
-            None => fs::remove_file(&path),
+            None => self.batch.remove(&path),
         };
         done.map_err(|e| format!("{}: {e}", path.display()))?;
         if value.is_some() {

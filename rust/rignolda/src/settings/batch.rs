@@ -1,4 +1,5 @@
 //! Files that are kept on the disk, several at once.
+use std::collections::BTreeSet;
 use std::fs::{self, File, OpenOptions, Permissions};
 use std::io::{self, ErrorKind, Write};
 #[cfg(unix)]
@@ -13,8 +14,9 @@ const STACK_BYTES: usize = 64 << 10;
 
 /// New files of a folder, which come to their places together.
 ///
-/// Each is written beside its place, synced to the disk, and only then moved there. So a reader
-/// finds it whole, as it was or as it is now, and so does whoever reads it after a loss of power.
+/// Each is written beside its place, synced to the disk, and only then moved there, and the folder
+/// is synced. So a reader finds it whole, as it was or as it is now, and so does whoever reads it
+/// after a loss of power; once it is committed, as it is now.
 /// Several files wait for the disk at the same time, which takes little longer than one.
 ///
 /// ```
@@ -32,7 +34,11 @@ const STACK_BYTES: usize = 64 << 10;
 /// # Ok::<(), std::io::Error>(())
 /// ```
 #[derive(Debug, Default)]
-pub struct Batch(Vec<New>);
+pub struct Batch {
+    new: Vec<New>,
+    /// The folders in which something moved, or was removed.
+    folders: BTreeSet<PathBuf>,
+}
 
 #[derive(Debug)]
 struct New {
@@ -44,7 +50,7 @@ struct New {
 impl Batch {
     /// Whether a file of this path is in it.
     pub fn has(&self, path: &Path) -> bool {
-        self.0.iter().any(|new| new.path == path)
+        self.new.iter().any(|new| new.path == path)
     }
 
     /// Writes a file beside its place, under a name with a dot in front. A batch has at most one
@@ -56,7 +62,7 @@ impl Batch {
     /// Where the system refuses it; then the file is not in the batch.
     pub fn write(&mut self, path: PathBuf, value: &[u8]) -> io::Result<()> {
         // (a few names, so that one which is killed leaves few files)
-        let beside = path.with_file_name(format!(".rignolda{}.new", self.0.len()));
+        let beside = path.with_file_name(format!(".rignolda{}.new", self.new.len()));
         let before = fs::metadata(&path).ok().filter(|is| is.is_file());
         let before = before.map(|is| is.permissions());
         let mut file = create(&beside, before.as_ref())?;
@@ -67,21 +73,39 @@ impl Batch {
             let _ = fs::remove_file(&beside);
             return Err(error);
         }
-        self.0.push(New { file, beside, path });
+        self.new.push(New { file, beside, path });
+        Ok(())
+    }
+
+    /// Removes a file at once. [`Batch::commit`] waits until the disk knows.
+    ///
+    /// # Errors
+    ///
+    /// Where the system refuses it.
+    pub fn remove(&mut self, path: &Path) -> io::Result<()> {
+        fs::remove_file(path)?;
+        self.folders.extend(path.parent().map(Path::to_owned));
         Ok(())
     }
 
     /// Waits until the disk has all, and moves them to their places: those that failed, which are
-    /// as they were. The batch is empty then.
+    /// as they were. Then it waits until the disk knows what moved, where a folder can be synced.
+    /// The batch is empty then.
     pub fn commit(&mut self) -> Vec<(PathBuf, io::Error)> {
-        let all = std::mem::take(&mut self.0);
+        let all = std::mem::take(&mut self.new);
         let done = sync(&all);
         let mut failed = Vec::new();
         for (new, synced) in all.into_iter().zip(done) {
-            if let Err(error) = synced.and_then(|()| fs::rename(&new.beside, &new.path)) {
-                let _ = fs::remove_file(&new.beside);
-                failed.push((new.path, error));
+            match synced.and_then(|()| fs::rename(&new.beside, &new.path)) {
+                Ok(()) => self.folders.extend(new.path.parent().map(Path::to_owned)),
+                Err(error) => {
+                    let _ = fs::remove_file(&new.beside);
+                    failed.push((new.path, error));
+                }
             }
+        }
+        for folder in std::mem::take(&mut self.folders) {
+            let _ = File::open(folder).and_then(|folder| folder.sync_all());
         }
         failed
     }
