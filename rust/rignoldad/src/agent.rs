@@ -226,7 +226,7 @@ impl Agent {
         let now = Instant::now();
         let life = random().map_err(|e| format!("/dev/urandom: {e}"))?;
         let listen = |address: &Address| {
-            Listener::new(address).map_err(|e| format!("listen: {address}: {e}"))
+            Listener::new(address, None).map_err(|e| format!("listen: {address}: {e}"))
         };
         let control = config.control.as_ref().map(|path| {
             control::server(path).map_err(|e| format!("control: {}: {e}", path.display()))

@@ -7,9 +7,7 @@ use crate::line::Listener;
 use crate::serve::{self, Ticket};
 use crate::tree::Seen;
 use serde::{Deserialize, Serialize};
-use std::fs::Permissions;
 use std::io;
-use std::os::unix::fs::PermissionsExt;
 use std::path::Path;
 use std::time::Duration;
 
@@ -151,8 +149,7 @@ pub type Server = serve::Server<Result<Request, String>, Listener>;
 
 /// Listens at a socket of this path, for whom its file lets in.
 pub fn server(path: &Path) -> io::Result<Server> {
-    let listener = Listener::new(&Address::Unix(path.into()))?;
-    std::fs::set_permissions(path, Permissions::from_mode(0o660))?;
+    let listener = Listener::new(&Address::Unix(path.into()), Some(0o660))?;
     Ok(Server::new(listener, REQUEST_BYTES, IDLE, |bytes| {
         let end = bytes.iter().position(|b| *b == b'\n')?;
         let request = serde_json::from_slice(&bytes[..end]).map_err(|e| e.to_string());

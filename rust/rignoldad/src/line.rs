@@ -7,10 +7,12 @@ use openssl::ssl::{
 };
 use openssl::x509::X509;
 use socket2::{Domain, SockAddr, Socket, TcpKeepalive, Type};
+use std::fs::{self, Permissions};
 use std::io::{self, ErrorKind, Read, Write};
 use std::net::TcpListener;
+use std::os::unix::fs::PermissionsExt;
 use std::os::unix::io::{AsRawFd, RawFd};
-use std::os::unix::net::{UnixListener, UnixStream};
+use std::os::unix::net::UnixStream;
 use std::path::{Path, PathBuf};
 use std::time::Duration;
 
@@ -116,8 +118,9 @@ fn context(tls: &Tls) -> Result<SslContext, String> {
 }
 
 impl Listener {
-    /// Listens there. A socket's file that nobody listens at any more is replaced.
-    pub fn new(address: &Address) -> io::Result<Listener> {
+    /// Listens there. A socket's file that nobody listens at any more is replaced; the new one has
+    /// its mode before anybody can connect.
+    pub fn new(address: &Address, mode: Option<u32>) -> io::Result<Listener> {
         let (socket, path) = match address {
             Address::Tcp(address) => (TcpListener::bind(address)?.into(), None),
             Address::Redis { .. } => return Err(ErrorKind::Unsupported.into()),
@@ -126,10 +129,15 @@ impl Listener {
                     let why = "another process listens there";
                     return Err(io::Error::new(ErrorKind::AddrInUse, why));
                 }
-                match std::fs::remove_file(path) {
+                match fs::remove_file(path) {
                     Err(error) if error.kind() != ErrorKind::NotFound => return Err(error),
-                    _ => (UnixListener::bind(path)?.into(), Some(path.clone())),
+                    _ => (),
                 }
+                let socket = Socket::new(Domain::UNIX, Type::STREAM, None)?;
+                socket.bind(&SockAddr::unix(path)?)?;
+                mode.map_or(Ok(()), |it| fs::set_permissions(path, Permissions::from_mode(it)))?;
+                socket.listen(1_024)?;
+                (socket, Some(path.clone()))
             }
         };
         let listener = Listener { socket, path };
@@ -157,7 +165,7 @@ impl serve::Listener for Listener {
 
 impl Drop for Listener {
     fn drop(&mut self) {
-        self.path.iter().for_each(|path| drop(std::fs::remove_file(path)));
+        self.path.iter().for_each(|path| drop(fs::remove_file(path)));
     }
 }
 

@@ -75,7 +75,7 @@ pub type Server = serve::Server<bool, Listener>;
 
 /// Listens at an address.
 pub fn server(address: SocketAddr) -> io::Result<Server> {
-    let listener = Listener::new(&Address::Tcp(address.to_string()))?;
+    let listener = Listener::new(&Address::Tcp(address.to_string()), None)?;
     Ok(Server::new(listener, REQUEST_BYTES, Duration::from_secs(5), |bytes| {
         let end = bytes.windows(4).position(|four| four == b"\r\n\r\n")?;
         let good = [&b"GET /metrics "[..], b"GET /metrics?", b"GET / "];

@@ -99,7 +99,7 @@ fn maker(folder: &Path, name: &str, pair: &Pair, authority: &X509) -> Maker {
 }
 
 fn listen() -> (Listener, SocketAddr) {
-    let listener = Listener::new(&Address::Tcp("127.0.0.1:0".into())).unwrap();
+    let listener = Listener::new(&Address::Tcp("127.0.0.1:0".into()), None).unwrap();
     let address = listener.socket.local_addr().unwrap().as_socket().unwrap();
     (listener, address)
 }
@@ -169,9 +169,9 @@ fn a_socket_of_a_path_is_a_line_too() {
     let folder = Folder::new("unix");
     let path = folder.0.join("socket");
     // (the file that a dead process left is replaced, and one that is in use is not)
-    drop(Listener::new(&Address::Unix(path.clone())).unwrap());
-    let listener = Listener::new(&Address::Unix(path.clone())).unwrap();
-    assert!(Listener::new(&Address::Unix(path.clone())).is_err());
+    drop(Listener::new(&Address::Unix(path.clone()), None).unwrap());
+    let listener = Listener::new(&Address::Unix(path.clone()), None).unwrap();
+    assert!(Listener::new(&Address::Unix(path.clone()), None).is_err());
     let maker = Maker::new(None, TIMEOUT).unwrap();
     drop(accept(&maker, &listener)); // of the one that asked whether it is in use
     let mut down = maker.connect(&SockAddr::unix(path).unwrap()).unwrap();
