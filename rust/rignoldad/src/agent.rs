@@ -27,7 +27,8 @@ use std::time::{Duration, Instant};
 
 /// How many connections are accepted in one turn.
 const ACCEPTS: usize = 64;
-/// How often an agent says upwards what there is to watch, where it changed; and in any case.
+/// How often an agent says upwards what there is to watch, where it changed, with a millisecond for
+/// each agent below it at least; and in any case.
 const REPORTS: Duration = Duration::from_millis(100);
 const SAYS_AGAIN: Duration = Duration::from_secs(10);
 
@@ -41,6 +42,7 @@ const WAKE: Token = Token(usize::MAX);
 
 /// What a look-up of a host's name brought.
 type Found = (Call<Address>, io::Result<Vec<SocketAddr>>);
+type Answer = Result<Option<Response>, String>;
 
 pub struct Agent {
     path: PathBuf,
@@ -113,9 +115,7 @@ pub fn run(path: &Path, config: Config) -> Result<(), String> {
             let _ = (&signals.reload).read(&mut [0; 64]);
             match agent.reload(now) {
                 Ok(()) => fact!("reload", "done"),
-                Err(whys) => {
-                    whys.iter().for_each(|why| fact!("reload", "nothing changes: {why}"));
-                }
+                Err(whys) => whys.iter().for_each(|why| fact!("reload", "nothing changes: {why}")),
             }
         }
         agent.turn(&fired, now);
@@ -336,7 +336,8 @@ impl Agent {
         let counted = self.metrics.as_ref().and_then(metrics::Server::deadline);
         let full = Some(self.full_until).filter(|at| *at > now);
         let files = self.state.applying.then(|| now + ASKS_AGAIN);
-        let all = [self.peers.deadline(now), root, report, served, counted, full, files];
+        let more = self.may_publish().then_some(now);
+        let all = [self.peers.deadline(now), root, report, served, counted, full, files, more];
         all.into_iter().flatten().min().unwrap_or(now + SAYS_AGAIN)
     }
 
@@ -421,13 +422,17 @@ impl Agent {
         std::thread::Builder::new().spawn(look_up).map(drop)
     }
 
+    /// Whether something waits to be published, and the quickest child that there is takes it.
+    fn may_publish(&self) -> bool {
+        let backlog = self.peers.relay().least_backlog();
+        self.root.as_ref().is_some_and(Root::waits) && backlog.unwrap_or(0) <= 1
+    }
+
     /// At the root: publishes what waits, as fast as the quickest child takes it.
     fn publish(&mut self, now: Instant) {
-        while let Some(root) = self.root.as_mut().filter(|root| root.waits()) {
-            if self.peers.relay().least_backlog().is_some_and(|backlog| backlog > 1) {
-                return;
-            }
-            let Some(published) = root.next(self.config.backlog / 2) else { return };
+        while self.may_publish() {
+            let next = self.root.as_mut().and_then(|root| root.next(self.config.backlog / 2));
+            let Some(published) = next else { return };
             self.peers.publish(&published.body, now, &mut self.state);
             let response = Response::Published(self.state.table.sequence);
             self.answer(|key| published.keys.contains(key), &response);
@@ -449,7 +454,8 @@ impl Agent {
     // ---- Watching and control
 
     fn reports_at(&self) -> Instant {
-        self.reported + if self.state.changed { REPORTS } else { SAYS_AGAIN }
+        let often = REPORTS.max(Duration::from_millis(self.state.below.agents()));
+        self.reported + if self.state.changed { often.min(SAYS_AGAIN) } else { SAYS_AGAIN }
     }
 
     /// Says upwards what there is to watch, where that changed or a while went by.
@@ -527,12 +533,7 @@ impl Agent {
     }
 
     /// Does what an operator asks for. Nothing where the answer comes later.
-    fn request(
-        &mut self,
-        ticket: Ticket,
-        request: Request,
-        now: Instant,
-    ) -> Result<Option<Response>, String> {
+    fn request(&mut self, ticket: Ticket, request: Request, now: Instant) -> Answer {
         match (request, &mut self.root) {
             (Request::Status, _) => {
                 return Ok(Some(Response::Status(Box::new(self.status(now)))));

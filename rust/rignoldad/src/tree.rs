@@ -48,10 +48,8 @@ impl Below {
     /// is what agents further below say, so what cannot be of a tree is left out, and the child is
     /// not blamed for it: a name that is none or is there before, and an agent whose parent is not.
     pub fn heard(&mut self, child: &str, bytes: &[u8], now: Instant) -> bool {
-        if bytes.len() > REPORT_BYTES {
-            return false;
-        }
-        let Ok(mut list) = serde_json::from_slice::<Vec<Seen>>(bytes) else { return false };
+        let list = (bytes.len() <= REPORT_BYTES).then(|| serde_json::from_slice(bytes));
+        let Some(Ok::<Vec<Seen>, _>(mut list)) = list else { return false };
         if list.len() > AGENTS || list.first().map(|first| &*first.name) != Some(child) {
             return false;
         }
@@ -63,6 +61,11 @@ impl Below {
         });
         self.0.insert(child.into(), (now, list));
         true
+    }
+
+    /// How many agents they have.
+    pub fn agents(&self) -> u64 {
+        self.0.values().map(|(_, list)| list.len() as u64).sum()
     }
 
     /// Forgets a child that was removed.
