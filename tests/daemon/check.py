@@ -22,6 +22,7 @@ import traceback
 import zlib
 
 from daemons import PATIENCE, USUAL, Agent, Tree, binaries, chain, free_port, until
+from memory import write_over
 from relay import Relay
 from reverse import parents_may_connect_to_their_children
 import store
@@ -669,6 +670,58 @@ def a_root_without_its_settings_unsets_nothing():
         sure("error" in tree.root.ask("publish", "a", "1", check=False))
         away.rename(tree.root.truth)
         sure(until(tree.root.up) and tree.right(), tree.wrong())
+        # a folder on which nothing is mounted, at the start and while it runs
+        for starts in (True, False):
+            away = tree.root.truth.rename(tree.home / "away")
+            tree.root.truth.mkdir()
+            if starts:
+                tree.root.kill()
+                tree.root.start()
+                sure(until(lambda: tree["left"].status()["parent"]), "it is not connected")
+            else:
+                tree.root.ask("round")
+            sure(until(lambda: tree.root.said("is a mount missing") > 1 - starts), "it is taken")
+            time.sleep(1)
+            sure(tree["left"].files() == before, tree["left"].files())
+            tree.root.truth.rmdir()
+            away.rename(tree.root.truth)
+            sure(until(tree.root.up) and tree.right(), tree.wrong())
+        # (what is meant, is taken)
+        for path in tree.root.truth.iterdir():
+            if path.name != ".empty":
+                path.unlink()
+        sure(tree.right() and tree["left"].files() == {}, tree["left"].files())
+
+
+@test
+def what_is_wrong_in_the_roots_memory_gets_nowhere():
+    values = {f"k{at}": f"right {at:026}" for at in range(10)}
+    over = {value.encode(): value.replace("right", "wrong").encode()
+            for key, value in values.items() if key != "k0"}
+
+    def never(tree):
+        tree.root.tables["root"]["round"] = "1h"
+
+    with Tree({"left": "root", "leaf": "left", "new": "root"}, before=never) as tree:
+        old = [agent for agent in tree if agent.name != "new"]
+        for key, value in values.items():
+            tree.write(key, value)
+        for agent in old:
+            agent.start()
+        sure(tree.right(agents=old), tree.wrong(old))
+        sure(write_over(tree.root.process.pid, over) > 8, "it does not remember them")
+        with socket.socket(socket.AF_UNIX) as sock:
+            sock.connect(str(tree.root.socket))
+            lines = sock.makefile("rb")
+            words = {"do": "publish", "key": "k0", "value": values["k0"].encode().hex()}
+            for _ in range(150):
+                # (so many that tables come)
+                sock.sendall(json.dumps(words).encode() + b"\n")
+                sure(b"published" in lines.readline(), "it was refused")
+        tree["new"].start()
+        sure(tree.right(), tree.wrong())
+        time.sleep(0.5)
+        sure(not tree.wrong(), tree.wrong())
 
 
 @test

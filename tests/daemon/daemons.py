@@ -94,6 +94,7 @@ class Agent:
                        "apply": {"folder": str(self.settings)}}
         self.top = {}
         self.prefix = []        # what its command begins with
+        self.env = {"RIGNOLDA_TRACE": "1"}
         if parent:
             self.top["parents"] = [f"{parent.name}@127.0.0.1:{parent.port}"]
             parent.children.append(self)
@@ -127,7 +128,7 @@ class Agent:
         with open(self.log, "a") as log:
             self.process = subprocess.Popen(
                 [*self.prefix, self.tree.bin / "rignoldad", self.file], stderr=log, stdout=log,
-                stdin=subprocess.DEVNULL, env={**os.environ, "RIGNOLDA_TRACE": "1"})
+                stdin=subprocess.DEVNULL, env={**os.environ, **self.env})
 
     def kill(self, how=signal.SIGKILL):
         """Ends the process, and waits until it is gone."""

@@ -166,7 +166,7 @@ impl Root {
                 Err(format!("the settings are kept in {}", settings.display()))
             }
             _ if self.draining => Err("it is draining".into()),
-            _ if !self.known => Err(format!("{} cannot be read", settings.display())),
+            _ if !self.known => Err(format!("{} cannot be read, or is empty", settings.display())),
             _ if !is_key(key) => Err("it is no key".into()),
             Some(value) if !self.publisher.has_room(key, value) => Err("it is too long".into()),
             _ => Ok(()),
