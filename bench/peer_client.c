@@ -7,8 +7,11 @@
  *                                                  after the last one
  *   peer_client pub KIND PORT each                 a number on each line of the standard input
  *   peer_client get KIND PORT                      prints the settings that a new client is given
- *   peer_client follow FILE prints FOLDER COMMAND.. runs a client that prints settings
- *   peer_client follow FILE agent FOLDER COMMAND..  runs an agent that applies them in the folder
+ *   peer_client follow FILE FOLDER COMMAND..       runs a client that prints settings
+ *   peer_client session COMMAND..                  runs a hub or an agent in a session of its own
+ *   peer_client observe lines FILE PIPE..          notes what agents say in their journals that
+ *                                                  they received
+ *   peer_client observe files FILE FOLDER..        and what moves into its place in their folders
  *
  * What came is put into a file of its own in FOLDER: written beside, and moved. With - it is not.
  *
@@ -28,6 +31,7 @@
 #include <stdio.h>
 #include <stdlib.h>
 #include <string.h>
+#include <sys/epoll.h>
 #include <sys/inotify.h>
 #include <sys/mman.h>
 #include <sys/prctl.h>
@@ -49,6 +53,8 @@ struct notes {
 
 static struct notes *notes;
 static int keys = 100, digits = 16, folder = -1;
+/* Where PEER_TLS names a folder: its authority, a client's certificate, and its key. */
+static char tls[3][4096];
 
 static int64_t now(void)
 {
@@ -61,6 +67,16 @@ static void fail(const char *what, const char *why)
 {
     fprintf(stderr, "peer_client: %s: %s\n", what, why ? why : "");
     exit(1);
+}
+
+/* A session of its own, of the priority that bench/peers has. */
+static void own_session(void)
+{
+    const char *nice = getenv("PEER_NICE");
+    setsid();
+    int file = open("/proc/self/autogroup", O_WRONLY);
+    if (nice && file >= 0 && write(file, nice, strlen(nice)) < 0) perror("peer_client: autogroup");
+    close(file);
 }
 
 static void open_notes(const char *path)
@@ -154,6 +170,7 @@ static struct mosquitto *mqtt_connect(int port, const char *name)
 {
     mosquitto_lib_init();
     struct mosquitto *it = mosquitto_new(name, name == NULL, NULL);
+    if (tls[0][0]) mosquitto_tls_set(it, tls[0], NULL, tls[1], tls[2], NULL);
     mosquitto_int_option(it, MOSQ_OPT_TCP_NODELAY, 1);
     mosquitto_connect_callback_set(it, mqtt_up);
     mosquitto_message_callback_set(it, mqtt_message);
@@ -195,6 +212,11 @@ static natsConnection *nats_connect(int port)
     natsOptions_SetMaxReconnect(options, -1);
     natsOptions_SetReconnectWait(options, 100);
     natsOptions_SetMaxPendingMsgs(options, 1 << 20);
+    if (tls[0][0]) {
+        natsOptions_SetSecure(options, true);
+        natsOptions_LoadCATrustedCertificates(options, tls[0]);
+        natsOptions_LoadCertificatesChain(options, tls[1], tls[2]);
+    }
     while (natsConnection_Connect(&it, options) != NATS_OK) usleep(100000);
     return it;
 }
@@ -395,34 +417,19 @@ static void lines_of(char *text, size_t *length, int prints)
     memmove(text, start, *length);
 }
 
-static void file_in(const char *path, const char *name)
+/* Runs a client that prints what came, in a session of its own. */
+static int follow(const char *path, char **command)
 {
-    char whole[4096], value[MOST_DIGITS + 1];
-    if (name[0] == '.') return;
-    snprintf(whole, sizeof whole, "%s/%s", path, name);
-    int file = open(whole, O_RDONLY);
-    if (file < 0) return;
-    ssize_t length = read(file, value, sizeof value);
-    close(file);
-    if (length > 0) note(value, length);
-}
-
-static int follow(int prints, const char *path, char **command)
-{
-    static char text[1 << 16], events[1 << 16];
-    int ends[2], watch = -1, watches = !prints && strcmp(path, "-") != 0;
+    static char text[1 << 16];
+    int ends[2];
     size_t length = 0;
     if (pipe(ends)) fail("pipe", strerror(errno));
-    if (prints) open_folder(path);
-    if (watches) {
-        watch = inotify_init1(IN_NONBLOCK);
-        if (inotify_add_watch(watch, path, IN_MOVED_TO) < 0) fail(path, strerror(errno));
-    }
+    open_folder(path);
     pid_t child = fork();
     if (child == 0) {
-        setsid();
+        own_session();
         prctl(PR_SET_PDEATHSIG, SIGKILL);
-        dup2(ends[1], prints ? 1 : 2);
+        dup2(ends[1], 1);
         close(ends[0]), close(ends[1]);
         execvp(command[0], command);
         fail(command[0], strerror(errno));
@@ -430,26 +437,81 @@ static int follow(int prints, const char *path, char **command)
     close(ends[1]);
     notes->process = child;
     for (;;) {
-        struct pollfd of[2] = {{ends[0], POLLIN, 0}, {watch, POLLIN, 0}};
-        if (poll(of, watches ? 2 : 1, -1) < 0 && errno != EINTR) break;
-        if (of[0].revents) {
-            ssize_t got = read(ends[0], text + length, sizeof text - length);
-            if (got <= 0) break;
-            length += got;
-            lines_of(text, &length, prints);
-        }
-        if (watches && of[1].revents) {
-            ssize_t got = read(watch, events, sizeof events);
-            for (char *at = events; got > 0 && at < events + got;) {
-                struct inotify_event *event = (struct inotify_event *)at;
-                if (event->len) file_in(path, event->name);
-                at += sizeof *event + event->len;
-            }
-        }
+        ssize_t got = read(ends[0], text + length, sizeof text - length);
+        if (got <= 0) break;
+        length += got;
+        lines_of(text, &length, 1);
     }
     int status = 1;
     waitpid(child, &status, 0);
     return WIFEXITED(status) ? WEXITSTATUS(status) : 1;
+}
+
+/* Notes the file of a key. */
+static void file_in(int from, int key)
+{
+    char name[32], value[MOST_DIGITS + 1];
+    snprintf(name, sizeof name, "k%d", key);
+    int file = openat(from, name, O_RDONLY);
+    if (file < 0) return;
+    ssize_t length = read(file, value, sizeof value);
+    close(file);
+    if (length > 0) note(value, length);
+}
+
+/* Notes what moved into its place in a folder: of each key what is there now. */
+static void files_in(int from, int watch)
+{
+    static char events[1 << 16];
+    char moved[MOST] = "";
+    ssize_t got = read(watch, events, sizeof events);
+    for (char *at = events; got > 0 && at < events + got;) {
+        struct inotify_event *event = (struct inotify_event *)at;
+        int key = event->len && event->name[0] == 'k' ? atoi(event->name + 1) : -1;
+        if (key >= 0 && key < keys) moved[key] = 1;
+        /* (what happened after the system's room for events was full is in the folder) */
+        if (event->mask & IN_Q_OVERFLOW) memset(moved, 1, sizeof moved);
+        at += sizeof *event + event->len;
+    }
+    for (int key = 0; key < keys; key++)
+        if (moved[key]) file_in(from, key);
+}
+
+/* One process sees to all agents, so that little is measured besides them. */
+static int observe(int files, int count, char **words)
+{
+    struct agent { struct notes *notes; int from, folder; size_t length; char text[1 << 12]; };
+    struct agent *all = calloc(count, sizeof *all);
+    struct epoll_event events[64];
+    int any = epoll_create1(0), ready;
+    own_session();
+    for (int at = 0; at < count; at++) {
+        struct agent *it = &all[at];
+        struct epoll_event event = {EPOLLIN, {.ptr = it}};
+        char *path = words[2 * at + 1];
+        open_notes(words[2 * at]);
+        it->notes = notes;
+        it->from = files ? inotify_init1(IN_NONBLOCK) : open(path, O_RDWR | O_NONBLOCK);
+        it->folder = files ? open(path, O_RDONLY | O_DIRECTORY) : -1;
+        if (it->from < 0 || (files && inotify_add_watch(it->from, path, IN_MOVED_TO) < 0) ||
+            epoll_ctl(any, EPOLL_CTL_ADD, it->from, &event)) fail(path, strerror(errno));
+    }
+    while ((ready = epoll_wait(any, events, 64, -1)) > 0 || errno == EINTR) {
+        for (int at = 0; at < ready; at++) {
+            struct agent *it = events[at].data.ptr;
+            notes = it->notes;
+            if (files) {
+                files_in(it->folder, it->from);
+                continue;
+            }
+            ssize_t got = read(it->from, it->text + it->length, sizeof it->text - it->length);
+            it->length += got > 0 ? got : 0;
+            lines_of(it->text, &it->length, 0);
+            if (it->length == sizeof it->text) it->length = 0;
+        }
+    }
+    fail("epoll", strerror(errno));
+    return 1;
 }
 
 static void folder_publish(const char *path, struct numbers *numbers)
@@ -470,16 +532,26 @@ int main(int count, char **words)
     prctl(PR_SET_PDEATHSIG, SIGKILL);
     if (getenv("PEER_KEYS")) keys = atoi(getenv("PEER_KEYS"));
     if (getenv("PEER_DIGITS")) digits = atoi(getenv("PEER_DIGITS"));
+    const char *files[] = {"authority.crt", "client.crt", "client.key"};
+    for (int at = 0; at < 3 && getenv("PEER_TLS"); at++)
+        snprintf(tls[at], sizeof tls[at], "%s/%s", getenv("PEER_TLS"), files[at]);
     if (keys < 1 || keys > MOST) fail("PEER_KEYS", "1 to 1000");
     if (digits < 1 || digits > MOST_DIGITS) fail("PEER_DIGITS", "1 to 48");
-    if (strcmp(what, "follow") == 0 && count > 5) {
-        open_notes(words[2]);
-        return follow(strcmp(words[3], "prints") == 0, words[4], words + 5);
+    if (count > 2 && strcmp(words[1], "session") == 0) {
+        own_session();
+        execvp(words[2], words + 2);
+        fail(words[2], strerror(errno));
     }
+    if (strcmp(what, "follow") == 0 && count > 4) {
+        open_notes(words[2]);
+        return follow(words[3], words + 4);
+    }
+    if (strcmp(what, "observe") == 0)
+        return observe(strcmp(kind, "files") == 0, (count - 3) / 2, words + 3);
     int port = count > 3 ? atoi(words[3]) : 0;
     int is_jetstream = strcmp(kind, "jetstream") == 0, is_stream = strcmp(kind, "stream") == 0;
     if (strcmp(what, "sub") == 0 && count == 7) {
-        setsid();
+        own_session();
         open_notes(words[5]);
         open_folder(words[6]);
         notes->process = getpid();
