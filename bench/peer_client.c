@@ -16,7 +16,8 @@
  * What came is put into a file of its own in FOLDER: written beside, and moved. With - it is not.
  *
  * KIND is mqtt, nats, jetstream, redis or stream; numbers are also published by the KIND folder,
- * where PORT is a folder whose files are the settings. The value of a setting is a number in
+ * where PORT is a folder whose files are the settings, and root, where it is the control socket of
+ * a root. The value of a setting is a number in
  * PEER_DIGITS digits, and its key is k and the number modulo PEER_KEYS: 16 and 100 where they are
  * not set.
  */
@@ -35,6 +36,8 @@
 #include <sys/inotify.h>
 #include <sys/mman.h>
 #include <sys/prctl.h>
+#include <sys/socket.h>
+#include <sys/un.h>
 #include <sys/wait.h>
 #include <time.h>
 #include <unistd.h>
@@ -526,6 +529,51 @@ static void folder_publish(const char *path, struct numbers *numbers)
     }
 }
 
+/* Asks a root for the next change, or closes the connection where there is none. */
+static int ask(int to, struct numbers *numbers)
+{
+    char key[32], value[MOST_DIGITS + 1], hex[2 * MOST_DIGITS + 1] = "";
+    int64_t number = next_number(numbers);
+    if (number < 0) return close(to), -1;
+    int length = setting(key, "k%d", value, number);
+    for (int at = 0; at < length; at++) sprintf(hex + 2 * at, "%02x", value[at]);
+    dprintf(to, "{\"do\":\"publish\",\"key\":\"%s\",\"value\":\"%s\"}\n", key, hex);
+    return to;
+}
+
+/* Asks over some connections to its control socket, each for one change after the other. Each is
+ * published before the next one of its key is asked for. Prints the last sequence number too. */
+static void root_publish(const char *path, struct numbers *numbers)
+{
+    enum { TOGETHER = 15 };
+    static const char answer_is[] = "{\"published\":";
+    struct pollfd of[TOGETHER];
+    struct sockaddr_un to = {.sun_family = AF_UNIX};
+    long long last = 0;
+    int left = TOGETHER;
+    snprintf(to.sun_path, sizeof to.sun_path, "%s", path);
+    for (int at = 0; at < TOGETHER; at++) {
+        of[at] = (struct pollfd){socket(AF_UNIX, SOCK_STREAM, 0), POLLIN, 0};
+        if (connect(of[at].fd, (struct sockaddr *)&to, sizeof to)) fail(path, strerror(errno));
+    }
+    began(now());
+    for (int at = 0; at < TOGETHER; at++) left -= (of[at].fd = ask(of[at].fd, numbers)) < 0;
+    while (left > 0) {
+        if (poll(of, TOGETHER, 60000) <= 0) fail(path, "no answer");
+        for (int at = 0; at < TOGETHER; at++) {
+            char answer[512] = "";
+            if (of[at].fd < 0 || !of[at].revents) continue;
+            /* (an answer is short, so it comes whole) */
+            if (read(of[at].fd, answer, sizeof answer - 1) < 0 ||
+                strncmp(answer, answer_is, strlen(answer_is))) fail("refused", answer);
+            long long sequence = strtoll(answer + strlen(answer_is), NULL, 10);
+            if (sequence > last) last = sequence;
+            left -= (of[at].fd = ask(of[at].fd, numbers)) < 0;
+        }
+    }
+    printf("%lld\n", last);
+}
+
 int main(int count, char **words)
 {
     const char *what = count > 3 ? words[1] : "", *kind = count > 3 ? words[2] : "";
@@ -574,6 +622,7 @@ int main(int count, char **words)
             numbers.until = now() + strtoll(words[6], NULL, 10) * 1000000;
         }
         if (strcmp(kind, "folder") == 0) folder_publish(words[3], &numbers);
+        else if (strcmp(kind, "root") == 0) root_publish(words[3], &numbers);
         else if (strcmp(kind, "mqtt") == 0) mqtt_publish(port, &numbers);
         else if (strcmp(kind, "nats") == 0 || is_jetstream)
             nats_publish(port, &numbers, is_jetstream);
