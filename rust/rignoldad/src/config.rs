@@ -331,7 +331,7 @@ impl<'a> Check<'a> {
             root: self.has("root").then(|| Root {
                 settings: self.needed("root.settings"),
                 round: self.time("root.round", 30_000, 100..=86_400_000),
-                harmless: self.number("root.harmless", 23, 0..=10_000) as u32,
+                harmless: self.number("root.harmless", 23, 1..=10_000) as u32,
             }),
             tls: self.has("tls").then(|| Tls {
                 certificate: self.needed("tls.certificate"),

@@ -77,7 +77,7 @@ fn says_each_fault_with_its_line_and_key() {
         ("name = \"a\"\n[root]\nsettings = \"s\"", 3, "root.settings", "absolute"),
         ("name = \"a\"\n[root]\nsettings = \"/s\"\nround = \"5\"", 4, "root.round", "a time"),
         ("name = \"a\"\n[root]\nsettings = \"/s\"\nround = \"1ms\"", 4, "root.round", "100ms"),
-        ("name = \"a\"\n[root]\nsettings = \"/s\"\nharmless = -1", 4, "root.harmless", "0 to"),
+        ("name = \"a\"\n[root]\nsettings = \"/s\"\nharmless = 0", 4, "root.harmless", "1 to"),
         ("name = \"a", 1, "", "unterminated"),
         ("name = \"a\"", 0, "parents", "has a parent"),
         (
