@@ -104,6 +104,7 @@ fn refuses_a_list_that_is_none() {
     }
     assert!(!below.heard("a", &vec![b' '; REPORT_BYTES + 1], now));
     assert_eq!(below.tree(&status("root", &["a"]), now).len(), 3, "the good one stays");
+    assert_eq!(below.agents(), 2);
     let mut state = 1_u64;
     for _ in 0..2_000 {
         let mut bytes = serde_json::to_vec(&good).unwrap();
