@@ -1,5 +1,6 @@
 pub mod Entries
 pub mod Stepwise
+pub mod Unscheduled
 pub mod Counting
 pub mod Spared
 pub mod Reading

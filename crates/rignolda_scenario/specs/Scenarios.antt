@@ -1,8 +1,9 @@
 -- Scenarios: what bytes mean as a scenario, or the first check, in the stated order, that they
--- fail: those of the job, that there is a list of steps, each step in its order, and how many
--- changes they are. Example: Bytes that are no job are refused for that, whatever their steps are.
--- In the chain r, a, b the steps `["r", "offer"]` and `["x", "offer"]` are refused at step 1, since
--- no link leads into r; that no node is called x is not looked at. Source: this project's profile.
+-- fail: those of the job, that there is a list of steps, and each step in its order. No step looks
+-- at the schedule of the job, so the scenario is without it. Example: Bytes that are no job are
+-- refused for that, whatever their steps are. In the chain r, a, b the steps `["r", "offer"]` and
+-- `["x", "offer"]` are refused at step 1, since no link leads into r; that no node is called x is
+-- not looked at. Source: this project's profile.
 use Rattle.std.specs.Prelude.{ℕ, suc, codes, nat_lt, length, List, [], ◌∷◌, Option, option_and_then}
 use Rattle.std.specs.Prelude.{Result, Ok, Err}
 use Rattle.serde_json.specs.Data.{Data, Items, no_items, item}
@@ -12,6 +13,7 @@ use Rattle.stab_json.specs.Checks.{◌>>=◌, ◌>>◌, ◌or◌, ◌when◌, �
 use Rattle.stab_json.specs.Values.{value_of}
 use Rattle.stab_job.specs.Jobs.{job}
 use Rattle.stab_job.specs.JobValues.{JobValue}
+use Rattle.stab_job_stream.specs.Unscheduled.{unscheduled}
 use Rattle.stab_tree.specs.Nodes.{Nodes}
 use Rattle.rignolda_scenario.specs.declared.fault.ScenarioFault.{ScenarioFault}
 use Rattle.rignolda_scenario.specs.declared.fault.ScenarioFault.TheVariants as fault
@@ -49,9 +51,14 @@ steps_of_bytes j bytes = do
   value ← value_of bytes or fault.Steps
   steps_of j value
 
+-- the scenario of a job, with the steps of these bytes
+abbrev pub with_steps : JobValue → List ℕ → Result Scenario ScenarioFault
+with_steps j bytes = do
+  steps ← steps_of_bytes j bytes
+  Ok (record { job = j; steps = steps })
+
 -- the scenario that these bytes mean
 abbrev pub scenario : List ℕ → Result Scenario ScenarioFault
 scenario bytes = do
   its_job ← job bytes refused_as job_refused
-  steps ← steps_of_bytes its_job bytes
-  Ok (record { job = its_job; steps = steps })
+  with_steps (unscheduled its_job) bytes

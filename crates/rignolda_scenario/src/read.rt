@@ -1,7 +1,7 @@
-ghost use Rattle.std.specs.Prelude.{◌≡◌, ◌≢◌, MatchResult, Ok, Err, Some, None, IfErr, IfOk, option_map};
+ghost use Rattle.std.specs.Prelude.{◌≡◌, ◌≢◌, MatchResult, Ok, Err, IfOk, option_map};
 ghost use Rattle.serde_json.specs.View.{view, items_view};
-ghost use Rattle.stab_job.specs.JobValues.{JobValue};
 ghost use Rattle.stab_job.specs.Jobs.{job};
+ghost use Rattle.stab_job_stream.specs.Unscheduled.{IsUnscheduled};
 ghost use Rattle.rignolda_scenario.specs.Scenarios.{listed_steps, numbered, scenario, steps_after};
 ghost use Rattle.rignolda_scenario.specs.Scenarios.{steps_of, steps_of_bytes};
 
@@ -11,14 +11,15 @@ use crate::step::Step;
 use serde_json::Value;
 use stab_frames::{Params, Sequence};
 use stab_job::{Job, JobFault};
-use stab_job_stream::read_job_and_members;
+use stab_job_stream::read_unscheduled_job;
 use stab_tree::Tree;
 use std::alloc::Global;
 
 /// A job of a tree, and the steps that happen to it.
 #[derive(Debug)]
 pub struct Scenario {
-    /// The job, whose schedule and scripts no step looks at.
+    /// The job, whose scripts no step looks at. No step looks at its schedule either, so where
+    /// bytes are read it is empty.
     pub job: Job,
     /// The steps, in their order.
     pub steps: Sequence<Step>,
@@ -32,6 +33,7 @@ impl Drop for Scenario {
 
 /// The scenario that these bytes mean, or the first check that they fail; memory may be refused
 /// before a later check.
+#[tactic(auto, using(crate::proofs::Unscheduled::by_its_steps))]
 pub fn read_scenario(alloc: Global, bytes: &[u8]) -> Result<Scenario, ScenarioFault>
     ensures scenario { MatchResult result
         (λ its_scenario. scenario bytes.now ≡ Ok its_scenario)
@@ -42,16 +44,16 @@ pub fn read_scenario(alloc: Global, bytes: &[u8]) -> Result<Scenario, ScenarioFa
     Ok(Scenario { job, steps })
 }
 
-/// The job that these bytes mean, or the first check that they fail; and a value that has their
-/// steps.
+/// The job that these bytes mean, without its schedule, or the first check that they fail; and a
+/// value that has their steps.
 fn read_members(alloc: Global, bytes: &[u8]) -> Result<(Job, Value), JobFault>
     ensures job { MatchResult result
-        (λ read. job bytes.now ≡ Ok read.0)
+        (λ read. IsUnscheduled (job bytes.now) read.0)
         (λ fault. fault ≢ JobFault.Memory → job bytes.now ≡ Err fault) }
     ensures steps { IfOk result (λ read.
         steps_of_bytes read.0 bytes.now ≡ steps_of read.0 (view read.1)) }
 {
-    let read = read_job_and_members(alloc, bytes)?;
+    let read = read_unscheduled_job(alloc, bytes)?;
     Ok(read)
 }
 
