@@ -13,6 +13,7 @@ mod row;
 mod rows;
 mod run;
 mod schedule;
+mod stopped;
 mod words;
 
 pub use cells::{push_name_cell, push_number_cell, push_state_cells};

@@ -7,7 +7,7 @@ ghost use Rattle.stab_core.specs.Step.{effect, step};
 ghost use Rattle.stab_job.specs.JobValues.{network};
 ghost use Rattle.stab_job.specs.Replays.{IsReplayReason};
 ghost use Rattle.stab_treecore.specs.Network.{IsNetwork};
-ghost use Rattle.stab_treecore.specs.Refusals.{IsStartReason, NamesLink, NamesNoLink};
+ghost use Rattle.stab_treecore.specs.Refusals.{IsStepReason, NamesLink, NamesNoLink};
 ghost use Rattle.stab_treecore.specs.TreeReplay.{initial_tree};
 ghost use Rattle.stab_treecore.specs.TreeStep.{tree_step};
 ghost use Rattle.stab_treecore.specs.WholeTree.{link_into};
@@ -16,6 +16,7 @@ ghost use Rattle.rignolda_draw.specs.Rows.{row_of, rows_from, step_row, tree_row
 use crate::cells::held;
 use crate::next::event_on;
 use crate::row::Row;
+use crate::stopped::stopped;
 use stab_core::{Effect, Event, Link, StartFault};
 use stab_job::Job;
 use stab_script::LinkJob;
@@ -83,28 +84,15 @@ pub fn schedule_rows(alloc: Global, job: &Job) -> Result<Vec<Row>, TreeStartFaul
     ensures named { OnOk result (All (NamesLink job.now.tree.parents) job.now.schedule) }
     ensures refused { IfErr result (IsReplayReason job.now) }
 {
-    let end = job.replay(alloc)?;
-    drop(end);
-    let rows = stepped(alloc, job)?;
-    Ok(rows)
-}
-
-/// The rows of a job whose schedule names links alone, so that nothing but memory is refused once
-/// the tree can begin.
-fn stepped(alloc: Global, job: &Job) -> Result<Vec<Row>, TreeStartFault>
-    ensures rows { IfOk result (λ rows. rows.items
-        ≡ tree_rows_from (initial_tree (network job.now)) job.now.schedule) }
-    ensures refused { IfErr result
-        (IsStartReason job.now.params job.now.tree.parents job.now.starts) }
-{
     let mut state = job.initial_tree(alloc)?;
     match rows_from(alloc, job.tree(), &mut state, job.schedule()) {
         Ok(rows) => Ok(rows),
-        Err(_) => Err(TreeStartFault::Start(StartFault::Memory)),
+        Err(fault) => Err(stopped(job, fault)),
     }
 }
 
 /// The rows of these events from this state.
+#[tactic(auto, using(crate::proofs::Going::begins, crate::proofs::Going::stops_here, crate::proofs::Going::one_further, crate::proofs::Going::all_named))]
 fn rows_from(
     alloc: Global,
     tree: &Tree,
@@ -112,7 +100,10 @@ fn rows_from(
     events: &[TreeEvent],
 ) -> Result<Vec<Row>, TreeStepFault>
     requires same_tree { state.old.parents ≡ tree.now.parents }
-    ensures { IfOk result (λ rows. rows.items ≡ tree_rows_from state.old events.now) }
+    ensures rows { IfOk result (λ rows. rows.items ≡ tree_rows_from state.old events.now) }
+    ensures named { OnOk result (All (NamesLink state.old.parents) events.now) }
+    ensures stops { IsErrOf result TreeStepFault.NoSuchLink
+        → IsStepReason state.old events.now TreeStepFault.NoSuchLink }
 {
     let mut rows = Vec::new(alloc);
     for event in events {
@@ -132,6 +123,7 @@ pub fn push_step_row(
     ensures row { OnOk result (rows.new.items
         ≡ rows.old.items ++ option_to_list (step_row state.old event)) }
     ensures steps { OnOk result (state.new ≡ tree_step state.old event) }
+    ensures named { OnOk result (NamesLink state.old.parents event) }
     ensures no_such_link { IsErrOf result TreeStepFault.NoSuchLink
         ↔ NamesNoLink state.old.parents event }
 {

@@ -3,7 +3,7 @@ ghost use Rattle.std.specs.Prelude.{◌≡◌, ◌++◌, ◌<◌, All, length, s
 ghost use Rattle.stab_job.specs.JobValues.{network};
 ghost use Rattle.stab_job.specs.Replays.{IsReplayReason};
 ghost use Rattle.stab_treecore.specs.Network.{IsNetwork};
-ghost use Rattle.stab_treecore.specs.Refusals.{IsStartReason, NamesLink, NamesNoLink};
+ghost use Rattle.stab_treecore.specs.Refusals.{IsStepReason, NamesLink, NamesNoLink};
 ghost use Rattle.stab_treecore.specs.TreeStep.{event_on, next_item, tree_effect, tree_step};
 ghost use Rattle.stab_treecore.specs.WholeTree.{link_into};
 ghost use Rattle.rignolda_draw.specs.Schedules.{link_line, link_start_line, node_start_line};
@@ -15,8 +15,9 @@ ghost use Rattle.std.specs.Prelude.{[], Some};
 use crate::cells::{push_act_cell, push_effect_cell, push_name_cell, push_state_cells};
 use crate::next::event_on;
 use crate::run::push_start_line;
+use crate::stopped::stopped;
 use crate::words::delivered_by;
-use stab_core::{Effect, Event, Link, StartFault};
+use stab_core::{Effect, Event, Link};
 use stab_job::Job;
 use stab_tree::{NodeId, Tree};
 use stab_treecore::{TreeEvent, TreeStartFault, TreeState, TreeStepFault};
@@ -36,24 +37,10 @@ pub fn schedule_run_text(alloc: Global, job: &Job) -> Result<String, TreeStartFa
     ensures named { OnOk result (All (NamesLink job.now.tree.parents) job.now.schedule) }
     ensures refused { IfErr result (IsReplayReason job.now) }
 {
-    let end = job.replay(alloc)?;
-    drop(end);
-    let text = drawn(alloc, job)?;
-    Ok(text)
-}
-
-/// The run of a job whose schedule names links alone, so that nothing but memory is refused once
-/// the tree can begin.
-fn drawn(alloc: Global, job: &Job) -> Result<String, TreeStartFault>
-    ensures text { IfOk result (λ text.
-        string_bytes text ≡ schedule_run_text (network job.now) job.now.schedule) }
-    ensures refused { IfErr result
-        (IsStartReason job.now.params job.now.tree.parents job.now.starts) }
-{
     let mut state = job.initial_tree(alloc)?;
     match text_from(alloc, job.tree(), &mut state, job.schedule()) {
         Ok(text) => Ok(text),
-        Err(_) => Err(TreeStartFault::Start(StartFault::Memory)),
+        Err(fault) => Err(stopped(job, fault)),
     }
 }
 
@@ -66,8 +53,11 @@ fn text_from(
     events: &[TreeEvent],
 ) -> Result<String, TreeStepFault>
     requires same_tree { state.old.parents ≡ tree.now.parents }
-    ensures { IfOk result (λ text. string_bytes text ≡ tree_head ++ start_lines tree.now state.old
-        ++ step_lines tree.now state.old events.now) }
+    ensures text { IfOk result (λ text. string_bytes text ≡ tree_head
+        ++ start_lines tree.now state.old ++ step_lines tree.now state.old events.now) }
+    ensures named { OnOk result (All (NamesLink state.old.parents) events.now) }
+    ensures stops { IsErrOf result TreeStepFault.NoSuchLink
+        → IsStepReason state.old events.now TreeStepFault.NoSuchLink }
 {
     let mut text = String::from_str(alloc, HEAD)?;
     push_start_lines(&mut text, tree, state)?;
@@ -106,7 +96,8 @@ fn push_node_start(
     }
 }
 
-/// Adds a line for each of these events. Where memory is refused, a part of them may be there.
+/// Adds a line for each of these events. Where one is refused, a part of them may be there.
+#[tactic(auto, using(crate::proofs::Going::begins, crate::proofs::Going::stops_here, crate::proofs::Going::one_further, crate::proofs::Going::all_named))]
 fn push_step_lines(
     text: &mut String,
     tree: &Tree,
@@ -114,8 +105,11 @@ fn push_step_lines(
     events: &[TreeEvent],
 ) -> Result<(), TreeStepFault>
     requires same_tree { state.old.parents ≡ tree.now.parents }
-    ensures { OnOk result (string_bytes text.new
+    ensures lines { OnOk result (string_bytes text.new
         ≡ string_bytes text.old ++ step_lines tree.now state.old events.now) }
+    ensures named { OnOk result (All (NamesLink state.old.parents) events.now) }
+    ensures stops { IsErrOf result TreeStepFault.NoSuchLink
+        → IsStepReason state.old events.now TreeStepFault.NoSuchLink }
 {
     for event in events {
         push_step_line(text, tree, state, *event)?;
@@ -134,6 +128,7 @@ pub fn push_step_line(
     ensures line { OnOk result (string_bytes text.new
         ≡ string_bytes text.old ++ step_line tree.now state.old event) }
     ensures steps { OnOk result (state.new ≡ tree_step state.old event) }
+    ensures named { OnOk result (NamesLink state.old.parents event) }
     ensures no_such_link { IsErrOf result TreeStepFault.NoSuchLink
         ↔ NamesNoLink state.old.parents event }
 {
