@@ -8,7 +8,7 @@ use crate::links::ITEMS;
 use stab_core::{LinkAct, push_link_text};
 use stab_job::{Job, read_job};
 use stab_tree::NodeId;
-use stab_treecore::{Openings, TreeEvent, TreeStartFault, TreeState, run_schedule, schedule_text};
+use stab_treecore::{Openings, TreeEvent, TreeStartFault, TreeState, schedule_text};
 use std::alloc::{AllocError, Global};
 use std::marker::Model;
 
@@ -115,7 +115,7 @@ impl Calls for Chain {
         match *call {
             ChainCall::NoOpenings => push_answer(text, Openings::none(alloc, tree)),
             ChainCall::NewState => push_state(text, opened(alloc, &self.job)),
-            ChainCall::Run => push_state(text, after(alloc, &self.job)),
+            ChainCall::Run => push_state(text, self.job.replay(alloc)),
             ChainCall::Text => push_text(text, schedule_text(alloc, tree, &self.state)),
             ChainCall::Step(child, act) => step(&mut self.steps, child, act, text),
             ChainCall::Links => push_links(text, &self.steps),
@@ -127,7 +127,7 @@ impl Calls for Chain {
 fn states_of(alloc: Global, job: &Job) -> Result<(TreeState, TreeState), TreeStartFault>
     ensures { IfOk result (λ states. states.0.parents ≡ job.now.tree.parents) }
 {
-    let state = after(alloc, job)?;
+    let state = job.replay(alloc)?;
     let steps = opened(alloc, job)?;
     Ok((state, steps))
 }
@@ -136,21 +136,6 @@ fn states_of(alloc: Global, job: &Job) -> Result<(TreeState, TreeState), TreeSta
 fn opened(alloc: Global, job: &Job) -> Result<TreeState, TreeStartFault> {
     let (params, starts) = (job.params(), job.starts());
     TreeState::new(alloc, params, job.tree(), &ITEMS, starts, job.openings())
-}
-
-/// The links of a job after its schedule.
-fn after(alloc: Global, job: &Job) -> Result<TreeState, TreeStartFault>
-    ensures { IfOk result (λ state. state.parents ≡ job.now.tree.parents) }
-{
-    run_schedule(
-        alloc,
-        job.params(),
-        job.tree(),
-        job.items(),
-        job.starts(),
-        job.openings(),
-        job.schedule(),
-    )
 }
 
 /// Steps the link into a child.
