@@ -1,93 +1,190 @@
--- The marks after one more entry.
-use Rattle.std.proofs.Common.{◌≡◌, ℕ, ◌+◌, ◌-◌, ◌*◌, ◌/◌, ◌%◌, ◌<◌, ◌≤◌, List, [], ◌∷◌, ◌++◌}
-use Rattle.std.proofs.Common.{length, take, get_or, refl, sym, ap, ◌∙◌, arith, below_more}
+-- The marks after one more code.
+use Rattle.std.proofs.Common.{◌≡◌, ℕ, ◌+◌, ◌-◌, ◌*◌, ◌%◌, ◌<◌, ◌≤◌, List, [], ◌∷◌, ◌++◌}
+use Rattle.std.proofs.Common.{length, take, get_or, refl, sym, subst, ap, ◌∙◌, arith, below_more}
 use Rattle.std.proofs.Common.{drop, slice_get, slice_index, Option, Bool, true, false, ◌==◌, if◌then◌else◌, replicate, rules}
-use Rattle.std.proofs.lemmas.List.{get_or_default, take_all, length-drop, length-append, length-replicate, take-append-le, get_or_append_left}
-use Rattle.std.proofs.Math.Seq.{get_or-append_seam, take-append_seam}
+use Rattle.std.proofs.lemmas.List.{get_or_default, take_all, length-drop, length-append, take-append-le, take-append-drop, append_assoc, get_or_append_left}
+use Rattle.std.proofs.Math.Seq.{get_or-append_seam}
 use Rattle.stab_core.specs.declared.event.Event.{Event}
-use Rattle.stab_history.specs.declared.entry.Entry.{Entry}
-use Rattle.stab_history.specs.EntriesInside.{event_in, exponent, times, expand, AreRuns, MayFollow}
-use Rattle.stab_history.specs.HistoryInside.{AreMarks, ArePacked}
-use Rattle.stab_history.proofs.Runs.{runs_more, expand_more, past_first}
+use Rattle.stab_history.specs.declared.code.Code.{Code}
+use Rattle.stab_history.specs.declared.run.Run.{Run}
+use Rattle.stab_history.specs.CodesInside.{code_of, count_left, event_left, event_of, expand, kind_of}
+use Rattle.stab_history.specs.CodesInside.{numbers_in, run_at, unpack, AreRuns}
+use Rattle.stab_history.specs.HistoryInside.{AreMarks, ArePacked, events_before, numbers_before}
+use Rattle.stab_history.specs.History.{IsLast}
+use Rattle.stab_history.proofs.Runs.{runs_more, count_more, expand_more, past_first}
+use Rattle.stab_history.proofs.Codes.{fewer_numbers, numbers_in-append, numbers_added, run_found, unpack-append, unpack_stays}
 
--- within a block the marks stay
-marks_stay : (xs : List Entry) (x : Entry) (marks : List ℕ) → AreMarks xs marks
-    → (length xs % 64 ≡ 0 → ⊥) → AreMarks (xs ++ x ∷ []) marks
-marks_stay xs x marks marked inside = (
-  omega (arith, length-append xs (x ∷ []), marked.0),
-  λ k within.
-      let first : k * 64 ≤ length xs = omega (arith, marked.0) in
-      marked.1 k within ∙ ap (λ ys. length (expand ys)) (sym (take-append-le (k * 64) xs (x ∷ []) first)),
-)
+module _ (old new : ℕ → ℕ) (codes : ℕ) (same : (n : ℕ) → n ≤ codes → new n ≡ old n) where
+  -- within a block the marks stay
+  marks_stay : (marks : List ℕ) → AreMarks old codes marks → (codes % 64 ≡ 0 → ⊥)
+      → AreMarks new (codes + 1) marks
+  marks_stay marks marked inside = (
+    omega (arith, marked.0),
+    λ k within. marked.1 k within ∙ sym (same (k * 64) (omega (arith, marked.0))),
+  )
 
--- a new block has a mark of its own
-marks_grow : (xs : List Entry) (x : Entry) (marks : List ℕ) → AreMarks xs marks
-    → length xs % 64 ≡ 0 → AreMarks (xs ++ x ∷ []) (marks ++ length (expand xs) ∷ [])
-marks_grow xs x marks marked full = (
-  omega (arith, length-append xs (x ∷ []), length-append marks (length (expand xs) ∷ []), marked.0),
-  λ k within. by_place k (omega (arith, length-append marks (length (expand xs) ∷ []))),
-)
-  where
-    old : (k : ℕ) → k < length marks
-        → get_or (marks ++ length (expand xs) ∷ []) k 0 ≡ length (expand (take (k * 64) (xs ++ x ∷ [])))
-    old k within =
-        let first : k * 64 ≤ length xs = omega (arith, marked.0) in
-        get_or_append_left marks (length (expand xs) ∷ []) 0 k within
-        ∙ (marked.1 k within
-        ∙ ap (λ ys. length (expand ys)) (sym (take-append-le (k * 64) xs (x ∷ []) first)))
+  -- a new block has a mark of its own
+  marks_grow : (marks : List ℕ) → AreMarks old codes marks → codes % 64 ≡ 0
+      → AreMarks new (codes + 1) (marks ++ old codes ∷ [])
+  marks_grow marks marked full = (
+    omega (arith, length-append marks (old codes ∷ []), marked.0),
+    λ k within. by_place k (omega (arith, length-append marks (old codes ∷ []))),
+  )
+    where
+      before : (k : ℕ) → k < length marks → get_or (marks ++ old codes ∷ []) k 0 ≡ new (k * 64)
+      before k within =
+          get_or_append_left marks (old codes ∷ []) 0 k within
+          ∙ (marked.1 k within ∙ sym (same (k * 64) (omega (arith, marked.0))))
 
-    new : get_or (marks ++ length (expand xs) ∷ []) (length marks) 0
-        ≡ length (expand (take (length marks * 64) (xs ++ x ∷ [])))
-    new =
-        let whole : length xs ≡ length marks * 64 = omega (arith, marked.0) in
-        get_or-append_seam marks (length (expand xs)) [] 0
-        ∙ (ap (λ ys. length (expand ys)) (sym (take-append_seam xs (x ∷ [])))
-        ∙ ap (λ n. length (expand (take n (xs ++ x ∷ [])))) whole)
+      last : get_or (marks ++ old codes ∷ []) (length marks) 0 ≡ new (length marks * 64)
+      last =
+          let whole : codes ≡ length marks * 64 = omega (arith, marked.0) in
+          get_or-append_seam marks (old codes) [] 0
+          ∙ (ap old whole ∙ sym (same (length marks * 64) (omega (arith, whole))))
 
-    by_place : (k : ℕ) → k < length marks + 1
-        → get_or (marks ++ length (expand xs) ∷ []) k 0 ≡ length (expand (take (k * 64) (xs ++ x ∷ [])))
-    by_place = below_more (λ k. get_or (marks ++ length (expand xs) ∷ []) k 0 ≡ length (expand (take (k * 64) (xs ++ x ∷ [])))) (length marks) old new
+      by_place : (k : ℕ) → k < length marks + 1 → get_or (marks ++ old codes ∷ []) k 0 ≡ new (k * 64)
+      by_place = below_more (λ k. get_or (marks ++ old codes ∷ []) k 0 ≡ new (k * 64)) (length marks) before last
 
--- the marks after one more entry
-marks_more : (xs : List Entry) (x : Entry) (marks : List ℕ) (starts : Bool)
-    → (length xs % 64 == 0) ≡ starts → AreMarks xs marks
-    → AreMarks (xs ++ x ∷ []) (if starts then marks ++ length (expand xs) ∷ [] else marks)
-marks_more xs x marks true full marked = marks_grow xs x marks marked (search rules)
-marks_more xs x marks false inside marked = marks_stay xs x marks marked (search rules)
+  -- the marks after one more code
+  marks_more : (marks : List ℕ) (starts : Bool) → (codes % 64 == 0) ≡ starts → AreMarks old codes marks
+      → AreMarks new (codes + 1) (if starts then marks ++ old codes ∷ [] else marks)
+  marks_more marks true full marked = marks_grow marks marked (search rules)
+  marks_more marks false inside marked = marks_stay marks marked (search rules)
 
--- entries stay packed where a digit is added that may follow
-pub packed_more : (xs : List Entry) (x : Entry) (marks : List ℕ) (count : ℕ) → ArePacked xs marks count
-    → MayFollow xs (event_in x) (exponent x.power + 1) → 1 ≤ x.count
-    → ArePacked (xs ++ x ∷ []) (if length xs % 64 == 0 then marks ++ count ∷ [] else marks) (count + times x)
-packed_more xs x marks count packed follows some =
-    record {
-      runs = runs_more xs x packed.runs follows some;
-      marked =
-          rw packed.counted (marks_more xs x marks (length xs % 64 == 0) refl packed.marked);
-      counted =
-          ap (λ n. n + times x) packed.counted
-          ∙ (ap (λ n. length (expand xs) + n) (sym (length-replicate (times x) (event_in x)))
-          ∙ (sym (length-append (expand xs) (replicate (times x) (event_in x)))
-          ∙ sym (ap length (expand_more xs x))));
-    }
+-- all events, and all numbers, are those before the end
+all_events_before : (numbers : List ℕ) (codes : List Code)
+    → events_before numbers codes (length codes) ≡ length (expand (unpack numbers 0 codes))
+all_events_before numbers codes =
+    ap (λ xs. length (expand (unpack numbers 0 xs))) (take_all (length codes) codes (omega arith))
 
--- what is at a place is in the entries from a block on that begins at the place or before it
-pub found_in_block : (xs ys : List Entry) (marks : List ℕ) (count place block mark : ℕ) (found : Option Event)
-    → ys ≡ xs → ArePacked xs marks count → block < length marks → mark ≡ get_or marks block mark
-    → slice_index marks block ≤ place
-    → found ≡ slice_get (expand (take (length ys - block * 64) (drop (block * 64) ys))) (place - mark)
-    → found ≡ slice_get (expand xs) place
-found_in_block xs ys marks count place block mark found same packed within marked begins finds =
-    let before : slice_index marks block ≡ length (expand (take (block * 64) xs)) =
-    packed.marked.1 block within
-    in
-    let at : mark ≡ length (expand (take (block * 64) xs)) =
-    marked ∙ (get_or_default marks block mark 0 within ∙ before)
-    in
-    let past : length (expand (take (block * 64) xs)) ≤ place = omega (arith, before, begins) in
-    let all : take (length xs - block * 64) (drop (block * 64) xs) ≡ drop (block * 64) xs =
-    take_all (length xs - block * 64) (drop (block * 64) xs)
-    (omega (arith, length-drop (block * 64) xs))
-    in
-    finds
-    ∙ (rw (same, all, at) (past_first (block * 64) xs place past))
+all_numbers_before : (codes : List Code) → numbers_before codes (length codes) ≡ numbers_in codes
+all_numbers_before codes = ap numbers_in (take_all (length codes) codes (omega arith))
+
+module _ (xs : List Code) (numbers with_event marks starts : List ℕ) (count : ℕ) (run : Run)
+    (packed : ArePacked xs numbers marks starts count) (are : with_event ≡ numbers ++ event_left run.event)
+    (found : event_of (kind_of run.event) (get_or with_event (length numbers) 0) ≡ run.event)
+    (some : 1 ≤ run.count) where
+  -- all numbers after one more run
+  abbrev pub after : List ℕ
+  after = with_event ++ count_left run.count
+
+  -- the numbers of a run are added to the others
+  after_is : after ≡ numbers ++ (event_left run.event ++ count_left run.count)
+  after_is =
+      ap (λ ns. ns ++ count_left run.count) are
+      ∙ append_assoc numbers (event_left run.event) (count_left run.count)
+
+  -- the first codes mean what they meant
+  first_stay : (n : ℕ) → n ≤ length xs
+      → unpack after 0 (take n (xs ++ code_of run ∷ [])) ≡ unpack numbers 0 (take n xs)
+  first_stay n within =
+      ap (unpack after 0) (take-append-le n xs (code_of run ∷ []) within)
+      ∙ (ap (λ ns. unpack ns 0 (take n xs)) after_is
+      ∙ unpack_stays numbers (event_left run.event ++ count_left run.count) 0 (take n xs)
+      (omega (arith, fewer_numbers n xs, packed.all_numbers)))
+
+  -- the runs of the codes after one more
+  unpacked_more : unpack after 0 (xs ++ code_of run ∷ []) ≡ unpack numbers 0 xs ++ run ∷ []
+  unpacked_more =
+      let place : 0 + numbers_in xs ≡ length numbers = omega (arith, packed.all_numbers) in
+      let others : unpack after 0 xs ≡ unpack numbers 0 xs =
+      ap (λ ns. unpack ns 0 xs) after_is
+      ∙ unpack_stays numbers (event_left run.event ++ count_left run.count) 0 xs (omega (arith, packed.all_numbers))
+      in
+      unpack-append after 0 xs (code_of run ∷ [])
+      ∙ (ap (λ runs. runs ++ unpack after (0 + numbers_in xs) (code_of run ∷ [])) others
+      ∙ (ap (λ i. unpack numbers 0 xs ++ run_at after i (code_of run) ∷ []) place
+      ∙ ap (λ r. unpack numbers 0 xs ++ r ∷ []) (run_found numbers with_event run are some found)))
+
+  -- what the codes mean after one more
+  pub events_more : expand (unpack after 0 (xs ++ code_of run ∷ []))
+      ≡ expand (unpack numbers 0 xs) ++ replicate run.count run.event
+  events_more = ap expand unpacked_more ∙ expand_more (unpack numbers 0 xs) run
+
+  -- runs stay packed where one is added of whose event they do not end
+  pub packed_more : (IsLast run.event (expand (unpack numbers 0 xs)) → ⊥)
+      → ArePacked (xs ++ code_of run ∷ []) after
+      (if length xs % 64 == 0 then marks ++ count ∷ [] else marks)
+      (if length xs % 64 == 0 then starts ++ length numbers ∷ [] else starts) (count + run.count)
+  packed_more differs =
+      let longer : length (xs ++ code_of run ∷ []) ≡ length xs + 1 = length-append xs (code_of run ∷ []) in
+      let events : events_before numbers xs (length xs) ≡ count =
+      all_events_before numbers xs ∙ sym packed.counted
+      in
+      let all : numbers_before xs (length xs) ≡ length numbers = all_numbers_before xs ∙ packed.all_numbers in
+      record {
+        runs =
+            subst AreRuns (sym unpacked_more) (runs_more (unpack numbers 0 xs) run packed.runs differs some);
+        all_numbers =
+            omega (
+              arith,
+              numbers_in-append xs (code_of run ∷ []),
+              packed.all_numbers,
+              numbers_added numbers with_event run are some,
+            );
+        marked =
+            rw (longer, ← events)
+            (marks_more (events_before numbers xs) (events_before after (xs ++ code_of run ∷ [])) (length xs)
+            (λ n within. ap (λ runs. length (expand runs)) (first_stay n within))
+            marks (length xs % 64 == 0) refl packed.marked);
+        started =
+            rw (longer, ← all)
+            (marks_more (numbers_before xs) (numbers_before (xs ++ code_of run ∷ [])) (length xs)
+            (λ n within. ap numbers_in (take-append-le n xs (code_of run ∷ []) within))
+            starts (length xs % 64 == 0) refl packed.started);
+        counted =
+            ap (λ n. n + run.count) packed.counted
+            ∙ (sym (count_more (unpack numbers 0 xs) run) ∙ sym (ap (λ runs. length (expand runs)) unpacked_more));
+      }
+
+-- the codes from a block on
+module _ (xs ys : List Code) (numbers all_numbers marks starts : List ℕ) (count block start : ℕ) (same : ys ≡ xs)
+    (also : all_numbers ≡ numbers) (packed : ArePacked xs numbers marks starts count) (within : block < length marks)
+    (started : start ≡ get_or starts block start) where
+  -- their numbers come after those of the codes before them
+  start_is : start ≡ numbers_in (take (block * 64) xs)
+  start_is =
+      let inside : block < length starts = omega (arith, within, packed.marked.0, packed.started.0) in
+      started ∙ (get_or_default starts block start 0 inside ∙ packed.started.1 block inside)
+
+  -- they are all codes that are left
+  block_is : take (length ys - block * 64) (drop (block * 64) ys) ≡ drop (block * 64) xs
+  block_is =
+      rw same
+      (take_all (length xs - block * 64) (drop (block * 64) xs) (omega (arith, length-drop (block * 64) xs)))
+
+  -- their numbers are there
+  pub numbers_in_block : start + numbers_in (take (length ys - block * 64) (drop (block * 64) ys)) ≤ length all_numbers
+  numbers_in_block =
+      rw (block_is, also)
+      (omega (
+        arith,
+        start_is,
+        packed.all_numbers,
+        numbers_in-append (take (block * 64) xs) (drop (block * 64) xs),
+        ap numbers_in (take-append-drop (block * 64) xs),
+      ))
+
+  -- what is at a place is in them where they begin at the place or before it
+  pub found_in_block : (place mark : ℕ) (found : Option Event) → mark ≡ get_or marks block mark
+      → slice_index marks block ≤ place
+      → found ≡ slice_get (expand (unpack all_numbers start (take (length ys - block * 64) (drop (block * 64) ys)))) (place - mark)
+      → found ≡ slice_get (expand (unpack numbers 0 xs)) place
+  found_in_block place mark found marked begins finds =
+      let first : List Code = take (block * 64) xs in
+      let before : slice_index marks block ≡ length (expand (unpack numbers 0 first)) =
+      packed.marked.1 block within
+      in
+      let at : mark ≡ length (expand (unpack numbers 0 first)) =
+      marked ∙ (get_or_default marks block mark 0 within ∙ before)
+      in
+      let from : start ≡ 0 + numbers_in first = omega (arith, start_is) in
+      let past : length (expand (unpack numbers 0 first)) ≤ place = omega (arith, before, begins) in
+      let whole : unpack numbers 0 first ++ unpack numbers (0 + numbers_in first) (drop (block * 64) xs) ≡ unpack numbers 0 xs =
+      sym (unpack-append numbers 0 first (drop (block * 64) xs))
+      ∙ ap (unpack numbers 0) (take-append-drop (block * 64) xs)
+      in
+      finds
+      ∙ (rw (block_is, also, at, from)
+      (past_first (unpack numbers 0 first) (unpack numbers (0 + numbers_in first) (drop (block * 64) xs)) place past
+      ∙ ap (λ runs. slice_get (expand runs) place) whole))

@@ -1,30 +1,40 @@
 -- What the private fields of a history keep: the packed runs with their marks, and the run that may
 -- still grow.
 -- Source: this project's own.
-use Rattle.std.specs.Prelude.{◌≡◌, ℕ, ◌+◌, ◌-◌, ◌*◌, ◌/◌, ◌<◌, ◌≤◌, List, [], ◌++◌, length, take}
-use Rattle.std.specs.Prelude.{replicate, slice_index, Option, Some, None, min}
+use Rattle.std.specs.Prelude.{◌≡◌, ℕ, ◌+◌, ◌*◌, ◌/◌, ◌<◌, ◌≤◌, List, [], ◌++◌, length, take}
+use Rattle.std.specs.Prelude.{replicate, slice_index, Option, Some, None}
 use Rattle.stab_core.specs.declared.event.Event.{Event}
-use Rattle.stab_history.specs.declared.entry.Entry.{Entry}
-use Rattle.stab_history.specs.declared.history.Run.{Run}
-use Rattle.stab_history.specs.EntriesInside.{expand, AreRuns}
-use Rattle.stab_history.specs.History.{HistoryValue, IsLast, most_events}
+use Rattle.stab_history.specs.declared.code.Code.{Code}
+use Rattle.stab_history.specs.declared.run.Run.{Run}
+use Rattle.stab_history.specs.CodesInside.{unpack, numbers_in, expand, AreRuns}
+use Rattle.stab_history.specs.History.{IsLast, most_events}
 
--- packed runs: their entries, and for how many more entries there is room
+-- packed runs, and for how many more there is room
 pub record PackedValue : Type 0 where
-  pub entries : List Entry
+  pub runs : List Run
   pub room : ℕ
 
--- a mark is the number of events before an entry; every 64th entry has one
-abbrev pub AreMarks : List Entry → List ℕ → Type 0
-AreMarks entries marks =
-    (length marks ≡ (length entries + 63) / 64)
-    × ((k : ℕ) → k < length marks → slice_index marks k ≡ length (expand (take (k * 64) entries)))
+-- of so many codes, each 64th has a mark: what this counts of the codes before it
+abbrev pub AreMarks : (ℕ → ℕ) → ℕ → List ℕ → Type 0
+AreMarks counted codes marks =
+    (length marks ≡ (codes + 63) / 64)
+    × ((k : ℕ) → k < length marks → slice_index marks k ≡ counted (k * 64))
 
--- these entries are runs, with these marks and this many events
-pub record ArePacked (entries : List Entry) (marks : List ℕ) (count : ℕ) : Type 0 where
-  pub runs : AreRuns entries
-  pub marked : AreMarks entries marks
-  pub counted : count ≡ length (expand entries)
+-- how many events and how many numbers the first of these codes have
+abbrev pub events_before : List ℕ → List Code → ℕ → ℕ
+events_before numbers codes n = length (expand (unpack numbers 0 (take n codes)))
+
+abbrev pub numbers_before : List Code → ℕ → ℕ
+numbers_before codes n = numbers_in (take n codes)
+
+-- these codes and numbers are runs, with these marks of events and of numbers, and this many events
+pub record ArePacked (codes : List Code) (numbers marks starts : List ℕ) (count : ℕ)
+    : Type 0 where
+  pub runs : AreRuns (unpack numbers 0 codes)
+  pub all_numbers : numbers_in codes ≡ length numbers
+  pub marked : AreMarks (events_before numbers codes) (length codes) marks
+  pub started : AreMarks (numbers_before codes) (length codes) starts
+  pub counted : count ≡ length (expand (unpack numbers 0 codes))
 
 -- the events of the run that still grows, where there is one
 abbrev pub open_events : Option Run → List Event
@@ -32,15 +42,15 @@ open_events None = []
 open_events (Some run) = replicate run.count run.event
 
 -- all events: those of the packed runs, and then those of the one that grows
-abbrev pub all_events : List Entry → Option Run → List Event
-all_events entries last = expand entries ++ open_events last
+abbrev pub all_events : List Run → Option Run → List Event
+all_events runs last = expand runs ++ open_events last
 
 -- the run that grows is not empty, and the events before it do not end in its event; where there
 -- is none, nothing happened yet
-abbrev pub IsOpen : List Entry → Option Run → Type 0
-IsOpen entries None = entries ≡ []
-IsOpen entries (Some run) = (1 ≤ run.count) × ¬ IsLast run.event (expand entries)
+abbrev pub IsOpen : List Run → Option Run → Type 0
+IsOpen runs None = runs ≡ []
+IsOpen runs (Some run) = (1 ≤ run.count) × ¬ IsLast run.event (expand runs)
 
-pub record IsHistory (entries : List Entry) (last : Option Run) : Type 0 where
-  pub last_run : IsOpen entries last
-  pub within : length (all_events entries last) ≤ most_events
+pub record IsHistory (runs : List Run) (last : Option Run) : Type 0 where
+  pub last_run : IsOpen runs last
+  pub within : length (all_events runs last) ≤ most_events

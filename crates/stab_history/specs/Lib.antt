@@ -1,3 +1,3 @@
 pub mod History
-pub mod EntriesInside
+pub mod CodesInside
 pub mod HistoryInside

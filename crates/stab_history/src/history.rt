@@ -2,25 +2,18 @@ ghost use Rattle.std.specs.Prelude.{◌≡◌, ◌+◌, ◌<◌, ◌≤◌, ◌�
 ghost use Rattle.std.specs.Prelude.{◌↔◌, IsTrue, OnOk, OnErr};
 ghost use Rattle.stab_history.specs.History.{HistoryValue, HasRoom, IsLast, most_events};
 
-use crate::digits::{DIGITS, pack_run};
 use crate::packed::PackedRuns;
+use crate::run::Run;
 use stab_core::Event;
 use std::alloc::{AllocError, Global};
 use std::marker::Model;
-
-/// A run of equal events.
-#[derive(Clone, Copy, Debug)]
-struct Run {
-    event: Event,
-    count: u64,
-}
 
 /// The events of a link in their order, kept as runs: an event that repeats the last one only
 /// counts it once more. Contracts see the list of the events, and for how many more of any kind
 /// there is room.
 ///
-/// The last run is kept as it is, since it may still grow. The runs before it are packed: 8 bytes
-/// for each while its count is at most 65,535.
+/// The last run is kept as it is, since it may still grow. The runs before it are packed: 2 bytes
+/// for each, 4 more for an item or a place, and 8 more where its count is over 255.
 #[derive(Debug)]
 pub struct History {
     packed: PackedRuns,
@@ -34,18 +27,17 @@ impl Drop for History {
 }
 
 impl Model for History {
-    ghost use Rattle.std.specs.Prelude.{◌/◌};
     ghost use Rattle.stab_history.specs.History.{HistoryValue};
     ghost use Rattle.stab_history.specs.HistoryInside.{IsHistory, all_events};
 
     ghost Value = { HistoryValue };
 
     ghost view = { λ h. record {
-      events = all_events h.packed.entries h.last;
-      room = h.packed.room / 4;
+      events = all_events h.packed.runs h.last;
+      room = h.packed.room;
     } };
 
-    ghost invariant = { λ h. IsHistory h.packed.entries h.last };
+    ghost invariant = { λ h. IsHistory h.packed.runs h.last };
 }
 
 impl History {
@@ -96,7 +88,7 @@ impl History {
         if u64::MAX - self.len() < u64::from(additional) {
             return Err(AllocError);
         }
-        self.packed.reserve(additional as usize * DIGITS)
+        self.packed.reserve(additional)
     }
 
     /// Makes room for this event, which takes memory only where it does not repeat the last one. It
@@ -127,7 +119,7 @@ impl History {
         match &mut self.last {
             Some(run) if run.event == event => run.count += 1,
             Some(run) => {
-                pack_run(&mut self.packed, run.event, run.count);
+                self.packed.push(*run);
                 *run = Run { event, count: 1 };
             }
             None => self.last = Some(Run { event, count: 1 }),

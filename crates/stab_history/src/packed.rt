@@ -1,101 +1,125 @@
-ghost use Rattle.std.specs.Prelude.{◌≡◌, ◌+◌, ◌-◌, ◌<◌, ◌≤◌, [], ◌∷◌, ◌++◌, length, slice_get};
-ghost use Rattle.std.specs.Prelude.{slice_index, ◌%◌, ◌==◌, if◌then◌else◌, vec_len, vec_capacity};
+ghost use Rattle.std.specs.Prelude.{◌≡◌, ◌+◌, ◌-◌, ◌<◌, ◌≤◌, [], ◌∷◌, ◌++◌, length, replicate};
+ghost use Rattle.std.specs.Prelude.{slice_get, slice_index, ◌%◌, ◌==◌, if◌then◌else◌, vec_len, vec_capacity};
 ghost use Rattle.std.specs.Prelude.{OnOk, OnErr};
-ghost use Rattle.stab_history.specs.EntriesInside.{expand, event_in, exponent, times, AreRuns};
-ghost use Rattle.stab_history.specs.EntriesInside.{MayFollow};
-ghost use Rattle.stab_history.specs.History.{most_events};
+ghost use Rattle.stab_history.specs.CodesInside.{expand, numbers_in, unpack};
+ghost use Rattle.stab_history.specs.History.{IsLast, most_events};
 
-use crate::entry::Entry;
+use crate::code::{Code, add_count, add_event};
+use crate::run::Run;
 use stab_core::Event;
 use std::alloc::{AllocError, Global};
 use std::marker::Model;
 
-/// How many entries share one mark.
+/// How many codes share one mark.
 const BLOCK: usize = 64;
 
-/// The runs that are over, as entries of 8 bytes, with a mark for every 64th entry. Contracts see
-/// the entries, and for how many more there is room.
+/// How many numbers a code takes at most.
+const NUMBERS: usize = 3;
+
+/// The runs that are over, as codes of 2 bytes and the numbers that they leave out, with two marks
+/// for every 64th code. Contracts see the runs, and for how many more there is room.
 #[derive(Debug, Drop)]
 pub(crate) struct PackedRuns {
-    entries: Vec<Entry>,
-    /// How many events there are before the first entry of each block.
+    codes: Vec<Code>,
+    numbers: Vec<u32>,
+    /// How many events there are before the first code of each block.
     marks: Vec<u64>,
+    /// How many numbers the codes before it take.
+    starts: Vec<u64>,
     count: u64,
 }
 
 impl Model for PackedRuns {
-    ghost use Rattle.std.specs.Prelude.{◌-◌, min, vec_len, vec_capacity};
+    ghost use Rattle.std.specs.Prelude.{◌-◌, ◌/◌, min, vec_len, vec_capacity};
+    ghost use Rattle.stab_history.specs.CodesInside.{unpack};
     ghost use Rattle.stab_history.specs.HistoryInside.{PackedValue, ArePacked};
 
     ghost Value = { PackedValue };
 
     ghost view = { λ c. record {
-      entries = c.entries.items;
-      room = min (vec_capacity c.entries - vec_len c.entries)
-          (vec_capacity c.marks - vec_len c.marks);
+      runs = unpack c.numbers.items 0 c.codes.items;
+      room = min
+          (min (vec_capacity c.codes - vec_len c.codes)
+          ((vec_capacity c.numbers - vec_len c.numbers) / 3))
+          (min (vec_capacity c.marks - vec_len c.marks)
+          (vec_capacity c.starts - vec_len c.starts));
     } };
 
-    ghost invariant = { λ c. ArePacked c.entries.items c.marks.items c.count };
+    ghost invariant = { λ c.
+        ArePacked c.codes.items c.numbers.items c.marks.items c.starts.items c.count };
 }
 
 impl PackedRuns {
     /// No runs. It takes no memory.
     pub(crate) fn new(alloc: Global) -> PackedRuns
-        ensures { result.entries ≡ [] }
+        ensures { result.runs ≡ [] }
     {
         PackedRuns {
-            entries: Vec::new(alloc),
+            codes: Vec::new(alloc),
+            numbers: Vec::new(alloc),
             marks: Vec::new(alloc),
+            starts: Vec::new(alloc),
             count: 0,
         }
     }
 
     /// How many events the runs have.
     pub(crate) fn count(&self) -> u64
-        ensures count { result ≡ length (expand self.now.entries) }
-        ensures runs { AreRuns self.now.entries }
+        ensures { result ≡ length (expand self.now.runs) }
     {
         self.count
     }
 
-    /// Makes room for more entries.
-    pub(crate) fn reserve(&mut self, additional: usize) -> Result<(), AllocError>
-        ensures entries { self.new.entries ≡ self.old.entries }
+    /// Makes room for more runs.
+    pub(crate) fn reserve(&mut self, additional: u32) -> Result<(), AllocError>
+        ensures runs { self.new.runs ≡ self.old.runs }
         ensures room { OnOk result (additional ≤ self.new.room) }
         ensures memory { OnErr result (self.old.room < additional) }
     {
-        self.entries.reserve(additional)?;
-        self.marks.reserve(additional)
+        let additional = additional as usize;
+        self.codes.reserve(additional)?;
+        self.numbers.reserve(additional * NUMBERS)?;
+        self.marks.reserve(additional)?;
+        self.starts.reserve(additional)
     }
 
-    /// Adds a digit of a run, in the room that was made.
-    #[tactic(auto, using(crate::proofs::Marks::packed_more))]
-    pub(crate) fn push(&mut self, entry: Entry)
+    /// Adds a run, in the room that was made.
+    pub(crate) fn push(&mut self, run: Run)
         requires room { 1 ≤ self.old.room }
-        requires some { 1 ≤ entry.count }
-        requires follows { MayFollow self.old.entries (event_in entry) (exponent entry.power + 1) }
-        requires within { length (expand self.old.entries) + times entry ≤ most_events }
-        ensures entries { self.new.entries ≡ self.old.entries ++ entry ∷ [] }
+        requires some { 1 ≤ run.count }
+        requires differs { ¬ IsLast run.event (expand self.old.runs) }
+        requires within { length (expand self.old.runs) + run.count ≤ most_events }
+        ensures events { expand self.new.runs
+            ≡ expand self.old.runs ++ replicate run.count run.event }
         ensures room { self.old.room ≤ self.new.room + 1 }
     {
-        mark(&mut self.marks, self.entries.len(), self.count);
-        self.entries.push_reserved(entry);
-        self.count += entry.times();
+        let place = self.codes.len();
+        mark(&mut self.marks, place, self.count);
+        mark(&mut self.starts, place, self.numbers.len() as u64);
+        self.codes.push_reserved(Code::of(run));
+        add_event(&mut self.numbers, run.event);
+        add_count(&mut self.numbers, run.count);
+        self.count += run.count;
     }
 
     /// The event at a place, 0 being the first.
     pub(crate) fn get(&self, place: u64) -> Option<Event>
-        ensures { result ≡ slice_get (expand self.now.entries) place }
+        ensures { result ≡ slice_get (expand self.now.runs) place }
     {
         if self.marks.is_empty() {
             return None;
         }
         let block = block_of(self.marks.as_slice(), place);
-        event_in_entries(&self.entries[block * BLOCK..], place - self.marks[block])
+        event_in_codes(
+            &self.codes[block * BLOCK..],
+            self.numbers.as_slice(),
+            self.starts[block] as usize,
+            place - self.marks[block],
+        )
     }
 }
 
-/// Adds the mark of the entry at this place, where it begins a block.
+/// Adds the mark of the code at this place, where it begins a block.
 fn mark(marks: &mut Vec<u64>, place: usize, count: u64)
     requires { vec_len marks.old < vec_capacity marks.old }
     ensures items { marks.new.items
@@ -129,17 +153,20 @@ fn block_of(marks: &[u64], place: u64) -> usize
     block
 }
 
-/// The event at a place of these entries, 0 being the first.
-fn event_in_entries(entries: &[Entry], place: u64) -> Option<Event>
-    ensures { result ≡ slice_get (expand entries.now) place }
+/// The event at a place of these codes, 0 being the first; their numbers begin at `first`.
+fn event_in_codes(codes: &[Code], numbers: &[u32], first: usize, place: u64) -> Option<Event>
+    requires { first + numbers_in codes.now ≤ length numbers.now }
+    ensures { result ≡ slice_get (expand (unpack numbers.now first codes.now)) place }
 {
+    let mut number = first;
     let mut left = place;
-    for entry in entries {
-        let times = entry.times();
-        if left < times {
-            return Some(entry.event());
+    for code in codes {
+        let run = code.run(numbers, number);
+        if left < run.count {
+            return Some(run.event);
         }
-        left -= times;
+        left -= run.count;
+        number += code.numbers();
     }
     None
 }

@@ -21,9 +21,11 @@ const ONE_OF_EACH: [(Event, u32); 10] = [
     (Event::Close, 1),
 ];
 
-/// Runs on both sides of the border at which a count has a second digit; two neighbours differ in
+/// Runs on both sides of the borders at which a count takes more bytes; two neighbours differ in
 /// their items alone.
-const DIGIT_BORDERS: [(Event, u32); 6] = [
+const COUNT_BORDERS: [(Event, u32); 8] = [
+    (Event::Offer(5), 255),
+    (Event::Offer(6), 256),
     (Event::Offer(7), 65_535),
     (Event::Offer(8), 65_536),
     (Event::SendAck, 65_537),
@@ -92,13 +94,13 @@ fn compare<R: Abort>(
     Ok(())
 }
 
-// With ten runs in each of the rounds, their entries fill many blocks.
+// With ten runs in each of the rounds, their codes fill many blocks.
 #[test]
 fn keeps_what_is_pushed(rt: HostRuntime) -> Result<(), Fail> {
     compare(&rt, rt.alloc(), &[], 1)?;
     compare(&rt, rt.alloc(), &ONE_OF_EACH, 1)?;
     compare(&rt, rt.alloc(), &ONE_OF_EACH, 100)?;
-    compare(&rt, rt.alloc(), &DIGIT_BORDERS, 1)?;
+    compare(&rt, rt.alloc(), &COUNT_BORDERS, 1)?;
     compare(&rt, rt.alloc(), &IN_PARTS, 1)?;
     Ok(())
 }

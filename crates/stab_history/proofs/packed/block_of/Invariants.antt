@@ -1,4 +1,4 @@
-use Rattle.std.proofs.Common.{◌≡◌, ◌-◌, ◌<◌, ◌≤◌, length, get_or}
+use Rattle.std.proofs.Common.{◌-◌, ◌<◌, ◌≤◌, length, get_or}
 use Rattle.stab_history.proofs.packed.block_of.Given as goal
 
 -- the block that is sought is this one or a later one, and lies before the end

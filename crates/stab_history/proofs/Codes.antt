@@ -1,0 +1,191 @@
+-- Codes that are added to others, and the numbers that they leave out.
+use Rattle.std.proofs.Common.{◌≡◌, ℕ, suc, ◌+◌, ◌-◌, ◌/◌, ◌%◌, ◌<◌, ◌≤◌, List, [], ◌∷◌, ◌++◌, length}
+use Rattle.std.proofs.Common.{Bool, true, false, if◌then◌else◌, ◌==◌, take, drop, get_or, slice_get, Some, refl, sym, ap, ◌∙◌, arith}
+use Rattle.std.proofs.lemmas.Bool.{ne_eqb}
+use Rattle.std.proofs.Math.Seq.{drop-cons, get_or-append_seam}
+use Rattle.std.proofs.lemmas.List.{length-append, take-append-drop, get_or_append_left, get_or-append-add}
+use Rattle.stab_core.specs.declared.event.Event.{Event}
+use Rattle.stab_core.specs.declared.event.Event.TheVariants as event
+use Rattle.stab_history.specs.declared.code.Code.{Code}
+use Rattle.stab_history.specs.declared.code.Kind.{Kind}
+use Rattle.stab_history.specs.declared.code.Kind.TheVariants as kind
+use Rattle.stab_history.specs.declared.run.Run.{Run}
+use Rattle.stab_history.specs.CodesInside.{code_of, count_left, event_left, event_of, has_value, kind_of}
+use Rattle.stab_history.specs.CodesInside.{numbers_in, numbers_of, run_at, unpack, value_numbers, wide_count, expand}
+use Rattle.stab_history.proofs.Runs.{place_in_run, place_past_run}
+
+-- the numbers of two lists of codes are those of the first, and then those of the second
+pub numbers_in-append : (xs ys : List Code) → numbers_in (xs ++ ys) ≡ numbers_in xs + numbers_in ys
+numbers_in-append [] ys = omega arith
+numbers_in-append (x ∷ xs) ys = omega (arith, numbers_in-append xs ys)
+
+-- the first codes take no more numbers than all
+pub fewer_numbers : (n : ℕ) (xs : List Code) → numbers_in (take n xs) ≤ numbers_in xs
+fewer_numbers n xs =
+    omega (arith, numbers_in-append (take n xs) (drop n xs), ap numbers_in (take-append-drop n xs))
+
+-- the runs of two lists of codes are those of the first, and then those of the second
+pub unpack-append : (numbers : List ℕ) (i : ℕ) (xs ys : List Code)
+    → unpack numbers i (xs ++ ys) ≡ unpack numbers i xs ++ unpack numbers (i + numbers_in xs) ys
+unpack-append numbers i [] ys = ap (λ k. unpack numbers k ys) (omega arith)
+unpack-append numbers i (x ∷ xs) ys =
+    let same : i + numbers_of x + numbers_in xs ≡ i + (numbers_of x + numbers_in xs) = omega arith in
+    ap (λ runs. run_at numbers i x ∷ runs) (unpack-append numbers (i + numbers_of x) xs ys
+    ∙ ap (λ k. unpack numbers (i + numbers_of x) xs ++ unpack numbers k ys) same)
+
+-- a kind without an item and a place has one event
+event_without_value : (k : Kind) (a b : ℕ) → has_value k ≡ false → event_of k a ≡ event_of k b
+event_without_value kind.Offer a b none = absurd (let never : true ≡ false = none in cc)
+event_without_value kind.SendFrame a b none = refl
+event_without_value kind.TakeFrame a b none = refl
+event_without_value kind.KeepFrame a b none = refl
+event_without_value kind.SendAck a b none = refl
+event_without_value kind.TakeAck a b none = refl
+event_without_value kind.KeepAck a b none = refl
+event_without_value kind.LoseFrame a b none = absurd (let never : true ≡ false = none in cc)
+event_without_value kind.LoseAck a b none = absurd (let never : true ≡ false = none in cc)
+event_without_value kind.Close a b none = refl
+
+-- further numbers change no event, and no count, of a code that has its own
+event_stays : (numbers more : List ℕ) (i : ℕ) (k : Kind) (valued : Bool) → has_value k ≡ valued
+    → i + (if valued then 1 else 0) ≤ length numbers
+    → event_of k (get_or (numbers ++ more) i 0) ≡ event_of k (get_or numbers i 0)
+event_stays numbers more i k true is within =
+    ap (event_of k) (get_or_append_left numbers more 0 i (omega (arith, within)))
+event_stays numbers more i k false is within =
+    event_without_value k (get_or (numbers ++ more) i 0) (get_or numbers i 0) is
+
+count_stays : (numbers more : List ℕ) (i count : ℕ) (wide : Bool) → i + (if wide then 2 else 0) ≤ length numbers
+    → (if wide then wide_count (numbers ++ more) i else count) ≡ (if wide then wide_count numbers i else count)
+count_stays numbers more i count true within =
+    rw (
+      get_or_append_left numbers more 0 i (omega (arith, within)),
+      get_or_append_left numbers more 0 (i + 1) (omega (arith, within)),
+    ) refl
+count_stays numbers more i count false within = refl
+
+-- a code takes the numbers of its event, and those of its count
+numbers_apart : (c : Code) (wide : Bool)
+    → (if wide then value_numbers c + 2 else value_numbers c) ≡ value_numbers c + (if wide then 2 else 0)
+numbers_apart c true = refl
+numbers_apart c false = omega arith
+
+-- runs are equal where their events and their counts are
+same_run : (one other : Run) → one.event ≡ other.event → one.count ≡ other.count → one ≡ other
+same_run one other events counts =
+    ap (λ e. record one { event = e }) events ∙ ap (λ n. record other { count = n }) counts
+
+-- further numbers change no run that has its own
+run_stays : (numbers more : List ℕ) (i : ℕ) (c : Code) → i + numbers_of c ≤ length numbers
+    → run_at (numbers ++ more) i c ≡ run_at numbers i c
+run_stays numbers more i c within =
+    let apart : numbers_of c ≡ value_numbers c + (if c.count == 0 then 2 else 0) = numbers_apart c (c.count == 0) in
+    same_run (run_at (numbers ++ more) i c) (run_at numbers i c)
+    (event_stays numbers more i c.kind (has_value c.kind) refl (omega (arith, apart, within)))
+    (count_stays numbers more (i + value_numbers c) c.count (c.count == 0) (omega (arith, apart, within)))
+
+-- further numbers change no run of codes that have their own
+pub unpack_stays : (numbers more : List ℕ) (i : ℕ) (xs : List Code) → i + numbers_in xs ≤ length numbers
+    → unpack (numbers ++ more) i xs ≡ unpack numbers i xs
+unpack_stays numbers more i [] within = refl
+unpack_stays numbers more i (x ∷ xs) within =
+    rw (
+      run_stays numbers more i x (omega (arith, within)),
+      unpack_stays numbers more (i + numbers_of x) xs (omega (arith, within)),
+    ) refl
+
+-- the numbers of an event are as many as its code takes for it
+event_numbers : (e : Event) → length (event_left e) ≡ (if has_value (kind_of e) then 1 else 0)
+event_numbers (event.Offer item) = refl
+event_numbers event.SendFrame = refl
+event_numbers (event.RecvFrame false) = refl
+event_numbers (event.RecvFrame true) = refl
+event_numbers event.SendAck = refl
+event_numbers (event.RecvAck false) = refl
+event_numbers (event.RecvAck true) = refl
+event_numbers (event.LoseFrame place) = refl
+event_numbers (event.LoseAck place) = refl
+event_numbers event.Close = refl
+
+-- a count is in its code, or in both numbers that are added for it
+count_found : (numbers : List ℕ) (n : ℕ) (small : Bool) → (n / 256 == 0) ≡ small → 1 ≤ n
+    → (if (if small then n else 0) == 0
+    then wide_count (numbers ++ (if small then [] else n % 4294967296 ∷ n / 4294967296 ∷ [])) (length numbers)
+    else (if small then n else 0)) ≡ n
+count_found numbers n true is some =
+    ap (λ b. if b then wide_count (numbers ++ []) (length numbers) else n)
+    (ne_eqb n 0 (λ same. omega (arith, same, some)))
+count_found numbers n false is some =
+    rw (
+      get_or-append_seam numbers (n % 4294967296) (n / 4294967296 ∷ []) 0,
+      get_or-append-add numbers (n % 4294967296 ∷ n / 4294967296 ∷ []) 1 0,
+    )
+    (omega arith)
+
+count_numbers : (n : ℕ) (small : Bool) → (n / 256 == 0) ≡ small → 1 ≤ n
+    → length (if small then [] else n % 4294967296 ∷ n / 4294967296 ∷ [])
+    ≡ (if (if small then n else 0) == 0 then 2 else 0)
+count_numbers n true is some =
+    ap (λ b. if b then 2 else 0) (sym (ne_eqb n 0 (λ same. omega (arith, same, some))))
+count_numbers n false is some = refl
+
+module _ (numbers with_event : List ℕ) (run : Run) (are : with_event ≡ numbers ++ event_left run.event) (some : 1 ≤ run.count) where
+  -- the numbers of an event come first
+  event_added : length with_event ≡ length numbers + value_numbers (code_of run)
+  event_added =
+      ap length are
+      ∙ (length-append numbers (event_left run.event)
+      ∙ ap (λ n. length numbers + n) (event_numbers run.event))
+
+  -- a code takes the numbers that are added for its run
+  pub numbers_added : length (with_event ++ count_left run.count) ≡ length numbers + numbers_of (code_of run)
+  numbers_added =
+      omega (
+        arith,
+        length-append with_event (count_left run.count),
+        event_added,
+        count_numbers run.count (run.count / 256 == 0) refl some,
+        numbers_apart (code_of run) ((code_of run).count == 0),
+      )
+
+  -- a run is in its code and the numbers that are added for it, where its event is
+  pub run_found : event_of (kind_of run.event) (get_or with_event (length numbers) 0) ≡ run.event
+      → run_at (with_event ++ count_left run.count) (length numbers) (code_of run) ≡ run
+  run_found found =
+      same_run (run_at (with_event ++ count_left run.count) (length numbers) (code_of run)) run
+      (event_stays with_event (count_left run.count) (length numbers) (kind_of run.event) (has_value (kind_of run.event)) refl
+      (omega (arith, event_added))
+      ∙ found)
+      (ap (λ i. if (code_of run).count == 0 then wide_count (with_event ++ count_left run.count) i else (code_of run).count)
+      (sym event_added)
+      ∙ count_found with_event run.count (run.count / 256 == 0) refl some)
+
+module _ (numbers : List ℕ) (n : ℕ) (xs : List Code) (i : ℕ) (d : Code) (run : Run) (within : i < length xs)
+    (is : run ≡ run_at numbers n (get_or xs i d)) where
+  -- the codes that are left are this one and those after it
+  left_are : unpack numbers n (drop i xs) ≡ run ∷ unpack numbers (n + numbers_of (get_or xs i d)) (drop (i + 1) xs)
+  left_are =
+      let next : i + 1 ≡ suc i = omega arith in
+      rw (drop-cons xs i d within, next, is) refl
+
+  -- what is at a place in this run
+  pub place_in_code : (place : ℕ) → place < run.count
+      → slice_get (expand (unpack numbers n (drop i xs))) place ≡ Some run.event
+  place_in_code place inside =
+      ap (λ runs. slice_get (expand runs) place) left_are
+      ∙ place_in_run run (unpack numbers (n + numbers_of (get_or xs i d)) (drop (i + 1) xs)) place inside
+
+  -- what is at a place past it is in the codes after it
+  pub place_past_code : (place : ℕ) → run.count ≤ place
+      → slice_get (expand (unpack numbers (n + numbers_of (get_or xs i d)) (drop (i + 1) xs))) (place - run.count)
+      ≡ slice_get (expand (unpack numbers n (drop i xs))) place
+  place_past_code place past =
+      place_past_run run (unpack numbers (n + numbers_of (get_or xs i d)) (drop (i + 1) xs)) place past
+      ∙ sym (ap (λ runs. slice_get (expand runs) place) left_are)
+
+  -- the numbers of the codes after it are there as well
+  pub numbers_left : n + numbers_in (drop i xs) ≤ length numbers
+      → n + numbers_of (get_or xs i d) + numbers_in (drop (i + 1) xs) ≤ length numbers
+  numbers_left all =
+      let next : i + 1 ≡ suc i = omega arith in
+      rw next (omega (arith, ap numbers_in (drop-cons xs i d within), all))
