@@ -25,7 +25,7 @@ use Rattle.stab_faults.specs.Since.{IsState, acked_at, backlog, capacity_at, gai
 use Rattle.stab_faults.proofs.Kept.{none_or_some, OnPath, path_up}
 use Rattle.stab_faults.proofs.NodesSince.{complete_since, feed_counts, since_spared}
 use Rattle.stab_faults.proofs.Obeying.{ObeysSince}
-use Rattle.stab_convergence.proofs.Beneath.{spare_up}
+use Rattle.stab_faults.proofs.Beneath.{spare_up}
 use Rattle.stab_convergence.proofs.Lags.{path_below}
 
 -- where none below `bound` is missing but among the first `first` ones, there are at least

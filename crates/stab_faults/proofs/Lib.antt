@@ -10,5 +10,6 @@ pub mod States
 pub mod Schedules
 pub mod EdgesSince
 pub mod Promise
+pub mod Beneath
 pub mod Cut
 pub mod Running
