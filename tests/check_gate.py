@@ -1,5 +1,6 @@
 #!/usr/bin/env -S python3 -B
-"""Tests the script ./gate in a copy of its own, with small commands in the place of its parts.
+"""Tests the script ./gate in a copy of its own, with small commands in the place of its parts, and
+tests/try_edits.py with one in the place of the prover.
 
 Nothing is proved, and nothing of this repository is touched. The test takes some seconds. Its last
 line is 'N passed, M failed'.
@@ -52,13 +53,14 @@ def gave(status, last):
     """Whether the gate ended with this status and this last line, after all parts."""
     return (ended(status, last) and house.ended.out.count(": a script of tests\n") == len(SCRIPTS)
             and any(re.fullmatch(rf"{house.top}: rt ci, [0-9]+", it) for it in lines())
-            and {f"{house.top}: {it}" for it in ("check ", "release --check", "pages --check")}
-            <= {*lines()})
+            and {f"{house.top}: {it}" for it in (
+                "check ", "edits ", "release --check", "pages --check")} <= {*lines()})
 
 
 for at in range(len(SCRIPTS)):
     script(at)
 script(0, "echo 5 passed, 0 failed")
+house.command("tests/try_edits.py", 'echo "$PWD: edits $*"; echo 0 passed, 0 failed')
 pages_and_release()
 for first, second, status, last, name in (
         (*PARTS, 0, "352 passed, 0 failed", "the counts of all parts are added"),
@@ -144,14 +146,18 @@ NOTES = {"part": "rt ci", "wall": 360, "processor": 420, "status": 0, "peak": 1,
              "stab_cli": {**NONE, "proof": 100, "programs": 20}}}
 
 
-def table(notes):
-    """The table of the notes of a part, of a gate that took seven minutes."""
+def table(*notes):
+    """The table of the notes of parts, of a gate that took seven minutes."""
     house.run("python3", "-B", "-c", "import json, sys; sys.path.insert(0, 'tools'); import costs\n"
-              f"costs.write_table([json.load(sys.stdin)], '{house.work}/page', 420.0, 0.0)",
+              f"costs.write_table(json.load(sys.stdin), '{house.work}/page', 420.0, 0.0)",
               given=json.dumps(notes), cwd=house.top)
     return house.read("page")
 
 
+APART = {**NOTES, "part": "edits", "wall": 60, "processor": 30, "jobs": "",
+         "crates": {"low": {**NONE, "edits": 30}}}
+holds("what a crate cost in two parts is added",
+      "| `low` | 1.0 | 0.0 | 1.5 | 0.0 | 2.5 |" in table(APART, NOTES).split("\n"))
 text = table(NOTES)
 holds("what each crate cost is in the table", {
     "| `low` | 1.0 | 0.0 | 1.0 | 0.0 | 2.0 |", "| `mid` | 1.0 | 2.0 | 0.0 | 0.0 | 3.0 |",
@@ -221,6 +227,14 @@ holds("a crate, its tests and those above it, and then planted bugs",
 holds("with the time so far",
       re.search("^gate: 0 min  ?[0-9]+ s: mid is proved: well$", said, re.M))
 holds("without what rt says", "what rt says" not in said)
+house.command("tests/try_edits.py", """echo "apart $*" >>"$WORK/steps"
+    echo 2 passed, 1 failed
+    exit 1""")
+for crate in "mid", "beside":
+    (house.top / "tests/edits" / crate).mkdir(parents=True)
+run_only("", "mid")
+holds("and those that are tried apart", did(1, "7 passed, 1 failed", *MID, "apart mid"))
+remove(house.top / "tests/edits")
 run_only("", "program", "beside")
 holds("two crates, and no more", did(0, "3 passed, 0 failed", "lib beside", *PROGRAM))
 FILES = {"args": "one\ntwo words\n", "stdout": "one two words; in; data.txt\n", "stdin": "in",
@@ -251,6 +265,76 @@ holds("a planted bug that is not refused fails", did(1, "5 passed, 1 failed", *M
 holds("and is named", "mid/c.edit: NOT REFUSED" in said)
 holds("a crate that is not listed is refused", run_only("", "mid", "no_such").status == 2)
 holds("and so is none", run_only("").status == 2)
+
+# Planted bugs that are tried apart, of a crate of four functions. The prover is a command that goes
+# by what a body says.
+house.bring("tests/edits.py", "tests/try_edits.py", "tools/programs.py")
+house.write("crates.txt", "low:\n")
+house.write("crates/low/src/lib.rt", """\
+pub fn one() { first }
+impl Cup {
+    fn two(&self) { second }
+}
+impl From<Full> for Cup {
+    fn three() { third }
+}
+const MOST: u16 = 4;
+""")
+KIT = house.work / "kit"
+house.command(house.bin / "rt", f"echo '{KIT}/START-HERE.md'")
+house.command(KIT / "bin/rattle", r"""words=$*
+    echo "check ${words##*--jobs 1}" >>"$WORK/steps"
+    status=0
+    while read -r name says; do
+        case $says in
+            *wrong*) echo "note: src/lib.rt:1:1: it is not proved that it returns"
+                echo "fn low::$name: no proof: expected answers in x; \`search\` did not prove \`y\`" ;;
+            *gone*) echo "proofs/x/Answers.antt:1:1: error: \`x\` is not in scope"
+                echo "fn low::$name: not proved" ;;
+            *rests*) grep -q wrong src/lib.rt || { echo "fn low::$name: proved"; continue; }
+                echo "fn low::$name: not proved" ;;
+            *calls*) echo "fn low::$name: no proof: it calls \`low::one\`, which is not proved" ;;
+            *) echo "fn low::$name: proved"; continue ;;
+        esac
+        status=1
+    done < <(sed -nE 's/.*fn one/one /p; s/.*fn two/Cup::two /p; s/.*fn three/CupFromFull::three /p
+        s/const/limit /p' src/lib.rt)
+    exit $status""".replace("\\`", "\`"))
+
+
+def tried(name, status, last, steps, edits, *words, folder="edits"):
+    """Whether it ends so, with these checks, for planted bugs, each a pair of texts."""
+    house.write(house.work / "steps")
+    remove(house.top / "tests/edits", house.top / "tests/more_edits")
+    for at, (old, new) in enumerate(edits):
+        house.write(f"tests/{folder}/low/{'abc'[at]}.edit",
+                    f"file: src/lib.rt\nold: {old}\nnew: {new}\n")
+    house.run(house.top / "tests/try_edits.py", *words, TMPDIR=str(house.temporary))
+    holds(name, did(status, last, *(f"check {it}" for it in steps)))
+
+
+ONE, TWO, THREE = " --only one", " --only Cup::two", " --only CupFromFull::three"
+FIRST = "first", "wrong"
+tried("bugs of several functions are tried together", 0, "3 passed, 0 failed",
+      [TWO + THREE + ONE], [FIRST, ("second", "wrong"), ("third", "wrong")])
+tried("and those of one function one after the other", 0, "2 passed, 0 failed", [ONE, ONE],
+      [FIRST, ("{ first", "{ also_wrong; first")])
+tried("one that is still proved fails", 1, "0 passed, 1 failed", [ONE], [("first", "right")])
+holds("and is named", "\nFAILED low/a: " in f"\n{house.ended.out}")
+for name, word in ("as the one that it is", "right"), (
+        "also where another one keeps it from being proved", "rests"):
+    tried(name, 1, "1 passed, 1 failed", [TWO + ONE, TWO], [FIRST, ("second", word)])
+tried("so does one whose function only calls another one that is refused", 1, "0 passed, 1 failed",
+      [ONE], [("first", "calls")])
+tried("or whose proof names what is gone", 1, "0 passed, 1 failed", [ONE], [("first", "gone")])
+tried("and one that cannot be applied", 1, "1 passed, 1 failed", [TWO],
+      [("{ second }", "{ second } // wrong"), ("no_such", "wrong")])
+tried("one that is in no function is tried in the whole crate", 0, "1 passed, 0 failed", [""],
+      [("= 4", "= 5 wrong")])
+tried("those that are tried by hand", 0, "1 passed, 0 failed", [ONE], [FIRST], "--more", "low",
+      folder="more_edits")
+holds("a crate that is not listed is refused",
+      house.run(house.top / "tests/try_edits.py", "no_such").status == 2)
 
 # A gate whose first part does not end by itself.
 house.command(house.bin / "rt", """trap 'kill $!; echo ended >"$WORK/ended"; exit 1' TERM

@@ -124,7 +124,7 @@ The lowest layer.
 - `.level` `⊤ × ⊤`
 - `.cup` `⊤`
 
-Planted bugs: `cup_without_bottom`.
+Planted bugs: `cup_with_a_hole`, `cup_without_bottom`.
 """
 # By the path of each file of the house its text: a crate with a type, a trait, laws and a private
 # function, and two pages.
@@ -142,6 +142,7 @@ FILES = {
     "  pub level : ⊤\n      × ⊤\n  pub cup : ⊤\n",
     "crates/low/proofs/Lib.antt": "-- Of cups.\n",
     "crates/low/must-fail/cup_without_bottom.edit": "file: src/cup.rt\n",
+    "tests/edits/low/cup_with_a_hole.edit": "file: src/cup.rt\n",
     "docs/LAYERS.md": "# Layers\n\n## low\n",
     "README.md": README,
 }
@@ -247,7 +248,7 @@ pages("and it may not say so where a clause does", 2, "docs/PROOF.md:2: low::was
 holds("another word is refused", house.run(top / "tools/pages.py", "--other").status == 1)
 
 # Edits of the house: one of the gate, of two pairs, and two by hand, one with a control.
-BUGS, MORE = "crates/low/must-fail", "tests/more_edits/low"
+BUGS, APART, MORE = "crates/low/must-fail", "tests/edits/low", "tests/more_edits/low"
 CONTROLS, NEVER = "tests/controls/low", "crates/low/must-fail/never_pours.edit"
 
 
@@ -261,11 +262,12 @@ def stale(name, passed, changed, place=None, fault=None):
     """Whether this fault is found in a house with these edits and files, None where one is gone."""
     make_house({
         NEVER: edit("self.pour(by)", "self.pour(0)", "pour(0)", "pour(1)"),
+        f"{APART}/level_less_one.edit": edit("        self.level", "        self.level - 1"),
         f"{MORE}/pours_nothing.edit": edit("        true", "        false"),
         f"{MORE}/cup_without_level.edit": edit("    level: u16", "    level: u32"),
         f"{CONTROLS}/pours_nothing.edit": edit("        true", "        !false"),
         "crates/low/proofs/cup/Cup+pour/returns.antt": ""})
-    remove(top / BUGS / "cup_without_bottom.edit")
+    remove(top / BUGS / "cup_without_bottom.edit", top / APART / "cup_with_a_hole.edit")
     for path, text in changed.items():
         remove(top / path)
         if text is not None:
@@ -275,7 +277,7 @@ def stale(name, passed, changed, place=None, fault=None):
          f"{passed} passed, {int(bool(place))} failed")
 
 
-stale("edits that fit the code are well", 7, {})
+stale("edits that fit the code are well", 9, {})
 for name, changed, fault in (
         ("one whose text is gone is found",
          {"crates/low/src/cup.rt": CUP.replace("pour(by)", "pour(by + 0)")},
@@ -295,25 +297,26 @@ for name, changed, fault in (
         *((f"and one that cannot be read ({lines})", {NEVER: f"file: src/cup.rt\n{lines}\n"},
            "it is not a line 'file: ' and then pairs of lines 'old: ' and 'new: '")
           for lines in ("new: x", "old: self.pour(by)", "also: x", "", "old:\nnew: x"))):
-    stale(name, 6, changed, NEVER, fault)
-stale("and one with the name of another", 7, {
-    f"{MORE}/never_pours.edit": edit("self.pour(by)", "self.pour(2)")},
-    f"{MORE}/never_pours.edit", "a planted bug of the gate has this name")
+    stale(name, 8, changed, NEVER, fault)
+for name, folder in ("and one with the name of another", MORE), (
+        "also among those that are tried apart", APART):
+    stale(name, 9, {f"{folder}/never_pours.edit": edit("self.pour(by)", "self.pour(2)")},
+          f"{folder}/never_pours.edit", "a planted bug of the gate has this name")
 for name, passed, control, place, fault in (
-        ("and one that lacks a control", 5, None, MORE,
+        ("and one that lacks a control", 7, None, MORE,
          "pour has a file in proofs/, so a control is needed in tests/controls"),
-        ("and a control of another function", 6, edit("self.pour(by)", "self.pour(by + 0)"), MORE,
+        ("and a control of another function", 8, edit("self.pour(by)", "self.pour(by + 0)"), MORE,
          "its control is not of the same function, pour in src/cup.rt"),
-        ("and a control whose text is gone, once", 6, edit("    false", "    true"), CONTROLS,
+        ("and a control whose text is gone, once", 8, edit("    false", "    true"), CONTROLS,
          "src/cup.rt has this text 0 times, and not once:     false")):
     stale(name, passed, {f"{CONTROLS}/pours_nothing.edit": control}, f"{place}/pours_nothing.edit",
           fault)
-stale("and a control of no planted bug", 7, {
+stale("and a control of no planted bug", 9, {
     f"{CONTROLS}/pours_all.edit": edit("        true", "        !false")},
     f"{CONTROLS}/pours_all.edit", "there is no planted bug of this name")
-stale("and a file that nobody tries", 5, {
+stale("and a file that nobody tries", 7, {
     f"{MORE}/cup_without_level.edit": None, f"{MORE}/cup_without_level": "it"}, MORE,
     "cup_without_level is no edit: nobody tries it")
-stale("and a folder of no crate", 7, {"tests/more_edits/high/it.edit": ""}, "tests/more_edits/high",
+stale("and a folder of no crate", 9, {"tests/more_edits/high/it.edit": ""}, "tests/more_edits/high",
       "crates.txt lists no such crate")
 sys.exit(house.sum_up())

@@ -3,17 +3,18 @@
 
     tests/edits.py             finds those that a change of the code has broken, as the gate does:
                                this takes a second, and proves nothing
-    tests/edits.py CRATE..     does so for these crates, and then tries what the gate does not try,
-                               which takes 15 to 60 seconds each; by hand, after a change of a crate
-    tests/edits.py --all       the same for all crates: some four hours of processor time
+    tests/edits.py CRATE..     does so for these crates, and then sees that their controls are
+                               proved; by hand, after a change of a crate
+    tests/edits.py --all       the same for all crates: some hours of processor time
 
 A planted bug shows something of a contract only where an edit of the same place that keeps the
 meaning is proved. Of a function with a file of its own in proofs/ that is not sure: its answers
 name values of the code, and are refused as well where an edit only takes such a name away. So each
 planted bug of such a function has a control of its name in tests/controls/CRATE: an edit of the
 same function, which keeps the meaning and as much of the bug's form as it can. The planted bugs in
-crates/CRATE/must-fail are tried by the gate; those in tests/more_edits/CRATE show what one of them
-shows as well, or a smaller clause. Of each of these edits it is found that
+crates/CRATE/must-fail and tests/edits/CRATE are tried by the gate, the latter by
+tests/try_edits.py; those in tests/more_edits/CRATE show what one of them shows as well, or a
+smaller clause, and are tried by hand. Of each of these edits it is found that
 
 - `rt must-fail` can read it: a line 'file: ', and then pairs of lines 'old: ' and 'new: ';
 - its file is one of src/, or of specs/ where that is what a law is shown by, and has each old text
@@ -23,8 +24,8 @@ shows as well, or a smaller clause. Of each of these edits it is found that
 - a control is of the same function as the planted bug of its name;
 - a planted bug of a function that has a file in proofs/ has a control.
 
-They are tried on a copy of the crates, with what earlier checks have kept. The controls of a crate
-are tried together, and one by one where they are refused together or change one line. Each edit is
+Controls are tried on a copy of the crates, with what earlier checks have kept: those of a crate
+together, and one by one where they are refused together or change one line. Each edit is
 one case, and so is each folder of edits, whose crate has to be listed. The last line is 'N passed,
 M failed'.
 """
@@ -41,8 +42,9 @@ sys.path.insert(0, f"{TOP}/tools")
 from crates import below, listed, read  # noqa: E402
 from programs import counted  # noqa: E402
 
-# The folders of a crate's edits: those of the gate, those that are tried by hand, and controls.
-FOLDERS = ("crates/{}/must-fail", "tests/more_edits/{}", "tests/controls/{}")
+# The folders of a crate's edits: those of the gate, by `rt ci` and apart, those that are tried by
+# hand, and controls.
+FOLDERS = ("crates/{}/must-fail", "tests/edits/{}", "tests/more_edits/{}", "tests/controls/{}")
 FUNCTION = re.compile(r"\s*(?:pub(?:\(\w+\))? )?(?:const )?fn (\w+)")
 
 
@@ -115,9 +117,9 @@ def fault_of_control(crate, bug, control):
 def look_at(crate):
     """Each edit of a crate with what is wrong with it, or None."""
     folders = [form.format(crate) for form in FOLDERS]
-    in_gate, by_hand, controls = map(edits_in, folders)
-    bugs = {**by_hand, **in_gate}
-    for folder, edits in zip(folders, (in_gate, by_hand, controls)):
+    *found, controls = map(edits_in, folders)
+    bugs = {}
+    for folder, edits in zip(folders, (*found, controls)):
         for name, (file, pairs) in edits.items():
             place = f"{folder}/{name}.edit"
             fault = None
@@ -128,11 +130,12 @@ def look_at(crate):
                 pass
             elif edits is controls:
                 fault = None if name in bugs else "there is no planted bug of this name"
-            elif edits is by_hand and name in in_gate:
+            elif name in bugs:
                 fault = "a planted bug of the gate has this name"
             else:
                 fault = fault_of_control(crate, (file, pairs), controls.get(name))
             yield place, fault
+        bugs.update(edits)
 
 
 def look_at_folders(crates):
@@ -160,23 +163,6 @@ def copy_crates(work, chosen, crates):
             ignore = None if crate in chosen else shutil.ignore_patterns("incremental")
             shutil.copytree(f"{TOP}/crates/{crate}/out", f"{work}/crates/{crate}/out",
                             ignore=ignore)
-
-
-def try_more(crate, work):
-    """Each further planted bug of a crate, with why it is not refused, or None."""
-    folder = FOLDERS[1].format(crate)
-    if not os.path.isdir(f"{TOP}/{folder}"):
-        return
-    shutil.copytree(f"{TOP}/{folder}", f"{work}/crates/{crate}/must-fail")
-    said = ""
-    with subprocess.Popen(["rt", "must-fail", crate], cwd=work, text=True, errors="replace",
-                          stdout=subprocess.PIPE, stderr=subprocess.STDOUT) as running:
-        for line in running.stdout:
-            print(line, end="", flush=True)
-            said += line
-    for name in edits_in(folder):
-        is_refused = f"{crate}/{name}.edit: refused, as it must be" in said
-        yield f"{folder}/{name}.edit", None if is_refused else "it is not refused"
 
 
 def texts_with(folder, controls):
@@ -215,7 +201,7 @@ def refusal(folder, controls):
 
 def try_controls(crate, work):
     """Each control of a crate, with why it is not proved, or None."""
-    folder, place = f"{work}/crates/{crate}", FOLDERS[2].format(crate)
+    folder, place = f"{work}/crates/{crate}", FOLDERS[-1].format(crate)
     left = edits_in(place)
     while left:
         names = []
@@ -239,7 +225,6 @@ def cases(chosen, crates):
             copy_crates(work, chosen, crates)
             for crate in chosen:
                 yield from try_controls(crate, work)
-                yield from try_more(crate, work)
 
 
 def main(words):

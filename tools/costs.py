@@ -236,9 +236,10 @@ def first_use(crates):
             for name in below("stab_cli", listed()) if name in crates}
 
 
-def computed(crates, parts):
+def computed(parts):
     """What the gate would take on other machines, by the model, as a line of the page."""
     whole = next((it for it in parts if it["part"].startswith("rt ci")), None)
+    crates = whole["crates"] if whole else {}
     if whole and whole.get("share"):
         return [f"**This was not a run from nothing:** `rt ci` did {whole['share']}, and took "
                 "the others from earlier runs of the same files on this machine. `./gate --anew` "
@@ -286,7 +287,9 @@ def write_table(parts, to, wall, used_by_all):
               f"{gigabytes(part['peak'])} |" for part in parts]
     crates, largest = {}, (0, "")
     for part in parts:
-        crates.update(part["crates"])
+        for name, took in part["crates"].items():
+            so_far = crates.setdefault(name, dict.fromkeys(KINDS, 0.0))
+            so_far.update({kind: so_far[kind] + took[kind] for kind in KINDS})
         largest = max(largest, tuple(part["largest"]))
     # (in the order of the layers, and then what is in no list)
     known = listed()
@@ -297,7 +300,7 @@ def write_table(parts, to, wall, used_by_all):
               "| Crate | " + " | ".join(KINDS) + " | all |", "|---" * (len(KINDS) + 2) + "|"]
     lines += [row(f"`{name}`", [crates[name][it] for it in KINDS]) for name in names]
     lines += [row("all", [sum(crates[name][it] for name in names) for it in KINDS]), ""]
-    lines += computed(crates, parts)
+    lines += computed(parts)
     own = max(part["own"] for part in parts)
     lines += [f"All processes together held at most {gigabytes(own)}, and those of one task "
               f"{gigabytes(largest[0])}, where pages that two share count twice: "

@@ -44,7 +44,7 @@ The page [PROOF.md](PROOF.md) has the argument, and this page what it is made of
   clause, is below them with all its fields.
 - *Lemmas*: the files of `proofs/`. `ForCallers.antt` is for the crates above. A folder there is
   named for a file of the code and has what the prover needs for its functions alone.
-- *Planted bugs*: edits of the code that the prover must refuse, by their names in `must-fail/`.
+- *Planted bugs*: edits of the code that the prover refuses in the gate, by their names.
 """
 # The endings of the files that a page may name.
 ENDINGS = "antt|rt|edit|md|py|sh|c|h|a|rs|toml|json|run|out|txt|html|svg|wasm|gz|bazel"
@@ -312,7 +312,8 @@ def page_of_claims():
                 lines += [f"| {name} | What they say |", "|---|---|", *rows, ""]
             cited_here = records(crate, cited) if folder == "specs" else []
             lines += [*cited_here, ""] if cited_here else []
-        bugs = [f"`{path.stem}`" for path in sorted((home / "must-fail").glob("*.edit"))]
+        folders = home / "must-fail", TOP / "tests/edits" / crate
+        bugs = [f"`{it}`" for it in sorted(path.stem for at in folders for path in at.glob("*.edit"))]
         if bugs:
             lines += [f"Planted bugs: {', '.join(bugs)}.", ""]
     return "\n".join(lines)

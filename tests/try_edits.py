@@ -1,0 +1,166 @@
+#!/usr/bin/env python3
+"""Sees planted bugs refused, each in its own function: tests/try_edits.py [--more] [CRATE..]
+
+`rt ci` proves a crate once more for the edits of crates/CRATE/must-fail, and loads it for each. But
+an edit changes the body of a function, and all else rests on that function's contract. So here the
+prover is asked for the edited functions and what they call, over the libraries that `rt ci` has
+left in this folder, and edits of several functions of a crate are tried together: 20 seconds for
+each. An edit is refused where its own function is not proved, for its meaning and not because a
+proof names what is gone, and nothing else is refused but what calls such a function.
+
+The gate tries those of tests/edits. With --more they are those of tests/more_edits, which show
+what one of the gate shows as well, or a smaller clause: they are tried by hand, where their crate
+has changed. RT_JOBS says how many checks run at once. Nothing of this repository is touched. Each
+edit is one case, and the last line is 'N passed, M failed'.
+"""
+import concurrent.futures
+import os
+import re
+import shutil
+import subprocess
+import sys
+import tempfile
+
+sys.dont_write_bytecode = True
+from edits import TOP, edits_in, texts_with  # noqa: E402
+from crates import compiler, listed, read, tasks  # noqa: E402
+
+# The line that begins a function, by what is before its name; and that of an impl: its trait, if
+# it has one, and its type.
+FUNCTION = re.compile(r'( *)(?:pub(?:\(\w+\))? )?(?:const )?(?:unsafe )?(?:extern "C" )?fn (\w+)')
+IMPL = re.compile(r"impl(?:<.*?>)? (?:(\w.*?) for )?(\w+)")
+# What a check says of a function that is not proved, and of that what says nothing against it but
+# that it calls another one.
+REFUSED = re.compile(r"^fn \w+::(\S+): (?:no proof|not proved)(.*)$", re.M)
+CALLS = re.compile(r"[:;] it calls [^;]*")
+# What a check says where a proof names what an edit took away.
+GONE = re.compile(r"proofs/.*(has no field|is not in scope|has no `|was not admitted)")
+
+
+def path_of(crate, file, old):
+    """The end of the name of the function that has this text, as a check prints it, or an empty
+    text."""
+    text = read(f"{TOP}/crates/{crate}/{file}")
+    if text.count(old) != 1 or not file.startswith("src/"):
+        return ""
+    name = ""
+    for line in reversed(text[: text.index(old) + len(old)].split("\n")):
+        if name:
+            began = IMPL.match(line)
+            if began:
+                trait = "".join(re.findall(r"(?<!['\w])\w+", began[1] or ""))
+                return f"{began[2]}{trait}::{name}"
+        elif line == "}":
+            # (what comes after a function is in none)
+            return ""
+        elif began := FUNCTION.match(line):
+            name = began[2]
+            if not began[1]:
+                break
+    place = re.sub(r"(^|/)(lib|main|mod)$", "", file[len("src/") : -len(".rt")])
+    return f"{place}/{name}".strip("/").replace("/", "::") if name else ""
+
+
+def rounds(crate, edits):
+    """The names of a crate's edits, each with the paths of its functions, in as few lists as serve:
+    in a list no two are in one function. One that is in no function is alone."""
+    found = []
+    for name, (file, pairs) in edits.items():
+        paths = {path_of(crate, file, old) for old, _ in pairs}
+        for one in found:
+            if "" not in paths and not any("" in its or paths & its for its in one.values()):
+                one[name] = paths
+                break
+        else:
+            found.append({name: paths})
+    return found
+
+
+def checked(crate, texts, paths):
+    """What the check of these functions of a crate says, with these texts in its files, and its
+    status."""
+    with tempfile.TemporaryDirectory(prefix="rt-edit-") as room:
+        for part in ("src", "specs", "proofs"):
+            if os.path.isdir(f"{TOP}/crates/{crate}/{part}"):
+                shutil.copytree(f"{TOP}/crates/{crate}/{part}", f"{room}/{part}")
+        for file, text in texts.items():
+            with open(f"{room}/{file}", "w", encoding="utf-8") as it:
+                it.write(text)
+        root = next(it for it in ("src/lib.rt", "src/main.rt") if os.path.isfile(f"{room}/{it}"))
+        words = [*compiler("check", crate, root), "--jobs", "1"]
+        words += [word for path in sorted(paths - {""}) for word in ("--only", path)]
+        ran = subprocess.run(words, cwd=room, stdin=subprocess.DEVNULL, stdout=subprocess.PIPE,
+                             stderr=subprocess.STDOUT, text=True, errors="replace")
+    return ran.stdout, ran.returncode
+
+
+def refusals(said, told):
+    """The functions that a check refuses, each with why, without those of which it says only that
+    they call another one. It is an empty text where nothing is said against the function itself,
+    so that it may be refused for one that it calls."""
+    found = {}
+    for path, why in REFUSED.findall(said):
+        folder = f"/{path.replace('::', '/')}/"
+        errors = [it for it in told if folder in it and ": error" in it and not GONE.search(it)]
+        left = CALLS.sub("", why).strip(":; ")
+        if left or not why:
+            found[path] = left or "".join(errors[:1])
+    return found
+
+
+def is_one(path, paths):
+    """Whether a function is one of those whose names have these ends."""
+    return any(f"::{path}".endswith(f"::{it}") for it in paths - {""})
+
+
+def tried(crate, edits, names):
+    """Checks a crate with the edits of these names, each given with the paths of its functions. Of
+    each edit: its name, whether it is refused, and what was said."""
+    texts = texts_with(f"{TOP}/crates/{crate}", [edits[name] for name in names])
+    if texts is None:
+        return [(name, False, "its texts are not in its file once") for name in names]
+    whole, is_alone = set().union(*names.values()), len(names) == 1
+    said, status = checked(crate, texts, whole)
+    told = [line for line in said.split("\n") if re.match(r"(note: )?\S+:\d+:\d+: |error", line)]
+    refused = refusals(said, told)
+    others = [why for path, why in refused.items() if not is_one(path, whole)]
+    is_meant = "" in whole or not (others if is_alone else any(others))
+    is_clear = status == 1 and is_meant and not all(map(GONE.search, told))
+    found = []
+    for name, paths in names.items():
+        why = [why for path, why in refused.items() if "" in paths or is_one(path, paths)]
+        if is_clear and (any(why) or why and is_alone):
+            found.append((name, True, max(why)[:160] or "not proved"))
+        elif is_alone:
+            found.append((name, False, (told or said.strip().split("\n")[-1:])[0][:160]))
+        else:
+            # (its function calls another one, say, that is not proved)
+            found += tried(crate, edits, {name: paths})
+    return found
+
+
+def main(words):
+    folder = "tests/more_edits" if "--more" in words else "tests/edits"
+    words, crates = [it for it in words if it != "--more"], listed()
+    unknown = [it for it in words if it not in crates]
+    if unknown:
+        print(f"try_edits: crates.txt lists no crate {unknown[0]}", file=sys.stderr)
+        return 2
+    passed = failed = 0
+    jobs = os.environ.get("RT_JOBS", "")
+    with concurrent.futures.ThreadPoolExecutor(int(jobs) if jobs.isdigit() else tasks()[0]) as pool:
+        runs = []
+        for crate in words or crates:
+            edits = edits_in(f"{folder}/{crate}")
+            runs += [(crate, pool.submit(tried, crate, edits, names))
+                     for names in rounds(crate, edits)]
+        for crate, run in runs:
+            for name, is_refused, why in run.result():
+                passed, failed = passed + is_refused, failed + (not is_refused)
+                print(f"{'refused' if is_refused else 'FAILED'} {crate}/{name}: {why}", flush=True)
+    print(f"{passed} passed, {failed} failed")
+    return 1 if failed else 0
+
+
+if __name__ == "__main__":
+    sys.exit(main(sys.argv[1:]))
