@@ -1,4 +1,4 @@
-#!/usr/bin/env python3
+#!/usr/bin/env -S python3 -B
 """Measures the commands of rignolda on jobs of 16 MB, beside `stab tree` or `stab link`.
 
 Run by hand, and not by the gate: python3 tests/large_jobs.py [WORD..]
@@ -14,14 +14,13 @@ jobs whose names have one of them are measured. The programs are those of tests/
 
 import json
 import pathlib
-import resource
-import subprocess
 import sys
 import tempfile
 
-sys.dont_write_bytecode = True
-sys.path.insert(0, str(pathlib.Path(__file__).resolve().parent.parent / "tools"))
-from programs import built  # noqa: E402
+HERE = pathlib.Path(__file__).resolve().parent
+sys.path[:0] = [str(HERE.parent / "tools"), str(HERE / "hostile")]
+from largest import build_measure, built, run  # noqa: E402
+from programs import counted  # noqa: E402
 
 SIZE = 16_777_216
 ROOM = 65_536
@@ -140,45 +139,31 @@ def link_jobs():
                          '{"send":0,"recv":0,"frames":%s}' % listed(lambda n: "[1,2]"))
 
 
-def taken(program, command, job):
+def taken(measure, program, command, job):
     """The processor time of a command on a job, the smaller one of two."""
-    best = None
-    for _ in range(2):
-        before = resource.getrusage(resource.RUSAGE_CHILDREN)
-        subprocess.run([program, command, job], stdout=subprocess.DEVNULL,
-            stderr=subprocess.DEVNULL)
-        after = resource.getrusage(resource.RUSAGE_CHILDREN)
-        spent = after.ru_utime + after.ru_stime - before.ru_utime - before.ru_stime
-        best = spent if best is None else min(best, spent)
-    return best
+    return min(run(measure, program, [command], job)[1] for _ in range(2))
 
 
-def main():
-    slow = count = 0
+def cases(asked):
+    """Each command on each job that is asked for, and whether it is too slow, or None."""
+    every = [(name, made, "tree", ["explain"]) for name, made in trees()] + [
+        (name, made, "link", ["explain", "draw"]) for name, made in link_jobs()]
     with tempfile.TemporaryDirectory() as work:
-        stab, rignolda = built("stab", work), built("rignolda", work)
+        stab, rignolda, measure = built("stab", work), built("rignolda", work), build_measure()
         job = pathlib.Path(work) / "job.json"
-        every = [(name, made, "tree", ["explain"]) for name, made in trees()] + [
-            (name, made, "link", ["explain", "draw"]) for name, made in link_jobs()]
         for name, made, reader, commands in every:
-            if len(sys.argv) > 1 and not any(word in name for word in sys.argv[1:]):
+            if asked and not any(word in name for word in asked):
                 continue
             job.write_text(made)
             size = job.stat().st_size
-            if size > SIZE:
-                sys.exit("%s: %d bytes" % (name, size))
-            base = max(taken(stab, reader, job), taken(rignolda, "bounds", job))
-            count += 1
+            yield f"{name}: {size} bytes", None if size <= SIZE else "they are too many"
+            base = max(taken(measure, stab, reader, job), taken(measure, rignolda, "bounds", job))
             for command in commands:
-                spent = taken(rignolda, command, job)
+                spent = taken(measure, rignolda, command, job)
+                said = f"{command} {spent:5.2f} s, stab or bounds {base:5.2f} s"
                 is_slow = spent > 3 * base and spent > 0.5
-                slow += is_slow
-                print("%-28s %8d bytes  stab or bounds %5.2f s  %s %5.2f s, %4.1f times%s" % (
-                    name, size, base, command, spent, spent / max(base, 0.01),
-                        "  SLOW" if is_slow else ""), flush=True)
-    print("%d jobs, %d commands too slow" % (count, slow))
-    sys.exit(1 if slow else 0)
+                yield f"{name:28} {said}", "it is too slow" if is_slow else None
 
 
 if __name__ == "__main__":
-    main()
+    sys.exit(counted(cases(sys.argv[1:])))
