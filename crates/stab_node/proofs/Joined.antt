@@ -1,5 +1,5 @@
 -- A worker's answer, put before what those of the workers after it came to.
-use Rattle.std.proofs.Common.{◌≡◌, ◌+◌, inl, inr, ℕ, List, [], ◌∷◌, map, Result, Ok, Err, IfOk, IfErr, MatchResult, All, sym, ◌∙◌, subst, refl, arith}
+use Rattle.std.proofs.Common.{◌≡◌, ◌+◌, ◌<◌, ◌≤◌, inl, inr, ℕ, List, [], ◌∷◌, map, Result, Ok, Err, IfOk, IfErr, MatchResult, All, sym, ◌∙◌, subst, refl, arith}
 use Rattle.std.proofs.lemmas.List.Elements.{All-cons, All-nil}
 use Rattle.std.specs.List.{AllZip}
 use Rattle.stab_node.specs.declared.fault.NodeFault.{NodeFault}
@@ -23,6 +23,13 @@ abbrev pub FailsFirst : {A V : Type 0} → ℕ → Result A NodeFault → Result
 FailsFirst node answer rest fault =
     MatchResult answer (λ a. rest ≡ Err fault)
     (λ why. MatchResult rest (λ others. fault ≡ Node node why) (λ later. fault ≡ first_of (Node node why) later))
+
+-- a list that was made for one account more has room for it
+pub room_for_one : {V : Type 0} (count capacity : V → ℕ) (n room : ℕ) (rest : Result V WorkersFault)
+    → IfOk rest (λ others. count others ≡ n) → IfOk rest (λ others. capacity others ≡ room) → n + 1 ≤ room
+    → IfOk rest (λ others. count others < capacity others)
+room_for_one count capacity n room (Err fault) len as_much within = tt
+room_for_one count capacity n room (Ok others) len as_much within = omega (arith, len, as_much, within)
 
 module _ {A V : Type 0} (items : V → List A) (count capacity : V → ℕ) where
   -- the list has one account more, and the same room
@@ -77,7 +84,8 @@ module _ {S A V : Type 0} (items : V → List A) (count capacity : V → ℕ) (n
   -- the reason of the workers after one with an account is the reason of all
   one_more_before : (s : S) (workers : List S) → AreOver has_passed turns (number s) → is_done (number s) → (fault : WorkersFault)
       → Reason (map number workers) fault → Reason (number s ∷ map number workers) fault
-  one_more_before s workers over done (Thread k) later = inr (done, later)
+  one_more_before s workers over done (Thread k) later =
+      (inr (done, later.0), All-cons is_done (number s) (map number workers) done later.1)
   one_more_before s workers over done (Node k why) later =
       record { first = inr (over, later.first); done = All-cons is_done (number s) (map number workers) done later.done }
   one_more_before s workers over done Memory later = tt
@@ -106,6 +114,7 @@ module _ {S A V : Type 0} (items : V → List A) (count capacity : V → ℕ) (n
   refused_joined s workers (Err w) (Err (Node k v)) (Err fault) over kept others later joined =
       subst (Reason (number s ∷ map number workers)) (sym joined) (gives_up_first s workers w kept.0 kept.1 later.done)
   refused_joined s workers (Err w) (Err (Thread k)) (Err fault) over kept others later joined =
-      subst (Reason (number s ∷ map number workers)) (sym joined) (inr (kept.1, later))
+      subst (Reason (number s ∷ map number workers)) (sym joined)
+      (inr (kept.1, later.0), All-cons is_done (number s) (map number workers) kept.1 later.1)
   refused_joined s workers (Err w) (Err Memory) (Err fault) over kept others later joined =
       subst (Reason (number s ∷ map number workers)) (sym joined) tt

@@ -157,26 +157,16 @@ first_of_numbers before here (x ∷ xs) start (suc n) node are (inr later) =
       rest.2,
     )
 
--- the node whose worker was not started is one of the nodes, and those before it are done
-started_before : (is_done : ℕ → Type 0) (numbers : List ℕ) (start n node : ℕ) → numbers ≡ range_with_len start n → StopsAt is_done numbers node
-    → (node < start + n) × ((earlier : ℕ) → start ≤ earlier → earlier < node → is_done earlier)
-started_before is_done [] start n node are stops = absurd stops
-started_before is_done (x ∷ xs) start zero node are stops = absurd (omega (arith, ap length are))
-started_before is_done (x ∷ xs) start (suc n) node are (inl here) =
+-- the node whose worker was not started is one of the nodes
+among : (is_done : ℕ → Type 0) (numbers : List ℕ) (start n node : ℕ) → numbers ≡ range_with_len start n → StopsAt is_done numbers node
+    → node < start + n
+among is_done [] start n node are stops = absurd stops
+among is_done (x ∷ xs) start zero node are stops = absurd (omega (arith, ap length are))
+among is_done (x ∷ xs) start (suc n) node are (inl here) =
     let is_first : x ≡ start = ap (λ ks. get_or ks 0 0) are in
-    (omega (arith, here, is_first), λ earlier above below. absurd (omega (arith, here, is_first, above, below)))
-started_before is_done (x ∷ xs) start (suc n) node are (inr later) =
-    let is_first : x ≡ start = ap (λ ks. get_or ks 0 0) are in
-    let rest = started_before is_done xs (start + 1) n node (ap (λ ks. drop 1 ks) are) later.1 in (
-      omega (arith, rest.0),
-      λ earlier above below.
-          elim (cases_lt start earlier) [
-            | inl after ↦ rest.1 earlier (omega (arith, after)) below
-            | inr not_after ↦
-                let same : x ≡ earlier = omega (arith, is_first, above, not_after) in
-                subst is_done same later.0
-          ],
-    )
+    omega (arith, here, is_first)
+among is_done (x ∷ xs) start (suc n) node are (inr later) =
+    omega (arith, among is_done xs (start + 1) n node (ap (λ ks. drop 1 ks) are) later.1)
 
 -- why the workers of all nodes of a tree give no accounts
 module _ (has_passed may_refuse : ℕ → ℕ → Type 0) (is_done : ℕ → Type 0) (count turns : ℕ) (numbers : List ℕ)
@@ -184,8 +174,10 @@ module _ (has_passed may_refuse : ℕ → ℕ → Type 0) (is_done : ℕ → Typ
   pub reason_of_all : (fault : WorkersFault) → IsReasonAmong has_passed may_refuse is_done turns numbers fault
       → IsWorkersReason has_passed may_refuse is_done count turns fault
   reason_of_all (Thread node) stops =
-      let found = started_before is_done numbers 0 count node are stops in
-      record { known = omega (arith, found.0); before = λ earlier below. found.1 earlier (omega arith) below }
+      record {
+        known = omega (arith, among is_done numbers 0 count node are stops.0);
+        done = λ each within. each_done is_done numbers 0 count each each are stops.1 within (omega arith);
+      }
   reason_of_all (Node node why) gives_up =
       let found =
       first_of_numbers (AreOver has_passed turns) (λ k. why ≡ Gate → IsRefused (has_passed k) (may_refuse k) turns) numbers 0 count node are gives_up.first in (

@@ -43,15 +43,16 @@ pub record GivesUp (has_passed may_refuse : ℕ → ℕ → Type 0) (is_done : �
 -- why the workers of these nodes, which are started one after the other, give no accounts
 abbrev pub IsReasonAmong : (ℕ → ℕ → Type 0) → (ℕ → ℕ → Type 0) → (ℕ → Type 0) → ℕ → List ℕ
     → WorkersFault → Type 0
-IsReasonAmong has_passed may_refuse is_done turns nodes (Thread node) = StopsAt is_done nodes node
+IsReasonAmong has_passed may_refuse is_done turns nodes (Thread node) =
+    StopsAt is_done nodes node × All is_done nodes
 IsReasonAmong has_passed may_refuse is_done turns nodes (Node node why) =
     GivesUp has_passed may_refuse is_done turns nodes node why
 IsReasonAmong has_passed may_refuse is_done turns nodes Memory = Unit {0}
 
--- of `count` nodes this is the first whose worker was not started: those before it are done
+-- of `count` nodes this is the first whose worker was not started, and all nodes are done
 pub record IsFirstUnstarted (count : ℕ) (is_done : ℕ → Type 0) (node : ℕ) : Type 0 where
   pub known : node < count
-  pub before : (earlier : ℕ) → earlier < node → is_done earlier
+  pub done : (each : ℕ) → each < count → is_done each
 
 -- Of `count` nodes this is the first whose worker gave up: the turns of those before it are over,
 -- and all nodes are done.

@@ -62,9 +62,9 @@ where
     // The gate let each turn begin that a worker made, and was told by each node that it is done.
     ensures turns { IfOk result (λ g. HaveAsked (G.has_passed gate.now) (G.is_done gate.now)
         (length tree.now.parents) turns g.ended.items) }
-    // Where a worker could not be started, every node before it is done. Where a worker gave up,
-    // the turns of every node before it are over, and all nodes are done; that its gate refused is
-    // answered only for a turn that it may refuse, after it let every turn before that one begin.
+    // Where a worker could not be started, all nodes are done. Where a worker gave up, they are as
+    // well, and the turns of every node before it are over; that its gate refused is answered only
+    // for a turn that it may refuse, after it let every turn before that one begin.
     ensures refused { IfErr result (IsWorkersReason
         (G.has_passed gate.now) (G.may_refuse gate.now) (G.is_done gate.now)
         (length tree.now.parents) turns) }

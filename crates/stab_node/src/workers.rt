@@ -157,7 +157,7 @@ where
                 Ok(worker) => worker,
                 Err(_) => {
                     gate.done(node);
-                    leave_out(gate, &workers);
+                    leave_out(gate, workers);
                     return Err(WorkersFault::Thread(node));
                 }
             };
@@ -170,9 +170,12 @@ where
 }
 
 /// Tells the gate that none of these makes a turn, so nobody waits for them.
-fn leave_out<U: Drop, D: Drop, G: Gate>(gate: &G, workers: &VecDeque<WorkerEnds<U, D>>) {
-    for worker in workers {
+fn leave_out<U: Drop, D: Drop, G: Gate>(gate: &G, mut workers: VecDeque<WorkerEnds<U, D>>)
+    ensures { All (λ node. G.is_done gate.now node) (map (λ s. s.node) workers.items) }
+{
+    if let Some(worker) = workers.pop_front() {
         gate.done(worker.node);
+        leave_out(gate, workers);
     }
 }
 

@@ -1,7 +1,7 @@
 use Rattle.std.proofs.Common.{◌≡◌, ◌⊎◌, sym, subst, length, slice_get, Some}
 use Rattle.stab_node.specs.UnderWay.{OffersPrefix}
 use Rattle.stab_node.specs.Work.{HasOffered}
-use Rattle.stab_node.proofs.Offers.{all_after_offer, all_without_offer, in_use_after_offer}
+use Rattle.stab_node.proofs.Offers.{all_after_offer}
 use Rattle.stab_node.proofs.Prefixes.{offers_more}
 use Rattle.stab_node.proofs.downs.offer_next.Goals as goal
 

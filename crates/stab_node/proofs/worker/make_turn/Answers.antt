@@ -1,6 +1,6 @@
 use Rattle.std.proofs.Common.{All, map, option_map, subst}
 use Rattle.stab_node.specs.Work.{OffersUnlessRefused}
-use Rattle.stab_node.specs.UnderWay.{IsInUse, OffersPrefix}
+use Rattle.stab_node.specs.UnderWay.{OffersPrefix}
 use Rattle.stab_node.proofs.UnderWay.{lower_served}
 use Rattle.stab_node.proofs.worker.make_turn.Goals as goal
 

@@ -1,15 +1,34 @@
-use Rattle.std.proofs.Common.{ap, length, map, rules, deque_len, deque_capacity}
+use Rattle.std.proofs.Common.{ap, inl, length, map, refl, rules, deque_len, deque_capacity}
+use Rattle.std.proofs.lemmas.List.Elements.{All-cons}
 use Rattle.stab_node.proofs.Firsts.{known_first}
 use Rattle.stab_node.specs.Answers.{HasWorked, node_ends}
 use Rattle.stab_node.specs.InitialItems.{initial_at}
 use Rattle.stab_node.specs.declared.account.NodeAccount.{NodeAccount}
 use Rattle.stab_node.specs.declared.worker_ends.WorkerEnds.{WorkerEnds}
-use Rattle.stab_node.proofs.Joined.{accounts_joined, one_more_joined, refused_joined, same_room_joined}
+use Rattle.stab_node.proofs.Joined.{accounts_joined, one_more_joined, refused_joined, room_for_one, same_room_joined}
 use Rattle.stab_node.proofs.workers.+fn-run_each-scope+run_each.Goals as goal
 
 -- the promise remembers the ends that the worker took
 pub scope-spawn_with-requires-clause-keeps : goal.scope-spawn_with-requires-clause-keeps
 scope-spawn_with-requires-clause-keeps g t c κs within = λ r holds. rw c.of.ensures holds
+
+-- where the worker cannot be started, its node is done, and those after it are
+pub scope-returns-in-Err : goal.scope-returns-in-Err
+scope-returns-in-Err g t c = record {
+  accounts = tt;
+  len = tt;
+  room = tt;
+  refused =
+      (inl refl, All-cons (g.G.Gate.is_done c.captures.gate.now) c.captures.ends.node (map (λ s. s.node) c.captures.workers.items) c.done.ensures c.leave_out.ensures);
+}
+
+-- the list has room for one account more
+pub scope-put_first-requires : goal.scope-put_first-requires
+scope-put_first-requires g t c = record {
+  room =
+      room_for_one deque_len deque_capacity (deque_len c.captures.workers) (deque_capacity c.captures.accounts) c.run_each-rest.result
+      c.run_each-rest.ensures.len c.run_each-rest.ensures.room c.requires.room;
+}
 
 -- the worker's answer goes before those of the workers after it
 pub scope-returns : goal.scope-returns
