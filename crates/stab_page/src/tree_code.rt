@@ -4,9 +4,9 @@ ghost use Rattle.std.specs.Prelude.{◌≡◌, ◌≤◌, IsTrue, length};
 ghost use Rattle.stab_page.specs.TracedTree.{traced_link};
 ghost use Rattle.stab_page.specs.TreeCodes.{fits, opening_of, parent_of, setup_of, tree_event_of};
 
-use stab_core::LinkAct;
+use stab_core::{Event, LinkAct};
 use stab_frames::{Item, Label};
-use stab_page_link::code::{self, FrameCode};
+use stab_page_link::code::{EventCode, FrameCode};
 use stab_page_link::link::PageLink;
 use stab_tree::NodeId;
 use stab_treecore::TreeEvent;
@@ -45,17 +45,19 @@ impl TreeEventCode {
     fn act(self) -> LinkAct
         ensures { result ≡ (tree_event_of self).act }
     {
-        match self.kind {
-            code::OFFER => LinkAct::Offer,
-            code::SEND_FRAME => LinkAct::SendFrame,
-            code::RECV_FRAME => LinkAct::RecvFrame { keep: false },
-            code::RECV_FRAME_KEEP => LinkAct::RecvFrame { keep: true },
-            code::SEND_ACK => LinkAct::SendAck,
-            code::RECV_ACK => LinkAct::RecvAck { keep: false },
-            code::RECV_ACK_KEEP => LinkAct::RecvAck { keep: true },
-            code::LOSE_FRAME => LinkAct::LoseFrame(self.place),
-            code::LOSE_ACK => LinkAct::LoseAck(self.place),
-            _ => LinkAct::Close,
+        let code = EventCode {
+            kind: self.kind,
+            value: u32::from(self.place),
+        };
+        match code.event() {
+            Event::Offer(_) => LinkAct::Offer,
+            Event::SendFrame => LinkAct::SendFrame,
+            Event::RecvFrame { keep } => LinkAct::RecvFrame { keep },
+            Event::SendAck => LinkAct::SendAck,
+            Event::RecvAck { keep } => LinkAct::RecvAck { keep },
+            Event::LoseFrame(place) => LinkAct::LoseFrame(place),
+            Event::LoseAck(place) => LinkAct::LoseAck(place),
+            Event::Close => LinkAct::Close,
         }
     }
 }

@@ -7,23 +7,23 @@ use stab_core::Event;
 use stab_frames::{Frame, Item, Label};
 
 /// The kinds of events, in the order of `Event`. Every other number is a close.
-pub const OFFER: u32 = 0;
+const OFFER: u32 = 0;
 
-pub const SEND_FRAME: u32 = 1;
+const SEND_FRAME: u32 = 1;
 
-pub const RECV_FRAME: u32 = 2;
+const RECV_FRAME: u32 = 2;
 
-pub const RECV_FRAME_KEEP: u32 = 3;
+const RECV_FRAME_KEEP: u32 = 3;
 
-pub const SEND_ACK: u32 = 4;
+const SEND_ACK: u32 = 4;
 
-pub const RECV_ACK: u32 = 5;
+const RECV_ACK: u32 = 5;
 
-pub const RECV_ACK_KEEP: u32 = 6;
+const RECV_ACK_KEEP: u32 = 6;
 
-pub const LOSE_FRAME: u32 = 7;
+const LOSE_FRAME: u32 = 7;
 
-pub const LOSE_ACK: u32 = 8;
+const LOSE_ACK: u32 = 8;
 
 /// How many places there are to lose an entry at.
 const PLACES: u32 = 65536;
