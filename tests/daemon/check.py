@@ -889,8 +889,8 @@ def hooks_run_beside_the_link():
     def hooks(tree):
         for agent in tree:
             hook = agent.home / "hook"
-            # (that of one agent lasts until it may end)
-            go = agent.home / "go"
+            # (that of one agent lasts until it may end, for each key)
+            go = f"{agent.home}/go_$2"
             waits = f"while [ -d {agent.home} ] && [ ! -e {go} ]; do sleep 0.02; done"
             slow = waits if agent.name == "left" else ""
             fails = f"[ ! -e {agent.home}/fail ]"
@@ -911,8 +911,14 @@ def hooks_run_beside_the_link():
                    (leaf.home / "calls").read_text()), "a slow hook held its child back")
         sure(not (left.home / "calls").exists(), "its hook did not wait")
         sure(left.ask("wait", "--timeout", "50ms", number, check=False).get("error"),
+             "applied before its hook ran")
+        (left.home / "go_a").touch()
+        sure(until((left.home / "calls").exists), "its hook did not end")
+        time.sleep(0.1)
+        sure(left.ask("wait", "--timeout", "50ms", number, check=False).get("error"),
              "applied before its hook ended")
-        (left.home / "go").touch()
+        (left.home / "go_b").touch()
+        (left.home / "go_c").touch()
         left.ask("wait", "--timeout", "60s", number)
         calls = (left.home / "calls").read_text()
         sure("set b 2" in calls, "applied before its hook ended")
