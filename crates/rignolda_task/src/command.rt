@@ -1,5 +1,5 @@
 use crate::check::check_request;
-use crate::line::rignolda;
+use crate::line::{Word, rignolda, word_of};
 use crate::random::random_request;
 use clap::error::ErrorKind;
 use clap::{ArgMatches, Error};
@@ -67,28 +67,37 @@ fn matches_of<'a>(alloc: Global, words: &'a [String]) -> Result<ArgMatches<'a>, 
 
 /// What a command and its words ask for.
 fn request_of(alloc: Global, named: Option<(&str, &ArgMatches<'_>)>) -> Result<Request, Error> {
-    match named {
-        Some(("worst", matches)) => worst_request(alloc, matches),
-        Some(("random", matches)) => random_request(alloc, matches),
-        Some(("check", matches)) => check_request(alloc, matches),
-        Some((word, matches)) => Ok(job_request(alloc, word, matches)?),
-        None => Err(mistake(alloc, ErrorKind::MissingSubcommand, "no command is named")),
+    if let Some((name, matches)) = named {
+        if let Some(word) = word_of(name) {
+            return request_by(alloc, word, matches);
+        }
     }
+    Err(mistake(alloc, ErrorKind::MissingSubcommand, "no command is named"))
 }
 
-/// What a command asks for that reads one job.
-fn job_request(alloc: Global, word: &str, matches: &ArgMatches<'_>) -> Result<Request, AllocError> {
-    let file = file_of(alloc, matches)?;
-    Ok(match word {
-        "explain" => Request::Explain { file },
-        "bounds" => Request::Bounds { file },
-        "judge" => Request::Judge { file },
-        "scenario" => Request::Scenario { file },
-        _ => Request::Draw {
+/// What this command asks for.
+fn request_by(alloc: Global, word: Word, matches: &ArgMatches<'_>) -> Result<Request, Error> {
+    match word {
+        Word::Worst => worst_request(alloc, matches),
+        Word::Random => random_request(alloc, matches),
+        Word::Check => check_request(alloc, matches),
+        Word::Draw => Ok(Request::Draw {
             svg: matches.get_flag("svg"),
-            file,
-        },
-    })
+            file: file_of(alloc, matches)?,
+        }),
+        Word::Explain => Ok(Request::Explain {
+            file: file_of(alloc, matches)?,
+        }),
+        Word::Bounds => Ok(Request::Bounds {
+            file: file_of(alloc, matches)?,
+        }),
+        Word::Judge => Ok(Request::Judge {
+            file: file_of(alloc, matches)?,
+        }),
+        Word::Scenario => Ok(Request::Scenario {
+            file: file_of(alloc, matches)?,
+        }),
+    }
 }
 
 /// The worst job of the capacity and the labels that are named.

@@ -7,8 +7,22 @@ use std::alloc::{AllocError, Global};
 /// The version of the program.
 const VERSION: &str = "0.1.0";
 
-/// A command: its name, what help says of it, and its arguments in their order.
+/// A command of the program.
+#[derive(Clone, Copy)]
+pub(crate) enum Word {
+    Bounds,
+    Check,
+    Draw,
+    Explain,
+    Judge,
+    Random,
+    Scenario,
+    Worst,
+}
+
+/// A command: which it is, its name, what help says of it, and its arguments in their order.
 struct Line {
+    word: Word,
     name: &'static str,
     about: &'static str,
     arguments: &'static [Argument],
@@ -51,11 +65,13 @@ const JOB: Argument = Argument {
 /// The commands of the program, in the order of its help.
 const LINES: &[Line] = &[
     Line {
+        word: Word::Bounds,
         name: "bounds",
         about: "Says what the laws allow each node of a job: strays, and missing items",
         arguments: &[JOB],
     },
     Line {
+        word: Word::Check,
         name: "check",
         about: "Says whether a report of a job obeys the laws, or which part of it is broken",
         arguments: &[
@@ -74,6 +90,7 @@ const LINES: &[Line] = &[
         ],
     },
     Line {
+        word: Word::Draw,
         name: "draw",
         about: "Draws the run of a link job, a schedule or a scenario, a line for each event",
         arguments: &[
@@ -87,16 +104,19 @@ const LINES: &[Line] = &[
         ],
     },
     Line {
+        word: Word::Explain,
         name: "explain",
         about: "Says what is wrong with a link job or a job of a tree, and where",
         arguments: &[JOB],
     },
     Line {
+        word: Word::Judge,
         name: "judge",
         about: "Says whether logs since a fault obey the laws, or at which node they do not",
         arguments: &[JOB],
     },
     Line {
+        word: Word::Random,
         name: "random",
         about: "Prints a job of a tree with random garbage in it, the same for the same options",
         arguments: &[
@@ -163,11 +183,13 @@ const LINES: &[Line] = &[
         ],
     },
     Line {
+        word: Word::Scenario,
         name: "scenario",
         about: "Says what a scenario of acts, rounds and faults makes of a tree",
         arguments: &[JOB],
     },
     Line {
+        word: Word::Worst,
         name: "worst",
         about: "Prints a link job that delivers as many strays and misses as many items as can be",
         arguments: &[
@@ -186,6 +208,16 @@ const LINES: &[Line] = &[
         ],
     },
 ];
+
+/// The command of this name.
+pub(crate) fn word_of(name: &str) -> Option<Word> {
+    for line in LINES {
+        if line.name == name {
+            return Some(line.word);
+        }
+    }
+    None
+}
 
 /// The command line of the program.
 pub(crate) fn rignolda<'a>(alloc: Global) -> Result<Command<'a>, AllocError> {
