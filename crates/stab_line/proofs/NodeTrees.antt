@@ -25,7 +25,6 @@ use Rattle.stab_line.specs.Edge.{Edge, EdgeAct, is_offer, offers_next, edge_step
 use Rattle.stab_line.specs.Edge.{list_grows, child_polled, on_line}
 use Rattle.stab_line.specs.NodeTree.{NodeTree, NodeAct, list_of, list_above, parameters_into, edge_into, put, with_edge, node_step, node_run, BeginsInto, PathBegins, TreeBegins}
 use Rattle.stab_line.specs.NodeTree.{publishes, polls, at_line}
-use Rattle.stab_line.specs.StartLaw.{LinkLawOfStart}
 use Rattle.stab_line.proofs.Edges.{offers_prefix, edge_obeys, edge_obeys_start}
 use Rattle.stab_line.proofs.StartLaws.{within_start}
 
@@ -185,12 +184,15 @@ all_acts net t (act ∷ acts) child =
 
 -- ---- the laws
 
--- A law of all replays holds of what the link into a child did, and what it was offered is a prefix
--- of its parent's list.
-edge_law : (Law : ℕ → List ℕ → List ℕ → ℕ → List ℕ → Type 0) → ReplaysObey Law → (net : Network) (t : NodeTree) (acts : List NodeAct) (child : ℕ) (b : BeginsInto net t child) → CanBegin b.link
+-- What each history of the edge into a child obeys, from the start of its link on, holds of the link,
+-- and what it was offered is a prefix of its parent's list.
+edge_holds : (Holds : List ℕ → ℕ → List ℕ → Type 0) (net : Network) (t : NodeTree) (acts : List NodeAct) (child : ℕ) (b : BeginsInto net t child)
+    → ((edge_acts : List EdgeAct)
+    → let e = edge_run b.link.params (new_edge (list_above net t child) b.link.start.frames b.link.start.acks (t.lines child).sender (t.lines child).receiver) edge_acts in
+    Holds e.line.offered e.line.acked e.line.delivered)
     → let after = node_run net t acts in
-    LawBetween Law b.link.params.capacity (start_items b.link.start) (list_above net after child) (after.lines child).delivered
-edge_law Law obey net t acts child b can_begin =
+    (offered : List ℕ) × (acked : ℕ) × IsPrefix offered (list_above net after child) × Holds offered acked (after.lines child).delivered
+edge_holds Holds net t acts child b holds =
     let link : LinkSetup = b.link in
     let after : NodeTree = node_run net t acts in
     let list : List ℕ = list_above net t child in
@@ -209,46 +211,37 @@ edge_law Law obey net t acts child b can_begin =
       (after.lines child).acked,
       subst (λ (e : Edge). IsPrefix e.line.offered e.list) led
           (offers_prefix link.params list link.start.frames link.start.acks sender receiver edge_acts b.holds_first),
-      subst (λ (e : Edge). Law link.params.capacity (start_items link.start) e.line.offered e.line.acked e.line.delivered) led
-          (edge_obeys Law obey link.params list link.start.frames link.start.acks sender receiver edge_acts can_begin.0
-          can_begin.1.frames can_begin.1.acks b.holds_first),
+      subst (λ (e : Edge). Holds e.line.offered e.line.acked e.line.delivered) led (holds edge_acts),
     )
 
--- the same with the bounds of what was under way when the count began
+-- so does a law of all replays
+edge_law : (Law : ℕ → List ℕ → List ℕ → ℕ → List ℕ → Type 0) → ReplaysObey Law → (net : Network) (t : NodeTree) (acts : List NodeAct) (child : ℕ) (b : BeginsInto net t child) → CanBegin b.link
+    → let after = node_run net t acts in
+    LawBetween Law b.link.params.capacity (start_items b.link.start) (list_above net after child) (after.lines child).delivered
+edge_law Law obey net t acts child b can_begin =
+    edge_holds (Law b.link.params.capacity (start_items b.link.start)) net t acts child b
+    (λ edge_acts. edge_obeys Law obey b.link.params (list_above net t child) b.link.start.frames b.link.start.acks (t.lines child).sender
+    (t.lines child).receiver edge_acts can_begin.0 can_begin.1.frames can_begin.1.acks b.holds_first)
+
+-- and the link law with the bounds of what was under way when the count began
 pub edge_start_law : (net : Network) (t : NodeTree) (acts : List NodeAct) (child : ℕ) (b : BeginsInto net t child)
     → CanBegin b.link → let after = node_run net t acts in
     (offered : List ℕ) × (acked : ℕ) × IsPrefix offered (list_above net after child)
     × LinkLawWithin (length b.link.start.frames) (length b.link.start.acks + 1 + length b.link.start.frames)
     (start_items b.link.start) offered acked (after.lines child).delivered
 edge_start_law net t acts child b can_begin =
-    let link : LinkSetup = b.link in
-    let after : NodeTree = node_run net t acts in
     let list : List ℕ = list_above net t child in
+    let frames = b.link.start.frames in
+    let acks = b.link.start.acks in
     let sender = (t.lines child).sender in
     let receiver = (t.lines child).receiver in
-    let (edge_acts, leads) = all_acts net t acts child in
-    let params : parameters_into net child ≡ link.params =
-    ap (λ o. option_map_or (λ (l : LinkSetup). l.params) o (record { capacity = 0; labels = 0 })) b.leads
-    in
-    let led : edge_run link.params (new_edge list link.start.frames link.start.acks sender receiver) edge_acts
-    ≡ edge_into net after child =
-    subst (λ p. edge_run p (new_edge list link.start.frames link.start.acks sender receiver) edge_acts ≡ edge_into net after child) params
-    (ap (λ e. edge_run (parameters_into net child) e edge_acts) (sym b.begins) ∙ leads)
-    in
-    let of_start : LinkLawOfStart (start_of link.start.frames link.start.acks sender receiver) (after.lines child).offered
-    (after.lines child).acked (after.lines child).delivered =
-    subst (λ (e : Edge). LinkLawOfStart (start_of link.start.frames link.start.acks sender receiver) e.line.offered e.line.acked e.line.delivered) led
-    (edge_obeys_start link.params list link.start.frames link.start.acks sender receiver edge_acts can_begin.0
-    can_begin.1.frames can_begin.1.acks b.holds_first)
-    in (
-      (after.lines child).offered,
-      (after.lines child).acked,
-      subst (λ (e : Edge). IsPrefix e.line.offered e.list) led
-          (offers_prefix link.params list link.start.frames link.start.acks sender receiver edge_acts b.holds_first),
-      within_start (start_of link.start.frames link.start.acks sender receiver) (length link.start.frames)
-          (length link.start.acks + 1 + length link.start.frames) (after.lines child).offered (after.lines child).acked
-          (after.lines child).delivered (omega arith) (omega arith) of_start,
-    )
+    let first : ℕ = length acks + 1 + length frames in
+    edge_holds (LinkLawWithin (length frames) first (start_items b.link.start)) net t acts child b
+    (λ edge_acts.
+    let e : Edge = edge_run b.link.params (new_edge list frames acks sender receiver) edge_acts in
+    within_start (start_of frames acks sender receiver) (length frames) first e.line.offered e.line.acked e.line.delivered (omega arith)
+    (omega arith)
+    (edge_obeys_start b.link.params list frames acks sender receiver edge_acts can_begin.0 can_begin.1.frames can_begin.1.acks b.holds_first))
 
 -- the same between the lists of two nodes
 link_law_into : (Law : ℕ → List ℕ → List ℕ → ℕ → List ℕ → Type 0) → ReplaysObey Law → (net : Network) (t : NodeTree) (acts : List NodeAct) → IsNetwork net → (child parent : ℕ) → BeginsInto net t child
