@@ -21,12 +21,14 @@
  * PEER_DIGITS digits, and its key is k and the number modulo PEER_KEYS: 16 and 100 where they are
  * not set.
  */
+#define _GNU_SOURCE
 #include <errno.h>
 #include <fcntl.h>
 #include <hiredis/hiredis.h>
 #include <mosquitto.h>
 #include <nats/nats.h>
 #include <poll.h>
+#include <sched.h>
 #include <signal.h>
 #include <stdint.h>
 #include <stdio.h>
@@ -72,10 +74,16 @@ static void fail(const char *what, const char *why)
     exit(1);
 }
 
-/* A session of its own, of the priority that bench/peers has. */
+/* A session of its own, of the priority that bench/peers has, on the processor of PEER_CPU. */
 static void own_session(void)
 {
     const char *nice = getenv("PEER_NICE");
+    cpu_set_t set;
+    CPU_ZERO(&set);
+    if (getenv("PEER_CPU")) {
+        CPU_SET(atoi(getenv("PEER_CPU")), &set);
+        if (sched_setaffinity(0, sizeof set, &set)) perror("peer_client: PEER_CPU");
+    }
     setsid();
     int file = open("/proc/self/autogroup", O_WRONLY);
     if (nice && file >= 0 && write(file, nice, strlen(nice)) < 0) perror("peer_client: autogroup");
