@@ -119,6 +119,20 @@ def compiler(verb, crate, source, top=TOP):
     return words
 
 
+def clang(*words, is_program=True):
+    """The words of the kit's clang for a program over the kit's C library, or else for an object
+    that a program loads, which needs none: with these words more, such as its sources."""
+    home = f"{kit()}/toolchain"
+    own = ["-fPIC", "-shared"]
+    if is_program:
+        own = ["-fPIE", "-pie", "-Wl,--dynamic-linker=/lib64/ld-linux-x86-64.so.2"]
+        words += tuple(f"{home}/lib/{it}" for it in (
+            "Scrt1.o", "crti.o", "crtbeginS.o", "crtendS.o", "crtn.o", "libc.so.6",
+            "libc_nonshared.a"))
+    return [f"{home}/bin/clang", "-O2", "-Wall", "-Wextra", "-Werror", "-nostdlib",
+            "-fuse-ld=lld", *own, *words]
+
+
 def main(words):
     if words == ["tasks"]:
         print(*tasks())

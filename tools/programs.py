@@ -65,6 +65,16 @@ def run_with(do, *names):
         return do(*files.values())
 
 
+def ran(*words, **options):
+    """The status of a command, and all that it writes; 127 where there is no such command."""
+    try:
+        done = subprocess.run([*map(str, words)], stdin=subprocess.DEVNULL, stdout=subprocess.PIPE,
+                              stderr=subprocess.STDOUT, text=True, errors="replace", **options)
+    except OSError as fault:
+        return 127, str(fault)
+    return done.returncode, done.stdout
+
+
 class Cases:
     """How many cases of a check have held."""
 
@@ -78,6 +88,11 @@ class Cases:
             print("same  " if is_well else "OTHER ", name, flush=True)
         if more and not is_well:
             print(textwrap.indent(str(more), " " * 7), flush=True)
+
+    def works(self, name, *words, **options):
+        """Runs a command, and counts whether it ends well, with its last lines if it does not."""
+        status, said = ran(*words, **options)
+        self.holds(name, status == 0, "\n".join(said.splitlines()[-30:]))
 
     def sum_up(self):
         """Says how many there were, and answers the status of the check."""

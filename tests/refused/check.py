@@ -1,4 +1,4 @@
-#!/usr/bin/env python3
+#!/usr/bin/env -S python3 -B
 """Refuses memory and threads to the built programs, one after the other: tests/refused/check.py
 
 It builds refuse.c, an object for LD_PRELOAD, by the kit's own clang, and runs under it
@@ -33,6 +33,10 @@ import tempfile
 
 HERE = os.path.dirname(os.path.realpath(__file__))
 TOP = os.path.dirname(os.path.dirname(HERE))
+sys.path.insert(0, f"{TOP}/tools")
+from crates import clang  # noqa: E402
+from programs import Cases  # noqa: E402
+
 EXAMPLES = f"{TOP}/crates/gate_checks/data"
 
 # A program that has not ended after this many seconds hangs.
@@ -142,13 +146,9 @@ class Room:
         self.object = f"{folder}/refuse.so"
 
     def build_object(self):
-        """Builds the object by the clang of the kit whose rt is on the path."""
-        rt = shutil.which("rt")
-        if rt is None:
-            sys.exit("check.py: the command rt of the Rattle kit is needed, for its clang")
-        clang = f"{os.path.dirname(os.path.realpath(rt))}/../toolchain/bin/clang"
-        flags = "-O2 -Wall -Wextra -Werror -ffreestanding -fPIC -shared -nostdlib -fuse-ld=lld"
-        subprocess.run([clang, *flags.split(), f"{HERE}/refuse.c", "-o", self.object], check=True)
+        """Builds the object by the clang of the kit."""
+        words = ["-ffreestanding", f"{HERE}/refuse.c", "-o", self.object]
+        subprocess.run(clang(*words, is_program=False), check=True)
 
     def copy(self, program):
         """A copy of a program that any user may run, and that no later build changes."""
@@ -184,26 +184,17 @@ class Room:
             return Ended(started.returncode, out, err, report.read())
 
 
-class Check:
+class Check(Cases):
     """The cases, and how many of them passed."""
 
     def __init__(self, room, lanes, only):
-        self.room, self.lanes, self.only = room, lanes, only
-        self.passed = self.failed = self.runs = 0
+        super().__init__()
+        self.room, self.lanes, self.only, self.runs = room, lanes, only, 0
 
     def tell(self, name, faults, note=""):
         """Says whether a case holds: it does where there is no fault."""
-        if faults:
-            self.failed += 1
-            print(f"OTHER  {name}")
-            for fault in faults[:3]:
-                print(f"       {fault}")
-            if len(faults) > 3:
-                print(f"       and {len(faults) - 3} more")
-        else:
-            self.passed += 1
-            print(f"same   {name}{note}")
-        sys.stdout.flush()
+        shown = faults[:3] + [f"and {len(faults) - 3} more"] * (len(faults) > 3)
+        self.holds(name if faults else name + note, not faults, "\n".join(map(str, shown)))
 
     def run(self, *given, **named):
         self.runs += 1
@@ -479,8 +470,7 @@ def main():
                 else:
                     check.tell(program, ["the program is not built: rt ci, or rt run in its crate"])
     print(f"{check.runs} runs")
-    print(f"{check.passed} passed, {check.failed} failed")
-    return 1 if check.failed or not check.passed else 0
+    return check.sum_up() or not check.passed
 
 
 if __name__ == "__main__":

@@ -1,5 +1,5 @@
 /*
- * A small program with a planted bug, for tests/check_refused.sh. It includes no header.
+ * A small program with a planted bug, for tests/check_refused.py. It includes no header.
  *
  * As `stab` it prints the report of a lone root: BUG says what it does wrong where memory, or its
  * thread, is refused. With the word `worst` it is `rignolda`, and prints the same without a thread.

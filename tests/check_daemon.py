@@ -1,0 +1,69 @@
+#!/usr/bin/env -S python3 -B
+"""The daemon: its tests and those of its library, the linter, its trials in trees of processes, and
+its kept programs.
+
+Where it cannot be built here, the kept programs are tried, and a line says what to run. The last
+line is 'N passed, M failed'.
+"""
+import os
+import re
+import shutil
+import sys
+import tempfile
+from pathlib import Path
+
+TOP = Path(__file__).resolve().parent.parent
+sys.path.insert(0, str(TOP / "tools"))
+from programs import Cases, ran  # noqa: E402
+
+OFFLINE = "--offline", "--locked", "--quiet"
+DAEMON = "-p", "rignoldad", "-p", "rignolda_redis"
+# The library's crate stands outside, and needs no other; so it is not built in rust/, where the
+# settings of cargo name those of Debian.
+LIBRARY = "--manifest-path", "rust/rignolda/Cargo.toml"
+APART = "--target-dir", "rust/target/library"
+SOURCES = "rignoldad/src", "rignoldad/src/bin", "rignoldad/tests", "rignolda_redis/src"
+
+
+def of_sources(cases):
+    """What is looked at where the daemon is built from its sources."""
+    cases.works("unit tests, and drawn bytes", "cargo", "test", *OFFLINE, *DAEMON, cwd="rust")
+    for name, at, words in ("the daemon", "rust", DAEMON), ("its library", ".", LIBRARY):
+        if shutil.which("cargo-clippy"):
+            apart = [] if words == DAEMON else APART
+            cases.works(f"the linter, {name}", "cargo", "clippy", *OFFLINE, *words, *apart,
+                        "--all-targets", "--", "-D", "warnings", cwd=at)
+        if shutil.which("cargo-fmt"):
+            cases.works(f"the form, {name}", "cargo", "fmt", *words, "--check", cwd=at)
+    long = [f"{file}: {line}" for part in SOURCES for file in Path("rust", part).glob("*.rs")
+            for line in file.read_text().splitlines() if len(line) > 100]
+    cases.holds("no line is longer than 100 characters", not long, "\n".join(long))
+
+
+def main():
+    os.chdir(TOP)
+    cases = Cases()
+    with tempfile.TemporaryDirectory() as room:
+        status, said = ran("tools/build_daemon", "--check")
+        print(said, end="", flush=True)
+        if status == 3:
+            print("the daemon is not built here, so not tested: its kept programs are tried")
+            cases.works("the kept programs", "tools/build_daemon", "--unpack", room)
+            os.environ["RIGNOLDAD_BIN"] = room
+        else:
+            cases.holds("the kept programs are those of the sources", status == 0)
+            of_sources(cases)
+        if shutil.which("cargo"):
+            cases.works("the tests of the library for Rust", "cargo", "test", *OFFLINE, *LIBRARY,
+                        *APART)
+        for script in "check_judge.py", "check.py":
+            said = ran(f"tests/daemon/{script}")[1]
+            print(said, end="", flush=True)
+            found = re.search(r"^(\d+) passed, (\d+) failed\n\Z", said, re.M)
+            cases.passed += int(found[1]) if found else 0
+            cases.failed += int(found[2]) if found else 1
+    return cases.sum_up()
+
+
+if __name__ == "__main__":
+    sys.exit(main())

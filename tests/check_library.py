@@ -1,0 +1,209 @@
+#!/usr/bin/env -S python3 -B
+"""Tests the static library from C and from Rust.
+
+  tests/check_library.py             with each of gcc, clang and cargo that is there, and with
+                                     sanitizers: some minutes
+  tests/check_library.py --gate      with the kit's compiler alone: seconds
+  tests/check_library.py --aarch64   builds it for aarch64, as out/librignolda-aarch64.a, which
+                                     RIGNOLDA_LIBRARY and LIBRARY can name, and tests that under an
+                                     emulator: a minute. It needs Debian's gcc-aarch64-linux-gnu,
+                                     libc6-dev-arm64-cross and qemu-user.
+
+LIBRARY and INCLUDE in the environment name another archive and the folder of its header. The last
+line is 'N passed, M failed'.
+"""
+import os
+import re
+import shutil
+import subprocess
+import sys
+import tempfile
+from pathlib import Path
+
+TOP = Path(__file__).resolve().parent.parent
+sys.path.insert(0, str(TOP / "tools"))
+from crates import clang, compiler  # noqa: E402
+from programs import Cases, ran  # noqa: E402
+
+ARCHIVES = "crates/stab_c/out/libstab_c.a", "release/librignolda.a", "release/libstab_c.a"
+COMPARE, CARGO = "tests/library/compare.py", "rust/rignolda/Cargo.toml"
+WARNED = "-Wall", "-Wextra", "-Werror"
+IN_C = "-std=gnu11", "-O2", *WARNED
+# From which places on a node hands on its list: places that take years to reach are past 2^32
+# items, past 10^10, past 2^63, and up to the last one before 2^64. And in how small a buffer.
+LISTS = [(16, it) for it in (0, 4294917296, 9999950000, 9223372036854725808, 2**64 - 1)]
+LISTS += [(places, 0) for places in (1, 2, 3, 7, 4096)]
+# What is said to somebody who gives other words to agents/run_tree than it takes.
+REFUSED = (
+    ("a capacity of 3", "has room for a power of two of messages: 1, 2, 4, 8, 16, 32, 64",
+     "--capacity", "3"),
+    ("too few labels", "with a capacity of 4 a link has 10 to 1000 labels",
+     "--capacity", "4", "--labels", "9"),
+    ("no agents", "a tree has 1 to 64 agents", "--agents", "0"),
+    ("a folder that is there", "and a run is kept in a new folder", "--keep", "{room}"),
+    ("a folder that cannot be made", "Not a directory: '{room}/file/it'", "--keep",
+     "{room}/file/it"),
+    ("no program", "is no program: `make -C agents run` builds one", "--agent", "{room}/none"),
+)
+
+
+class Library(Cases):
+    """The archive that is tested, and a folder for what is built."""
+
+    def __init__(self, room):
+        super().__init__()
+        self.room, self.include = room, Path(os.environ.get("INCLUDE", "include")).resolve()
+        named = [os.environ.get("LIBRARY"), *filter(os.path.isfile, ARCHIVES), ARCHIVES[0]]
+        self.archive = Path(next(filter(None, named))).resolve()
+
+    def make(self, *words):
+        """What make does with the agents, over the archive."""
+        return ran("make", "-s", "-C", "agents", f"INCLUDE={self.include}",
+                   f"LIBRARY={self.archive}", *words)
+
+    def in_c(self, name, rounds, jobs, words, under=None):
+        """Builds the programs in C by the words of a compiler, and runs them, under an emulator if
+        one is named."""
+        at = {test: self.room / test for test in ("link", "fuzz", "sessions", "lists")}
+        for test, to in at.items():
+            made = to.with_suffix(".made") if under else to
+            # (the source before the archive, which a linker reads in this order)
+            self.works(f"{name}: {test} builds", words[0], f"tests/library/{test}.c", *words[1:],
+                       "-o", made)
+            if under:
+                to.write_text(f'#!/bin/sh\nexec {under} {made} "$@"\n')
+                to.chmod(0o755)
+        self.works(f"{name}: the drawn runs", COMPARE, "runs", at["link"])
+        self.works(f"{name}: {jobs} drawn links", COMPARE, "drawn", at["link"], jobs)
+        self.works(f"{name}: structs with drawn bits", at["fuzz"], *rounds.split())
+        self.works(f"{name}: a million steps over connections", at["sessions"], "1000000", "1")
+        for places, begin in LISTS:
+            self.works(f"{name}: a list that is forgotten from {begin} on, of {places} places",
+                       at["lists"], "100000", places, begin)
+        for word in "maker-begins", "handles-left":
+            status, said = ran(at["sessions"], "1000000", "1", word)
+            self.holds(f"{name}: ends that do what they may not ({word})",
+                       status == 1 and said.startswith("broken: "), said)
+
+    def by_python(self, *words):
+        """What is tested without a compiler."""
+        self.works("the checker of reports", "tests/library/try_check_report.py")
+        self.works("every order of acts over connections", "tests/library/sessions.py", *words)
+        (self.room / "file").touch()
+        for name, text, *words in REFUSED:
+            words = [it.format(room=self.room) for it in words]
+            status, said = ran("agents/run_tree", "--agent", "/bin/sh", *words)
+            last = said.rstrip("\n").rpartition("\n")[2]
+            self.holds(f"agents: {name}", status == 2 and "run_tree: error: " in last
+                       and last.endswith(text.format(room=self.room)), said)
+
+    def is_closed(self):
+        """Whether the archive has no undefined symbol, and no name without the prefix."""
+        undefined, defined = (ran("nm", *words, "--", self.archive)[1] for words in (
+            ["-u"], ["--extern-only", "--defined-only"]))
+        names = re.findall(r"^\w+ \w (\S+)", defined, re.M)
+        self.holds("no symbol is undefined, and all have the prefix", " U " not in undefined
+                   and names and all(it.startswith("rignolda_") for it in names),
+                   undefined + defined)
+
+    def is_installed(self, name, compiler):
+        """Installs the library as `make install` does, and builds and runs a program in C++ by what
+        pkg-config says of it, over the shared library and over the archive."""
+        to = self.room / "installed"
+        words = "make", "-s", f"PREFIX={to}", f"LIBRARY={self.archive}"
+        env = {**os.environ, "PKG_CONFIG_PATH": f"{to}/lib/pkgconfig",
+               "LD_LIBRARY_PATH": f"{to}/lib"}
+        self.works(f"{name} is installed", *words, "install")
+        flags = ran("pkg-config", "--cflags", "--libs", "rignolda", env=env)[1].split()
+        for kind, more in ("shared", []), ("static", ["-static"]):
+            made = self.room / kind
+            self.works(f"{name}: {kind}, it builds by pkg-config", compiler, "-std=c++11", *WARNED,
+                       "tests/library/tree.cc", *more, *flags, "-o", made)
+            status, said = ran(made, env=env)
+            is_shared = " rignolda_" in ran("nm", "-u", "--", made)[1]
+            self.holds(f"{name}: {kind}, it runs", (status, said) == (0, "7\n8\n9\n")
+                       and is_shared == (kind == "shared"), said)
+        self.works(f"{name} is gone again", *words, "uninstall")
+        self.holds(f"{name} leaves nothing", not any(it.is_file() for it in to.rglob("*")))
+
+    def gate(self):
+        self.in_c("the kit", "20000 1", 300, clang(
+            "-std=gnu11", "-nostdinc", "-isystem", "tests/library/bare", f"-I{self.include}",
+            "-fsanitize=undefined", "-fsanitize-trap=undefined", self.archive))
+        self.by_python("4", "2")
+        self.works("the crate for Rust has the archive of the release", "cmp",
+                   "rust/rignolda/lib/x86_64-linux.a", "release/librignolda.a")
+        self.works("all of the archive needs nothing else", clang()[0], "-nostdlib", "-static",
+                   "-fuse-ld=lld", "-Wl,--whole-archive", self.archive,
+                   "-Wl,-e,rignolda_params_check", "-o", self.room / "alone")
+
+    def whole(self):
+        for name, plus in ("gcc", "g++"), ("clang", "clang++"):
+            if not shutil.which(name):
+                continue
+            words = [name, *IN_C, "-Wconversion", f"-I{self.include}", "-Wl,--as-needed"]
+            self.in_c(name, "1000000 1", 10000, [*words, self.archive])
+            self.in_c(f"{name}, sanitizers", "200000 2 all", 2000, [
+                *words, "-g", "-fsanitize=address,undefined", "-fno-sanitize-recover=all",
+                self.archive])
+            for form in ["c++", "-std=c++11"], ["c", "-std=c11", "-pedantic"]:
+                self.works(f"{name}: the header in {form[1][5:]}", name, "-x", *form, *WARNED,
+                           "-fsyntax-only", self.include / "rignolda.h")
+            if shutil.which("pkg-config"):
+                self.is_installed(name, plus)
+        self.is_closed()
+        if shutil.which("cargo"):
+            self.in_rust()
+        self.by_python()
+        said = self.make("help", "LIBRARY=")[1]
+        self.holds("agents: what make can do", re.search("^ +make spoiled +the same agents", said,
+                                                         re.M), said)
+        for what in "run", "tcp", "tcp_spoiled":
+            status, said = self.make(what)
+            self.holds(f"agents: make {what}", status == 0, said)
+        for what in "runs", "restarts":
+            self.works(f"agents: 20 drawn trees ({what})", "agents/trials", what, "20")
+        status, said = self.make("spoiled")
+        self.holds("agents: spoiled ones are caught", status == 0 and said.count("\n") == 10
+                   and said.count(": caught, as it has to be") == 9, said)
+
+    def in_rust(self):
+        own = {**os.environ, "CARGO_TARGET_DIR": str(self.room / "cargo")}
+        own.pop("RIGNOLDA_LIBRARY", None)
+        env = {**own, "RIGNOLDA_LIBRARY": str(self.archive)}
+        link = self.room / "cargo/release/examples/link"
+        for name, env, *words in (
+                ("tests and examples", env, "test"),
+                ("the link builds", env, "build", "--release", "--example", "link"),
+                ("the package builds by itself", own, "package", "--allow-dirty")):
+            self.works(f"cargo: {name}", "cargo", *words, "--offline", "--quiet",
+                       "--manifest-path", CARGO, env=env)
+        self.works("cargo: the drawn runs", COMPARE, "runs", link)
+        self.works("cargo: 10000 drawn links", COMPARE, "drawn", link, 10000)
+
+    def aarch64(self):
+        self.archive = TOP / "out/librignolda-aarch64.a"
+        self.archive.parent.mkdir(exist_ok=True)
+        self.works("the crate is proved", "rt", "check", cwd="crates/stab_c")
+        self.works("the archive is built", *compiler("build", "stab_c", "src/lib.rt"),
+                   "--crate-type", "staticlib", "--target", "aarch64-unknown-linux-gnu",
+                   "--incremental", "out/incremental", "-o", self.archive, cwd="crates/stab_c")
+        self.in_c("aarch64", "100000 1", 1000, [
+            "aarch64-linux-gnu-gcc", *IN_C, f"-I{self.include}", "-static", self.archive],
+            "qemu-aarch64")
+
+
+def main(words):
+    does = {(): Library.whole, ("--gate",): Library.gate, ("--aarch64",): Library.aarch64}
+    if tuple(words) not in does:
+        sys.stderr.write("check_library.py: it takes --gate, --aarch64, or no words at all\n")
+        return 2
+    os.chdir(TOP)
+    with tempfile.TemporaryDirectory() as room:
+        library = Library(Path(room))
+        does[tuple(words)](library)
+    return library.sum_up()
+
+
+if __name__ == "__main__":
+    sys.exit(main(sys.argv[1:]))
