@@ -19,42 +19,6 @@ release, manifest = top / "release", top / "release/MANIFEST"
 program = top / "crates/stab_cli/src/main.rt"
 made = top / "crates/stab_cli/out/stab_cli.by-rattle"
 
-# A command like rt, and the compiler that it finds. What they make is the text of the source.
-command(house.bin / "rt", r"""
-case $1 in
-    version) cat "$WORK/kit"; exit ;;
-    doc) echo "$WORK/a kit/START-HERE.md"; exit ;;
-esac
-printf '%s\n' "$*" >>"$WORK/calls"
-mkdir -p out
-case $1 in
-    lib) cat src/lib.rt >"out/lib${PWD##*/}.a" ;;
-    run) cat src/main.rt >"out/${PWD##*/}" && echo 'rt: running it' ;;
-    ci)
-        for file in crates/*/src/main.rt; do
-            [ -e "$file" ] || continue
-            mkdir -p "${file%src/*}out"
-            crate=${file#*/}
-            cat "$file" >"${file%src/*}out/${crate%%/*}.by-rattle"
-        done
-        ! grep -q 'not done' crates/*/src/*
-        ;;
-esac""")
-command(work / "a kit/bin/rattle", r"""
-echo "$*" >"$WORK/compiled"
-[ -z "${NOT_PROVED-}" ] && ! grep -q 'not done' src/*.rt || exit 1
-while [ "$1" != -o ]; do
-    shift
-done
-cat src/*.rt >"$2"
-[ -z "${OTHER-}" ] || echo other >>"$2" """)
-command(work / "a kit/bin/rattle-link", """
-while [ "$1" != -o ]; do
-    shift
-done
-cp "$3" "$2" """)
-write(work / "kit", "kit-1 logic 1\n")
-
 # A house of two crates, the pages and the examples.
 write("crates/low/src/lib.rt", "low\n")
 write(program, "proved 1\n")
@@ -66,8 +30,8 @@ for file in ("README.md", "docs/A.md", "docs/B.md", "crates/low/data/job.json",
 (top / "examples").symlink_to("crates/low/data")
 write("CHANGELOG.md", "# Changelog\n\nText.\n\n## 0.10.2, 2026-11-23: a release\n\n"
       "## 2026-11-22: before\n")
-house.bring("release.sh", "tools/launch", *(
-    f"tools/{it}.py" for it in ("release", "crates", "programs", "running")))
+house.bring_kit()
+house.kit("kit-1 logic 1")
 
 
 def run(*words, at=top, **env):
@@ -160,8 +124,9 @@ holds("and is one", sorted(it.name for it in release.iterdir()) == ["MANIFEST", 
       and lines[0] == "kit kit-1 logic 1" and len(lines) == 2
       and re.fullmatch(f"stab sha256 {digest(program)} sources [0-9a-f]{{64}}", lines[1]))
 keep()
+write("release/notes", "more\n")
 released("a second one takes what was built", 0)
-holds("and is the same", same(work / "release", release))
+holds("and is the same, with no file more", same(work / "release", release))
 released("with --prove everything is built again", 1, "--prove")
 holds("and the same again", same(work / "release", release))
 checked("before the gate has built the program the check fails", 5, EQUAL)
@@ -174,9 +139,9 @@ add("crates/low/src/lib.rt", "more\n")
 checked("other sources fail, also where the program is the same", 5, SOURCES)
 refused("and are not packed", "the release of stab was made from other sources", "--archive")
 write("crates/low/src/lib.rt", "low\n")
-write(work / "kit", "kit-2 logic 1\n")
+house.kit("kit-2 logic 1")
 checked("another kit fails", 5, KIT)
-write(work / "kit", "kit-1 logic 1\n")
+house.kit("kit-1 logic 1")
 write("release/notes", "more\n")
 checked("a third file fails", 5, WHOLE)
 remove(release / "notes")
@@ -194,7 +159,7 @@ for name, text in (("a manifest of one line fails", lines[0] + "\n"),
     write(manifest, text)
     holds(name, f"\nOTHER  {MANIFEST}\n" in run("--check").out)
 restore("MANIFEST")
-write(program, "not done\n")
+write(program, "broken\n")
 refused("what is not proved is not released", "the program was not built")
 holds("and the release stays", same(work / "release", release))
 write(program, "proved 1\n")
@@ -227,15 +192,10 @@ IN_PAGE = "rignolda.wasm: page/index.html has it"
 write("crates/stab_c/src/lib.rt", "a library\n")
 write("crates/stab_page/src/lib.rt", "a module\n")
 add("crates.txt", "stab_c staticlib: low itoa\nstab_page staticlib: low\n")
-command("page/build.sh", """cd "$(dirname "$0")/.." || exit
-case $1 in
-    --compare) cmp "$2" page/index.html ;;
-    *) cat crates/stab_page/src/lib.rt >"$1" ;;
-esac""")
+write("page/page.html", "<script>\nlet it = '{{MODULE}}';\n</script>\n")
 for file in ("include/rignolda.h", "man/stab.1", "docs/schema/job.json", "agents/agent.c",
              "agents/out/agent", "rust/rignolda/src/lib.rs", "rust/rignolda/target/built"):
     write(file)
-write("page/index.html", "a module\n")
 write("CHANGELOG.md", "## 1.2.0, 2026-11-24, later: of three\n")
 CARGO = '[package]\nname = "it"\nversion = "1.2.0"\n\n'
 write("rust/rignolda/Cargo.toml", CARGO)
@@ -260,10 +220,10 @@ checked("where rt ci has run, the library and the module are made and compared",
 holds("with no call of rt", well(0))
 write("crates/low/out/rlib/stamp")
 checked("where checks have left the libraries, rt makes it over them", 13)
-holds("by one call", house.read("calls") == "lib\n")
+holds("by a call for each", house.read("calls") == "lib\ncheck --jobs 1\n")
 remove(top / "crates/low/out")
-checked("another library than the one of the release fails", 12, LIBRARY, OTHER="1")
-checked("and so does one that is not proved", 12, LIBRARY, NOT_PROVED="1")
+checked("others than those of the release fail", 11, LIBRARY, MODULE, OTHER="1")
+checked("and so do those that are not proved", 11, LIBRARY, MODULE, NOT_PROVED="1")
 add("release/librignolda.a", "spoiled\n")
 checked("a library that is spoiled fails", 11, LIBRARY_BESIDE, LIBRARY)
 refused("and is not packed", "the release is spoiled: its librignolda.a is not the one",
@@ -275,13 +235,10 @@ write("crates/stab_c/src/lib.rt", "a library\n")
 change("crates.txt", "itoa", "itoa ryu")
 checked("and so does another line of its crate", 12, LIBRARY_SOURCES)
 change("crates.txt", " ryu", "")
-builder = (top / "page/build.sh").read_text()
-command("page/build.sh", builder + "# more")
-checked("the script that makes a module is one of its sources", 12, MODULE_SOURCES)
-write("page/build.sh", builder, 0o755)
-write("page/index.html", "another module\n")
-checked("a page with another module fails", 12, IN_PAGE)
-write("page/index.html", "a module\n")
+add("page/index.html", "more\n")
+checked("another page fails", 12, IN_PAGE)
+house.run(top / "tools/index_page.py")
+checked("which is written anew by itself", 13)
 change("crates.txt", "stab_page staticlib: low\n", "")
 checked("a file more than the crates give fails", 7, WHOLE, MANIFEST)
 add("crates.txt", "stab_page staticlib: low\n")

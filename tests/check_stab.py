@@ -23,93 +23,15 @@ out, release, manifest = top / "out", top / "release", top / "release/MANIFEST"
 house.work.chmod(0o711)
 AS_ROOT = os.geteuid() == 0
 
-# A command like rt, and the compiler that it finds. Programs print the text of their source, their
-# words and their input, and end with status 7. They are the same however they are built, unless the
-# text says that it differs.
-write(work / "do", r"""
-# Does what the text of sources asks for.
-do_as() {
-    case $1 in
-        *broken*) echo "not proved"; exit 1 ;;
-        *slow*)
-            pwd >"$WORK/place"
-            trap 'kill $!; echo ended >"$WORK/ended"; exit 1' TERM
-            sleep 600 &
-            echo started >"$WORK/started"
-            wait
-            ;;
-        *waits*) sleep 1 ;;
-        *changes*) echo after >"$WORK/a house/crates/stab_cli/src/main.rt" ;;
-        *rewrites*) echo "'" >"$WORK/a house/stab" ;;
-    esac
-}
-
-# Makes a program of the text in src/main.rt: how, and the file.
-make() {
-    local text
-    text=$(cat src/main.rt)
-    case $text in
-        *differs*) text="$text $1" ;;
-    esac
-    printf '#!/bin/sh\necho "%s; $*; $(cat)"\nexit 7\n' "$text" >"$2"
-}
-""")
-command(house.bin / "rt", r"""
-case $1 in
-    version) cat "$WORK/kit"; exit ;;
-    doc) echo "$WORK/a kit/START-HERE.md"; exit ;;
-    ci) at=. ;;
-    run) at=../.. ;;
-    *) exit 9 ;;
-esac
-printf '%s\n' "$*" >>"$WORK/calls"
-. "$WORK/do"
-pwd >"$WORK/place"
-(cd "$at" && find . -type f | LC_ALL=C sort) >"$WORK/files"
-cat "$at/crates.txt" >"$WORK/lines"
-do_as "$(cat "$at"/crates/*/src/*)"
-if [ "$1" = run ]; then
-    mkdir -p out
-    make run "out/${PWD##*/}"
-    chmod +x "out/${PWD##*/}"
-    echo 'rt: running out/it; to give it other input, run that file yourself' >&2
-else
-    for file in crates/*/src/main.rt; do
-        [ ! -e "$file" ] || (
-            cd "${file%/src*}" && mkdir out && make ci "out/${PWD##*/}.by-rattle" &&
-                chmod +x "out/${PWD##*/}.by-rattle"
-        )
-    done
-fi
-sed -n 's/^\([a-z_]*\).*:.*/rt: \1 proved/p' "$at/crates.txt"
-echo '5 passed, 0 failed'""")
-command(work / "a kit/bin/rattle", r"""
-printf '%s\n' "$*" >>"$WORK/compiled"
-. "$WORK/do"
-do_as "$(cat src/*)"
-while [ "$1" != -o ]; do
-    shift
-done
-if [ -e src/main.rt ]; then
-    make build "$2"
-else
-    : >"$2"
-fi""")
-command(work / "a kit/bin/rattle-link", """
-while [ "$1" != -o ]; do
-    shift
-done
-[ -z "${NOT_LINKED-}" ] || exit 1
-cp "$3" "$2" && chmod +x "$2" """)
-
-
-def kit(name):
-    write(work / "kit", f"{name}\n")
+kit = house.kit
 
 
 def text(crate, words):
-    """Changes the text of a crate, and leaves the times as if nothing had been changed."""
-    place = "main" if crate in ("stab_cli", "rignolda") else "lib"
+    """Changes the text of a crate, and leaves the times as if nothing had been changed. Programs
+    print this text, their words and their input, and end with status 7."""
+    place = "lib"
+    if crate in ("stab_cli", "rignolda"):
+        place, words = "main", f'#!/bin/sh\necho "{words}; $*; $(cat)"\nexit 7'
     os.utime(write(f"crates/{crate}/src/{place}.rt", f"{words}\n"), (1e9, 1e9))
 
 
@@ -210,8 +132,8 @@ write("crates/stab_cli/stdin", "input\n")
 write("crates.txt", "# crates\nlow: itoa\nother:\nmid: low itoa\ntop: other mid\nunused: low\n\n"
       "stab_cli may_wait=4: low top clap\n")
 write("HANDLES", "Handles allowed: none.\n")
-house.bring("stab", "rignolda", "release.sh", "tools/launch", *(
-    f"tools/{it}.py" for it in ("release", "crates", "programs", "running")))
+house.bring("stab", "rignolda")
+house.bring_kit()
 kit("kit-1")
 (work / "without").mkdir()
 for tool in ("bash cat chmod cp dirname env find flock gzip mkdir mktemp mv readlink rm sh "

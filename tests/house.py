@@ -15,6 +15,76 @@ TOP = Path(__file__).resolve().parent.parent
 sys.path.insert(0, str(TOP / "tools"))
 from programs import Cases  # noqa: E402
 
+# Commands like rt, and like the compiler and the linker that it finds. What they make of a crate is
+# the text of its first file, so that of a program is a script; where it says that it differs, the
+# word of how it was made is in it. A text may also ask for what the first part does.
+KIT = r"""
+do_as() {
+    case $1 in
+        *broken*) echo "not proved"; exit 1 ;;
+        *slow*)
+            pwd >"$WORK/place"
+            trap 'kill $!; echo ended >"$WORK/ended"; exit 1' TERM
+            sleep 600 &
+            echo started >"$WORK/started"
+            wait
+            ;;
+        *waits*) sleep 1 ;;
+        *changes*) sed -i s/changes/after/ "$WORK/a house/crates/stab_cli/src/main.rt" ;;
+        *rewrites*) echo "'" >"$WORK/a house/stab" ;;
+    esac
+}
+
+make() {
+    local file=src/main.rt
+    [ -e "$file" ] || file=src/lib.rt
+    sed "s/differs/differs $1/" "$file" >"$2" && chmod +x "$2"
+}
+"""
+RT = KIT + r"""
+case $1 in
+    version) cat "$WORK/kit"; exit ;;
+    doc) echo "$WORK/a kit/START-HERE.md"; exit ;;
+    ci) at=. ;;
+    run | lib | check) at=../.. ;;
+    *) exit 9 ;;
+esac
+printf '%s\n' "$*" >>"$WORK/calls"
+pwd >"$WORK/place"
+(cd "$at" && find . -type f | LC_ALL=C sort) >"$WORK/files"
+cat "$at/crates.txt" >"$WORK/lines"
+do_as "$(cat "$at"/crates/*/src/*)"
+name=${PWD##*/}
+mkdir -p out
+case $1 in
+    run) make run "out/$name" && echo 'rt: running it' ;;
+    lib) make lib "out/lib$name.a" ;;
+    ci)
+        for file in crates/*/src/main.rt; do
+            [ ! -e "$file" ] || (
+                cd "${file%/src*}" && mkdir -p out && make ci "out/${PWD##*/}.by-rattle"
+            )
+        done
+        ;;
+esac
+sed -n 's/^\([a-z_]*\).*:.*/rt: \1 proved/p' "$at/crates.txt"
+echo '5 passed, 0 failed'"""
+COMPILER = KIT + r"""
+printf '%s\n' "$*" >>"$WORK/compiled"
+[ -z "${NOT_PROVED-}" ] || exit 1
+do_as "$(cat src/*)"
+while [ "$1" != -o ]; do
+    shift
+done
+make build "$2"
+[ -z "${OTHER-}" ] || echo other >>"$2" """
+LINKER = """
+while [ "$1" != -o ]; do
+    shift
+done
+[ -z "${NOT_LINKED-}" ] || exit 1
+cp "$3" "$2" """
+
 # What could change what a script does.
 UNSET = ("CDPATH", "TMPDIR", "RT_JOBS", "RT_BACKEND")
 
@@ -77,6 +147,18 @@ class House(Cases):
     def command(self, path, text):
         """Writes a command: what it does in bash."""
         return self.write(path, f"#!/usr/bin/env bash\n{text}\n", 0o755)
+
+    def bring_kit(self):
+        """Brings what builds the programs, over a kit of small commands."""
+        self.bring("release.sh", "tools/launch", *(
+            f"tools/{it}.py" for it in ("release", "crates", "programs", "running", "index_page")))
+        self.command(self.bin / "rt", RT)
+        self.command(self.work / "a kit/bin/rattle", COMPILER)
+        self.command(self.work / "a kit/bin/rattle-link", LINKER)
+
+    def kit(self, name):
+        """Says which kit there is."""
+        self.write(self.work / "kit", f"{name}\n")
 
     def read(self, name):
         """What a command has left in a file of the folder beside the house."""

@@ -41,6 +41,7 @@ import zlib
 from collections import namedtuple
 from pathlib import Path
 
+import index_page
 from crates import below, compiler, kit, listed, read, tasks
 from programs import Cases
 from running import Commands, Interrupted
@@ -48,13 +49,14 @@ from running import Commands, Interrupted
 TOP = Path(__file__).resolve().parent.parent
 RELEASE, KEPT = TOP / "release", TOP / "out"
 LOG = KEPT / "build.log"
-BUILDER = "page/build.sh"
 DAEMON = TOP / "tools/build_daemon"
 # A build during which the sources change is made again, at most so often.
 MAX_BUILDS = 3
 # The modules of tests at the end of a first file.
 TESTS = re.compile(r"^#\[cfg\(test\)\]\nmod ([a-z0-9_]*);\n", re.M)
-TARGET = "x86_64-unknown-linux-gnu"
+TARGET, WASM = "x86_64-unknown-linux-gnu", "wasm64-unknown-unknown"
+# The bytes of a module's stack: the lists of all links of a tree are on it, and copies of them.
+STACK = "16777216"
 
 # What release/ has: its kind, its crate, the digest of its sources, the beginning of the name of
 # what is built of them, and the file that was built, or an empty text.
@@ -164,7 +166,6 @@ class Release(Commands):
         """Copies what artefacts need to a folder, without the tests in it, which would be proved as
         well, and moves the last crates beside it."""
         paths = ["HANDLES"]
-        paths += [BUILDER for it in self.artefacts.values() if it.kind == "module"]
         for crate in needed:
             parts = ["src", "specs", "proofs"]
             if (TOP / f"crates/{crate}/src/main.rt").is_file():
@@ -215,6 +216,20 @@ class Release(Commands):
         words = [*compiler("build", crate, source, tree), "-o", str(to), *words]
         return self.does(words, f"{tree}/crates/{crate}")
 
+    def link(self, target, made, *files, options=()):
+        """Has the linker of the kit make a file for this target, and answers whether it does."""
+        home = kit()
+        return self.does([f"{home}/bin/rattle-link", "--target", target, "--toolchain",
+                          f"{home}/toolchain", *options, "-o", str(made), *files], made.parent)
+
+    def make_module(self, tree, crate, made):
+        """Has the compiler make a module of a crate over the libraries that are there."""
+        archive = f"{made}.a"
+        return self.compile(
+            tree, crate, "src/lib.rt", archive, "--crate-type", "staticlib", "--target", WASM,
+            "--incremental", "out/incremental", "--jobs", "1",
+        ) and self.link(WASM, made, archive, options=["--stack", STACK])
+
     def prove_last(self, tree, crate):
         """Proves a crate with all processors, over what rt ci has left of those below it, and
         builds it if it is a program. It makes the same files as rt ci, and says so in its words."""
@@ -225,11 +240,10 @@ class Release(Commands):
         self.log.flush()
         if (out.parent / "src/main.rt").is_file():
             made, home = out / f"{crate}.by-rattle", kit()
-            link = [f"{home}/bin/rattle-link", "--target", TARGET, "--toolchain",
-                    f"{home}/toolchain", "-o", str(made), f"{made}.o", f"{home}/c/libos_c.a",
-                    f"{home}/c/liblibc_c.a"]
-            is_well = self.compile(tree, crate, "src/main.rt", f"{made}.o", "--backend", "rattle",
-                                   "--jobs", jobs) and self.does(link, out)
+            is_well = self.compile(
+                tree, crate, "src/main.rt", f"{made}.o", "--backend", "rattle", "--jobs", jobs,
+            ) and self.link(TARGET, made, f"{made}.o", f"{home}/c/libos_c.a",
+                            f"{home}/c/liblibc_c.a")
         else:
             is_well = self.compile(tree, crate, "src/lib.rt", out / f"rlib/{crate}.rlib",
                                    "--statements", "--jobs", jobs)
@@ -248,18 +262,26 @@ class Release(Commands):
         is_well = True
         if kind != "program":
             made.unlink(missing_ok=True)
-        if kind == "module":
-            is_well = self.does([f"./{BUILDER}", str(made)], tree)
-        elif kind == "library":
-            # (a check has left the libraries below with stamps, as rt lib takes them)
+            # (a check has left the libraries below with stamps, as rt itself takes them)
             if any((tree / f"crates/{it}/out/rlib/stamp").is_file()
                    for it in below(crate, listed())):
-                made = home / f"out/lib{crate}.a"
-                made.unlink(missing_ok=True)
-                is_well = self.does(["rt", "lib"], home)
-            else:
-                is_well = self.compile(tree, crate, "src/lib.rt", made, "--crate-type", "staticlib",
-                                       "--backend", "llvm", "--jobs", "2")
+                return self.make_over_checks(home, name)
+        if kind == "module":
+            is_well = self.make_module(tree, crate, made)
+        elif kind == "library":
+            is_well = self.compile(tree, crate, "src/lib.rt", made, "--crate-type", "staticlib",
+                                   "--backend", "llvm", "--jobs", "2")
+        return made if is_well and made.is_file() else None
+
+    def make_over_checks(self, home, name):
+        """Makes a library or a module over what checks have kept, and answers its file, or None."""
+        kind, crate = self.artefacts[name][:2]
+        made = home / "out" / (f"lib{crate}.a" if kind == "library" else name)
+        made.unlink(missing_ok=True)
+        is_well = self.does(["rt", "lib"] if kind == "library" else ["rt", "check", "--jobs", "1"],
+                            home)
+        if kind == "module":
+            is_well = is_well and self.make_module(home.parent.parent, crate, made)
         return made if is_well and made.is_file() else None
 
     def keep(self, name, made):
@@ -324,16 +346,11 @@ class Release(Commands):
             with open(given, "rb") as given:
                 self.does(["rt", "run", "--backend", "rattle", *["--"] * bool(words), *words], home,
                           stdin=given)
-            made = home / "out" / crate
             # (the status is that of the program, which rt runs once it is built)
-            is_well = re.search("^rt: running ", read(LOG), re.M)
-        elif kind == "library":
-            made, is_well = home / f"out/lib{crate}.a", self.does(["rt", "lib"], home)
+            made = re.search("^rt: running ", read(LOG), re.M) and home / "out" / crate
         else:
-            made = KEPT / "module"
-            made.unlink(missing_ok=True)
-            is_well = self.does([f"./{BUILDER}", str(made)], TOP)
-        if not is_well:
+            made = self.make_over_checks(home, name)
+        if not made:
             self.fail(f"{name} was not built, and what rt said is in {LOG}")
         self.keep(name, made)
 
@@ -456,6 +473,8 @@ class Release(Commands):
         RELEASE.mkdir(exist_ok=True)
         for file, data in files.items():
             file.write_bytes(data)
+        if any(it.kind == "module" for it in self.artefacts.values()):
+            index_page.write()
         # (the package of the crate for Rust has the archive of its target inside)
         if (TOP / "rust/rignolda").is_dir() and (RELEASE / "librignolda.a").is_file():
             (TOP / "rust/rignolda/lib").mkdir(exist_ok=True)
@@ -493,11 +512,8 @@ class Release(Commands):
                    made and data == made.read_bytes(),
                    f"it differs, or that was not built: see {LOG}")
             if self.artefacts[name].kind == "module":
-                with tempfile.NamedTemporaryFile() as file:
-                    file.write(data)
-                    file.flush()
-                    is_in_page = data and self.does([f"./{BUILDER}", "--compare", file.name], TOP)
-                yield f"{name}: page/index.html has it", is_in_page, f"run ./{BUILDER}"
+                yield (f"{name}: page/index.html has it",
+                       read(index_page.TO) == index_page.page(data), "run tools/index_page.py")
 
     def check(self):
         try:
