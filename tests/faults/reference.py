@@ -1,12 +1,5 @@
-#!/usr/bin/env -S python3 -B
-"""reference.py: a tree of links with faults in plain Python, from the rules in docs/PROTOCOL.md,
-and a search over random trees for a node that breaks the law counted from its last fault.
-
-    tests/faults/reference.py [N] N random trees (10,000 by default), and how near the bounds came
-
-It is an independent program: the expected values of the tests of `stab_faults` are its values, and
-nothing of it is made from the crates."""
-import random, sys
+"""A tree of links with faults in plain Python, from the rules in docs/PROTOCOL.md: the expected
+values of the tests of `stab_faults` are its values, and nothing of it is made from the crates."""
 
 class Link:
     def __init__(s, capacity, labels, frames=(), acks=(), send=0, recv=65535):
@@ -135,39 +128,3 @@ def strike_at_random(rng, link, new):
     some = lambda: rng.choice(labels)
     frames = [(some(), next(new)) for _ in range(rng.randint(0, link.capacity))]
     link.strike(frames, [some() for _ in range(rng.randint(0, link.capacity))], some(), some())
-
-def search(seed):
-    """Random changes; then each node is counted from the last fault that hits it."""
-    rng = random.Random(seed)
-    tree = random_tree(rng)
-    nodes = range(1, len(tree.parents))
-    published, new = iter(range(10 ** 6)), iter(range(10 ** 6, 10 ** 7))
-    counts, faults = {node: Count(tree) for node in nodes}, rng.randint(0, 6)
-    for _ in range(rng.randint(50, 260)):
-        x, node = rng.random(), rng.choice(nodes)
-        if x < 0.04:
-            tree.published.append(next(published))
-        elif x < 0.08 and faults:
-            faults -= 1
-            if rng.random() < 0.6:
-                strike_at_random(rng, tree.links[node], new)
-            else:
-                tree.restart(node, [next(new) for _ in range(rng.randint(0, 2))])
-            moment = Count(tree)
-            counts.update({n: moment for n in nodes if node in tree.path(n)})
-        else:
-            tree.act(node, rng.choice(ACTS), rng.randint(0, 1))
-    return [counts[node].slack(tree, node) for node in nodes]
-
-def main():
-    number = int(sys.argv[1]) if len(sys.argv) > 1 else 10000
-    nearest, nodes = [10 ** 9, 10 ** 9], 0
-    for seed in range(number):
-        for strays, missing in search(seed):
-            nodes += 1
-            nearest = [min(nearest[0], strays), min(nearest[1], missing)]
-    print(f'{number} trees, {nodes} nodes counted from their last fault, all within the bounds;')
-    print(f'the strays came within {nearest[0]} of theirs, the missing items within {nearest[1]}')
-
-if __name__ == '__main__':
-    main()

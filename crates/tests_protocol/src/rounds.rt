@@ -1,5 +1,5 @@
 //! Rounds: how many a list of events has, and what they bring to a link and to a chain. The values
-//! are worked out by hand, and by `tests/rounds.py`, which has rules of its own.
+//! are worked out by hand, and by `tests/check_laws.py`, which has rules of its own.
 
 ghost use Rattle.std.specs.Prelude.{◌≡◌, length};
 ghost use Rattle.stab_tree.specs.NodeOpenings.{FitTree};
@@ -192,7 +192,7 @@ struct After {
     b_acked: u64,
 }
 
-/// By `tests/rounds.py`. Sixteen rounds are said to be enough: 3 * (3 + 1 + 1) + 1.
+/// By `tests/check_laws.py`. Sixteen rounds are said to be enough: 3 * (3 + 1 + 1) + 1.
 static AFTER: [After; 3] = [
     After {
         rounds: 1,
@@ -263,7 +263,7 @@ fn a_reading_round_of_the_chain_has_fourteen_events(rt: HostRuntime) {
     );
 }
 
-/// By `tests/rounds.py`. Six reading rounds are said to be enough: 3 + 1 + 1 + 1.
+/// By `tests/check_laws.py`. Six reading rounds are said to be enough: 3 + 1 + 1 + 1.
 static AFTER_READING: [After; 3] = [
     After {
         rounds: 1,
