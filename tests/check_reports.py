@@ -26,7 +26,7 @@ ROOT = Path(__file__).resolve().parent.parent
 sys.path[:0] = [str(ROOT / "agents"), str(ROOT / "tools")]
 import check_report  # noqa: E402
 from check_report import depth_of, is_subsequence  # noqa: E402
-from links import drawn_link  # noqa: E402
+from jobs import drawn_link, drawn_tree  # noqa: E402
 from programs import Cases, built  # noqa: E402
 
 LINK_LINES = ["delivered", "offered", "acked", "send label", "recv label", "frames", "acks",
@@ -48,24 +48,13 @@ def drawn_job(draw, words, rignolda):
     """A job of `rignolda random`, in which some parts are left out, and items are often equal; all
     capacities are 1 where its links are to be words."""
     capacity = 1 if words else draw.choice([1, 1, 2, 3])
-    options = {
-        "seed": draw.randrange(2 ** 32), "nodes": draw.choice([1, 2, 3, 4, 5, 8]),
-        "capacity": capacity, "labels": 2 * capacity + 2 + draw.randrange(4),
-        "items": draw.randrange(14), "turns": draw.choice([1, 3, 10, 40, 200, 1000]),
-        "loss": draw.choice([0, 100, 400]), "repeat": draw.choice([0, 300]),
-        "hold": draw.choice([0, 3]), "schedule": draw.choice([0, 30, 200]),
-    }
-    said = subprocess.run([rignolda, "random", *(f"--{it}={n}" for it, n in options.items())],
-                          check=True, capture_output=True)
-    made = json.loads(said.stdout)
-    for part in ("links", "starts", "scripts"):
-        if draw.random() < 0.3:
-            made.pop(part, None)
-    if draw.random() < 0.3:
-        for part in ("version", "h", "openings"):
-            made.pop(part)
+    made = drawn_tree(
+        draw, rignolda, nodes=draw.choice([1, 2, 3, 4, 5, 8]), capacity=capacity,
+        labels=2 * capacity + 2 + draw.randrange(4), items=draw.randrange(14),
+        turns=draw.choice([1, 3, 10, 40, 200, 1000]), loss=draw.choice([0, 100, 400]),
+        repeat=draw.choice([0, 300]), hold=draw.choice([0, 3]), schedule=draw.choice([0, 30, 200]))
     # (items are drawn below 1000)
-    other = draw.choice([lambda item: item % 3, lambda item: item % 20, lambda item: item * 4294967])
+    other = draw.choice([lambda it: it % 3, lambda it: it % 20, lambda it: it * 4294967])
     for items in [made["items"], *made.get("openings", [])]:
         items[:] = map(other, items)
     for start in made.get("starts", []):

@@ -109,7 +109,7 @@ def fault_of_spoiled(file, draw, job):
 def fault_of(file, seed):
     """What is wrong with what is printed of a random scenario, or None."""
     draw = random.Random(seed)
-    job = random_job(draw)
+    job = random_job(draw, file)
     wanted = drawn_text(job)
     for words, text in ((["scenario"], text_of(job)), (["draw"], wanted),
                         (["explain"], "stab tree: accepted\n")):

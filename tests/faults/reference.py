@@ -41,7 +41,7 @@ class Link:
                     s.acks.pop(0)
                 if s.holds() and label == s.send:
                     s.acked += 1
-                    s.send = (s.send + 1) % s.labels
+                    s.send = s.send + 1 if s.send + 1 < s.labels else 0
         elif act == 'lose_frame':
             del s.frames[place:place + 1]
         elif act == 'lose_ack':

@@ -3,7 +3,11 @@ from the rules of reference.py beside it, and random scenarios, for tests/check_
 
 It is an independent program: nothing of it is made from the crates. It takes scenarios that are
 well formed; what is refused is in the tables of tests/check_tables.py."""
+from jobs import drawn_tree
 from reference import ACTS, ROUND, Link, Tree, reading_round
+
+# What nodes may be called, some of them as steps are.
+WORDS = ["publish", "strike", "restart", "rounds", "reading_rounds", "offer", "a", "b", "c"]
 
 UNUSED = 65535
 
@@ -126,7 +130,7 @@ def random_start(rng, capacity, labels):
     return start
 
 
-def random_step(rng, names, links, root):
+def random_step(rng, names, links):
     """One step of a tree with these links, by the names of their children."""
     draw = rng.random()
     items = [rng.randrange(100, 200) for _ in range(rng.randint(0, 3))]
@@ -145,38 +149,17 @@ def random_step(rng, names, links, root):
     return [child, act, rng.randrange(3)] if act.startswith("lose") else [child, act]
 
 
-def random_job(rng):
-    count = rng.randint(1, 6)
-    words = ["publish", "strike", "restart", "rounds", "reading_rounds", "offer", "a", "b", "c"]
-    names = rng.sample(words, count)
-    order = list(range(count))
-    rng.shuffle(order)
-    above = {order[0]: None}
-    for n, place in enumerate(order[1:], 1):
-        above[place] = names[rng.choice(order[:n])]
-    tree = [{"name": names[n]} | ({"parent": above[n]} if above[n] is not None else {})
-            for n in range(count)]
-    job = {"capacity": rng.randint(1, 3), "tree": tree,
-           "items": [rng.randrange(1, 90) for _ in range(rng.randint(0, 6))]}
-    job["labels"] = 2 * job["capacity"] + 2 + rng.randint(0, 2)
-    children = [names[n] for n in range(count) if above[n] is not None]
-    links = {child: (job["capacity"], job["labels"]) for child in children}
-    if rng.random() < 0.5:
-        job["links"] = []
-        for child in children:
-            c = rng.randint(1, 3)
-            own = {"capacity": c, "labels": 2 * c + 2} if rng.random() < 0.5 else None
-            job["links"].append(own)
-            links[child] = (own["capacity"], own["labels"]) if own else links[child]
-    if rng.random() < 0.7:
-        job["starts"] = [random_start(rng, *links[child]) for child in children]
-    if rng.random() < 0.3:
-        inner = set(above.values())
-        held = [n for n in range(count) if above[n] is not None and names[n] in inner]
-        job.update(version=2, h=3, openings=[
-            [rng.randrange(200, 300) for _ in range(rng.randint(0, 3))] if n in held else []
-            for n in range(count)])
-    root = names[order[0]]
-    steps = rng.randint(0, 60)
-    job["steps"] = [random_step(rng, names, links, root) for _ in range(steps)]
+def random_job(rng, rignolda):
+    """A tree of `rignolda random`, whose nodes may be called like steps, with drawn steps."""
+    capacity = rng.randint(1, 3)
+    job = drawn_tree(rng, rignolda, WORDS, nodes=rng.randint(1, 6), capacity=capacity,
+                     labels=2 * capacity + 2 + rng.randint(0, 2), items=rng.randint(0, 6), hold=3)
+    for part in "scripts", "schedule":
+        job.pop(part, None)
+    names = [node["name"] for node in job["tree"]]
+    children = [node["name"] for node in job["tree"] if "parent" in node]
+    own = job.get("links") or [None] * len(children)
+    links = {child: ((it or job)["capacity"], (it or job)["labels"])
+             for child, it in zip(children, own)}
+    job["steps"] = [random_step(rng, names, links) for _ in range(rng.randint(0, 60))]
     return job

@@ -17,7 +17,7 @@ import tempfile
 
 TOP = os.path.dirname(os.path.dirname(os.path.dirname(os.path.realpath(__file__))))
 sys.path[:0] = [f"{TOP}/tests", f"{TOP}/tools"]
-from links import drawn_link  # noqa: E402
+from jobs import drawn_link  # noqa: E402
 from programs import built, counted  # noqa: E402
 
 EXAMPLES = os.path.join(TOP, "crates", "gate_checks", "data")

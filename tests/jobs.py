@@ -1,4 +1,24 @@
-"""Drawn jobs of a link, for the checks that compare what is said of them."""
+"""Drawn jobs of a link or a tree, for the checks that compare what is said of them."""
+import json
+import re
+import subprocess
+
+
+def drawn_tree(draw, rignolda, names=(), **options):
+    """A job of `rignolda random` with these options, in which some parts are left out. Its nodes
+    get some of these names, if any are given."""
+    options = {"seed": draw.randrange(1 << 32), **options}
+    said = subprocess.run([rignolda, "random", *(f"--{it}={n}" for it, n in options.items())],
+                          check=True, stdout=subprocess.PIPE, text=True).stdout
+    if names:
+        names = draw.sample(names, len(names))
+        said = re.sub(r'"n(\d+)"', lambda it: f'"{names[int(it[1])]}"', said)
+    made = json.loads(said)
+    for parts in ["links"], ["starts"], ["scripts"], ["version", "h", "openings"]:
+        if draw.random() < 0.3:
+            for part in parts:
+                made.pop(part, None)
+    return made
 
 
 def drawn_link(draw, top=1 << 32):
