@@ -23,9 +23,8 @@ fault, or `accepted`; a fault has a finding with a place; and the status is 0 wh
 to find.
 
 A job that fails is kept in tests/hostile/build/, as NAME.json, beside NAME.txt with the words and
-what was seen. The last line is 'N passed, M failed'. Run it by hand: the gate does not. It needs
-Python 3.8 and Linux. Without --stab and --rignolda it runs the programs of ./stab and ./rignolda,
-which build them if needed.
+what was seen. The last line is 'N passed, M failed'. Run it by hand: the gate does not. It runs the
+programs of ./stab and ./rignolda, or those that PROGRAM_STAB and PROGRAM_RIGNOLDA name.
 """
 import argparse
 import collections
@@ -575,8 +574,6 @@ def main():
     parser.add_argument("--cases", type=int, default=100_000)
     parser.add_argument("--first", type=int, default=0, help="the number of the first case")
     parser.add_argument("--seed", default="1")
-    parser.add_argument("--stab", metavar="PROGRAM", help="run it, not the program of ./stab")
-    parser.add_argument("--rignolda", metavar="PROGRAM", help="the same of ./rignolda")
     parser.add_argument("--lanes", type=int, default=4, help="how many programs run at a time")
     parser.add_argument("--keep", metavar="FOLDER", default=BUILD, help="where failing jobs go")
     given = parser.parse_args()
@@ -585,8 +582,7 @@ def main():
     parts = [numbers[at : at + PART] for at in range(0, len(numbers), PART)]
     counts, longest, wrongs = collections.Counter(), (0.0, 0), []
     with tempfile.TemporaryDirectory(prefix="stab-fuzz-") as folder:
-        programs = {name: os.path.abspath(named or built(name, folder))
-                    for name, named in (("stab", given.stab), ("rignolda", given.rignolda))}
+        programs = {name: built(name, folder) for name in ("stab", "rignolda")}
         with concurrent.futures.ProcessPoolExecutor(given.lanes) as lanes:
             one = (work, programs, folder, given.keep, given.seed)
             ended = [lanes.submit(*one, part) for part in parts]

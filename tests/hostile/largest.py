@@ -1,25 +1,42 @@
-#!/usr/bin/env python3
-"""Measures `stab` on the largest jobs it accepts, and on one more of each: tests/hostile/largest.py
+#!/usr/bin/env -S python3 -B
+"""Measures the programs on the largest jobs that they accept: by hand, some minutes.
 
-Makes the jobs in tests/hostile/build/, runs each one three times, and prints a table: the file's
-size, the median of the processor time and of the wall time, the peak memory, the peak as a multiple
-of the file's size, and what came of the job. After each job at a limit comes the job with one more,
-which must be refused, with the fault of docs/FORMATS.md. A star is printed after a processor time
-over one second, and after a peak over twenty times the file's size where that is over 10 MB. The
-last line is 'N passed, M failed', where a job passes if it was accepted or refused as it should be.
-Run it by hand: the gate does not. It needs Python 3.8 and the kit, whose clang builds measure.c.
-Without --stab it measures the program of ./stab, which builds it if needed.
+  tests/hostile/largest.py [--runs]   stab on the largest jobs, and on one more of each
+  tests/hostile/largest.py --rignolda [WORD..]
+                                      rignolda on jobs of 16 MB, beside stab
+
+Each job at a limit is run three times. A line has the file's size, the median of the processor time
+and of the wall time, the peak memory, the peak as a multiple of the file's size, and what came of
+the job. After it comes the job with one more, which must be refused, with the fault of
+docs/FORMATS.md. A star is after a processor time over one second, and after a peak over twenty
+times the file's size where that is over 10 MB. With --runs there are also runs of 64 nodes to their
+end: how long they take is up to the system's scheduler.
+
+With --rignolda each job has almost as many bytes as a file may have, and is full of one thing:
+steps, items, members that nobody reads, names that no node has, and so on, accepted or refused for
+it. The processor time of `stab` is measured, and that of `rignolda bounds`, since `stab` reads some
+jobs token by token, and `bounds` all by way of a tree of values. A command of rignolda that reads
+such a job may not take more than three times the longer one, where that is over half a second. With
+words, only jobs whose names have one of them are measured.
+
+Another program is measured where PROGRAM_STAB or PROGRAM_RIGNOLDA names it. The kit is needed,
+whose clang builds measure.c. The last line is 'N passed, M failed'.
 """
 import argparse
+import itertools
+import json
 import os
-import re
-import shutil
 import statistics
 import subprocess
 import sys
+import tempfile
+from pathlib import Path
 
-sys.dont_write_bytecode = True
-from fuzz import BUILD, HERE, built, faults
+HERE = Path(__file__).resolve().parent
+sys.path.insert(0, str(HERE.parent.parent / "tools"))
+from crates import clang  # noqa: E402
+from fuzz import faults  # noqa: E402
+from programs import Cases, built  # noqa: E402
 
 RUNS = 3
 MAX_BYTES = 16_777_216
@@ -29,6 +46,8 @@ MAX_NODES = 64
 MAX_HELD = 64
 MAX_ACTS = 100_000
 MAX_TURNS = 1_000_000
+# How much of a job of 16 MB is left to all but the one thing that it is full of.
+ROOM = 65_536
 
 TEXT = None  # what is expected of a job that is accepted
 
@@ -184,8 +203,7 @@ def jobs():
 
 
 def whole_runs():
-    """Runs of many nodes to their end: how long they take is up to the system's scheduler, and
-    beside other programs it may be minutes."""
+    """Runs of many nodes to their end."""
     for command in ["run"], ["run", "--words"], ["run", "--mixed"]:
         for is_chain, form in (True, "chain"), (False, "star"):
             links = {"links": wide(MAX_NODES - 1)} if "--mixed" in command else {}
@@ -194,75 +212,194 @@ def whole_runs():
                 tree_job(MAX_NODES, it, items=some("1", MAX_ITEMS), turns=MAX_TURNS, **of))
 
 
-def path_of(name, command, job):
-    """The file of a job, made anew, since it may be another than an earlier run made."""
-    path = os.path.join(BUILD, re.sub("[^a-z0-9]+", "_", f"{command[0]} {name}") + ".json")
-    with open(path, "w", encoding="ascii") as out:
-        out.write(job())
-    return path
+# Jobs of 16 MB, each full of one thing.
+TREE = [{"name": "r"}, {"name": "a", "parent": "r"}, {"name": "b", "parent": "a"}]
+LINK = {"capacity": 1, "labels": 4, "start": {"send": 0, "recv": 1}}
+JOB = {"capacity": 1, "labels": 4, "tree": TREE, "items": [7, 8]}
 
 
-def build_measure():
-    """Builds measure.c by the clang of the kit, with the kit's own start files and C library."""
-    rt = shutil.which("rt") or sys.exit("the command rt of the Rattle kit is needed, for its clang")
-    kit = os.path.join(os.path.dirname(os.path.realpath(rt)), "..", "toolchain")
-    of_kit = lambda names: [os.path.join(kit, "lib", name) for name in names.split()]
-    flags = "-O2 -Wall -Wextra -Werror -ffreestanding -fPIE -pie -nostdlib -fuse-ld=lld".split()
-    made, loader = os.path.join(BUILD, "measure"), "/lib64/ld-linux-x86-64.so.2"
-    os.makedirs(BUILD, exist_ok=True)
-    subprocess.run(
-        [os.path.join(kit, "bin", "clang"), *flags, f"-Wl,--dynamic-linker={loader}",
-         *of_kit("Scrt1.o crti.o"), os.path.join(HERE, "measure.c"),
-         *of_kit("libc.so.6 libc_nonshared.a crtn.o"), "-o", made], check=True)
-    return made
+def full(entry, most=10**9, room=MAX_BYTES - ROOM):
+    """As many texts of entries as there is room for, at most `most`, with commas between them."""
+    parts, used = [], 0
+    for number in range(most):
+        part = entry(number)
+        used += len(part) + 1
+        if used > room:
+            break
+        parts.append(part)
+    return ",".join(parts)
 
 
-def run(measure, program, command, path):
-    """One run: wall and processor seconds, the peak in bytes, the status and standard error."""
-    report, to = os.pipe()
-    with open(report, "rb") as report:
-        ran = subprocess.run(
-            [measure, str(to), program, *command, path], pass_fds=[to], env={},
-            stdout=subprocess.DEVNULL, stderr=subprocess.PIPE)
-        os.close(to)
-        wall, processor, peak, status = map(int, report.read().split())
-    return wall / 1e6, processor / 1e6, peak * 1024, status, ran.stderr.decode().strip()
+def text(job, name, value):
+    """The text of a job with one member more, whose value is this text."""
+    return json.dumps(job)[:-1] + ', "%s": %s}' % (name, value)
 
 
-def status_of(fault):
-    return faults()[f"stab: {fault}\n".encode()]
+def listed(entry, most=10**9):
+    return "[" + full(entry, most) + "]"
+
+
+def node(name, parent="r"):
+    return '{"name":"%s","parent":"%s"}' % (name, parent)
+
+
+def full_trees():
+    """Jobs of a tree, by name: the text of each."""
+    without = {key: value for key, value in JOB.items() if key != "tree"}
+    two = dict(JOB, version=2, h=2)
+    steps = ["send_frame", "recv_frame", "send_ack", "recv_ack", "offer", "recv_frame_keep"]
+    step = lambda n: '["%s","%s"]' % ("ab"[n % 2], steps[n * 7 % 6])
+    yield "steps", text(JOB, "schedule", listed(step, 1_000_000))
+    yield "steps, too many", text(JOB, "schedule", listed(lambda n: '["a","offer"]'))
+    yield "steps of unknown nodes", text(JOB, "schedule",
+        listed(lambda n: '["c%d","offer"]' % n, 900_000))
+    yield "steps of unknown words", text(JOB, "schedule",
+        listed(lambda n: '["a","offre"]', 1_000_000))
+    yield "steps on the root", text(JOB, "schedule", listed(lambda n: '["r","offer"]', 1_000_000))
+    yield "steps that are numbers", text(JOB, "schedule",
+        listed(lambda n: "1" + " " * 14, 1_000_000))
+    yield "a step of a long word", text(JOB, "schedule", '[["a","%s"]]' % ("offer" * 3_300_000))
+    yield "losses", text(JOB, "schedule",
+        listed(lambda n: '["a","lose_ack",%d]' % (n % 9), 900_000))
+    yield "items, too many", text(dict(JOB, items=0), "items", listed(lambda n: "%d" % (n % 999)))
+    yield "items that are texts", text(JOB, "items", listed(lambda n: '"%d"' % n))
+    yield "unknown members", json.dumps(JOB)[:-1] + "," + full(
+        lambda n: '"shedule%d":%d' % (n, n)) + "}"
+    yield "members of short names", json.dumps(JOB)[:-1] + "," + full(
+        lambda n: '"%x":0' % n) + "}"
+    yield "a member of a long name", json.dumps(JOB)[:-1] + ', "%s": 1}' % ("schedul" * 2_300_000)
+    yield "members of long names", json.dumps(JOB)[:-1] + "," + full(
+        lambda n: '"%s%d":0' % ("x" * 9000, n)) + "}"
+    yield "one member again and again", json.dumps(JOB)[:-1] + "," + full(
+        lambda n: '"turns":%d' % (n + 1)) + "}"
+    yield "a long ignored text", text(JOB, "note", '"%s"' % ("x" * 16_600_000))
+    yield "a long text of escapes", text(JOB, "note", '"%s"' % ("\\u0041" * 2_760_000))
+    yield "an ignored list", text(JOB, "note", listed(lambda n: "[]"))
+    yield "ignored objects", text(JOB, "note", listed(lambda n: '{"a":1}'))
+    yield "nodes, too many", text(without, "tree",
+        '[{"name":"r"},%s]' % full(lambda n: node("n%d" % n)))
+    yield "nodes of one name", text(without, "tree",
+        '[{"name":"r"},%s]' % full(lambda n: node("a")))
+    yield "nodes of unknown parents", text(without, "tree",
+        listed(lambda n: node("n%d" % n, "p%d" % n)))
+    yield "nodes of bad names", text(without, "tree", listed(lambda n: node("N %d" % n)))
+    yield "nodes without names", text(without, "tree", listed(lambda n: "{}"))
+    yield "nodes that are numbers", text(without, "tree", listed(lambda n: "1"))
+    yield "roots", text(without, "tree", listed(lambda n: '{"name":"n%d"}' % n))
+    yield "a node of a long name", text(without, "tree", '[{"name":"%s"}]' % ("a" * 16_600_000))
+    yield "64 nodes of long names", text(without, "tree", "[%s]" % ",".join(
+        '{"name":"%s%d","parent":"%s"}' % ("a" * 130_000, n, "b" * 130_000) for n in range(64)))
+    yield "64 nodes of short parents", text(without, "tree", "[%s]" % ",".join(
+        '{"name":"%s%d","parent":"%s"}' % ("ab" * 130_000, n, "p" * 31 + "x") for n in range(64)))
+    start = '{"frames":[%s],"acks":[0],"send":0,"recv":1}'
+    yield "starts, too many", text(JOB, "starts", listed(lambda n: start % "[1,2]"))
+    yield "starts of many frames", text(JOB, "starts",
+        "[%s,%s]" % (start % full(lambda n: "[1,2]"), start % ""))
+    yield "starts without labels", text(JOB, "starts", listed(lambda n: "{}"))
+    yield "frames that are numbers", text(JOB, "starts",
+        "[%s,%s]" % (start % full(lambda n: "1"), start % ""))
+    yield "scripts, too many", text(JOB, "scripts", listed(lambda n: "null"))
+    yield "a script too long", text(JOB, "scripts",
+        '[null,{"frames_out":"%s"}]' % ("PDE" * 5_500_000))
+    yield "a script of bad letters", text(JOB, "scripts",
+        '[null,{"frames_out":"%s"}]' % ("pde" * 5_500_000))
+    yield "scripts that are empty lists", text(JOB, "scripts", listed(lambda n: "[]"))
+    yield "links without numbers", text(JOB, "links", listed(lambda n: "{}"))
+    yield "links, too many", text(JOB, "links", listed(lambda n: '{"capacity":1,"labels":4}'))
+    yield "openings, too many", text(two, "openings", listed(lambda n: "[1]"))
+    yield "a long opening", text(two, "openings", "[[],%s,[]]" % listed(lambda n: "%d" % (n % 9)))
+    yield "not JSON at its end", text(JOB, "schedule", listed(step, 900_000))[:-2]
+    yield "not JSON, many lines", text(JOB, "schedule",
+        listed(lambda n: "\n" + step(n), 900_000)) + "x"
+    yield "white space", json.dumps(JOB)[:-1] + " " * 16_600_000 + "}"
+
+
+def full_link_jobs():
+    """Link jobs, by name: the text of each."""
+    words = ['"send_frame"', '"recv_frame"', '"send_ack"', '"recv_ack"', '["offer",%d]',
+        '"recv_ack_keep"']
+    event = lambda n: (words[n * 7 % 6] + " " * 4).replace("%d", str(n))
+    yield "events", text(LINK, "events", listed(event, 1_000_000))
+    yield "offers", text(LINK, "events", listed(lambda n: '["offer",%d]' % n, 1_000_000))
+    yield "events, too many", text(LINK, "events", listed(lambda n: '"send_ack"'))
+    yield "events of unknown words", text(LINK, "events", listed(lambda n: '"send_akc"', 1_000_000))
+    yield "events, the last one bad", text(LINK, "events", listed(event, 999_999))[:-2] + ',"x"]}'
+    yield "frames", text({"capacity": 1, "labels": 4, "events": []}, "start",
+                         '{"send":0,"recv":0,"frames":%s}' % listed(lambda n: "[1,2]"))
+
+
+class Largest(Cases):
+    """The programs, what measures them, and a folder for jobs."""
+
+    def __init__(self, room):
+        super().__init__()
+        self.programs = {name: built(name, room) for name in ("stab", "rignolda")}
+        self.measure, self.job = room / "measure", room / "job.json"
+        subprocess.run(clang("-ffreestanding", HERE / "measure.c", "-o", self.measure), check=True)
+
+    def run(self, name, command):
+        """A run on the job: wall and processor seconds, the peak in bytes, the status and standard
+        error."""
+        report, to = os.pipe()
+        with open(report, "rb") as report:
+            ran = subprocess.run(
+                [self.measure, str(to), self.programs[name], *command, self.job], pass_fds=[to],
+                env={}, stdout=subprocess.DEVNULL, stderr=subprocess.PIPE)
+            os.close(to)
+            wall, processor, peak, status = map(int, report.read().split())
+        return wall / 1e6, processor / 1e6, peak * 1024, status, ran.stderr.decode().strip()
+
+    def at_limits(self, all_jobs):
+        """Measures stab on jobs at limits, and on one more."""
+        table = faults()
+        for name, command, fault, job in all_jobs:
+            self.job.write_text(job())
+            runs = [self.run("stab", command) for _ in range(RUNS)]
+            wall, processor, peak = (statistics.median(one[i] for one in runs) for i in range(3))
+            size, ends = self.job.stat().st_size, {one[3:] for one in runs}
+            line = TEXT if fault is TEXT else f"stab: {fault}"
+            wanted = (0, "") if fault is TEXT else (table[f"{line}\n".encode()], line)
+            late = "*" if processor > 1 else " "
+            large = "*" if peak > 20 * size and peak > 10_000_000 else " "
+            self.holds(f"{' '.join(command):13} {name:32} {size / 1e6:6.2f} MB "
+                       f"{processor * 1000:7.1f}{late} ms, wall {wall * 1000:6.0f}, "
+                       f"peak {peak / 1e6:8.1f} MB {peak / size:7.1f}{large}  {line or 'a text'}",
+                       ends == {wanted}, ends)
+
+    def taken(self, name, command):
+        """The processor time of a command on the job, the smaller one of two."""
+        return min(self.run(name, [command])[1] for _ in range(2))
+
+    def beside_stab(self, asked):
+        """Measures commands of rignolda on jobs of 16 MB."""
+        trees = ((*it, "tree", ["explain"]) for it in full_trees())
+        links = ((*it, "link", ["explain", "draw"]) for it in full_link_jobs())
+        for name, made, reader, commands in itertools.chain(trees, links):
+            if asked and not any(word in name for word in asked):
+                continue
+            self.job.write_text(made)
+            size = self.job.stat().st_size
+            self.holds(f"{name}: {size} bytes", size <= MAX_BYTES)
+            base = max(self.taken("stab", reader), self.taken("rignolda", "bounds"))
+            for command in commands:
+                spent = self.taken("rignolda", command)
+                self.holds(f"{name:28} {command} {spent:5.2f} s, stab or bounds {base:5.2f} s",
+                           spent <= max(3 * base, 0.5))
 
 
 def main():
     parser = argparse.ArgumentParser(description=__doc__.splitlines()[0])
-    parser.add_argument("--stab", metavar="PROGRAM", help="measure it, not the program of ./stab")
     parser.add_argument("--runs", action="store_true", help="also runs of 64 nodes to their end")
+    parser.add_argument("--rignolda", nargs="*", metavar="WORD", help="rignolda on jobs of 16 MB")
     given = parser.parse_args()
-    program = os.path.abspath(given.stab or built("stab", BUILD))
-    measure = build_measure()
-    passed = failed = 0
     print(f"{os.cpu_count()} processors, load {os.getloadavg()[0]:.1f}")
-    names = f"{'MB':>6} {'ms':>7}  {'wall':>6} {'peak MB':>8} {'x file':>7}   came of it"
-    print(f"{'command':13} {'job':32} {names}")
-    for name, command, fault, job in [*jobs(), *(whole_runs() if given.runs else ())]:
-        path = path_of(name, command, job)
-        runs = [run(measure, program, command, path) for _ in range(RUNS)]
-        wall, processor, peak = (statistics.median(one[i] for one in runs) for i in range(3))
-        size, ends = os.path.getsize(path), {one[3:] for one in runs}
-        os.remove(path)
-        status, line = min(ends)
-        right = ends == {(0, "") if fault is TEXT else (status_of(fault), f"stab: {fault}")}
-        passed, failed = passed + right, failed + (not right)
-        came = "a text" if (status, line) == (0, "") else line or f"status {status}"
-        late = "*" if processor > 1 else " "
-        large = "*" if peak > 20 * size and peak > 10_000_000 else " "
-        times = f"{processor * 1000:7.1f}{late} {wall * 1000:6.0f}"
-        peaks = f"{peak / 1e6:8.1f} {peak / size:7.1f}{large}"
-        came += "" if right else " OTHER"
-        print(f"{' '.join(command):13} {name:32} {size / 1e6:6.2f} {times} {peaks}  {came}",
-            flush=True)
-    print(f"{passed} passed, {failed} failed")
-    return 1 if failed else 0
+    with tempfile.TemporaryDirectory() as room:
+        largest = Largest(Path(room))
+        if given.rignolda is None:
+            largest.at_limits([*jobs(), *(whole_runs() if given.runs else ())])
+        else:
+            largest.beside_stab(given.rignolda)
+    return largest.sum_up()
 
 
 if __name__ == "__main__":
