@@ -240,6 +240,7 @@ def main(drawer):
     return counted(check(drawer))
 
 
-if sys.argv[1:] not in ([], ["--write"]):
-    sys.exit("tests/check_drawn.py takes --write, or no words at all")
-sys.exit(run_with(main, "rignolda"))
+if __name__ == "__main__":
+    if sys.argv[1:] not in ([], ["--write"]):
+        sys.exit("tests/check_drawn.py takes --write, or no words at all")
+    sys.exit(run_with(main, "rignolda"))

@@ -3,7 +3,7 @@
 
     tests/check_page.py [--jobs N] [--seed N] [--pictures FOLDER] [chromium|firefox]..
 
-It takes the commands `chromium` and `firefox-esr` (Debian's packages), and the program stab.
+It takes the commands `chromium` and `firefox-esr` (Debian's packages), and the programs.
 In each browser it looks that
 
 - the page is at most 120 kB, and ready in less than 200 ms;
@@ -53,8 +53,9 @@ import time
 
 TOP = pathlib.Path(__file__).resolve().parent.parent
 sys.path.insert(0, str(TOP / "tools"))
-from links import drawn_link  # noqa: E402
-from programs import Cases, built  # noqa: E402
+from check_drawn import blocks, cut, is_head  # noqa: E402
+from jobs import drawn_link, drawn_tree  # noqa: E402
+from programs import Cases, built, ran  # noqa: E402
 
 PAGE = TOP / "page" / "index.html"
 DATA = TOP / "crates" / "gate_checks" / "data"
@@ -64,6 +65,7 @@ MOST_MILLISECONDS_OF_A_STEP = 50
 SECONDS = 60
 
 WIDE, NARROW = (1100, 900), (390, 800)
+CONTROLS = "button, input, select, textarea"
 
 
 class Chromium:
@@ -119,9 +121,8 @@ class Chromium:
         self.ask("Page.navigate", url="about:blank")
         self.ask("Page.navigate", url=address)
 
-    def run(self, body, *args):
-        """The value of a function of the page with this body and arguments."""
-        text = f"JSON.stringify((function(...args) {{{body}}})(...{json.dumps(args)}) ?? null)"
+    def run(self, text):
+        """The value of an expression of the page, which is a text of JSON."""
         said = self.ask("Runtime.evaluate", expression=text, returnByValue=True)
         if "exceptionDetails" in said:
             raise RuntimeError(json.dumps(said["exceptionDetails"])[:500])
@@ -204,8 +205,7 @@ class Firefox:
         self.ask("WebDriver:Navigate", url="about:blank")
         self.ask("WebDriver:Navigate", url=address)
 
-    def run(self, body, *args):
-        call = f"JSON.stringify((function(...args) {{{body}}})(...{json.dumps(args)}) ?? null)"
+    def run(self, text):
         # (a script of the page sees what the page's own script declares)
         script = """const script = document.createElement('script');
             window.answerOfCheck = undefined;
@@ -213,9 +213,9 @@ class Firefox:
             document.documentElement.append(script);
             script.remove();
             return window.answerOfCheck;"""
-        said = self.ask("WebDriver:ExecuteScript", script=script, args=[call])
+        said = self.ask("WebDriver:ExecuteScript", script=script, args=[text])
         if said["value"] is None:
-            raise RuntimeError(f"no answer of {body[:200]}")
+            raise RuntimeError(f"no answer of {text[:2000]}")
         return json.loads(said["value"])
 
     def picture(self):
@@ -228,17 +228,17 @@ class Firefox:
 
 
 @functools.lru_cache(None)
-def stab():
-    """The program, and the folder that it may lie in."""
+def programs():
+    """The programs stab and rignolda, and the folder that they may lie in."""
     room = tempfile.TemporaryDirectory()
-    return built("stab", room.name), room
+    return built("stab", room.name), built("rignolda", room.name), room
 
 
 def program(job, *words):
     """What `stab link --trace` answers, or `stab` with these words: its text, or None where it
     refuses."""
-    done = subprocess.run([stab()[0], *(words or ["link", "--trace"])], input=job,
-        capture_output=True)
+    done = subprocess.run([programs()[0], *(words or ["link", "--trace"])], input=job,
+                          capture_output=True)
     return done.stdout.decode() if done.returncode == 0 else None
 
 
@@ -257,53 +257,29 @@ def long_job():
 PUBLISHED, OPENED = 1000, 5000
 
 
-def drawn_tree(draw):
-    """A drawn tree that fits the page, in any file order, with a schedule that mostly does
-    something."""
-    count = draw.choice([1, 2, 2, 3, 3, 4, 5, 8])
-    names = draw.sample(["r", "a", "b", "c-1", "node_2", "x", "y", "a-long-name-of-a-node"], count)
-    above = {name: draw.choice(names[:i]) for i, name in enumerate(names) if i > 0}
-    order = draw.sample(names, count)
-    tree = [{"name": name, "parent": above[name]} if name in above else {"name": name}
-        for name in order]
-    children = [name for name in order if name in above]
+NAMES = ["r", "a", "b", "c-1", "node_2", "x", "y", "a-long-name-of-a-node"]
+
+
+def small_tree(draw):
+    """A drawn tree that fits the page, mostly, with a schedule that mostly does something. Each
+    item is published once, or is in one opening, or in links."""
     capacity = draw.choice([1, 1, 1, 2, 3, 8])
-    job = {"capacity": capacity, "labels": draw.choice([2 * capacity + 2, 2 * capacity + 3, 1000]),
-           "tree": tree, "items": [PUBLISHED + i for i in range(draw.choice([0, 3, 10, 30, 256]))]}
-    params = {name: (job["capacity"], job["labels"]) for name in children}
-    if draw.random() < 0.5:
-        for name in children:
-            if draw.random() < 0.5:
-                own = draw.choice([1, 2, 4])
-                params[name] = (own, 2 * own + 2)
-        job["links"] = [{"capacity": params[name][0], "labels": params[name][1]}
-            for name in children]
-    if draw.random() < 0.8:
-        job["starts"] = []
-        for name in children:
-            own, labels = params[name]
-            label = lambda: draw.choice([draw.randrange(labels), draw.randrange(labels),
-                draw.randrange(65536)])
-            job["starts"].append({"frames": [[label(), draw.randrange(PUBLISHED)]
-                for _ in range(draw.randint(0, own))],
-                                  "acks": [label() for _ in range(draw.randint(0,
-                                      own))], "send": label(), "recv": label()})
-    if draw.random() < 0.5:
-        hold = draw.choice([0, 1, 3, 8, 64])
-        inner = [name in above and name in above.values() for name in order]
-        job |= {"version": 2, "h": hold, "openings": [
-            [OPENED + 100 * i + k for k in range(draw.randint(0, min(hold, 8)) if is_inner else 0)]
-            for i, is_inner in enumerate(inner)]}
-    words = ["offer", "send_frame", "recv_frame", "send_ack", "recv_ack"] * 5
-    words += ["recv_frame_keep", "recv_ack_keep", "lose_frame", "lose_ack"]
-    schedule = []
-    for _ in range(draw.choice([0, 20, 100, 256, 256]) if children else 0):
-        word = draw.choice(words)
-        place = [draw.choice([0, 1, 65535])] if word.startswith("lose") else []
-        schedule.append([draw.choice(children), word, *place])
-    if schedule and draw.random() < 0.1:
-        schedule[draw.randrange(len(schedule))] = [draw.choice(children), "close"]
-    job["schedule"] = schedule
+    job = drawn_tree(
+        draw, programs()[1], NAMES, nodes=draw.choice([1, 2, 2, 3, 3, 4, 5, 8]), capacity=capacity,
+        labels=draw.choice([2 * capacity + 2, 2 * capacity + 3, 1000]),
+        items=draw.choice([0, 3, 10, 30, 256]), schedule=draw.choice([0, 20, 100, 256, 256]),
+        hold=draw.choice([0, 1, 3, 8, 9]))
+    job["items"] = [PUBLISHED + i for i in range(len(job["items"]))]
+    for i, items in enumerate(job.get("openings", [])):
+        items[:] = [OPENED + 100 * i + k for k in range(len(items))]
+    for start in job.get("starts", []):
+        if draw.random() < 0.3:
+            start.update(send=draw.randrange(65536), recv=draw.randrange(65536))
+    for step in job["schedule"]:
+        if step[1].startswith("lose") and draw.random() < 0.2:
+            step[2] = 65535
+    if job["schedule"] and draw.random() < 0.1:
+        draw.choice(job["schedule"])[1:] = ["close"]
     return json.dumps(job)
 
 
@@ -440,15 +416,35 @@ def announced(before, now):
         if text not in (was, "")]
 
 
+# What the functions of the page below are written with.
+HELPERS = """
+const all = words => [...document.querySelectorAll(words)],
+  press = (key, at = document.body) =>
+    at.dispatchEvent(new KeyboardEvent("keydown", { key, bubbles: true })),
+  set = (id, value, event) => {
+    $(id).value = value;
+    $(id).dispatchEvent(new Event(event ?? (id.endsWith("at") ? "input" : "change")));
+  },
+  texts = (...ids) => ids.map(id => $(id).textContent),
+  click = (...ids) => ids.forEach(id => $(id).click()),
+  happens = words => words.forEach(word => all(`[data-act=${word}]`)[0].click()),
+  possible = kind => all(`[data-${kind}]`).filter(b => !isDim(b)).map(b => b.dataset[kind]),
+  counts = (t, at) => treeAfter(t, at).nodes.map(n =>
+    [n.strays, n.mostStrays, n.held, n.mostHeld, n.missing, n.mostMissing]);
+"""
+
+def packed(text):
+    """A text as an address of the page has it."""
+    return base64.urlsafe_b64encode(text.encode()).decode().rstrip("=")
+
+
 TREES = """return args[0].map(text => {
   try {
-    const job = readTree(text), text_ = treeText(job),
-        { nodes } = treeAfter(job, job.events.length);
+    const job = readTree(text), text_ = treeText(job), end = job.events.length;
     if (treeText(readTree(treeJobText(job))) !== text_) return ["another tree is saved"];
-    if (nodes.some(node => node.list.length !== node.origins.length))
+    if (treeAfter(job, end).nodes.some(node => node.list.length !== node.origins.length))
       return ["an item has no origin"];
-    return [text_, nodes.map(n => [n.strays, n.mostStrays, n.held, n.mostHeld, n.missing,
-        n.mostMissing])];
+    return [text_, counts(job, end)];
   } catch (error) { return error instanceof TooLarge ? ["too large"] : error instanceof Fault ?
       [null] : ["error: " + error]; }
 });"""
@@ -489,7 +485,8 @@ class Checks(Cases):
 
     def run(self, script, *args):
         """The answer of a function of the page with this body and arguments."""
-        self.said = self.browser.run(script, *args)
+        self.said = self.browser.run(f"JSON.stringify((function(...args) {{{HELPERS}{script}}})"
+                                     f"(...{json.dumps(args)}) ?? null)")
         return self.said
 
     def go(self, address=None):
@@ -552,39 +549,33 @@ class Checks(Cases):
         state = """return [isTreeSeen, treeAt, tree.events.length, tree.names[child],
             [...$('t-nodes').rows].map(row => [...row.cells]
                 .slice(2, 4).map(cell => cell.textContent).join('; '))];"""
-        self.run("$('see-tree').click(); $('t-runs').value = 'Two links under one schedule'; "
-            "$('t-load').click(); $('t-last').click();")
-        said = self.run(state)
-        self.see("the tree at its end", said[0] and said[1] == said[2] == 48 and said[3] == "b")
-        self.see("counts at the nodes", said[4] == ["0 of at most 0; 0 of at most 0",
-                                                    "1 of at most 1; 3 of at most 3",
-                                                    "1 of at most 2; 5 of at most 6 (sharper: 5)"])
-        self.run("$('t-at').value = 6; $('t-at').dispatchEvent(new Event('input'));")
-        said = self.run("return [treeAt, $('t-happened').textContent, tree.names[child]];")
+        counted = ["0 of at most 0; 0 of at most 0", "1 of at most 1; 3 of at most 3",
+                   "1 of at most 2; 5 of at most 6 (sharper: 5)"]
+        self.same("the tree at its end", [True, 48, 48, "b", counted],
+                  "click('see-tree'); $('t-runs').value = 'Two links under one schedule'; "
+                  "click('t-load', 't-last');" + state)
+        said = self.run("set('t-at', 6); return [treeAt, ...texts('t-happened'), "
+                        "tree.names[child]];")
         self.see("the slider of the tree",
                  said[0] == 6 and "99 is delivered: a stray" in said[1] and said[2] == "a")
-        self.run("document.body.dispatchEvent(new KeyboardEvent('keydown', {key: 'ArrowLeft', "
-            "bubbles: true}));")
-        self.see("the left key in the tree", self.run(state)[1] == 5)
-        self.run("document.querySelector('[data-act=recv_frame]').click();")
-        self.see("an event replaces the rest of the schedule", self.run(state)[1:3] == [6, 6])
+        self.see("the left key in the tree", self.run("press('ArrowLeft');" + state)[1] == 5)
+        self.see("an event replaces the rest of the schedule",
+                 self.run("happens(['recv_frame']);" + state)[1:3] == [6, 6])
         saved = json.loads(self.run("return treeJobText(tree)"))
         self.see("the saved schedule", saved["schedule"][5] == ["a", "recv_frame"])
-        self.run("showTree(TREES['A clean chain, nothing done yet'], 'x'); pick(2);")
-        dim = ("return [...document.querySelectorAll('[data-act]')].filter(b => !isDim(b)).map(b "
-            "=> b.dataset.act);")
-        self.same("nothing to offer yet", ["close", "send_ack"], dim)
-        self.run("pick(1);")
-        self.same("the root offers", ["offer", "close", "send_ack"], dim)
-        self.run("showTree(TREES['A wider second link'], 'x'); goTree(12); share();")
-        address = self.run("return location.href")
-        self.go(address)
+        self.same("nothing to offer yet", ["close", "send_ack"],
+                  "showTree(TREES['A clean chain, nothing done yet'], 'x'); pick(2); "
+                  "return possible('act');")
+        self.same("the root offers", ["offer", "close", "send_ack"],
+                  "pick(1); return possible('act');")
+        self.go(self.run("showTree(TREES['A wider second link'], 'x'); goTree(12); share(); "
+                         "return location.href"))
         self.same("a tree in the address", [True, 12, 22, ""],
-                  "return [isTreeSeen, treeAt, tree.events.length, $('fault').textContent];")
-        many = json.dumps({"capacity": 1, "labels": 4, "items": [],
-            "tree": [{"name": f"n{i}", **({"parent": "n0"} if i else {})} for i in range(9)]})
-        said = self.run("tryJob(args[0]); return $('fault').textContent", many)
-        self.see("a tree that is too large", "this page takes at most 8 nodes" in said)
+                  "return [isTreeSeen, treeAt, tree.events.length, ...texts('fault')];")
+        many = json.dumps({"capacity": 1, "labels": 4, "items": [], "tree": [
+            {"name": f"n{i}", **({"parent": "n0"} if i else {})} for i in range(9)]})
+        self.see("a tree that is too large", "this page takes at most 8 nodes" in self.run(
+            "tryJob(args[0]); return texts('fault')[0]", many))
         self.same("a link job shows the link", [False, 1],
                   "tryJob(args[0], 'x'); return [isTreeSeen, job.events.length]",
                   json.dumps({"capacity": 1, "labels": 4, "start": {"send": 0, "recv": 1},
@@ -592,44 +583,30 @@ class Checks(Cases):
 
     def drawn_rows(self):
         """The rows of the runs that docs/PROTOCOL.md draws, stars included; and rounds."""
-        page = (TOP / "docs" / "PROTOCOL.md").read_text()
-        blocks = re.findall(r"\(`((?:links/)?\w+)`[^)`]*\)[^`]*```\n( +SENDER.*?)```", page, re.S)
-        jobs = [(title, (DATA / f"{title}.json").read_text(), block) for title, block in blocks]
-        two = re.search(r"## What goes wrong with two labels.*?```\n( +SENDER.*?)```", page,
-                        re.S)[1]
-        jobs.append(("two labels",
-                     self.run("return jobText(RUNS['The shortest run with two labels'])"), two))
-        self.see("there are drawn runs", len(blocks) >= 8, len(blocks))
-        for title, text, block in jobs:
-            lines = [line for line in block.split("\n")[1:] if line.strip()]
-            heads = [(m.group(), m.start()) for m in re.finditer(r"\S+", lines[0])]
-            ends = [at for _, at in heads[1:]] + [None]
+        drawn = [it for it in blocks() if it[1] is None or it[1].startswith(("links/", "worst"))]
+        self.see("there are drawn runs", len(drawn) >= 9, len(drawn))
+        for _, title, _, lines in drawn:
+            text = (DATA / f"{title}.json").read_text() if title else self.run(
+                "return jobText(RUNS['The shortest run with two labels'])")
             said = self.run("show(readJob(args[0], true), 'x', 1e9); drawRows(); "
-                "return [...$('rows').rows].map(r => [...r.cells].map(c => c.textContent));",
-                               text)
-            for line in lines[1:]:
-                cell = {(head, i): line[at:end].strip() for i,
-                    ((head, at), end) in enumerate(zip(heads, ends))}
-                keys = list(cell)
-                number = line[:heads[0][1]].strip()
-                row = said[int(number) if number else 0]
-                names = [key[0] for key in keys]
+                            "return [...$('rows').rows].map(r => [...r.cells].map("
+                            "c => c.textContent));", text)
+            top = next(at for at, line in enumerate(lines) if is_head(line))
+            for line in filter(str.strip, lines[top + 1:]):
+                number, cell = cut(lines[top], line)
+                row = said[int(number or 0)]
                 self.see(f"event {number} of {title}", not number
-                    or row[1] == cell[keys[0]].rstrip("*"), f"{row[1]} and not {cell[keys[0]]}")
+                         or row[1] == cell["event"].rstrip("*"), f"{row[1]} and not {cell}")
                 # (the offered item may have a star here, where it is a stray of the link above)
-                clean = lambda text: " ".join(
-                    word for word in text.split() if word not in ("v", "^", "x")) or "-"
-                wanted = [clean(cell[keys[names.index(head)]]) for head in ("frames", "acks")]
-                wanted.append(cell[keys[len(names) - 1 - names[::-1].index("label")]])
-                if "delivers" in names:
-                    wanted.append(cell[keys[names.index("delivers")]])
-                found = row[6:8] + row[8:8 + len(wanted) - 2]
-                self.see(f"row {number} of {title}", found == wanted, f"{found} and not {wanted}")
+                wanted = [" ".join(word for word in cell[it].split() if word not in {*"v^x"}) or "-"
+                          for it in ("frames", "acks")]
+                wanted += [cell["remembers"], cell["delivers"]]
+                self.see(f"row {number} of {title}", row[6:10] == wanted, f"{row} and not {wanted}")
         for title, wanted in (("links/three_rounds_for_an_item", [6, 13, 20]),
-            ("links/two_clean_rounds", [5, 10]), ("worst_start", [])):
+                              ("links/two_clean_rounds", [5, 10]), ("worst_start", [])):
             self.same(f"rounds of {title}", [wanted, f"Rounds: {len(wanted)}"],
                       "show(readJob(args[0]), 'x', 1e9); return [tracked.rounds, "
-                      "$('rounds').textContent];", (DATA / f"{title}.json").read_text())
+                      "...texts('rounds')];", (DATA / f"{title}.json").read_text())
 
     def lesson(self):
         """The circle, the exercise beside it, questions, the address, and where the focus is."""
@@ -662,97 +639,81 @@ class Checks(Cases):
         self.see("a good shape is not enough", "does not show" in said[0]
             and said[1].startswith("Missing: 0"))
 
-        card = ("return [!$('task').hidden, $('task').querySelector('[role=status]').textContent, "
-            "$('task').innerText.includes('Show a solution'), "
-            "$('task').innerText.includes('Hint'), $('item').value];")
-        self.run("$('item').value = 77; $('tasks').children[3].click();")
-        self.same("an exercise begins", [True, "So far 0 of 3 items are missing.", False,
-            True, "10"], card)
-        self.run("[...$('task').querySelectorAll('button')].find(b => b.textContent === "
-            "'Hint').click();")
-        self.see("a hint",
-            "Three labels are on the circle" in self.run("return $('task').innerText"))
-        self.run("for (const event of args[0]) { if (event[0] === 'offer') { $('item').value = "
-            "event[1]; event.splice(1); "
-            "} document.querySelector(`[data-event=${[].concat(event)[0]}]`).click(); }", WORST)
-        said = self.run(card)
+        says = "$('task').querySelector('[role=status]').textContent"
+        card = (f"return [!$('task').hidden, {says}, "
+                "...['Show a solution', 'Hint'].map(it => $('task').innerText.includes(it)), "
+                "$('item').value];")
+        self.same("an exercise begins", [True, "So far 0 of 3 items are missing.", False, True,
+                                         "10"],
+                  "$('item').value = 77; $('tasks').children[3].click();" + card)
+        button = "all('#task button').find(b => b.textContent === args[0]).click();"
+        self.see("a hint", "Three labels are on the circle" in self.run(
+            button + "return $('task').innerText", "Hint"))
+        said = self.run("for (const event of args[0]) { if (event[0] === 'offer') $('item').value ="
+                        " event.pop(); all(`[data-event=${[].concat(event)[0]}]`)[0].click(); }"
+                        + card, WORST)
         self.see("it is solved by hand", said[:4] == [True, "Done.", True, False])
-        self.run("[...$('task').querySelectorAll('button')].find(b => b.textContent === 'Show "
-            "a solution').click(); $('last').click();")
         self.same("the solution solves it", ["Done.", 9, False],
-                  "return [$('task').querySelector('[role=status]').textContent, "
-                  "job.events.length, $('task').hidden]")
-        self.see("another run has no exercise",
-            self.run("$('runs').value = 'A clean start'; $('load').click(); "
-                "return $('task').hidden"))
-        solved = """return [TASKS.map((task, i) =>
-            checkTask(i, { ...task.job, events: task.solution })),
-            TREE_TASKS.map((task, i) => checkTree(i, { ...task.job, events: task.solution }))]"""
-        self.same("all solutions solve", [[""] * 6, [""] * 4], solved)
+                  f"{button} click('last'); return [{says}, job.events.length, $('task').hidden]",
+                  "Show a solution")
+        self.see("another run has no exercise", self.run(
+            "$('runs').value = 'A clean start'; click('load'); return $('task').hidden"))
+        self.same("all solutions solve", [[""] * 6, [""] * 4], """return [
+            [TASKS, checkTask], [TREE_TASKS, checkTree]].map(([tasks, check]) => tasks.map(
+                (task, i) => check(i, { ...task.job, events: task.solution })))""")
 
-        ask = ("return [$('ask').hidden, at, $('ask').innerText, $('happened').textContent, "
-            "$('score').textContent];")
-        self.run("$('asks').checked = true; show(RUNS['The worst start'], 'x', 1); "
-            "$('forth').click();")
-        said = self.run(ask)
+        ask = "return [$('ask').hidden, at, $('ask').innerText, ...texts('happened', 'score')];"
+        answer = "$('ask').querySelectorAll('button')[args[0]].click();"
+        said = self.run("$('asks').checked = true; show(RUNS['The worst start'], 'x', 1); "
+                        "click('forth');" + ask)
         self.see("a question", said[:2] == [False, 1] and "What will the sender do now?" in said[2])
-        self.run("$('ask').querySelectorAll('button')[0].click();")
-        said = self.run(ask)
+        said = self.run(answer + ask, 0)
         self.see("a right answer", said[:2] == [True, 2] and "Right. This 0" in said[3]
-            and said[4] == "1 of 1 right")
-        self.run("go(5); document.querySelector('[data-event=recv_frame]').click(); "
-            "$('ask').querySelectorAll('button')[1].click();")
-        said = self.run(ask)
+                 and said[4] == "1 of 1 right")
+        said = self.run("go(5); all('[data-event=recv_frame]')[0].click();" + answer + ask, 1)
         self.see("a wrong answer", said[:2] == [True, 6] and "No. This frame" in said[3]
-            and said[4] == "1 of 2 right")
+                 and said[4] == "1 of 2 right")
         self.run("$('asks').checked = false;")
 
-        said = self.run("""$('n-capacity').value = 3; fillWorst(); ownStart();
-            return [job.capacity, job.labels, job.start, name];""")
         worst = {"frames": [[4, 97], [5, 98], [6, 99]], "acks": [0, 1, 2], "send": 0, "recv": 3}
-        self.see("the worst start of capacity 3", said == [3, 8, worst, "a start of your own"])
-        self.run("show(RUNS['A clean start'], 'x'); "
-            "document.querySelector('[data-event=offer]').focus(); document.activeElement.click();")
-        self.same("the focus stays", "offer", "return document.activeElement.dataset.event")
-        self.run("document.querySelector('[data-event=send_frame]').click(); "
-            "$('frames').querySelector('button').focus(); document.activeElement.click();")
-        said = self.run("return [document.activeElement.id, job.events.at(-1), "
-            "$('happened').textContent]")
+        self.same("the worst start of capacity 3", [3, 8, worst, "a start of your own"],
+                  "$('n-capacity').value = 3; fillWorst(); ownStart(); "
+                  "return [job.capacity, job.labels, job.start, name];")
+        focus = "document.activeElement.click();"
+        self.same("the focus stays", "offer",
+                  "show(RUNS['A clean start'], 'x'); all('[data-event=offer]')[0].focus();" + focus
+                  + "return document.activeElement.dataset.event")
+        said = self.run("all('[data-event=send_frame]')[0].click(); all('#frames button')[0]"
+                        ".focus();" + focus + "return [document.activeElement.id, "
+                        "job.events.at(-1), ...texts('happened')]")
         self.see("a message is lost by pressing it",
                  said[:2] == ["frames", ["lose_frame", 0]] and "label 0, item 10" in said[2])
-        at = self.run("return at")
-        self.run("document.querySelector('.table').dispatchEvent(new KeyboardEvent('keydown', "
-            "{key: 'ArrowLeft', bubbles: true}));")
-        self.same("keys in the table do not step", at, "return at")
+        self.see("keys in the table do not step", self.run(
+            "const had = at; press('ArrowLeft', all('.table')[0]); return had === at"))
         for garbage in ("#job=garbage", "#nothing", "#tree=e30"):
             self.go(PAGE.as_uri() + garbage)
-            said = self.run("return [$('fault').textContent, job.events.length];")
+            said = self.run("return [...texts('fault'), job.events.length];")
             self.see(f"the address {garbage}", "cannot be read" in said[0] and said[1] == 12)
         self.same("another run clears the address", ["#job=", ""],
-                  "share(); const had = location.hash; $('load').click(); return [had.slice(0, 5), "
+                  "share(); const had = location.hash; click('load'); return [had.slice(0, 5), "
                   "location.hash];")
-        said = self.run("tryJob('{\"capacity\":1.0,\"labels\":4,\"start\":{\"send\":0,\"recv\":1},"
-                        "\"events\":[]}'); "
-                        "return $('fault').textContent")
-        self.see("a number with a point", "and not a number with a point" in said)
+        self.see("a number with a point", "and not a number with a point" in self.run(
+            "tryJob(args[0]); return texts('fault')[0]",
+            '{"capacity":1.0,"labels":4,"start":{"send":0,"recv":1},"events":[]}'))
 
     def proof(self):
         """Each step of the proof shows what it says, and only the sentence of the step is
         announced."""
         self.see("the steps of the proof", sum(count for count, _, _ in PROOF_PARTS)
                  == len(PROOF) == self.run("return PROOF_STEPS.length"))
-        state = """const marked = e => /rgb/.test(getComputedStyle(e).boxShadow), ring = $('ring'),
-            link = linkAt(job, at);
-            return { is: [at, [...$('labels').querySelectorAll('.free')].map(e =>
-                Number(e.firstChild.data)), link.missing,
-                    ring.dataset.mark], labels: job.labels, delivered: link.delivered,
-                        send: link.send,
-                frames: [...$('frames').querySelectorAll('button')].map(marked),
-                acks: [...$('acks').querySelectorAll('button')].map(marked),
-                ends: [marked($('of-send')), marked($('of-recv'))],
-                    chips: [...$('labels').children].map(marked),
-                ways: [...ring.querySelectorAll('svg path')].map(e =>
-                    getComputedStyle(e).stroke) };"""
+        state = """const marked = e => /rgb/.test(getComputedStyle(e).boxShadow),
+                link = linkAt(job, at), marks = words => all(words).map(marked);
+            return { is: [at, all('#labels .free').map(e => Number(e.firstChild.data)),
+                    link.missing, $('ring').dataset.mark],
+                labels: job.labels, delivered: link.delivered, send: link.send,
+                frames: marks('#frames button'), acks: marks('#acks button'),
+                ends: marks('#of-send, #of-recv'), chips: marks('#labels > *'),
+                ways: all('#ring svg path').map(e => getComputedStyle(e).stroke) };"""
         self.run("show(RUNS['A clean start'], 'x');")
         before, step, plain = self.run(LIVE), 0, self.run(state)["ways"][0]
         for part, (count, labels, delivered) in enumerate(PROOF_PARTS):
@@ -776,29 +737,28 @@ class Checks(Cases):
                 before, step = live, step + 1
             self.see(f"what part {part + 1} of the proof delivers", said["delivered"] == delivered)
         place = ("return [proofAt, at, $('proof').hidden, $('proof-part').value, "
-                 "$('ring').dataset.mark];")
-        key = ("document.body.dispatchEvent(new KeyboardEvent('keydown', {key: args[0], "
-               "bubbles: true}));" + place)
-        self.see("the proof ends", self.run("$('proof-forth').click();" + place)[0] == 44)
-        self.see("the left key in the proof", self.run(key, "ArrowLeft")[:2] == [43, 12])
-        self.same("the first step by a key", [0, 0, False, "0", "frames"], key, "Home")
+                 "$('ring').dataset.mark")
+        self.see("the proof ends", self.run(f"click('proof-forth'); {place}]")[0] == 44)
+        self.see("the left key in the proof",
+                 self.run(f"press('ArrowLeft'); {place}]")[:2] == [43, 12])
+        self.same("the first step by a key", [0, 0, False, "0", "frames"],
+                  f"press('Home'); {place}]")
         self.same("a part of the proof", [18, 10, False, "3", "frames recv acks"],
-                  "$('proof-part').value = 3; $('proof-part').onchange();" + place)
+                  f"$('proof-part').value = 3; $('proof-part').onchange(); {place}]")
         self.same("an own event in the proof", [18, 11, False, "3", "", "polite"],
                   "happen('send_frame'); const own = $('happened').getAttribute('aria-live');"
-                  + place.replace("];", ", own];"))
+                  f"{place}, own]")
         self.same("and on with the proof", [19, 11, False, "3", "frames"],
-                  "$('proof-forth').click();" + place)
-        said = self.run("share(); const had = location.hash; $('proof-leave').click();"
-            + place.replace("];", ", had, document.activeElement.id];"))
+                  f"click('proof-forth'); {place}]")
+        said = self.run("share(); const had = location.hash; click('proof-leave');"
+                        f"{place}, had, document.activeElement.id]")
         self.see("the proof is left",
                  said[0] == -1 and said[2] and said[4:] == ["", "#proof=20", "proof-begin"])
         for address, wanted in (("#proof=24", [23, 16]), ("#proof", [0, 0]),
-            ("#proof=99", [44, 14])):
+                                ("#proof=99", [44, 14])):
             self.go(PAGE.as_uri() + address)
-            said = self.run(place)
-            self.see(f"the address {address}", said[:3] == [*wanted, False])
-        said = self.run("$('load').click();" + place)
+            self.see(f"the address {address}", self.run(f"{place}]")[:3] == [*wanted, False])
+        said = self.run(f"click('load'); {place}]")
         self.see("another run ends the proof", said[0] == -1 and said[2])
 
     def announced(self):
@@ -822,19 +782,15 @@ class Checks(Cases):
         for begin, forth, again in (("show(RUNS['The worst start'], 'x');", "forth", "draw();"),
                 ("showTree(TREES['Two links under one schedule'], 'x');", "t-forth",
                     "pick(1); pick(2);")):
-            self.run(begin)
-            before = self.run(LIVE)
+            before, place = self.run(begin + LIVE), forth.replace("forth", "happened")
             for k in range(12):
-                self.run("$(args[0]).click();", forth)
-                live = self.run(LIVE)
+                live = self.run("click(args[0]);" + LIVE, forth)
                 changed = announced(before, live)
-                self.see(f"event {k + 1} is announced once by {forth}",
-                    changed == [forth.replace("forth", "happened")], changed)
+                self.see(f"event {k + 1} is announced once by {forth}", changed == [place], changed)
                 before = live
-            said = self.run("const had = $(args[0]).firstChild; " + again
-                + " return had === $(args[0]).firstChild;",
-                forth.replace("forth", "happened"))
-            self.see(f"what is drawn again is not announced again by {forth}", said)
+            self.see(f"what is drawn again is not announced again by {forth}", self.run(
+                f"const had = $(args[0]).firstChild; {again} return had === $(args[0]).firstChild;",
+                place))
 
     def spoken(self):
         """Chromium's tree for screen readers, in every state of the page."""
@@ -866,69 +822,59 @@ class Checks(Cases):
             self.see(f"the picture has a text after {state[:50]}", any(text.startswith(
                 ("The run as a picture: ", "The tree: ")) for text in texts), texts)
         self.run("$('asks').checked = false; show(RUNS['The worst start'], 'x', 6);"
-            "document.querySelectorAll('details').forEach(e => { e.open = false; });")
-        tree = self.browser.spoken()
-        named = lambda role: [one[1] for one in tree if one[0] == role]
+                 "all('details').forEach(e => { e.open = false; });")
+        named = lambda role: [one[1] for one in self.browser.spoken() if one[0] == role and one[1]]
         # after six events: no message is on the line, the receiver remembers 2, and 99 was
         # delivered
-        items = named("listitem")
-        self.see("the labels and items are said", sorted(filter(None, items))
-                 == ["0: nowhere", "10: acknowledged and missing", "11: acknowledged and missing",
-                     "1: nowhere", "2: in the link, the sender's", "3: nowhere",
-                     "99: a stray, from place 0 of the start's frames"], items)
+        items = sorted(named("listitem"))
+        self.see("the labels and items are said", items == [
+            "0: nowhere", "10: acknowledged and missing", "11: acknowledged and missing",
+            "1: nowhere", "2: in the link, the sender's", "3: nowhere",
+            "99: a stray, from place 0 of the start's frames"], items)
         self.run("go(0);")
-        tree = self.browser.spoken()
-        self.see("the messages are said", [name for name in named("button") if "label" in name]
-                 == ["front: label 2, item 99, from the start",
-                     "front: label 0, from the start, the sender's label, but not from its item"],
-                 named("button"))
+        buttons = named("button")
+        self.see("the messages are said", [name for name in buttons if "label" in name] == [
+            "front: label 2, item 99, from the start",
+            "front: label 0, from the start, the sender's label, but not from its item"], buttons)
 
     def lab(self):
         """Runs of wrong ends, as lab/check_ends.py writes them into an address."""
-        for ends, events, missing, strays, last in (("two_labels", 14, "3 of at most 3",
-                                                     "1 of at most 1",
-                                                     "item 3 counts as acknowledged"),
-                                                    ("any_acknowledgement", 8, "4 of at most 3",
-                                                     "0 of at most 1",
-                                                     "item 3 counts as acknowledged"),
-                                                    ("every_frame", 2, "0 of at most 3",
-                                                     "2 of at most 1", "90 is delivered")):
-            said = subprocess.run([TOP / "lab/check_ends.py", TOP / f"lab/ends/{ends}.py"],
-                capture_output=True, text=True).stdout
+        for ends, events, missing, strays, last in (
+                ("two_labels", 14, 3, 1, "item 3 counts as acknowledged"),
+                ("any_acknowledgement", 8, 4, 0, "item 3 counts as acknowledged"),
+                ("every_frame", 2, 0, 2, "90 is delivered")):
+            said = ran(TOP / "lab/check_ends.py", TOP / f"lab/ends/{ends}.py")[1]
             address = re.search(r"index.html(#run=\S+)", said)[1]
             self.go(PAGE.as_uri() + address)
             found = self.run("""for (let k = 0; k <= job.events.length; k++) go(k);
-                return [$('fault').textContent, at, $('missing').textContent,
-                    $('strays').textContent, $('happened').textContent,
-                    [...document.querySelectorAll('[data-event]')].every(isDim),
-                        $('says').textContent];""")
-            self.see(f"a run of {ends}", found[:4] == ["", events, f"Missing: {missing}",
-                f"Strays: {strays}"] and found[4].endswith(last)
-                     and found[5] and found[6].startswith("These are other ends"), found)
+                return [...texts('fault', 'missing', 'strays', 'happened', 'says'), at,
+                    possible('event').length];""")
+            self.see(f"a run of {ends}", found[:3] == [
+                "", f"Missing: {missing} of at most 3", f"Strays: {strays} of at most 1"]
+                and found[3].endswith(last) and found[4].startswith("These are other ends")
+                and found[5:] == [events, 0], found)
         text = base64.urlsafe_b64decode(address[5:] + "==").decode()
         text = text.replace("[[65535, 90]]", "[[7, 90]]").replace("[[0, 90]]", "[[7, 90]]", 1)
-        spoiled = base64.urlsafe_b64encode(text.encode()).decode().rstrip("=")
-        self.go(PAGE.as_uri() + "#run=" + spoiled)
-        said = self.run("return [$('fault').textContent, 'record' in job];")
+        self.go(PAGE.as_uri() + "#run=" + packed(text))
+        said = self.run("return [...texts('fault'), 'record' in job];")
         self.see("a run that does not follow", "do not follow" in said[0] and not said[1])
 
     def slides(self):
         """The runs on the slides of the lesson are drawn as the page draws them, and nothing is cut
         off."""
-        drawn = []
-        for title in ("The worst start", "The shortest run with two labels"):
-            drawn.append(self.run("show(RUNS[args[0]], 'x', 1e9); "
-                "return [...$('drawn').querySelectorAll('text')].map(e => e.textContent);", title))
+        drawn = self.run("return args.map(title => { show(RUNS[title], 'x', 1e9); "
+                         "return all('#drawn text').map(e => e.textContent); });",
+                         "The worst start", "The shortest run with two labels")
         slides = TOP / "lab/slides.html"
         said = [re.findall(r"<text[^>]*>([^<]*)</text>", svg)
-            for svg in re.findall(r'<svg class="run".*?</svg>', slides.read_text(), re.S)]
+                for svg in re.findall(r'<svg class="run".*?</svg>', slides.read_text(), re.S)]
         self.see("the runs on the slides", said == drawn, f"{said} and not {drawn}")
         # (Firefox can be asked by a script of the page alone, and these slides take none)
         if self.name == "chromium":
             self.browser.go(slides.as_uri())
             time.sleep(0.5)
-            said = self.run("return [document.querySelectorAll('section').length, "
-                "document.documentElement.scrollWidth - innerWidth];")
+            said = self.run("return [all('section').length, "
+                            "document.documentElement.scrollWidth - innerWidth];")
             self.see("the slides", said[0] == 12 and said[1] <= 0)
         self.go(PAGE.as_uri())
 
@@ -951,177 +897,159 @@ class Checks(Cases):
                      "showTree(TREES['Backlogs at two nodes'], 'x', 10);",
                      "$('t-tasks').children[3].click();", "show(readJob(args[0]), 'x', 9);"):
             self.run(view, long_job())
-            said = self.run("return [document.documentElement.scrollWidth, innerWidth, "
-                "screen.width]")
+            said = self.run("return [document.documentElement.scrollWidth, innerWidth]")
             self.see("nothing is cut off at 360 pixels",
-                said[0] <= max(360, said[1] if self.name == "firefox" else 0))
+                     said[0] <= max(360, said[1] if self.name == "firefox" else 0))
         self.browser.size(*WIDE, False)
         if self.name == "chromium":
             self.run("show(RUNS['The worst start'], 'x', 9);")
             self.browser.ask("Emulation.setEmulatedMedia", media="print")
-            self.same("no control is printed", 0, """return [...document.querySelectorAll(
-                    'button, input, select, textarea, summary')].filter(e =>
+            self.same("no control is printed", 0, f"""return all('{CONTROLS}, summary').filter(e =>
                 e.checkVisibility() && !e.classList.contains('msg')).length""")
             self.same("the table is printed whole, its head where it begins", ["none", "static"],
-                      """return ['.table',
-                '.table thead th'].map(s => getComputedStyle(document.querySelector(s)))
-                .map((style, i) => i ? style.position : style.maxHeight)""")
+                      """const [table, head] = ['.table', '.table thead th'].map(
+                          words => getComputedStyle(all(words)[0]));
+                      return [table.maxHeight, head.position]""")
             self.same("the sentence of the proof is printed", [True, True, False],
-                      "proofTo(7); return [$('proof-name'), $('proof-says'), "
-                      "$('proof-forth')].map(e => e.checkVisibility())")
+                      "proofTo(7); return ['proof-name', 'proof-says', 'proof-forth'].map("
+                      "id => $(id).checkVisibility())")
             self.browser.ask("Emulation.setEmulatedMedia", media="")
 
     def faults(self):
         """A struck link and a restarted node, against the program's answer to the job that is
         saved."""
+        chain = "showTree(TREES['A clean chain, nothing done yet'], 'x');"
         state = ("return [treeAt, isAtRest(stateOf(treeAt)), ['t-rest', 't-strike', "
-            "'t-restart'].map(id => isDim($(id)))];")
-        self.run("showTree(TREES['A clean chain, nothing done yet'], 'x');")
-        self.same("a tree with work left", [0, False, [False, True, True]], state)
-        self.run("$('t-strike').click();")
-        self.same("no fault before the rest", "", "return tree.since ?? ''")
-        self.run("$('t-rest').click();")
-        said = self.run(state)
-        self.see("everything comes to rest", said == [40, True, [True, False, False]])
-        for press, node, start, events in (
-                ("t-strike", 1, {"frames": [[2, 910]], "acks": [0], "send": 0, "recv": 1},
-                    WORST_ON + ROUND),
-                ("t-strike", 2, {"frames": [[2, 920]], "acks": [0], "send": 0, "recv": 1},
-                    WORST_ON + ROUND),
-                ("t-restart", 1, {"frames": [], "acks": [], "send": 0, "recv": 0}, ROUND)):
-            self.run("""showTree(TREES['A clean chain, nothing done yet'], 'x');
-                $('t-rest').click();
-                pick(args[1]); $(args[0]).click();""", press, node)
-            saved = json.loads(self.run("return treeJobText(tree)"))
-            self.see(f"the start after {press} at {node}",
+                 "'t-restart'].map(id => isDim($(id)))];")
+        self.same("a tree with work left", [0, False, [False, True, True]], chain + state)
+        self.same("no fault before the rest", "", "click('t-strike'); return tree.since ?? ''")
+        self.same("everything comes to rest", [40, True, [True, False, False]],
+                  "click('t-rest');" + state)
+        struck = {"acks": [0], "send": 0, "recv": 1}
+        nothing = [0, 0, 0]
+        for button, node, start, events, cost in (
+                ("t-strike", 1, {"frames": [[2, 910]], **struck}, WORST_ON + ROUND,
+                 [nothing, [1, 0, 3], [1, 0, 3]]),
+                ("t-strike", 2, {"frames": [[2, 920]], **struck}, WORST_ON + ROUND,
+                 [nothing, nothing, [1, 0, 3]]),
+                ("t-restart", 1, {"frames": [], "acks": [], "send": 0, "recv": 0}, ROUND,
+                 [nothing, [0, 0, 1], [0, 0, 2]])):
+            saved = json.loads(self.run(
+                chain + "click('t-rest'); pick(args[1]); click(args[0]); return treeJobText(tree)",
+                button, node))
+            self.see(f"the start after {button} at {node}",
                      saved["starts"][node - 1] == start and saved["items"][0] == 14, saved)
             if node == 2:
-                self.run("pick(1); for (let i = 0; i < 5; "
-                    "i++) for (const word of args[0]) act(word); pick(2);", ROUND)
-            self.run("for (const word of args[0]) act(word); $('t-rest').click();", events)
-            text = self.run("return treeJobText(tree)")
+                self.run("pick(1); args[0].forEach(word => act(word)); pick(2);", ROUND * 5)
+            text = self.run("args[0].forEach(word => act(word)); click('t-rest'); "
+                            "return treeJobText(tree)", events)
             want = program(text.encode(), "tree")
-            said = self.run("return [treeText(tree), treeAfter(tree, "
-                "tree.events.length).nodes.map(n => [n.strays, n.mostStrays, n.held, n.mostHeld, "
-                "n.missing, n.mostMissing]), $('t-since').textContent];")
-            self.see(f"the tree after {press} at {node}", said[0] == want
-                and said[1] == standing(text, want), f"{said} and not {want}")
-            lost = [[0, 0, 0], [1, 0, 3], [1, 0, 3]] if press == "t-strike" and node == 1 else [[0,
-                    0, 0], [0, 0, 0], [1, 0, 3]] if node == 2 else [[0, 0, 0], [0, 0, 1], [0, 0, 2]]
-            self.see(f"what {press} at {node} costs", [row[::2] for row in said[1]] == lost,
-                said[1])
+            said = self.run("return [treeText(tree), counts(tree, tree.events.length), "
+                            "...texts('t-since')];")
+            self.see(f"the tree after {button} at {node}", said[0] == want
+                     and said[1] == standing(text, want), f"{said} and not {want}")
+            self.see(f"what {button} at {node} costs", [row[::2] for row in said[1]] == cost,
+                     said[1])
             self.see("it is said", "All numbers count from there" in said[2])
-        self.run("showTree(readTree(args[0]), 'x');",
-                 json.dumps({"capacity": 1, "labels": 4, "items": [1], "tree": [{"name": "r"}]}))
-        self.see("a lone root has no link", self.run("return $('t-one').hidden"))
+        self.same("a lone root has no link", True,
+                  "showTree(readTree(args[0]), 'x'); return $('t-one').hidden", json.dumps(
+                      {"capacity": 1, "labels": 4, "items": [1], "tree": [{"name": "r"}]}))
 
     def backlogs(self):
         """Inner nodes that begin or come back with a backlog."""
         # the four items of this chain have the labels 0 to 3; then a comes back with 50 and 51, and
         # the root publishes 14 to 18, the first of which has the label 0 that a remembers
-        state = """return [treeAfter(tree, treeAt).nodes.map(n => [n.strays, n.mostStrays, n.held,
-                n.mostHeld, n.missing, n.mostMissing]),
-            [...$('t-bounds').children].map(e => e.querySelector('b').textContent)];"""
-        press = "for (const word of args[0]) document.querySelector(`[data-act=${word}]`).click();"
-        self.run("""showTree(TREES['A clean chain, nothing done yet'], 'x');
-            $('t-rest').click(); pick(1); $('t-hold').value = 2;
-            $('t-hold').dispatchEvent(new Event('change'));""")
-        said = self.run("return [$('t-held').value, $('t-held-of').textContent];")
-        self.see("a backlog is filled in", said == ["710 711", "backlog of a"])
+        chain = "showTree(TREES['A clean chain, nothing done yet'], 'x');"
+        state = ("return [counts(tree, treeAt), "
+                 "all('#t-bounds > *').map(e => e.querySelector('b').textContent)];")
+        self.same("a backlog is filled in", ["710 711", "backlog of a"],
+                  chain + "click('t-rest'); pick(1); set('t-hold', 2); "
+                  "return [$('t-held').value, ...texts('t-held-of')];")
         for typed, why in (("50 51 52", "This backlog has 3 items, and h is 2."),
-            ("50 x", "A backlog is a row of whole numbers"), ("1.5", "A backlog is a row")):
-            said = self.run("$('t-held').value = args[0]; $('t-restart').click(); "
-                "return [$('t-why').textContent, tree.since ?? ''];", typed)
+                           ("50 x", "A backlog is a row of whole numbers"),
+                           ("1.5", "A backlog is a row")):
+            said = self.run("$('t-held').value = args[0]; click('t-restart'); "
+                            "return [...texts('t-why'), tree.since ?? ''];", typed)
             self.see(f"the backlog {typed} is refused", said[0].startswith(why) and said[1] == "")
-        self.run("$('t-held').value = '50, 51'; $('t-restart').click();")
-        saved = json.loads(self.run("return treeJobText(tree)"))
-        self.see("the job after a restart with a backlog",
-            [saved.get(key) for key in ("version", "h", "openings", "items", "starts")] == [2, 2,
-            [[], [50, 51], []], [14, 15, 16, 17, 18],
-            [{"frames": [], "acks": [], "send": 0, "recv": 0},
-             {"frames": [], "acks": [], "send": 0, "recv": 3}]], saved)
-        said = self.run(state)
+        saved = json.loads(self.run(
+            "$('t-held').value = '50, 51'; click('t-restart'); return treeJobText(tree)"))
+        clean = {"frames": [], "acks": [], "send": 0}
+        wanted = {"version": 2, "h": 2, "openings": [[], [50, 51], []],
+                  "items": [14, 15, 16, 17, 18],
+                  "starts": [{**clean, "recv": 0}, {**clean, "recv": 3}]}
+        self.see("the job after a restart with a backlog", {**saved, **wanted} == saved, saved)
         none, some = [0] * 6, [0, 1, 2, 2, 0, 3]
-        self.see("just after the restart", said == [[none, some, [0, 2, 0, 2, 0, 6]],
-            ["Strays of links at a: 0 of at most C = 1", "Strays of backlogs: 2 of at most E = 2",
-             "Missing: 0 of at most M = 3"]])
+        self.same("just after the restart", [[none, some, [0, 2, 0, 2, 0, 6]], [
+            "Strays of links at a: 0 of at most C = 1", "Strays of backlogs: 2 of at most E = 2",
+            "Missing: 0 of at most M = 3"]], state)
         self.see("it is said that a has a backlog",
-            "with a backlog: 50 51. All numbers count from there" in self.run(
-                "return $('t-since').textContent"))
-        self.run("pick(2);" + press, ["offer", "send_frame"])
-        said = self.run("""const button = $('t-frames').querySelector('button');
+                 "with a backlog: 50 51. All numbers count from there"
+                 in self.run("return texts('t-since')[0]"))
+        said = self.run("""pick(2); happens(['offer', 'send_frame']);
+            const button = all('#t-frames button')[0];
             return [button.className, button.getAttribute('aria-label'),
-                [...$('t-nodes').rows][2].cells[4].textContent,
-                [...$('t-drawn').querySelectorAll('text')].map(e => e.textContent),
-                $('t-sender').textContent, $('t-held').hidden, isDim($('t-begin'))];""")
+                $('t-nodes').rows[2].cells[4].textContent,
+                all('#t-drawn text').map(e => e.textContent), ...texts('t-sender'),
+                $('t-held').hidden, isDim($('t-begin'))];""")
         self.see("an item of a backlog on its way", said[0] == "msg held own"
-            and said[1].startswith("front: label 0, item 50, of the backlog of a")
-            and said[2] == "0=50◆" and "1◆ ↓" in said[3] and "2 items, 2◆" in said[3]
-            and "holds50 ◆" in said[4])
+                 and said[1].startswith("front: label 0, item 50, of the backlog of a")
+                 and said[2] == "0=50◆" and "1◆ ↓" in said[3] and "2 items, 2◆" in said[3]
+                 and "holds50 ◆" in said[4])
         self.see("a leaf has no backlog", said[5:] == [True, True])
-        self.run(press, ["recv_frame"])
-        said = self.run("return $('t-happened').textContent")
-        self.see("an item of a backlog arrives",
-            said.endswith("so 50 is delivered, item number 0. It is a stray of the backlog of a."))
-        self.run(press, ROUND[3:] + ROUND)
-        self.run("pick(1);" + press, ROUND * 2)
-        self.run("pick(2);" + press, ROUND)
-        said = self.run(state)
+        said = self.run("happens(['recv_frame']); return texts('t-happened')[0]")
+        self.see("an item of a backlog arrives", said.endswith(
+            "so 50 is delivered, item number 0. It is a stray of the backlog of a."))
         wanted = [none, [0, 1, 2, 2, 1, 3], [0, 2, 2, 2, 1, 6]]
-        self.see("both of the backlog arrive, and one item is missing",
-            said == [wanted, ["Strays of links at b: 0 of at most C = 2",
-            "Strays of backlogs: 2 of at most E = 2", "Missing: 1 of at most M = 6"]])
+        self.same("both of the backlog arrive, and one item is missing", [wanted, [
+            "Strays of links at b: 0 of at most C = 2", "Strays of backlogs: 2 of at most E = 2",
+            "Missing: 1 of at most M = 6"]],
+            "happens(args[1]); pick(1); happens(args[0]); happens(args[0]); pick(2); "
+            "happens(args[0]);" + state, ROUND, ROUND[3:] + ROUND)
         said = self.run("""return [treeText(tree), treeJobText(tree),
             [...$('t-nodes').rows[2].cells[1].querySelectorAll('li')].map(e =>
                 [e.className, e.textContent])];""")
         self.see("the program says the same", said[0] == program(said[1].encode(), "tree")
                  and standing(said[1], said[0]) == wanted and "items: 50 51 15\n" in said[0])
-        self.see("the marks of the list", said[2][1:] == [["held",
-                                                           "50: a stray of the backlog of a"],
-                                                          ["held",
-                                                           "51: a stray of the backlog of a"],
-                                                          ["sent", "15: published item number 1"]])
+        self.see("the marks of the list", said[2][1:] == [
+            ["held", "50: a stray of the backlog of a"],
+            ["held", "51: a stray of the backlog of a"], ["sent", "15: published item number 1"]])
         # the address has the backlogs, and one that has none is read as before
-        own = ("return [tree.hold, tree.openings, treeAt, tree.events.length, "
-               "$('fault').textContent];")
+        own = "return [tree.hold, tree.openings, treeAt, tree.events.length, ...texts('fault')];"
         self.go(self.run("goTree(7); share(); return location.href"))
         self.same("backlogs in the address", [2, [[], [50, 51], []], 7, 25, ""], own)
         old = {"capacity": 1, "labels": 4, "tree": [{"name": "r"}, {"name": "a", "parent": "r"}],
-            "items": [7], "links": [{"capacity": 1, "labels": 4}],
-            "starts": [{"frames": [], "acks": [], "send": 0, "recv": 65535}],
-            "schedule": [["a", "offer"]]}
-        packed = base64.urlsafe_b64encode(json.dumps(old).encode()).decode().rstrip("=")
-        self.go(PAGE.as_uri() + f"#tree={packed}&at=1")
+               "items": [7], "links": [{"capacity": 1, "labels": 4}],
+               "starts": [{"frames": [], "acks": [], "send": 0, "recv": 65535}],
+               "schedule": [["a", "offer"]]}
+        self.go(PAGE.as_uri() + f"#tree={packed(json.dumps(old))}&at=1")
         self.same("an address without backlogs", [0, [[], []], 1, 1, ""], own)
         # of this tree a and c are inner nodes, numbers 1 and 3; h counts once for each leaf below
-        self.run("""showTree(TREES['A clean tree'], 'x'); $('t-hold').value = 3;
-            $('t-hold').dispatchEvent(new Event('change')); $('t-begin-all').click(); pick(3);
-            $('t-held').value = '5'; $('t-begin').click();""")
-        said = self.run("return [tree.openings, tree.events.length]") + self.run(state)
-        self.see("all begin with backlogs, and one with another", said[:2]
-                 == [[[], [710, 711, 712], [], [5], [], []], 0] and [row[2:4] for row in said[2]]
-                 == [[0, 0], [3, 3], [0, 3], [1, 3], [0, 3], [0, 3]])
-        self.run("$('t-hold').value = 1; $('t-hold').dispatchEvent(new Event('change'));")
+        said = self.run("""showTree(TREES['A clean tree'], 'x'); set('t-hold', 3);
+            click('t-begin-all'); pick(3); $('t-held').value = '5'; click('t-begin');
+            return [tree.openings, tree.events.length, counts(tree, treeAt)]""")
+        self.see("all begin with backlogs, and one with another", said[:2] == [
+            [[], [710, 711, 712], [], [5], [], []], 0] and [row[2:4] for row in said[2]] == [
+                [0, 0], [3, 3], [0, 3], [1, 3], [0, 3], [0, 3]])
         self.same("h is at least what the longest backlog has", [3, "3"],
-                  "return [tree.hold, $('t-hold').value]")
+                  "set('t-hold', 1); return [tree.hold, $('t-hold').value]")
         # below two inner nodes E is h twice, and c gets all: 98 is of the link into b
-        self.run("showTree(TREES['Backlogs at two nodes'], 'x', 1e9); pick(3);")
-        said = self.run("return treeText(tree)"), self.run(state)
+        said = self.run("showTree(TREES['Backlogs at two nodes'], 'x', 1e9); pick(3); "
+                        "return treeText(tree)"), self.run(state)
         self.see("backlogs of two nodes",
-            said[0].splitlines()[7] == "items: 720 721 98 710 711 10"
-            and said[1] == [[none, [0, 1, 2, 2, 0, 3], [1, 2, 4, 4, 0, 6], [1, 3, 4, 4, 0, 9]],
-            ["Strays of links at c: 1 of at most C = 3", "Strays of backlogs: 4 of at most E = 4",
-             "Missing: 0 of at most M = 9"]])
+                 said[0].splitlines()[7] == "items: 720 721 98 710 711 10" and said[1] == [
+                     [none, some, [1, 2, 4, 4, 0, 6], [1, 3, 4, 4, 0, 9]],
+                     ["Strays of links at c: 1 of at most C = 3",
+                      "Strays of backlogs: 4 of at most E = 4", "Missing: 0 of at most M = 9"]])
         for job, why in (({"h": 2, "openings": [[], [1, 2, 3], []]}, "3 items are more than h"),
-            ({"h": 2, "openings": [[], [], [1]]}, "b is no inner node"),
-            ({"h": 9, "openings": [[], list(range(9)), []]}, "this page takes at most 8 items"),
-            ({"h": 2, "openings": [[], [1]]}, "there are 3 nodes, and 2 entries")):
-            text = json.dumps(json.loads(self.run("return treeJobText(TREES['A clean chain, "
-                                                  "nothing done yet'])")) | job | {"version": 2})
-            said = self.run("tryJob(args[0]); return $('fault').textContent", text)
+                         ({"h": 2, "openings": [[], [], [1]]}, "b is no inner node"),
+                         ({"h": 9, "openings": [[], [*range(9)], []]},
+                          "this page takes at most 8 items"),
+                         ({"h": 2, "openings": [[], [1]]}, "there are 3 nodes, and 2 entries")):
+            text = json.dumps({**saved, **job})
+            said = self.run("tryJob(args[0]); return texts('fault')[0]", text)
             self.see(f"the openings {job} are refused", why in said)
-            self.see("by the program too", (program(text.encode(), "tree") is None)
-                == ("page takes" not in why))
+            self.see("by the program too",
+                     (program(text.encode(), "tree") is None) == ("page takes" not in why))
 
     def exercises(self):
         for i, events in enumerate(SOLVED):
@@ -1138,9 +1066,9 @@ class Checks(Cases):
     def labels(self):
         """What is said of missing items, by the number of labels, and of one that is under way."""
         body = """show({...RUNS['Two labels are too few'], labels: args[0], capacity: args[1]},
-            'x', args[2]);
-            return ['missing', 'missing-say', 'happened'].map(id => $(id).textContent)
-                .concat([...$('offered').children].map(item => item.className));"""
+                'x', args[2]);
+            return texts('missing', 'missing-say', 'happened').concat(
+                all('#offered > *').map(item => item.className));"""
         for labels, capacity, missing, why in [
                 (4, 1, "of at most 3", "only among the first 3 items"),
                 (3, 1, "of at most 3",
@@ -1165,41 +1093,28 @@ class Checks(Cases):
 
     def hands(self):
         """Buttons, slider, keys and the address."""
-        state = ("return [at, job.events.length, $('happened').textContent, "
-            "$('strays').textContent];")
-        self.run("show(RUNS['The worst start'], 'x'); for (let i = 0; i < 12; "
-            "i++) $('forth').click();")
-        said = self.run(state)
-        self.see("forward to the end", said[:2] == [12, 12] and said[3] == "Strays: 1 of at most 1")
-        self.same("missing of the worst start", "Missing: 3 of at most 3",
-                  "return $('missing').textContent")
-        self.run("$('at').value = 6; $('at').dispatchEvent(new Event('input'));")
-        said = self.run(state)
-        self.see("the slider", said[0] == 6 and "a stray" in said[2])
-        self.run("document.body.dispatchEvent(new KeyboardEvent('keydown', {key: 'ArrowLeft', "
-            "bubbles: true}));")
-        self.see("the left key", self.run(state)[0] == 5)
-        self.run("$('back').click(); document.querySelector('[data-event=send_ack]').click();")
-        self.see("an event replaces the rest", self.run(state)[:2] == [5, 5])
+        state = "return [at, job.events.length, ...texts('strays', 'missing', 'happened')];"
+        self.see("forward to the end", self.run(
+            "show(RUNS['The worst start'], 'x'); for (let i = 0; i < 12; i++) click('forth');"
+            + state)[:4] == [12, 12, "Strays: 1 of at most 1", "Missing: 3 of at most 3"])
+        said = self.run("set('at', 6);" + state)
+        self.see("the slider", said[0] == 6 and "a stray" in said[4])
+        self.see("the left key", self.run("press('ArrowLeft');" + state)[0] == 5)
+        self.see("an event replaces the rest", self.run(
+            "click('back'); all('[data-event=send_ack]')[0].click();" + state)[:2] == [5, 5])
         self.see("its text", self.run("return jobText(job)").count("send_ack") == 2)
-        self.run("show(RUNS['A clean start'], 'x');")
-        dim = ("return [...document.querySelectorAll('[data-event]')].filter(b => !isDim(b)).map(b "
-            "=> b.dataset.event);")
-        self.same("what can happen to a clean link", ["offer", "close", "send_ack"], dim)
-        self.run("show(RUNS['Two labels are too few'], 'x'); go(99); share();")
-        address = self.run("return location.href")
-        self.go(address)
+        self.same("what can happen to a clean link", ["offer", "close", "send_ack"],
+                  "show(RUNS['A clean start'], 'x'); return possible('event');")
+        self.go(self.run("show(RUNS['Two labels are too few'], 'x'); go(99); share(); "
+                         "return location.href"))
         self.same("a run in the address", [23, 2, "over", ""],
-                  "return [at, job.labels, $('missing-box').className, $('fault').textContent];")
-        self.run("tryJob('{\"capacity\":1,\"labels\":4,\"start\":{\"send\":0,\"recv\":1},"
-                 "\"events\":[\"send_ack\",\"sent\"]}');")
-        said = self.run("return $('fault').textContent")
-        self.see("a refused job names the place", "events[1]" in said)
-        names = """return [...document.querySelectorAll(
-                'button, input, select, textarea')].filter(e =>
-            !(e.textContent.trim() || e.getAttribute('aria-label') ||
-                e.closest('label'))).length;"""
-        self.same("each control has a name", 0, names)
+                  "return [at, job.labels, $('missing-box').className, ...texts('fault')];")
+        self.see("a refused job names the place", "events[1]" in self.run(
+            "tryJob(args[0]); return texts('fault')[0]",
+            '{"capacity":1,"labels":4,"start":{"send":0,"recv":1},"events":["send_ack","sent"]}'))
+        self.same("each control has a name", 0, f"""return all('{CONTROLS}').filter(e =>
+            !(e.textContent.trim() || e.getAttribute('aria-label') || e.closest('label'))
+            ).length;""")
 
     def pictures(self, folder, dark):
         """Keeps pictures of a link and of trees, in which nothing may be cut off."""
@@ -1243,7 +1158,7 @@ def main():
     # (the page does not look at scripts and turns)
     trees = [*examples("trees/*.json"), *(it for it in examples("refused_trees/*.json")
                                           if '"scripts"' not in it[1] and '"turns"' not in it[1]),
-             *((f"drawn tree {i}", drawn_tree(draw)) for i in drawn)]
+             *((f"drawn tree {i}", small_tree(draw)) for i in drawn)]
     checks.jobs = [(*job, program(job[1].encode())) for job in jobs]
     checks.tree_jobs = [(*job, program(job[1].encode(), "tree")) for job in trees]
     fitting = sum(want is not None and fits_page(text) for _, text, want in checks.tree_jobs)
