@@ -1,7 +1,7 @@
+#!/usr/bin/env -S python3 -B
 """Checks that `rignolda check` accepts what `stab` prints, and refuses what is spoiled where it is.
 
-Run by hand, and not by the gate: python3 tests/check_reports.py [COUNT [SEED]]. The programs are
-those of tests/check_tables.py. 10,000 jobs take three minutes.
+    tests/check_reports.py [COUNT [SEED]]     500 jobs by default, the same each time
 
 Each job is one of `rignolda random`: a tree with starts, scripts, openings, links of their own and
 few turns; here many items are made equal to one another and to strays. `stab run`, with `--words`,
@@ -11,7 +11,10 @@ altered, and `rignolda check` has to answer what the plain checker below answers
 obeys, or which part is broken first, at which node; or that the text is no report, with the line.
 The checker is written from docs/FORMATS.md, tries every number of strays, and shares nothing with
 the program. Of reports of runs it is compared with agents/check_report.py as well. One job in five
-is a link job, of which `stab link` prints the text, and in it a line is spoiled in the same way."""
+is a link job, of which `stab link` prints the text, and in it a line is spoiled in the same way.
+
+The programs are those of check_tables.py. The last line is 'N passed, M failed'.
+"""
 
 import collections
 import json
@@ -27,7 +30,7 @@ sys.path[:0] = [str(ROOT / "agents"), str(ROOT / "tools")]
 import check_report  # noqa: E402
 from check_report import depth_of, is_subsequence  # noqa: E402
 from jobs import drawn_link, drawn_tree  # noqa: E402
-from programs import Cases, built  # noqa: E402
+from programs import Cases, run_with  # noqa: E402
 
 LINK_LINES = ["delivered", "offered", "acked", "send label", "recv label", "frames", "acks",
     "closed"]
@@ -285,14 +288,13 @@ def agrees(job, report, kind, found, status, line):
     return any(status == wanted and line.startswith(begin) for wanted, begin in answers)
 
 
-def main():
+def main(stab, rignolda):
     """Draws jobs, and compares."""
-    count = int(sys.argv[1]) if len(sys.argv) > 1 else 10000
+    count = int(sys.argv[1]) if len(sys.argv) > 1 else 500
     draw = random.Random(int(sys.argv[2]) if len(sys.argv) > 2 else 1)
     cases, found_parts = Cases(), collections.Counter()
     with tempfile.TemporaryDirectory() as folder:
         folder = Path(folder)
-        stab, rignolda = built("stab", folder), built("rignolda", folder)
         for case in range(count):
             is_link = draw.random() < 0.2
             command = ["link"] if is_link else draw.choice(
@@ -319,4 +321,4 @@ def main():
 
 
 if __name__ == "__main__":
-    sys.exit(main())
+    sys.exit(run_with(main, "stab", "rignolda"))
