@@ -9,7 +9,7 @@ use Rattle.stab_core.proofs.ForCallers.{prefix_of_grown, prefix_of_prefix, prefi
 use Rattle.stab_core.proofs.LinkLaws.{replay_link_law}
 use Rattle.stab_treecore.specs.TreeLaw.{TreeLaw}
 use Rattle.stab_treecore.proofs.Replayed.{ReplaysObey}
-use Rattle.stab_treecore.proofs.Upwards.{law_below, law_past_opening}
+use Rattle.stab_treecore.proofs.ForCallers.{law_below, law_past_opening}
 use Rattle.stab_line.specs.Ends.{SenderEnd, ReceiverEnd, accepts, offered_to}
 use Rattle.stab_line.specs.Line.{Line, LineAct, line_step, line_run, held, with_taken, receives_frame, receives_ack}
 use Rattle.stab_line.specs.Line.{offer_item, frame_sent, frame_comes, ack_sent, ack_comes, frame_lost, ack_lost, sender_closes, receiver_closes}

@@ -7,7 +7,7 @@ use Rattle.std.proofs.lemmas.Bool.{cases_lt}
 use Rattle.std.proofs.lemmas.List.{length-append, length-map, get_or-map}
 use Rattle.std.proofs.lemmas.List.Elements.{Contains-get_or, Contains-append_cases}
 use Rattle.stab_core.specs.Picks.{AllBelow, Picks}
-use Rattle.stab_core.specs.LinkLaw.{HalfLawAt, NoneMissing, NoneMissingFrom, HalfLaw, LinkLaw, SharperLinkLaw}
+use Rattle.stab_core.specs.LinkLaw.{HalfLawAt, NoneMissing, NoneMissingFrom, HalfLaw, LinkLaw, LinkLawWithin, SharperLinkLaw}
 use Rattle.stab_core.proofs.ForCallers.{below_bound, few_picked, at_places, picks_chosen, picks_of_prefix, length_picked, raised, picks_joined, Parted, parted, items_parted, member_is_at, at_is_member, lower_is_earlier, member_is_raised, member_is_chosen, chosen_is_member, raised_is_member, member_is_below, IsAt}
 use Rattle.stab_treecore.specs.SharperLaw.{SharperTreeLaw}
 use Rattle.stab_treecore.specs.TreeLaw.{HalfTreeLawAt, NoneMissingBefore, HalfTreeLaw, TreeLaw, CompleteLaw}
@@ -112,14 +112,14 @@ module _ (capacity most_strays acked : ℕ) (start_items garbage published recei
 
     -- where none is missing at the parent before its last place, nor on the link, none is missing
     -- at the child
-    child_misses_none : (most_missing : ℕ) → NoneMissingBefore most_missing above → NoneMissing capacity acked places
-        → NoneMissingBefore (most_missing + (2 * capacity + 1)) (at_places above parts.high)
-    child_misses_none most_missing at_parent on_link i q enough before last =
+    child_misses : (first most_missing : ℕ) → NoneMissingBefore most_missing above → NoneMissingFrom first acked places
+        → NoneMissingBefore (most_missing + first) (at_places above parts.high)
+    child_misses first most_missing at_parent on_link i q enough before last =
         let last_above : Contains above q = had_above q last in
         let (m, there) = member_is_at above i (at_parent i q (omega arith) before last_above) in
-        let far_enough : 2 * capacity + 1 ≤ m =
-        enough_before most_missing (2 * capacity + 1) i q m above at_parent up.taken_picked.rising last_above enough before there in
-        child_has (2 * capacity + 1) i q m on_link before last there (omega arith)
+        let far_enough : first ≤ m =
+        enough_before most_missing first i q m above at_parent up.taken_picked.rising last_above enough before there in
+        child_has first i q m on_link before last there (omega arith)
 
     -- where the child has a published item, it has each of the parent's strays but those that were
     -- missing on the link
@@ -211,15 +211,21 @@ module _ (capacity most_strays acked : ℕ) (start_items garbage published recei
       → HalfTreeLaw (most_strays + capacity) (start_items ++ garbage) published delivered
   half_below (above, up) (places, link) = (at_places above (parts above places up link).high, child_half above places up link)
 
-  -- the tree law of the child
+  -- the tree law of the child, with these bounds of the link
+  pub within_below : (first most_missing : ℕ) → TreeLaw most_strays most_missing garbage published received
+      → LinkLawWithin capacity first start_items offered acked delivered
+      → TreeLaw (most_strays + capacity) (most_missing + first) (start_items ++ garbage) published delivered
+  within_below first most_missing (above, up, at_parent) (places, link, on_link) = (
+    at_places above (parts above places up link).high,
+    child_half above places up link,
+    child_misses above places up link first most_missing at_parent on_link,
+  )
+
+  -- and with those of the link law
   pub law_below : (most_missing : ℕ) → TreeLaw most_strays most_missing garbage published received
       → LinkLaw capacity start_items offered acked delivered
       → TreeLaw (most_strays + capacity) (most_missing + (2 * capacity + 1)) (start_items ++ garbage) published delivered
-  law_below most_missing (above, up, at_parent) (places, link, on_link) = (
-    at_places above (parts above places up link).high,
-    child_half above places up link,
-    child_misses_none above places up link most_missing at_parent on_link,
-  )
+  law_below = within_below (2 * capacity + 1)
 
   -- the sharper law of the child
   pub sharper_below : (without most_missing : ℕ) → SharperTreeLaw most_strays without most_missing garbage published received
