@@ -72,13 +72,8 @@ impl Link {
         ensures lawful { IfOk result (λ link. IsLawful params start.now) }
         ensures refused { IfErr result (IsReason params start.now) }
     {
+        start.check(params)?;
         let capacity = params.capacity();
-        if start.frames.len() > usize::from(capacity) {
-            return Err(StartFault::TooManyFrames);
-        }
-        if start.acks.len() > usize::from(capacity) {
-            return Err(StartFault::TooManyAcks);
-        }
         Ok(Link {
             params,
             frames: filled(alloc, capacity, start.frames.as_slice())?,
@@ -126,13 +121,7 @@ impl Link {
         ensures no_memory { IfErr result (λ fault. fault ≢ StartFault.Memory) }
         ensures unchanged { OnErr result (self.new ≡ self.old) }
     {
-        let capacity = usize::from(self.params.capacity());
-        if start.frames.len() > capacity {
-            return Err(StartFault::TooManyFrames);
-        }
-        if start.acks.len() > capacity {
-            return Err(StartFault::TooManyAcks);
-        }
+        start.check(self.params)?;
         refill(&mut self.frames, start.frames.as_slice());
         refill(&mut self.acks, start.acks.as_slice());
         self.sender.relabel(start.send_label);

@@ -1,4 +1,4 @@
-use stab_frames::{Frame, Label, Sequence};
+use stab_frames::{Frame, Label, Params, Sequence};
 use std::alloc::{AllocError, Global};
 use thiserror::Error;
 
@@ -56,8 +56,10 @@ impl From<AllocError> for StartFault {
 }
 
 impl Start {
-    ghost use Rattle.std.specs.Prelude.{◌≡◌, IfOk};
-    ghost use Rattle.stab_core.specs.Replay.{clean_start};
+    ghost use Rattle.std.specs.Prelude.{◌≡◌, ◌≢◌, IfOk, IfErr, OnOk};
+    ghost use Rattle.stab_frames.specs.Parameters.{AreLawful};
+    ghost use Rattle.stab_core.specs.Link.{IsReason};
+    ghost use Rattle.stab_core.specs.Replay.{clean_start, IsLawful};
 
     /// The clean start: empty queues, the send label 0, and a receive label that this sender never
     /// uses. It takes no memory.
@@ -82,5 +84,24 @@ impl Start {
             send_label: self.send_label,
             recv_label: self.recv_label,
         })
+    }
+
+    /// Sees whether a link of these parameters can begin from this start. It takes no memory.
+    ///
+    /// Too many frames are refused, and then too many acknowledgements. The labels may be any.
+    pub fn check(&self, params: Params) -> Result<(), StartFault>
+        ensures lawful_params { AreLawful params }
+        ensures lawful { OnOk result (IsLawful params self.now) }
+        ensures refused { IfErr result (IsReason params self.now) }
+        ensures no_memory { IfErr result (λ fault. fault ≢ StartFault.Memory) }
+    {
+        let capacity = usize::from(params.capacity());
+        if self.frames.len() > capacity {
+            return Err(StartFault::TooManyFrames);
+        }
+        if self.acks.len() > capacity {
+            return Err(StartFault::TooManyAcks);
+        }
+        Ok(())
     }
 }

@@ -20,6 +20,7 @@ mod text;
 
 pub use event::TreeEvent;
 pub use fault::{RestartFault, StrikeFault, TreeStartFault, TreeStepFault};
+pub use open::check_starts;
 pub use schedule::run_schedule;
 pub use stab_core::LinkAct;
 pub use stab_tree::{OpeningFault, Openings, is_inner};

@@ -1,47 +1,55 @@
 //! What a whole tree begins with.
 
-ghost use Rattle.std.specs.Prelude.{◌≡◌, ◌≢◌, ◌<◌, All, OnOk, IfOk, IfErr, length, map};
+ghost use Rattle.std.specs.Prelude.{◌≡◌, ◌≢◌, ◌<◌, ℕ, List, All, OnOk, IfOk, IfErr, length, map};
 ghost use Rattle.std.specs.Prelude.{slice_index_or};
-ghost use Rattle.stab_core.specs.Link.{IsReason};
 ghost use Rattle.stab_core.specs.LinkSetup.{CanBegin, setups};
-ghost use Rattle.stab_core.specs.Replay.{IsLawful};
-ghost use Rattle.stab_frames.specs.Parameters.{AreLawful};
 ghost use Rattle.stab_tree.specs.ByChild.{by_child};
-ghost use Rattle.stab_tree.specs.NodeOpenings.{FitTree};
-ghost use Rattle.stab_treecore.specs.Refusals.{OnePerLink, IsOpeningReason};
+ghost use Rattle.stab_tree.specs.NodeOpenings.{FitTree, OpeningsValue};
+ghost use Rattle.stab_treecore.specs.Network.{IsNetwork, network_of};
+ghost use Rattle.stab_treecore.specs.Refusals.{OnePerLink, IsOpeningReason, IsStartReason};
 ghost use Rattle.stab_treecore.specs.TreeReplay.{opened};
 
+use crate::fault::TreeStartFault;
 use stab_core::{Link, Start, StartFault};
 use stab_frames::{Item, Params};
 use stab_tree::{NodeId, Openings, Tree};
 use std::alloc::{AllocError, Global};
 
-/// Refuses a start that no link of these parameters can begin from.
-fn check_start(params: Params, start: &Start) -> Result<(), StartFault>
-    ensures lawful_params { AreLawful params }
-    ensures lawful { OnOk result (IsLawful params start.now) }
-    ensures reason { IfErr result (IsReason params start.now) }
-    ensures no_memory { IfErr result (λ fault. fault ≢ StartFault.Memory) }
+/// Sees whether a whole tree can begin from these starts. The parameters and the starts are in the
+/// file order of the links' children. It takes no memory.
+///
+/// Lists that have not one entry for each link are refused, and then the first start that its link
+/// cannot begin from: these are the refusals of [`TreeState::new`](crate::TreeState::new), but for
+/// memory.
+pub fn check_starts(params: &[Params], tree: &Tree, starts: &[Start]) -> Result<(), TreeStartFault>
+    ensures params_per_link { OnOk result (OnePerLink tree.now.parents params.now) }
+    ensures one_per_link { OnOk result (OnePerLink tree.now.parents starts.now) }
+    ensures lawful { OnOk result (All CanBegin (setups params.now starts.now)) }
+    ensures network { OnOk result ((published : List ℕ) (openings : OpeningsValue)
+        → FitTree tree.now.parents openings
+        → IsNetwork (network_of params.now tree.now published starts.now openings)) }
+    ensures refused { IfErr result (IsStartReason params.now tree.now.parents starts.now) }
+    ensures no_memory { IfErr result (λ fault. fault ≢ TreeStartFault.Start StartFault.Memory) }
 {
-    let capacity = usize::from(params.capacity());
-    if start.frames.len() > capacity {
-        return Err(StartFault::TooManyFrames);
+    let links = usize::from(tree.link_count());
+    if params.len() != links || starts.len() != links {
+        return Err(TreeStartFault::StartCount);
     }
-    if start.acks.len() > capacity {
-        return Err(StartFault::TooManyAcks);
-    }
+    check(params, starts)?;
+    let _root = tree.root();
     Ok(())
 }
 
 /// Refuses the first start that its link cannot begin from. It takes no memory, so that no start is
 /// refused after a list has grown.
-pub(crate) fn check(params: &[Params], starts: &[Start]) -> Result<(), StartFault>
+fn check(params: &[Params], starts: &[Start]) -> Result<(), StartFault>
     requires one_each { length params.now ≡ length starts.now }
     ensures lawful { OnOk result (All CanBegin (setups params.now starts.now)) }
     ensures refused { IfErr result (IsOpeningReason (setups params.now starts.now)) }
+    ensures no_memory { IfErr result (λ fault. fault ≢ StartFault.Memory) }
 {
     'links: for place in 0..starts.len() {
-        check_start(params[place], &starts[place])?;
+        starts[place].check(params[place])?;
     }
     Ok(())
 }

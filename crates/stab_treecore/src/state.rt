@@ -100,11 +100,7 @@ impl TreeState {
         ensures lawful { OnOk result (All CanBegin (setups params.now starts.now)) }
         ensures refused { IfErr result (IsStartReason params.now tree.now.parents starts.now) }
     {
-        let links = usize::from(tree.link_count());
-        if params.len() != links || starts.len() != links {
-            return Err(TreeStartFault::StartCount);
-        }
-        open::check(params, starts)?;
+        open::check_starts(params, tree, starts)?;
         let links = open::links(alloc, params, tree.parents(), starts)?;
         let _root = tree.root();
         Ok(TreeState {

@@ -1,4 +1,4 @@
-use Rattle.std.proofs.Common.{◌∙◌, map, sym, arith}
+use Rattle.std.proofs.Common.{◌∙◌, map, sym}
 use Rattle.std.proofs.lemmas.List.{length-map}
 use Rattle.stab_treecore.specs.Network.{network_of}
 use Rattle.stab_tree.specs.NodeOpenings.{opening_at}
@@ -15,10 +15,12 @@ invariant_of-result c =
     let parents = c.args.tree.now.parents in
     let net = network_of c.args.params.now c.args.tree.now c.args.published.now c.args.starts.now c.args.openings.now in
     let lists = c.args.openings.now.lists in
+    let begun = c.in_ok-check_starts.ensures in
     rw (c.in_ok-lists.ensures, c.in_ok-lists-2.ensures, c.in_ok-links.ensures.links, c.in_ok-from_slice-2.ensures.items, c.parents-2.ensures.value, c.parents.ensures.value) (record {
       linked =
           linked_nodes parents (map opened net.links) 0
-          (length-map net.links opened ∙ as_many_setups c.args.params.now c.args.starts.now (omega arith) ∙ omega arith);
+          (length-map net.links opened ∙ as_many_setups c.args.params.now c.args.starts.now (begun.params_per_link ∙ sym begun.one_per_link)
+          ∙ begun.one_per_link);
       known_parents = c.root-root.ensures.tree.rooted.known_parents;
       root_has_none = c.root-root.ensures.tree.rooted.root_has_none;
       one_root = c.root-root.ensures.tree.rooted.one_root;
