@@ -196,16 +196,29 @@ trait Lettered: Sized + Drop {
         ensures { result ≡ of_letter letter };
 }
 
+/// The letters of sent frames and acknowledgements with their acts, each letter at its code modulo
+/// 8. Where no letter has a place, there is one of another place, which is never the one that is
+/// looked for.
+static OUT_LETTERS: [(u8, OutAct); 8] = [
+    (b'P', OutAct::Pass),
+    (b'P', OutAct::Pass),
+    (b'P', OutAct::Pass),
+    (b'P', OutAct::Pass),
+    (b'D', OutAct::Drop),
+    (b'E', OutAct::Evict),
+    (b'P', OutAct::Pass),
+    (b'P', OutAct::Pass),
+];
+
+/// The letters of what is received with their acts, each letter at its code modulo 2.
+static IN_LETTERS: [(u8, InAct); 2] = [(b'T', InAct::Take), (b'K', InAct::Keep)];
+
 impl Lettered for OutAct {
     ghost of_letter = { out_letter };
 
     fn of_letter(letter: u8) -> Option<OutAct> {
-        match letter {
-            b'P' => Some(OutAct::Pass),
-            b'D' => Some(OutAct::Drop),
-            b'E' => Some(OutAct::Evict),
-            _ => None,
-        }
+        let (code, act) = OUT_LETTERS[usize::from(letter % 8)];
+        if code == letter { Some(act) } else { None }
     }
 }
 
@@ -213,10 +226,7 @@ impl Lettered for InAct {
     ghost of_letter = { in_letter };
 
     fn of_letter(letter: u8) -> Option<InAct> {
-        match letter {
-            b'T' => Some(InAct::Take),
-            b'K' => Some(InAct::Keep),
-            _ => None,
-        }
+        let (code, act) = IN_LETTERS[usize::from(letter % 2)];
+        if code == letter { Some(act) } else { None }
     }
 }
