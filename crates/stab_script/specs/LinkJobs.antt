@@ -5,6 +5,7 @@
 -- lawful parameters, 12 events, and then an entry that means nothing, so `Event`.
 -- Source: this project's profile.
 use Rattle.std.specs.Prelude.{ℕ, List, nat_lt, option_map, Result, Ok}
+use Rattle.serde_json.specs.Data.{Data}
 use Rattle.stab_frames.specs.Parameters.{fault_of}
 use Rattle.stab_json.specs.Checks.{◌>>=◌, ◌>>◌, ◌or◌, ◌when◌}
 use Rattle.stab_json.specs.Values.{value_of, count, entries}
@@ -18,10 +19,9 @@ use Rattle.stab_script.specs.LinkMembers.{members}
 abbrev pub most_events : ℕ
 most_events = 1000000
 
--- the job of these bytes: each line is a check, beside its fault
-abbrev pub link_job : List ℕ → Result LinkJob LinkJobFault
-link_job bytes = do
-  value ← value_of bytes or fault.Json
+-- the job of this value: each line is a check, beside its fault
+abbrev pub link_job_of_data : Data → Result LinkJob LinkJobFault
+link_job_of_data value = do
   m ← members value or fault.Shape
   option_map fault.Params (fault_of m.capacity m.labels)
   fault.TooManyEvents when nat_lt most_events (count m.events)
@@ -31,3 +31,9 @@ link_job bytes = do
     start = m.start;
     events = events;
   })
+
+-- the job of these bytes
+abbrev pub link_job : List ℕ → Result LinkJob LinkJobFault
+link_job bytes = do
+  value ← value_of bytes or fault.Json
+  link_job_of_data value

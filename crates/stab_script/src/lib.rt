@@ -15,7 +15,7 @@ mod start;
 
 pub use events::{loss_act, plain_act};
 pub use fault::PartFault;
-pub use link_job::{LinkJob, LinkJobFault, MAX_EVENTS, read_link_job};
+pub use link_job::{LinkJob, LinkJobFault, MAX_EVENTS, link_job_of_value, read_link_job};
 pub use script_entry::{ScriptEntry, read_script};
 pub use stab_acts::{HalfScript, InAct, OutAct, Script, ScriptFault};
 pub use start::{StartEntry, read_start};

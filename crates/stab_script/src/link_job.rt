@@ -5,7 +5,7 @@ ghost use Rattle.serde_json.specs.View.{view, items_view};
 ghost use Rattle.stab_json.specs.Values.{value_of, entries};
 ghost use Rattle.stab_script.specs.Events.{event};
 ghost use Rattle.stab_script.specs.Starts.{start};
-ghost use Rattle.stab_script.specs.LinkJobs.{link_job};
+ghost use Rattle.stab_script.specs.LinkJobs.{link_job, link_job_of_data};
 ghost use Rattle.stab_script.specs.LinkMembers.{members, members_read};
 
 use crate::events::event;
@@ -85,7 +85,7 @@ impl Drop for LinkJob {
 
 /// The link job that these bytes mean, or the first check that they fail; memory may be refused
 /// before a later check.
-#[tactic(auto, using(stab_json::proofs::ForCallers::some_bytes, stab_json::proofs::ForCallers::count_of_values))]
+#[tactic(auto, using(stab_json::proofs::ForCallers::some_bytes))]
 pub fn read_link_job(alloc: Global, bytes: &[u8]) -> Result<LinkJob, LinkJobFault>
     ensures job { MatchResult result
         (λ job. link_job bytes.now ≡ Ok job)
@@ -97,6 +97,19 @@ pub fn read_link_job(alloc: Global, bytes: &[u8]) -> Result<LinkJob, LinkJobFaul
     let Some(value) = read_value(alloc, bytes)? else {
         return Err(LinkJobFault::Json);
     };
+    link_job_of_value(alloc, value)
+}
+
+/// The link job that this value means, or the first check that it fails; memory may be refused
+/// before a later check. The events are taken out of the value.
+#[tactic(auto, using(stab_json::proofs::ForCallers::count_of_values))]
+pub fn link_job_of_value(alloc: Global, value: Value) -> Result<LinkJob, LinkJobFault>
+    ensures job { MatchResult result
+        (λ job. link_job_of_data (view value) ≡ Ok job)
+        (λ fault. fault ≢ LinkJobFault.Memory → link_job_of_data (view value) ≡ Err fault) }
+    // A value is JSON already.
+    ensures json { result ≢ Err LinkJobFault.Json }
+{
     let Some(members) = read_members(alloc, value)? else {
         return Err(LinkJobFault::Shape);
     };
