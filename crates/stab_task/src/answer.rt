@@ -1,10 +1,12 @@
 ghost use Rattle.std.specs.Prelude.{◌≡◌, ◌≢◌, ◌++◌, List, ℕ, true, string_bytes};
-ghost use Rattle.std.specs.Prelude.{All, IfSome, IfOk, IfErr, IsErrAnd, OnOk};
+ghost use Rattle.std.specs.Prelude.{All, Err, IfSome, IfOk, IfErr, IsErrAnd, MatchResult, OnOk};
 ghost use Rattle.std.specs.Io.KnownBytes.{Appends, Keeps};
 ghost use Rattle.stab_core.specs.Link.{IsReason, link_at};
 ghost use Rattle.stab_core.specs.Replay.{IsLawful, initial, replay};
 ghost use Rattle.stab_job.specs.JobValues.{network};
+ghost use Rattle.stab_job.specs.Jobs.{job};
 ghost use Rattle.stab_job.specs.Replays.{IsReplayReason};
+ghost use Rattle.stab_job_stream.specs.Unscheduled.{IsUnscheduled};
 ghost use Rattle.stab_run.specs.Runs.{IsReport};
 ghost use Rattle.stab_treecore.specs.Network.{IsNetwork};
 ghost use Rattle.stab_treecore.specs.Refusals.{NamesLink};
@@ -18,7 +20,8 @@ use crate::command::Task;
 use crate::fault::CliFault;
 use crate::file::load;
 use stab_core::{Link, StartFault, link_text, push_origins_text, run_link, run_traced};
-use stab_job_stream::read_job;
+use stab_job::JobFault;
+use stab_job_stream::{read_job, read_unscheduled_job};
 use stab_node::Free;
 use stab_run::{Job, Links, Report, RunFault, report_text, run_locked, run_mixed, run_words};
 use stab_script::LinkJob;
@@ -193,7 +196,9 @@ fn tree_text(alloc: Global, job: &Job) -> Result<String, TreeStartFault>
     Ok(schedule_text(alloc, job.tree(), &state)?)
 }
 
-/// The text of the report of a run, by one worker per node.
+/// The text of the report of a run, by one worker per node. A run does not look at the schedule, so
+/// no step of it is kept.
+#[tactic(auto, using(crate::proofs::Unscheduled::run_answered))]
 fn answer_run<T: Threads + Wait + Send + Sync>(
     rt: &T,
     alloc: Global,
@@ -203,10 +208,20 @@ fn answer_run<T: Threads + Wait + Send + Sync>(
     ensures answer { IfOk result (λ text. IsRunAnswer links bytes.now (string_bytes text)) }
     ensures fault { IfErr result (IsFault (Task.Run links) bytes.now) }
 {
-    match read_job(alloc, bytes) {
+    match read_unscheduled(alloc, bytes) {
         Ok(job) => run_answer(rt, alloc, links, &job),
         Err(fault) => Err(CliFault::Job(fault)),
     }
+}
+
+/// The job that these bytes mean, with an empty schedule.
+fn read_unscheduled(alloc: Global, bytes: &[u8]) -> Result<Job, JobFault>
+    ensures job { MatchResult result
+        (λ its_job. IsUnscheduled (job bytes.now) its_job)
+        (λ fault. fault ≢ JobFault.Memory → job bytes.now ≡ Err fault) }
+{
+    let (job, _) = read_unscheduled_job(alloc, bytes)?;
+    Ok(job)
 }
 
 /// The text of the report of a run of a job that was read, or the fault of the run.
