@@ -10,8 +10,8 @@ ghost use Rattle.stab_c.specs.NodeList.{takes_next};
 use crate::line::{LineFrame, LinkParams};
 use crate::node::Node;
 use crate::sender::{
-    SenderHalf, rignolda_sender_frame, rignolda_sender_init, rignolda_sender_offer,
-    rignolda_sender_on_ack,
+    SenderHalf, hold, rignolda_sender_frame, rignolda_sender_init, rignolda_sender_on_ack,
+    would_take,
 };
 
 /// A child of a node, as C sees it: the sender of the link to it, and counts.
@@ -57,12 +57,14 @@ fn offer_next(node: &Node, child: &mut Child, list: &[u32])
     ensures left { is_left_behind node.now child.old (length list.now) ≡ true →
         child.new ≡ child.old }
 {
+    if !would_take(&child.sender) {
+        return;
+    }
     let Some(item) = item_at(node, child.offered, list) else {
         return;
     };
-    if rignolda_sender_offer(&mut child.sender, item) {
-        child.offered += 1;
-    }
+    hold(&mut child.sender, item);
+    child.offered += 1;
 }
 
 /// The item at a place of the node's list, if the node keeps it.

@@ -56,11 +56,13 @@ pub extern "C" fn rignolda_node_publish(node: &mut Node, list: &mut [u32], item:
     ensures refused { result ≡ false → node.new ≡ node.old }
 {
     let size = list.len() as u64;
-    if node.length == u64::MAX || node.length.saturating_sub(node.forgotten) >= size {
+    let place = node.length;
+    // (the sum stops at the highest count, at which no list grows)
+    if size == 0 || place >= node.forgotten.saturating_add(size) {
         return false;
     }
-    list[(node.length % size) as usize] = item;
-    node.length += 1;
+    node.length = place + 1;
+    list[(place % size) as usize] = item;
     true
 }
 
@@ -97,9 +99,10 @@ pub extern "C" fn rignolda_node_on_frame(
         }
         return false;
     }
+    let label = frame.label;
     if !rignolda_node_publish(node, list, frame.item) {
         return false;
     }
-    node.above.label = frame.label;
+    node.above.label = label;
     true
 }

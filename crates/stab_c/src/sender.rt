@@ -35,6 +35,21 @@ fn meant(half: &SenderHalf) -> Sender
     sender
 }
 
+/// Whether the sender would take an offer: it is open and idle.
+pub(crate) fn would_take(sender: &SenderHalf) -> bool
+    ensures { result ≡ accepts (sender_end sender.now) }
+{
+    sender.closed == 0 && meant(sender).is_idle()
+}
+
+/// Gives the sender this item, whatever it held.
+pub(crate) fn hold(sender: &mut SenderHalf, item: u32)
+    ensures { sender.new ≡ record sender.old { item = item; holding = 1 } }
+{
+    sender.item = item;
+    sender.holding = 1;
+}
+
 /// Makes an idle and open sender with this label.
 #[unsafe(no_mangle)]
 pub extern "C" fn rignolda_sender_init(sender: &mut SenderHalf, label: u16)
@@ -56,11 +71,10 @@ pub extern "C" fn rignolda_sender_offer(sender: &mut SenderHalf, item: u32) -> b
     ensures refused { result ≡ false → sender.new ≡ sender.old }
     ensures act { IsOffer (sender_end sender.old) item result (sender_end sender.new) }
 {
-    if sender.closed != 0 || !meant(sender).hold(item) {
+    if !would_take(sender) {
         return false;
     }
-    sender.item = item;
-    sender.holding = 1;
+    hold(sender, item);
     true
 }
 
