@@ -1,12 +1,9 @@
 //! What is published, rounds and faults, drawn.
 
-use crate::canvas::Canvas;
-use crate::ends::{BESIDE, lose};
-use crate::ink::Ink;
+use crate::head::{after_name, push_numbered};
 use crate::items::Items;
 use crate::panel::Panel;
-use crate::shapes::{Point, counted, line, open_text, words};
-use crate::sheet::{ROW, Sheet};
+use rignolda_svg::{Canvas, Ink, Point, ROW, Sheet, push_line, push_text_start, push_words};
 use stab_frames::Item;
 use std::alloc::{AllocError, Global};
 
@@ -21,18 +18,9 @@ pub(crate) fn draw_mark(
 ) -> Result<(), AllocError> {
     let top = at.up(ROW / 2);
     let end = top.right(sheet.width().saturating_sub(12));
-    line(&mut canvas.back, "life", top.right(12), end)?;
-    let out = &mut canvas.front;
-    counted(out, "soft end", at.right(44), "", number)?;
-    if sheet.name > 0 {
-        words(out, "mono", at.right(54), name)?;
-    }
-    words(out, "mono", after_name(sheet, at), text)
-}
-
-/// The place of the words of an event, after the name of its link.
-fn after_name(sheet: Sheet, at: Point) -> Point {
-    at.right(sheet.name.saturating_mul(8)).right(54)
+    push_line(&mut canvas.back, "life", top.right(12), end)?;
+    push_numbered(&mut canvas.front, sheet, name, number, at)?;
+    push_words(&mut canvas.front, "mono", after_name(sheet, at), text)
 }
 
 /// Writes the items of a row that begins with other words.
@@ -48,7 +36,7 @@ pub(crate) fn draw_list(
         items.push("good", *item)?;
     }
     let from = after_name(sheet, at).right(72);
-    open_text(&mut canvas.front, "mono", from)?;
+    push_text_start(&mut canvas.front, "mono", from)?;
     items.push_to(&mut canvas.front)?;
     canvas.front.push_str("</text>\n")
 }
@@ -60,15 +48,12 @@ pub(crate) fn draw_vanished(
     y: u64,
 ) -> Result<(), AllocError> {
     for mark in panel.frames.iter() {
-        lose(
-            canvas,
-            Ink::of_frame(mark.is_stray),
-            *mark,
-            panel.receiver(y),
-        )?;
+        let ink = Ink::of_frame(mark.is_stray);
+        panel.receiver(y).draw_lost(canvas, ink, *mark)?;
     }
     for mark in panel.acks.iter() {
-        lose(canvas, Ink::of_ack(mark.is_stray), *mark, panel.sender(y))?;
+        let ink = Ink::of_ack(mark.is_stray);
+        panel.sender(y).draw_lost(canvas, ink, *mark)?;
     }
     panel.frames.clear();
     panel.acks.clear();
@@ -78,8 +63,8 @@ pub(crate) fn draw_vanished(
 
 /// Draws that the receiver of a link begins anew at this height.
 pub(crate) fn draw_restarted(panel: &Panel, canvas: &mut Canvas, y: u64) -> Result<(), AllocError> {
-    let at = panel.receiver(y).right(BESIDE);
-    words(&mut canvas.front, "soft bad", at, "restarts")
+    let at = panel.receiver(y).beside();
+    push_words(&mut canvas.front, "soft bad", at, "restarts")
 }
 
 /// Draws that the sender of a link begins anew at this height, and holds nothing.
@@ -90,6 +75,6 @@ pub(crate) fn draw_anew(panel: &mut Panel, canvas: &mut Canvas, y: u64) -> Resul
             wait.to = y;
         }
     }
-    let at = panel.sender(y).left(BESIDE);
-    words(&mut canvas.front, "soft bad end", at, "begins anew")
+    let at = panel.sender(y).beside();
+    push_words(&mut canvas.front, "soft bad end", at, "begins anew")
 }

@@ -6,18 +6,17 @@
 //! how it looks is not.
 #![tactic(auto)]
 
-mod canvas;
 mod drawing;
-mod ends;
+mod end;
+mod ending;
+mod events;
 mod faults;
-mod ink;
+mod head;
 mod items;
+mod page;
 mod panel;
 mod picture;
 mod scenario;
-mod shapes;
-mod sheet;
-mod style;
 mod words;
 
 pub use picture::{link_picture, schedule_picture};

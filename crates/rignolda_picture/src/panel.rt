@@ -1,8 +1,14 @@
+use crate::end::End;
 use crate::items::Items;
-use crate::shapes::Point;
-use crate::sheet::{RECEIVER, SENDER};
+use rignolda_svg::Point;
 use stab_frames::Item;
 use std::alloc::{AllocError, Global};
+
+/// How far the sender's line is from the left edge of its link.
+const SENDER: u64 = 158;
+
+/// How far the receiver's line is from the left edge of its link.
+const RECEIVER: u64 = 438;
 
 /// A frame or an acknowledgement in its queue.
 #[derive(Clone, Copy, Debug)]
@@ -59,14 +65,16 @@ impl Panel {
         })
     }
 
-    /// The place on the sender's line at this height.
-    pub(crate) fn sender(&self, y: u64) -> Point {
-        Point { x: self.left, y }.right(SENDER)
+    /// The sender at this height.
+    pub(crate) fn sender(&self, y: u64) -> End {
+        let edge = Point { x: self.left, y };
+        End::sender(edge.right(SENDER))
     }
 
-    /// The place on the receiver's line at this height.
-    pub(crate) fn receiver(&self, y: u64) -> Point {
-        Point { x: self.left, y }.right(RECEIVER)
+    /// The receiver at this height.
+    pub(crate) fn receiver(&self, y: u64) -> End {
+        let edge = Point { x: self.left, y };
+        End::receiver(edge.right(RECEIVER))
     }
 
     /// What is done with the last item that the sender held.

@@ -1,61 +1,70 @@
-use crate::shapes::Point;
+ghost use Rattle.std.specs.Prelude.{◌≡◌};
+ghost use Rattle.rignolda_svg.specs.Sheets.{end_height, first_height, height, panel, start_height};
+ghost use Rattle.rignolda_svg.specs.Sheets.{gutter, width};
+
+use crate::point::Point;
 
 /// The height of a row.
-pub(crate) const ROW: u64 = 28;
+pub const ROW: u64 = 28;
 
 /// The width of what is drawn of one link.
-pub(crate) const PANEL: u64 = 620;
+const PANEL: u64 = 620;
 
 /// The least width of a picture.
 const LEAST_WIDTH: u64 = 864;
 
-/// How far the sender's line is from the left edge of its link.
-pub(crate) const SENDER: u64 = 158;
-
-/// How far the receiver's line is from the left edge of its link.
-pub(crate) const RECEIVER: u64 = 438;
-
 /// Where the lines of the ends begin.
-pub(crate) const TOP: u64 = 112;
+pub const TOP: u64 = 112;
 
 /// The sizes of a picture.
 #[derive(Clone, Copy, Debug)]
-pub(crate) struct Sheet {
+pub struct Sheet {
     /// How many links are drawn.
-    pub(crate) links: u64,
+    pub links: u64,
     /// How many rows the start needs: one for each entry of the longest queue, and one at least.
-    pub(crate) start_rows: u64,
+    pub start_rows: u64,
     /// How many events there are.
-    pub(crate) rows: u64,
+    pub rows: u64,
     /// The number of letters of the longest name before an event, and one more; 0 where no event
     /// has a name before it.
-    pub(crate) name: u64,
+    pub name: u64,
 }
 
 impl Sheet {
     /// The width of the column of events.
-    pub(crate) fn gutter(self) -> u64 {
+    fn gutter(self) -> u64
+        ensures { result ≡ gutter self }
+    {
         self.name.saturating_mul(8).saturating_add(244)
     }
 
     /// The left edge of a link.
-    pub(crate) fn panel(self, link: u64) -> u64 {
+    pub fn panel(self, link: u64) -> u64
+        ensures { result ≡ panel self link }
+    {
         self.gutter().saturating_add(link.saturating_mul(PANEL))
     }
 
     /// The width of the picture, in which the explanation of its signs has room.
-    pub(crate) fn width(self) -> u64 {
+    pub fn width(self) -> u64
+        ensures { result ≡ width self }
+    {
         self.panel(self.links).max(LEAST_WIDTH)
     }
 
     /// The height of the row of the start that is next to the first event.
-    pub(crate) fn start(self) -> u64 {
+    pub fn start(self) -> u64
+        ensures { result ≡ start_height self }
+    {
         let above = self.start_rows.saturating_mul(ROW);
         above.saturating_add(TOP).saturating_sub(6)
     }
 
     /// The place of the first event.
-    pub(crate) fn first(self) -> Point {
+    pub fn first(self) -> Point
+        ensures left { result.x ≡ 0 }
+        ensures height { result.y ≡ first_height self }
+    {
         Point {
             x: 0,
             y: self.start().saturating_add(ROW),
@@ -63,13 +72,17 @@ impl Sheet {
     }
 
     /// The height at which the lines of the ends end.
-    pub(crate) fn end(self) -> u64 {
+    pub fn end(self) -> u64
+        ensures { result ≡ end_height self }
+    {
         let events = self.rows.saturating_mul(ROW);
         self.start().saturating_add(events).saturating_add(26)
     }
 
     /// The height of the picture.
-    pub(crate) fn height(self) -> u64 {
+    pub fn height(self) -> u64
+        ensures { result ≡ height self }
+    {
         self.end().saturating_add(140)
     }
 }

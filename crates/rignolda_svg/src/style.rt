@@ -1,5 +1,5 @@
 /// How a picture looks: in light, and on a dark screen.
-pub(crate) const STYLE: &str = r#"<style>
+pub const STYLE: &str = r#"<style>
 text { font-family: system-ui, "Segoe UI", Roboto, "DejaVu Sans", sans-serif; font-size: 13px;
   fill: #1c2430; stroke: none }
 .mono { font-family: ui-monospace, Menlo, Consolas, "DejaVu Sans Mono", monospace;

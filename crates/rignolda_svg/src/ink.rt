@@ -1,6 +1,9 @@
+ghost use Rattle.std.specs.Prelude.{◌≡◌};
+ghost use Rattle.rignolda_svg.specs.Inks.{line_class, of_ack, of_frame, shape_class};
+
 /// What a line is drawn for.
 #[derive(Clone, Copy, Debug)]
-pub(crate) enum Ink {
+pub enum Ink {
     /// A frame of an item that was offered.
     Frame,
     /// A frame of the start.
@@ -13,17 +16,24 @@ pub(crate) enum Ink {
 
 impl Ink {
     /// That of a frame.
-    pub(crate) fn of_frame(is_stray: bool) -> Ink {
+    pub fn of_frame(is_stray: bool) -> Ink
+        ensures { result ≡ of_frame is_stray }
+    {
         if is_stray { Ink::Stray } else { Ink::Frame }
     }
 
     /// That of an acknowledgement.
-    pub(crate) fn of_ack(is_stray: bool) -> Ink {
+    pub fn of_ack(is_stray: bool) -> Ink
+        ensures { result ≡ of_ack is_stray }
+    {
         if is_stray { Ink::StrayAck } else { Ink::Ack }
     }
 
-    /// The class of a line of it.
-    pub(crate) fn line(self) -> &'static str {
+    /// The classes of a line of it.
+    #[tactic(auto, unfolding(crate::specs::Inks::line_class))]
+    pub fn line(self) -> &'static str
+        ensures { result.now ≡ line_class self }
+    {
         match self {
             Ink::Frame => "frame",
             Ink::Stray => "stray",
@@ -33,7 +43,10 @@ impl Ink {
     }
 
     /// The class of a shape with such an outline, and the name of such an arrow's head.
-    pub(crate) fn shape(self) -> &'static str {
+    #[tactic(auto, unfolding(crate::specs::Inks::shape_class))]
+    pub fn shape(self) -> &'static str
+        ensures { result.now ≡ shape_class self }
+    {
         match self {
             Ink::Frame => "frame",
             Ink::Stray | Ink::StrayAck => "stray",

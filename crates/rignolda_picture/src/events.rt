@@ -1,19 +1,13 @@
 //! What an event does at the two ends of a link, drawn.
 
-use crate::canvas::Canvas;
-use crate::ink::Ink;
 use crate::panel::{Mark, Panel, Wait, take_at, take_front};
-use crate::shapes::{Point, arrow, boxed, circle, counted, cross, line, open_text, words};
 use rignolda_draw::Row;
+use rignolda_svg::{
+    Canvas, Ink, Point, push_boxed, push_counted, push_line, push_text_start, push_words,
+};
 use stab_core::{Effect, Event};
 use stab_frames::{Item, Label};
 use std::alloc::{AllocError, Global};
-
-/// How far a mark in a queue is from the line of the end that put it there.
-const NEAR: u64 = 54;
-
-/// How far words are from the line of an end.
-pub(crate) const BESIDE: u64 = 32;
 
 /// Draws what an event did to a link at this height.
 pub(crate) fn draw_row(
@@ -45,7 +39,7 @@ pub(crate) fn label(
     label: Label,
 ) -> Result<(), AllocError> {
     let text = format!(in alloc; "{label}")?;
-    boxed(out, class, at, text.as_str(), 4)
+    push_boxed(out, class, at, text.as_str(), 4)
 }
 
 /// A frame in its queue.
@@ -59,7 +53,7 @@ pub(crate) fn frame(
 ) -> Result<(), AllocError> {
     let text = format!(in alloc; "{label}={item}")?;
     let class = format!(in alloc; "{} box", ink.shape())?;
-    boxed(out, class.as_str(), at, text.as_str(), 10)
+    push_boxed(out, class.as_str(), at, text.as_str(), 10)
 }
 
 /// An acknowledgement in its queue.
@@ -72,7 +66,7 @@ pub(crate) fn ack(
 ) -> Result<(), AllocError> {
     let text = format!(in alloc; "{label}")?;
     let class = format!(in alloc; "{} box", ink.shape())?;
-    boxed(out, class.as_str(), at, text.as_str(), 10)
+    push_boxed(out, class.as_str(), at, text.as_str(), 10)
 }
 
 /// The sender holds an item.
@@ -94,8 +88,8 @@ fn offer(
         is_dropped: false,
         is_delivered: false,
     })?;
-    let at = panel.sender(y).left(BESIDE);
-    counted(&mut canvas.front, "mono end", at, "holds ", u64::from(item))
+    let at = panel.sender(y).beside();
+    push_counted(&mut canvas.front, "mono end", at, "holds ", u64::from(item))
 }
 
 /// A frame is sent, or lost at once.
@@ -108,21 +102,19 @@ fn send_frame(
 ) -> Result<(), AllocError> {
     let from = panel.sender(y);
     if row.effect == Effect::Lost {
-        line(&mut canvas.ways, "frame", from, from.right(36))?;
-        cross(&mut canvas.front, from.right(42))?;
-        return words(&mut canvas.front, "soft bad", from.right(56), "queue full");
+        return from.draw_full(canvas, Ink::Frame);
     }
     if row.effect != Effect::Sent {
         return Ok(());
     }
-    let at = from.right(NEAR);
+    let at = from.near();
     let wait = panel.last_wait();
     panel.frames.push(Mark {
         at,
         is_stray: false,
         wait,
     })?;
-    line(&mut canvas.ways, "frame", from, at)?;
+    push_line(&mut canvas.ways, "frame", from.at, at)?;
     let item = row.holds.unwrap_or(0);
     frame(alloc, &mut canvas.front, Ink::Frame, at, row.label, item)
 }
@@ -138,25 +130,18 @@ fn send_ack(
     let from = panel.receiver(y);
     let ink = Ink::of_ack(panel.has_stray_label);
     if row.effect == Effect::Lost {
-        line(&mut canvas.ways, ink.line(), from, from.left(36))?;
-        cross(&mut canvas.front, from.left(42))?;
-        return words(
-            &mut canvas.front,
-            "soft bad end",
-            from.left(56),
-            "queue full",
-        );
+        return from.draw_full(canvas, ink);
     }
     if row.effect != Effect::Sent {
         return Ok(());
     }
-    let at = from.left(NEAR);
+    let at = from.near();
     panel.acks.push(Mark {
         at,
         is_stray: panel.has_stray_label,
         wait: usize::MAX,
     })?;
-    line(&mut canvas.ways, ink.line(), from, at)?;
+    push_line(&mut canvas.ways, ink.line(), from.at, at)?;
     ack(alloc, &mut canvas.front, ink, at, row.remembers)
 }
 
@@ -173,18 +158,13 @@ fn recv_frame(
     if row.effect == Effect::Nothing {
         return Ok(());
     }
-    let Some(mark) = take_front(&mut panel.frames, keep, to.left(44)) else {
+    let Some(mark) = take_front(&mut panel.frames, keep, to.kept()) else {
         return Ok(());
     };
-    let ink = Ink::of_frame(mark.is_stray);
-    arrow(&mut canvas.ways, ink, mark.at, to.left(10))?;
-    if keep {
-        circle(&mut canvas.front, ink, to.left(44))?;
-        words(&mut canvas.front, "soft end", to.left(56), "kept")?;
-    }
+    to.draw_taken(canvas, Ink::of_frame(mark.is_stray), mark.at, keep)?;
     match row.effect {
         Effect::Fresh(item) => deliver(alloc, panel, canvas, mark, row.remembers, item, y),
-        _ => words(&mut canvas.front, "soft", to.right(BESIDE), "old"),
+        _ => push_words(&mut canvas.front, "soft", to.beside(), "old"),
     }
 }
 
@@ -203,21 +183,16 @@ fn deliver(
         wait.is_delivered = true;
     }
     let to = panel.receiver(y);
+    let number = u64::from(item);
     let out = &mut canvas.front;
     if mark.is_stray {
         panel.delivered.push("odd", item)?;
-        label(alloc, out, "stray box", to, remembers)?;
-        counted(out, "mono odd", to.right(BESIDE), "stray ", u64::from(item))
+        label(alloc, out, "stray box", to.at, remembers)?;
+        push_counted(out, "mono odd", to.beside(), "stray ", number)
     } else {
         panel.delivered.push("good", item)?;
-        label(alloc, out, "label", to, remembers)?;
-        counted(
-            out,
-            "mono good",
-            to.right(BESIDE),
-            "delivers ",
-            u64::from(item),
-        )
+        label(alloc, out, "label", to.at, remembers)?;
+        push_counted(out, "mono good", to.beside(), "delivers ", number)
     }
 }
 
@@ -234,37 +209,18 @@ fn recv_ack(
     if row.effect == Effect::Nothing {
         return Ok(());
     }
-    let Some(mark) = take_front(&mut panel.acks, keep, to.right(44)) else {
+    let Some(mark) = take_front(&mut panel.acks, keep, to.kept()) else {
         return Ok(());
     };
-    let ink = Ink::of_ack(mark.is_stray);
-    arrow(&mut canvas.ways, ink, mark.at, to.right(10))?;
-    if keep {
-        circle(&mut canvas.front, ink, to.right(44))?;
-        words(&mut canvas.front, "soft", to.right(56), "kept")?;
-    }
+    to.draw_taken(canvas, Ink::of_ack(mark.is_stray), mark.at, keep)?;
     if row.effect == Effect::Acked {
         if let Some(wait) = panel.waits.last_mut() {
             wait.is_acked = true;
             wait.to = y;
         }
-        return label(alloc, &mut canvas.front, "label", to, row.label);
+        return label(alloc, &mut canvas.front, "label", to.at, row.label);
     }
-    words(&mut canvas.front, "soft end", to.left(BESIDE), "ignored")
-}
-
-/// The line on which a mark comes to its loss.
-pub(crate) fn lose(
-    canvas: &mut Canvas,
-    ink: Ink,
-    mark: Mark,
-    end: Point,
-) -> Result<(), AllocError> {
-    let x = (mark.at.x / 2).saturating_add(end.x / 2);
-    let at = Point { x, y: end.y };
-    line(&mut canvas.ways, ink.line(), mark.at, at)?;
-    cross(&mut canvas.front, at)?;
-    words(&mut canvas.front, "soft bad", at.right(12), "lost")
+    push_words(&mut canvas.front, "soft end", to.beside(), "ignored")
 }
 
 /// A frame vanishes.
@@ -280,7 +236,7 @@ fn lose_frame(
     }
     let end = panel.receiver(y);
     match take_at(&mut panel.frames, usize::from(place)) {
-        Some(mark) => lose(canvas, Ink::of_frame(mark.is_stray), mark, end),
+        Some(mark) => end.draw_lost(canvas, Ink::of_frame(mark.is_stray), mark),
         None => Ok(()),
     }
 }
@@ -298,7 +254,7 @@ fn lose_ack(
     }
     let end = panel.sender(y);
     match take_at(&mut panel.acks, usize::from(place)) {
-        Some(mark) => lose(canvas, Ink::of_ack(mark.is_stray), mark, end),
+        Some(mark) => end.draw_lost(canvas, Ink::of_ack(mark.is_stray), mark),
         None => Ok(()),
     }
 }
@@ -308,13 +264,10 @@ fn close(panel: &mut Panel, canvas: &mut Canvas, effect: Effect, y: u64) -> Resu
     if effect != Effect::Closed {
         return Ok(());
     }
-    let from = panel.sender(y);
-    let to = panel.receiver(y);
-    line(&mut canvas.front, "cross", from, to)?;
-    let at = Point {
-        x: (from.x / 2).saturating_add(to.x / 2),
-        y,
-    };
-    open_text(&mut canvas.front, "soft bad mid", at.up(10))?;
+    let from = panel.sender(y).at;
+    let to = panel.receiver(y).at;
+    push_line(&mut canvas.front, "cross", from, to)?;
+    let at = from.half_way(to);
+    push_text_start(&mut canvas.front, "soft bad mid", at.up(10))?;
     canvas.front.push_str("closed</text>\n")
 }

@@ -1,0 +1,4 @@
+pub mod Points
+pub mod Sheets
+pub mod Inks
+pub mod Elements
