@@ -8,7 +8,7 @@ ghost use Rattle.stab_script.specs.Events.{event};
 ghost use Rattle.stab_script.specs.LinkJobs.{link_job, most_events};
 ghost use Rattle.stab_script.specs.Starts.{start};
 
-use crate::values::{event_values, start_value};
+use crate::values::{start_value, values_of};
 use serde_json::{Value, json};
 use stab_script::LinkJob;
 use std::alloc::{AllocError, Global};
@@ -36,7 +36,7 @@ fn link_job_value(alloc: Global, job: &LinkJob) -> Result<Value, AllocError>
     ensures flat { IfOk result (λ value. depth (view value) ≤ 4) }
 {
     let start = start_value(alloc, &job.start)?;
-    let events = event_values(alloc, job.events.as_slice())?;
+    let events = values_of(alloc, job.events.as_slice())?;
     let capacity = job.params.capacity();
     let labels = job.params.labels();
     json!(in alloc; {"capacity": capacity, "labels": labels, "start": start, "events": events})
