@@ -1,4 +1,4 @@
-# The library for C and C++: installs the header, the archive, a shared library and the file that
+# The library for C and C++: installs the headers, the archive, a shared library and the file that
 # pkg-config reads.
 #
 #   make install     into PREFIX, which is /usr/local; DESTDIR is put before it, for packages
@@ -42,7 +42,7 @@ out/librignolda.so: $(LIBRARY)
 
 install: out/librignolda.so
 	$(INSTALL) -d '$(TO)/include' '$(TO)/lib/pkgconfig'
-	$(INSTALL) -m 644 include/rignolda.h '$(TO)/include/rignolda.h'
+	$(INSTALL) -m 644 include/rignolda.h include/rignolda_inline.h '$(TO)/include'
 	$(INSTALL) -m 644 $(LIBRARY) '$(TO)/lib/librignolda.a'
 	$(INSTALL) -m 755 out/librignolda.so '$(TO)/lib/librignolda.so.$(VERSION)'
 	ln -sf librignolda.so.$(VERSION) '$(TO)/lib/librignolda.so.$(BINARY)'
@@ -53,7 +53,8 @@ install: out/librignolda.so
 	    'Libs: -L$${prefix}/lib -lrignolda' >'$(TO)/lib/pkgconfig/rignolda.pc'
 
 uninstall:
-	rm -f '$(TO)/include/rignolda.h' '$(TO)/lib/librignolda.a' '$(TO)/lib/librignolda.so' \
+	rm -f '$(TO)/include/rignolda.h' '$(TO)/include/rignolda_inline.h' \
+	    '$(TO)/lib/librignolda.a' '$(TO)/lib/librignolda.so' \
 	    '$(TO)/lib/librignolda.so.$(BINARY)' '$(TO)/lib/librignolda.so.$(VERSION)' \
 	    '$(TO)/lib/pkgconfig/rignolda.pc'
 

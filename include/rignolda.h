@@ -17,6 +17,11 @@
  * A call that returns bool returns true if it did what it is for. Where it returns false, it wrote
  * nothing but what it names: counts, and the turn of a session.
  *
+ * The calls are those of an archive, librignolda.a. Where RIGNOLDA_INLINE is defined before this
+ * header is included, they are `static inline` functions, on any processor and without an archive:
+ * rignolda_inline.h says what they are made from. A compiler then knows all that a call does. One
+ * program may have both forms, since their structs are the same.
+ *
  * What a struct means:
  *   - a label may be any uint16_t, as after a restart with whatever lay in memory;
  *   - holding, closed, there and turn are true at any value but 0;
@@ -80,11 +85,22 @@
 #include <stddef.h>
 #include <stdint.h>
 
+/* (nothing but what is compiled here looks into the structs of inline calls) */
+#ifdef RIGNOLDA_INLINE
+#define RIGNOLDA_CALL static inline
+#define RIGNOLDA_HAS_SIZE(type, bytes) (sizeof(type) <= (bytes))
+#else
+#define RIGNOLDA_CALL
+#define RIGNOLDA_HAS_SIZE(type, bytes) (sizeof(type) == (bytes))
+#endif
+
 #ifdef __cplusplus
-#define RIGNOLDA_SIZE_IS(type, bytes) static_assert(sizeof(type) == (bytes), "size of " #type)
+#define RIGNOLDA_SIZE_IS(type, bytes)                                                              \
+    static_assert(RIGNOLDA_HAS_SIZE(type, bytes), "size of " #type)
 extern "C" {
 #else
-#define RIGNOLDA_SIZE_IS(type, bytes) _Static_assert(sizeof(type) == (bytes), "size of " #type)
+#define RIGNOLDA_SIZE_IS(type, bytes)                                                              \
+    _Static_assert(RIGNOLDA_HAS_SIZE(type, bytes), "size of " #type)
 #endif
 
 /*
@@ -151,19 +167,19 @@ RIGNOLDA_SIZE_IS(rignolda_child, 32);
 #define RIGNOLDA_LABELS_TOO_MANY 3       /* over 1000 */
 
 /* Returns RIGNOLDA_LAWFUL, or the first of the three checks that fails, in their order. */
-uint8_t rignolda_params_check(const rignolda_params *params);
+RIGNOLDA_CALL uint8_t rignolda_params_check(const rignolda_params *params);
 
 /* ---- The sender's half ---- */
 
 /* Makes an idle and open sender with this label, which may be any. */
-void rignolda_sender_init(rignolda_sender *sender, uint16_t label);
+RIGNOLDA_CALL void rignolda_sender_init(rignolda_sender *sender, uint16_t label);
 
 /*
  * Offers the sender an item. True: it was open and idle, and now holds the item. False: it is
  * closed or holds an item; it stays as it was, so offer this item again later.
  * Law: offered items are delivered in their order, each at most once.
  */
-bool rignolda_sender_offer(rignolda_sender *sender, uint32_t item);
+RIGNOLDA_CALL bool rignolda_sender_offer(rignolda_sender *sender, uint32_t item);
 
 /*
  * Asks for the frame to send now. True: *frame is the item that the sender holds, under its label.
@@ -171,7 +187,7 @@ bool rignolda_sender_offer(rignolda_sender *sender, uint32_t item);
  * often as your line can bear: a frame that finds no room on the line is lost, and that does no
  * harm.
  */
-bool rignolda_sender_frame(const rignolda_sender *sender, rignolda_frame *frame);
+RIGNOLDA_CALL bool rignolda_sender_frame(const rignolda_sender *sender, rignolda_frame *frame);
 
 /*
  * Gives the sender an acknowledgement. True: it is the one that the sender waits for, so the item
@@ -179,23 +195,24 @@ bool rignolda_sender_frame(const rignolda_sender *sender, rignolda_frame *frame)
  * sender is closed or idle, or the parameters are not lawful; the sender stays as it was.
  * Law: of the acknowledged items only some among the first 2 * capacity + 1 can be missing.
  */
-bool rignolda_sender_on_ack(rignolda_sender *sender, const rignolda_params *params,
-                            uint16_t label);
+RIGNOLDA_CALL bool rignolda_sender_on_ack(rignolda_sender *sender, const rignolda_params *params,
+                                          uint16_t label);
 
 /* Closes the sender for good; only rignolda_sender_init makes an open one of it. All else stays. */
-void rignolda_sender_close(rignolda_sender *sender);
+RIGNOLDA_CALL void rignolda_sender_close(rignolda_sender *sender);
 
 /* ---- The receiver's half ---- */
 
 /* Makes an open receiver that remembers this label, which may be any. */
-void rignolda_receiver_init(rignolda_receiver *receiver, uint16_t label);
+RIGNOLDA_CALL void rignolda_receiver_init(rignolda_receiver *receiver, uint16_t label);
 
 /*
  * Whether rignolda_receiver_on_frame would deliver the item of this frame: the receiver is open and
  * remembers another label. Nothing changes. Ask it where you may have no place for the item: a
  * frame that you then do not give to the receiver counts as lost.
  */
-bool rignolda_receiver_is_fresh(const rignolda_receiver *receiver, const rignolda_frame *frame);
+RIGNOLDA_CALL bool rignolda_receiver_is_fresh(const rignolda_receiver *receiver,
+                                              const rignolda_frame *frame);
 
 /*
  * Gives the receiver a frame. True: the frame is fresh; *item is its item, which is delivered now,
@@ -203,18 +220,18 @@ bool rignolda_receiver_is_fresh(const rignolda_receiver *receiver, const rignold
  * receiver and *item stay as they were.
  * Law: at most capacity strays are delivered, then offered items in their order.
  */
-bool rignolda_receiver_on_frame(rignolda_receiver *receiver, const rignolda_frame *frame,
-                                uint32_t *item);
+RIGNOLDA_CALL bool rignolda_receiver_on_frame(rignolda_receiver *receiver,
+                                              const rignolda_frame *frame, uint32_t *item);
 
 /*
  * Asks for the label to acknowledge now. True: *label is the label that the receiver remembers.
  * False: it is closed, and *label stays as it was. The receiver never changes; send as often as
  * your line can bear.
  */
-bool rignolda_receiver_ack(const rignolda_receiver *receiver, uint16_t *label);
+RIGNOLDA_CALL bool rignolda_receiver_ack(const rignolda_receiver *receiver, uint16_t *label);
 
 /* Closes the receiver for good; only rignolda_receiver_init makes an open one. All else stays. */
-void rignolda_receiver_close(rignolda_receiver *receiver);
+RIGNOLDA_CALL void rignolda_receiver_close(rignolda_receiver *receiver);
 
 /* ---- A node: one receiver above, a child for each link below, and a ring in your buffer ---- */
 
@@ -233,10 +250,10 @@ void rignolda_receiver_close(rignolda_receiver *receiver);
  * buffer, the node keeps as many items as the buffer has places.
  * Law: these items count as strays; h is the most of them that an inner node may begin with.
  */
-void rignolda_node_init(rignolda_node *node, uint16_t label, uint64_t opening);
+RIGNOLDA_CALL void rignolda_node_init(rignolda_node *node, uint16_t label, uint64_t opening);
 
 /* Makes a child that begins at the list's front, with an idle and open sender of this label. */
-void rignolda_child_init(rignolda_child *child, uint16_t label);
+RIGNOLDA_CALL void rignolda_child_init(rignolda_child *child, uint16_t label);
 
 /*
  * The same for a child that is added later, or again: it begins at this place of the list. True:
@@ -248,8 +265,8 @@ void rignolda_child_init(rignolda_child *child, uint16_t label);
  * most once; of those that it acknowledges only some among the first 2 * capacity + 1 can be
  * missing (a_child_made_anew_gets_the_list_from_its_place).
  */
-bool rignolda_child_init_at(rignolda_child *child, const rignolda_node *node, size_t size,
-                            uint16_t label, uint64_t place);
+RIGNOLDA_CALL bool rignolda_child_init_at(rignolda_child *child, const rignolda_node *node,
+                                          size_t size, uint16_t label, uint64_t place);
 
 /*
  * Puts an item at the end of the list: what the root does to publish. True: it is there, in place
@@ -258,7 +275,8 @@ bool rignolda_child_init_at(rignolda_child *child, const rignolda_node *node, si
  * they were.
  * Call it at the root alone: no law speaks of an item that another node puts into its list.
  */
-bool rignolda_node_publish(rignolda_node *node, uint32_t *list, size_t size, uint32_t item);
+RIGNOLDA_CALL bool rignolda_node_publish(rignolda_node *node, uint32_t *list, size_t size,
+                                         uint32_t item);
 
 /*
  * Gives the node a frame from its parent. True: the frame is fresh, and its item is now the last of
@@ -269,8 +287,8 @@ bool rignolda_node_publish(rignolda_node *node, uint32_t *list, size_t size, uin
  * So the list is its opening and then what the receiver delivered.
  * Law: it is at most C + E strays, then published items in their order.
  */
-bool rignolda_node_on_frame(rignolda_node *node, uint32_t *list, size_t size,
-                            const rignolda_frame *frame);
+RIGNOLDA_CALL bool rignolda_node_on_frame(rignolda_node *node, uint32_t *list, size_t size,
+                                          const rignolda_frame *frame);
 
 /*
  * Asks what to send to a child now. First the child's sender is offered the next item, where there
@@ -280,14 +298,15 @@ bool rignolda_node_on_frame(rignolda_node *node, uint32_t *list, size_t size,
  * Law: what a child is offered is a prefix of the list from its place on
  * (offers_are_a_prefix_of_the_list).
  */
-bool rignolda_node_poll(const rignolda_node *node, rignolda_child *child, const uint32_t *list,
-                        size_t size, rignolda_frame *frame);
+RIGNOLDA_CALL bool rignolda_node_poll(const rignolda_node *node, rignolda_child *child,
+                                      const uint32_t *list, size_t size, rignolda_frame *frame);
 
 /*
  * Gives the child's sender an acknowledgement, as rignolda_sender_on_ack does. True: acknowledged
  * is one more. False: the sender stays as it was, and ignored is one more.
  */
-bool rignolda_child_on_ack(rignolda_child *child, const rignolda_params *params, uint16_t label);
+RIGNOLDA_CALL bool rignolda_child_on_ack(rignolda_child *child, const rignolda_params *params,
+                                         uint16_t label);
 
 /*
  * Forgetting. The item that a sender holds lies in the sender, so what each child was offered is no
@@ -308,28 +327,30 @@ bool rignolda_child_on_ack(rignolda_child *child, const rignolda_params *params,
  * The place from which on the child needs the list, if that is before this place; else this place.
  * A child that would be offered next what the node has forgotten needs nothing. Nothing changes.
  */
-uint64_t rignolda_child_needs(const rignolda_node *node, const rignolda_child *child,
-                              uint64_t place);
+RIGNOLDA_CALL uint64_t rignolda_child_needs(const rignolda_node *node, const rignolda_child *child,
+                                            uint64_t place);
 
 /*
  * Forgets what is before this place of the list, or all of it where the place is past the end; what
  * was forgotten before stays so. What is at the place and behind it is kept, and a child whose
  * count of offered items is the place or more is as it was before.
  */
-void rignolda_node_forget(rignolda_node *node, uint64_t place);
+RIGNOLDA_CALL void rignolda_node_forget(rignolda_node *node, uint64_t place);
 
 /*
  * Whether the child is left behind: the item that it would be offered next is no more kept. It
  * stays so until the child is made anew (rignolda_child_init_at). Nothing changes.
  */
-bool rignolda_node_left_behind(const rignolda_node *node, const rignolda_child *child, size_t size);
+RIGNOLDA_CALL bool rignolda_node_left_behind(const rignolda_node *node, const rignolda_child *child,
+                                             size_t size);
 
 /*
  * The backlog of a child, in items: the one that its sender holds, and those still to be offered
  * (to a child that is left behind, none). It is what the `h` of a restart has to bound. It stops at
  * UINT64_MAX. Nothing changes.
  */
-uint64_t rignolda_node_backlog(const rignolda_node *node, const rignolda_child *child, size_t size);
+RIGNOLDA_CALL uint64_t rignolda_node_backlog(const rignolda_node *node, const rignolda_child *child,
+                                             size_t size);
 
 /* ---- Sessions: a link over connections that are made again, such as TCP ---- */
 
@@ -367,34 +388,34 @@ typedef struct rignolda_session {
 RIGNOLDA_SIZE_IS(rignolda_session, 16);
 
 /* Makes a session that never had a connection. Close first what an end before it had open. */
-void rignolda_session_init(rignolda_session *session);
+RIGNOLDA_CALL void rignolda_session_init(rignolda_session *session);
 
 /*
  * Call it where you begin to make a connection (connect), and close the one that the end had. It
  * returns the number of the new one: keep it beside the descriptor. 0: no number is left, and the
  * end has no connection; make none.
  */
-uint64_t rignolda_session_made(rignolda_session *session);
+RIGNOLDA_CALL uint64_t rignolda_session_made(rignolda_session *session);
 
 /* The same where you accepted one that the link's other end made. The end has the first turn. */
-uint64_t rignolda_session_accepted(rignolda_session *session);
+RIGNOLDA_CALL uint64_t rignolda_session_accepted(rignolda_session *session);
 
 /* Whether this is the connection that the end has. Nothing changes. */
-bool rignolda_session_has(const rignolda_session *session, uint64_t number);
+RIGNOLDA_CALL bool rignolda_session_has(const rignolda_session *session, uint64_t number);
 
 /*
  * Call it where a connection ended or you end it: it broke, nothing came in time, or you like.
  * True: the end had it, and now has none. False: the session stays as it was.
  */
-bool rignolda_session_ended(rignolda_session *session, uint64_t number);
+RIGNOLDA_CALL bool rignolda_session_ended(rignolda_session *session, uint64_t number);
 
 /*
  * Asks for the frame to write now on the connection that the end has. True: write *frame there,
  * whole and once; the turn is given away. False: there is no connection, the turn is not the end's,
  * or the sender has nothing to send; all stays as it was.
  */
-bool rignolda_session_send(const rignolda_sender *sender, rignolda_session *session,
-                           rignolda_frame *frame);
+RIGNOLDA_CALL bool rignolda_session_send(const rignolda_sender *sender, rignolda_session *session,
+                                         rignolda_frame *frame);
 
 /*
  * Gives the sender an acknowledgement that came whole by the connection of this number. A
@@ -402,16 +423,18 @@ bool rignolda_session_send(const rignolda_sender *sender, rignolda_session *sess
  * now. True: the sender waits for it, as rignolda_sender_on_ack says. False: the sender stays as it
  * was.
  */
-bool rignolda_session_on_ack(rignolda_sender *sender, rignolda_session *session,
-                             const rignolda_params *params, uint64_t number, uint16_t label);
+RIGNOLDA_CALL bool rignolda_session_on_ack(rignolda_sender *sender, rignolda_session *session,
+                                           const rignolda_params *params, uint64_t number,
+                                           uint16_t label);
 
 /* The same for a receiver and a frame. True: it is fresh, as rignolda_receiver_on_frame says. */
-bool rignolda_session_on_frame(rignolda_receiver *receiver, rignolda_session *session,
-                               uint64_t number, const rignolda_frame *frame, uint32_t *item);
+RIGNOLDA_CALL bool rignolda_session_on_frame(rignolda_receiver *receiver, rignolda_session *session,
+                                             uint64_t number, const rignolda_frame *frame,
+                                             uint32_t *item);
 
 /* Asks for the label to write now on the connection that the end has, as rignolda_session_send. */
-bool rignolda_session_ack(const rignolda_receiver *receiver, rignolda_session *session,
-                          uint16_t *label);
+RIGNOLDA_CALL bool rignolda_session_ack(const rignolda_receiver *receiver,
+                                        rignolda_session *session, uint16_t *label);
 
 /*
  * The same for a node over connections, in place of rignolda_node_poll, rignolda_child_on_ack and
@@ -419,20 +442,21 @@ bool rignolda_session_ack(const rignolda_receiver *receiver, rignolda_session *s
  * receiver. Where the end may not send, a poll offers nothing. Each child has a session of its own,
  * and so has the receiver of the node.
  */
-bool rignolda_session_poll(const rignolda_node *node, rignolda_child *child,
-                           rignolda_session *session, const uint32_t *list, size_t size,
-                           rignolda_frame *frame);
-bool rignolda_session_child_on_ack(rignolda_child *child, rignolda_session *session,
-                                   const rignolda_params *params, uint64_t number, uint16_t label);
+RIGNOLDA_CALL bool rignolda_session_poll(const rignolda_node *node, rignolda_child *child,
+                                         rignolda_session *session, const uint32_t *list,
+                                         size_t size, rignolda_frame *frame);
+RIGNOLDA_CALL bool rignolda_session_child_on_ack(rignolda_child *child, rignolda_session *session,
+                                                 const rignolda_params *params, uint64_t number,
+                                                 uint16_t label);
 
 /*
  * A fresh frame that finds no place in the list is lost, and the turn with it: nothing more is sent
  * on this connection, until an end leaves it. So while there is no place, better read nothing;
  * there is one while node.length - node.forgotten < size.
  */
-bool rignolda_session_node_on_frame(rignolda_node *node, rignolda_session *session,
-                                    uint64_t number, uint32_t *list, size_t size,
-                                    const rignolda_frame *frame);
+RIGNOLDA_CALL bool rignolda_session_node_on_frame(rignolda_node *node, rignolda_session *session,
+                                                  uint64_t number, uint32_t *list, size_t size,
+                                                  const rignolda_frame *frame);
 
 /* ---- Words: a link in two places of a store ---- */
 
@@ -452,16 +476,20 @@ bool rignolda_session_node_on_frame(rignolda_node *node, rignolda_session *sessi
  */
 
 /* The word to set for a frame. */
-uint64_t rignolda_word_of_frame(const rignolda_frame *frame);
+RIGNOLDA_CALL uint64_t rignolda_word_of_frame(const rignolda_frame *frame);
 
 /* True: the word shows a frame, *frame. False: it shows none, and *frame stays as it was. */
-bool rignolda_word_frame(uint64_t word, rignolda_frame *frame);
+RIGNOLDA_CALL bool rignolda_word_frame(uint64_t word, rignolda_frame *frame);
 
 /* The word to set for the acknowledgement of a label. */
-uint64_t rignolda_word_of_label(uint16_t label);
+RIGNOLDA_CALL uint64_t rignolda_word_of_label(uint16_t label);
 
 /* True: the word shows the acknowledgement of *label. False: of none; *label stays as it was. */
-bool rignolda_word_label(uint64_t word, uint16_t *label);
+RIGNOLDA_CALL bool rignolda_word_label(uint64_t word, uint16_t *label);
+
+#ifdef RIGNOLDA_INLINE
+#include "rignolda_inline.h"
+#endif
 
 #ifdef __cplusplus
 }

@@ -3,7 +3,8 @@
 
   tests/check_library.py             with each of gcc, clang and cargo that is there, and with
                                      sanitizers: some minutes
-  tests/check_library.py --gate      with the kit's compiler alone: seconds
+  tests/check_library.py --gate      with the kit's compiler alone, and the inline form made anew:
+                                     two minutes
   tests/check_library.py --aarch64   builds it for aarch64, as out/librignolda-aarch64.a, which
                                      RIGNOLDA_LIBRARY and LIBRARY can name, and tests that under an
                                      emulator: a minute. It needs Debian's gcc-aarch64-linux-gnu,
@@ -27,7 +28,7 @@ from programs import Cases, ran  # noqa: E402
 
 ARCHIVES = "crates/stab_c/out/libstab_c.a", "release/librignolda.a", "release/libstab_c.a"
 COMPARE, CARGO = "tests/library/compare.py", "rust/rignolda/Cargo.toml"
-WARNED = "-Wall", "-Wextra", "-Werror"
+WARNED, INLINE = ("-Wall", "-Wextra", "-Werror"), "-DRIGNOLDA_INLINE"
 IN_C = "-std=gnu11", "-O2", *WARNED
 # From which places on a node hands on its list: places that take years to reach are past 2^32
 # items, past 10^10, past 2^63, and up to the last one before 2^64. And in how small a buffer.
@@ -85,6 +86,22 @@ class Library(Cases):
             self.holds(f"{name}: ends that do what they may not ({word})",
                        status == 1 and said.startswith("broken: "), said)
 
+    def in_both(self, name, rounds, words, under=()):
+        """Compares each call of the archive with the inline one."""
+        both = self.room / "both"
+        self.works(f"{name}: both forms build", words[0], "tests/library/both.c",
+                   "tests/library/inline.c", *words[1:], "-o", both)
+        self.works(f"{name}: each call in both forms", *under, both, rounds, "1")
+
+    def has_all_calls(self):
+        """Whether these two are compared in every call of the header."""
+        declared = re.findall(r"^RIGNOLDA_CALL \w+ (\w+)\(",
+                              (self.include / "rignolda.h").read_text(), re.M)
+        compared = re.findall(r"\b(rignolda_\w+)\(", Path("tests/library/calls.h").read_text())
+        self.holds("both forms are compared in every call",
+                   declared and sorted(declared) == sorted(compared),
+                   str(set(declared) ^ set(compared)))
+
     def by_python(self, *words):
         """What is tested without a compiler."""
         self.works("the checker of reports", "tests/library/try_check_report.py")
@@ -127,9 +144,13 @@ class Library(Cases):
         self.holds(f"{name} leaves nothing", not any(it.is_file() for it in to.rglob("*")))
 
     def gate(self):
-        self.in_c("the kit", "20000 1", 300, clang(
-            "-std=gnu11", "-nostdinc", "-isystem", "tests/library/bare", f"-I{self.include}",
-            "-fsanitize=undefined", "-fsanitize-trap=undefined", self.archive))
+        words = clang("-std=gnu11", "-nostdinc", "-isystem", "tests/library/bare",
+                      f"-I{self.include}", "-fsanitize=undefined", "-fsanitize-trap=undefined")
+        self.in_c("the kit", "20000 1", 300, [*words, self.archive])
+        self.in_c("the kit, inline", "20000 1", 300, [*words, INLINE])
+        self.in_both("the kit", "100000", [*words, self.archive])
+        self.has_all_calls()
+        self.works("the inline calls are those of the archive", "tools/inline_header.py", "--check")
         self.by_python("4", "2")
         self.works("the crate for Rust has the archive of the release", "cmp",
                    "rust/rignolda/lib/x86_64-linux.a", "release/librignolda.a")
@@ -142,16 +163,21 @@ class Library(Cases):
             if not shutil.which(name):
                 continue
             words = [name, *IN_C, "-Wconversion", f"-I{self.include}", "-Wl,--as-needed"]
-            self.in_c(name, "1000000 1", 10000, [*words, self.archive])
-            self.in_c(f"{name}, sanitizers", "200000 2 all", 2000, [
-                *words, "-g", "-fsanitize=address,undefined", "-fno-sanitize-recover=all",
-                self.archive])
-            for form in ["c++", "-std=c++11"], ["c", "-std=c11", "-pedantic"]:
-                self.works(f"{name}: the header in {form[1][5:]}", name, "-x", *form, *WARNED,
-                           "-fsyntax-only", self.include / "rignolda.h")
+            safe = [*words, "-g", "-fsanitize=address,undefined", "-fno-sanitize-recover=all"]
+            for form, more in ("", []), (", inline", [INLINE]):
+                linked = more or [self.archive]
+                self.in_c(name + form, "1000000 1", 10000, [*words, *linked])
+                self.in_c(f"{name}{form}, sanitizers", "200000 2 all", 2000, [*safe, *linked])
+                for kind in ["c++", "-std=c++11"], ["c", "-std=c11", "-pedantic"]:
+                    self.works(f"{name}{form}: the header in {kind[1][5:]}", name, "-x", *kind,
+                               *WARNED, "-Wconversion", *more, "-fsyntax-only",
+                               self.include / "rignolda.h")
+            self.in_both(name, "1000000", [*words, self.archive])
+            self.in_both(f"{name}, sanitizers", "200000", [*safe, self.archive])
             if shutil.which("pkg-config"):
                 self.is_installed(name, plus)
         self.is_closed()
+        self.has_all_calls()
         if shutil.which("cargo"):
             self.in_rust()
         self.by_python()
@@ -188,9 +214,9 @@ class Library(Cases):
         self.works("the archive is built", *compiler("build", "stab_c", "src/lib.rt"),
                    "--crate-type", "staticlib", "--target", "aarch64-unknown-linux-gnu",
                    "--incremental", "out/incremental", "-o", self.archive, cwd="crates/stab_c")
-        self.in_c("aarch64", "100000 1", 1000, [
-            "aarch64-linux-gnu-gcc", *IN_C, f"-I{self.include}", "-static", self.archive],
-            "qemu-aarch64")
+        words = ["aarch64-linux-gnu-gcc", *IN_C, f"-I{self.include}", "-static", self.archive]
+        self.in_c("aarch64", "100000 1", 1000, words, "qemu-aarch64")
+        self.in_both("aarch64", "100000", words, ["qemu-aarch64"])
 
 
 def main(words):

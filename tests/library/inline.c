@@ -1,0 +1,3 @@
+/* The inline calls, for both.c. */
+#define RIGNOLDA_INLINE
+#include "calls.h"

@@ -1,0 +1,675 @@
+#!/usr/bin/env -S python3 -B
+"""Writes the calls of the library as `static inline` functions: include/rignolda_inline.h.
+
+    tools/inline_header.py            writes it from the present sources: a minute
+    tools/inline_header.py --check    compares it with what they give, and the archive of the
+                                      release with that of the same build. The last line is
+                                      'N passed, M failed'.
+
+There is no second source. The compiler of the kit hands the proved crate to clang as one module in
+LLVM's language, of which clang makes the archive. A command in the place of clang keeps this module
+on its way, and the same clang writes it as text, with its calls inlined. Here each instruction of
+that text becomes an expression or a statement of C, and each access the member that the header has
+at that place. An instruction or a place that is not known ends the script: it never guesses. No
+proof covers this translation, as none covers clang; tests/library/both.c compares every call with
+the archive. The build is over the libraries that checks have left. It needs the kit, and Python
+3.8.
+"""
+import os
+import re
+import shutil
+import subprocess
+import sys
+import tempfile
+from collections import Counter
+from pathlib import Path
+
+from crates import below, compiler, kit, listed, read
+from programs import Cases
+
+TOP = Path(__file__).resolve().parent.parent
+CRATE = "stab_c"
+HEADER, MADE = TOP / "include/rignolda.h", TOP / "include/rignolda_inline.h"
+ARCHIVE = TOP / "release/librignolda.a"
+
+# In the place of clang: keeps the module that it is given, and then becomes clang.
+KEEPER = """#!/bin/sh
+for word; do
+    case $word in *.bc) cp -- "$word" '{kept}' ;; esac
+done
+exec '{clang}' "$@"
+"""
+# The words with which clang writes the module as text: nothing becomes a vector or is moved over
+# branches, so that each access stays one of one member.
+AS_TEXT = ["-O2", "-S", "-emit-llvm", "-fno-vectorize", "-fno-slp-vectorize", "-fno-unroll-loops",
+           "-mllvm", "-sink-common-insts=false", "-Wno-override-module"]
+
+HEAD = """\
+/*
+ * The calls of rignolda.h as `static inline` functions: a program that defines RIGNOLDA_INLINE
+ * before it includes rignolda.h needs no archive.
+ *
+ * tools/inline_header.py made this file from what clang is given for the archive, which the
+ * compiler of Rattle makes of the proved crate stab_c. No proof covers the translation; the gate
+ * makes it anew, and compares each call with that of the archive, bit by bit. Do not edit it.
+ */
+"""
+
+
+class Unknown(Exception):
+    """What the script has no translation for."""
+
+
+# What the header declares.
+
+SIZES = {"uint8_t": 1, "uint16_t": 2, "uint32_t": 4, "uint64_t": 8, "size_t": 8, "bool": 1}
+C_TYPES = {"i1": "bool", "i8": "uint8_t", "i16": "uint16_t", "i32": "uint32_t", "i64": "uint64_t"}
+
+
+class Header:
+    """The structs and the calls of rignolda.h."""
+
+    def __init__(self, text):
+        text = re.sub(r"/\*.*?\*/", "", text, flags=re.S)
+        self.members, self.sizes, self.aligns = {}, dict(SIZES), dict(SIZES)
+        for body, name in re.findall(r"typedef struct \w+ \{(.*?)\} (\w+);", text, re.S):
+            self.add_struct(name, re.findall(r"(\w+)\s+(\w+);", body))
+        for name, size in re.findall(r"^RIGNOLDA_SIZE_IS\((\w+), (\d+)\);", text, re.M):
+            if self.sizes[name] != int(size):
+                raise Unknown(f"the members of {name}")
+        self.calls = {}
+        for line in re.findall(r"^RIGNOLDA_CALL ([^;]*);", text, re.M):
+            result, name, words = re.fullmatch(r"(\w+)\s+(\w+)\((.*)\)", line, re.S).groups()
+            self.calls[name] = result, [
+                re.fullmatch(r"((?:const )?\w+) (\*?)(\w+)", " ".join(it.split())).groups()
+                for it in words.split(",")]
+
+    def add_struct(self, name, members):
+        """Notes where each number of a struct lies: its place, its size, and its path."""
+        at, align, found = 0, 1, []
+        for kind, member in members:
+            size = self.aligns[kind]
+            at = -(-at // size) * size
+            align = max(align, size)
+            found += [(at + inner, width, f"{member}{'.' if path else ''}{path}")
+                      for inner, width, path in self.members.get(kind, [(0, self.sizes[kind], "")])]
+            at += self.sizes[kind]
+        self.members[name], self.aligns[name] = found, align
+        self.sizes[name] = -(-at // align) * align
+
+
+# The text of LLVM.
+
+FLAGS = re.compile(r"\b(?:nuw|nsw|exact|inbounds|nneg|disjoint|samesign|noundef|tail|nonnull"
+                   r"|zeroext|range\([^)]*\)|align \d+|dereferenceable\(\d+\)) ")
+OPERATORS = {"add": "+", "sub": "-", "mul": "*", "and": "&", "or": "|", "xor": "^", "shl": "<<",
+             "lshr": ">>", "udiv": "/", "urem": "%"}
+RELATIONS = {"eq": "==", "ne": "!=", "ult": "<", "ule": "<=", "ugt": ">", "uge": ">="}
+OPPOSITE = {"==": "!=", "!=": "==", "<": ">=", ">=": "<", ">": "<=", "<=": ">"}
+
+
+class Step:
+    """An instruction: its result, its type, what it does, and its operands."""
+
+    def __init__(self, name, kind, act, *operands, more=None):
+        self.name, self.kind, self.act, self.operands = name, kind, act, operands
+        self.more = more
+
+
+def step_of(line):
+    """The instruction of a line, or None where it says nothing."""
+    name, _, rest = line.rpartition(" = ") if re.match(r"%\w+ = ", line) else ("", "", line)
+    rest = re.sub(r", (?:align \d+|!\w.*)", "", rest)
+    rest = FLAGS.sub("", rest + " ").strip()
+    number = r"(-?\d+|true|false|null|%\w+|inttoptr \(i64 \d+ to ptr\))"
+    for pattern, make in (
+        (rf"({'|'.join(OPERATORS)}) (i\d+) {number}, {number}",
+         lambda act, kind, a, b: Step(name, kind, act, a, b)),
+        (rf"icmp (\w+) (i\d+|ptr) {number}, {number}",
+         lambda how, kind, a, b: Step(name, "i1", "icmp", a, b, more=(how, kind))),
+        (rf"select i1 {number}, (i\d+|ptr) {number}, \w+ {number}",
+         lambda c, kind, a, b: Step(name, kind, "select", c, a, b)),
+        (rf"(zext|trunc) (i\d+) {number} to (i\d+)",
+         lambda act, of, a, kind: Step(name, kind, act, a, more=of)),
+        (rf"freeze (i\d+) {number}", lambda kind, a: Step(name, kind, "freeze", a)),
+        (rf"load (i\d+), ptr {number}", lambda kind, a: Step(name, kind, "load", a)),
+        (rf"store (i\d+) {number}, ptr {number}",
+         lambda kind, a, to: Step("", kind, "store", a, to)),
+        (rf"getelementptr (i\d+|\[\d+ x i8\]), ptr {number}, i64 {number}",
+         lambda of, a, b: Step(name, "ptr", "getelementptr", a, b, more=of)),
+        (rf"call (i\d+) @llvm\.(umax|umin|uadd\.sat|usub\.sat)\.i\d+"
+         rf"\(i\d+ {number}, i\d+ {number}\)",
+         lambda kind, how, a, b: Step(name, kind, "minmax", a, b, more=how)),
+        (rf"call void @llvm\.memset\.p0\.i64\(ptr {number}, i8 0, i64 (\d+), i1 false\)(?: #\d+)?",
+         lambda to, size: Step("", "", "clear", to, more=int(size))),
+        (rf"phi (i\d+) (.*)",
+         lambda kind, pairs: Step(name, kind, "phi", more=dict(
+             (block, value) for value, block in re.findall(rf"\[ {number}, %(\w+) \]", pairs)))),
+        (rf"br label %(\w+)", lambda to: Step("", "", "br", more=[to])),
+        (rf"br i1 {number}, label %(\w+), label %(\w+)",
+         lambda c, yes, no: Step("", "", "br", c, more=[yes, no])),
+        (r"ret void", lambda: Step("", "", "ret")),
+        (rf"ret (i\d+) {number}", lambda kind, a: Step("", kind, "ret", a)),
+    ):
+        found = re.fullmatch(pattern, rest)
+        if found:
+            return make(*found.groups())
+    raise Unknown(line)
+
+
+class Function:
+    """A call of the library, as blocks of instructions."""
+
+    def __init__(self, name, words, lines, header):
+        self.name, self.header = name, header
+        self.result, wanted = header.calls[name]
+        kinds = [re.match(r"(ptr|i\d+)\b", it.strip())[1] for it in self.split(words)]
+        names = [re.search(r"%\w+$", it.strip())[0] for it in self.split(words)]
+        if kinds != ["ptr" if star else next(
+                kind for kind, it in C_TYPES.items() if SIZES[it] == SIZES[of] and kind != "i1")
+                for of, star, _ in wanted]:
+            raise Unknown(f"the words of {name}: {words}")
+        self.given = dict(zip(names, wanted))
+        self.blocks = {}
+        for line in lines:
+            label = re.match(r"(\w+):", line)
+            if label:
+                block = self.blocks.setdefault(label[1], [])
+            else:
+                block.append(step_of(line.strip()))
+        self.first = next(iter(self.blocks))
+        self.steps = {it.name: it for block in self.blocks.values() for it in block if it.name}
+        self.look()
+
+    @staticmethod
+    def split(words):
+        """The words of a call, which commas in parentheses do not part."""
+        return re.findall(r"(?:[^,()]|\((?:[^()]|\([^()]*\))*\))+", words)
+
+    def look(self):
+        """Finds which block comes after which, which blocks several lead to, and the nearest block
+        that is on each way to one."""
+        self.after = {it: block[-1].more or [] for it, block in self.blocks.items()}
+        order, seen = [], set()
+
+        def visit(block):
+            seen.add(block)
+            for it in reversed(self.after[block]):
+                if it not in seen:
+                    visit(it)
+            order.insert(0, block)
+
+        visit(self.first)
+        self.order = {block: place for place, block in enumerate(order)}
+        if any(self.order[it] <= self.order[block] for block in order for it in self.after[block]):
+            raise Unknown(f"a loop in {self.name}")
+        ways = Counter(it for block in order for it in self.after[block])
+        self.merges = {block for block, count in ways.items() if count > 1}
+        before = {self.first: None}
+        for block in order[1:]:
+            near = None
+            for it in (it for it in order if block in self.after[it]):
+                near = it if near is None else self.common(near, it, before)
+            before[block] = near
+        self.below = {block: [it for it in order if before[it] == block and it in self.merges]
+                      for block in order}
+        self.find_uses(order)
+
+    def find_uses(self, order):
+        """Finds the values that are written where they are used: of those that are used once, all
+        but what is loaded before something is stored, what would have to be worked out twice, and
+        what is loaded for another block."""
+        uses, self.inlined, when = {}, set(), {}
+        for block in order:
+            for place, step in enumerate(self.blocks[block]):
+                for before, it in step.more.items() if step.act == "phi" else ():
+                    uses.setdefault(it, []).append((before, len(self.blocks[before]) - 1, step))
+                for it in step.operands:
+                    uses.setdefault(it, []).append((block, place, step))
+        for block in reversed(order):
+            writes = [place for place, step in enumerate(self.blocks[block])
+                      if step.act in ("store", "clear")]
+            for place, step in reversed([*enumerate(self.blocks[block])]):
+                if len(uses.get(step.name, [])) != 1 or step.act == "phi":
+                    continue
+                at, then, user = uses[step.name][0]
+                if user.act == "minmax":
+                    continue
+                if user.name in self.inlined and user.act != "phi":
+                    at, then = when[user.name]
+                elif user.kind == "ptr" and user.name:
+                    continue
+                if step.act == "load" and (
+                        at != block or any(place < it < then for it in writes)):
+                    continue
+                self.inlined.add(step.name)
+                when[step.name] = at, then
+
+        self.skip_nulls(uses)
+
+    def skip_nulls(self, uses):
+        """Finds what has another address stand for that of a null list. Such a list has no entries,
+        so nothing is ever looked at there, and C needs no other address."""
+        self.nulls = {}
+        for name, step in self.steps.items():
+            if step.act == "select" and step.operands[1:] == ("4096", "0"):
+                asked = self.steps.get(step.operands[0])
+                users = [user for _, _, user in uses[name]]
+                if asked and asked.act == "icmp" and asked.more == ("eq", "ptr") \
+                        and asked.operands[1] == "null" and len(uses[asked.name]) == 1 and all(
+                            it.act == "getelementptr" and it.operands[0] == asked.operands[0]
+                            and it.more == "i8" for it in users):
+                    self.nulls[name] = self.nulls[asked.name] = asked.operands[0]
+
+    def common(self, one, other, before):
+        """The nearest block on each way to both of two blocks."""
+        while one != other:
+            if self.order[one] > self.order[other]:
+                one = before[one]
+            else:
+                other = before[other]
+        return one
+
+    # What is written.
+
+    def text(self):
+        """The function in C."""
+        self.names, self.taken, self.lines = {}, Counter(), []
+        for _, _, name in self.given.values():
+            self.taken[name] += 1
+        self.write(self.first, None, 1)
+        words = ", ".join(f"{of} {star}{name}" for of, star, name in self.given.values())
+        head = wrapped(f"static inline {self.result} {self.name}(", words, ")")
+        return "\n".join([head, "{", *self.lines, "}"]) + "\n"
+
+    def say(self, depth, text):
+        """Writes a line, which goes on in the next one where it is too long."""
+        before = "    " * depth
+        while len(before + text) > 100:
+            at = max(text.rfind(sign, 0, 100 - len(before))
+                     for sign in (" ? ", " : ", " && ", " || "))
+            if at < 0:
+                raise Unknown(f"a line as long as this: {text}")
+            self.lines.append(before + text[:at])
+            before, text = "    " * (depth + 1), text[at + 1:]
+        self.lines.append(before + text)
+
+    def write(self, block, follow, depth):
+        """Writes a block and those below it. `follow` is the block whose text comes next."""
+        merges = [it for it in self.below[block] if not self.is_return(it)]
+        for merge in merges:
+            for step in self.phis(merge):
+                self.say(depth, f"{C_TYPES[step.kind]} {self.name_of(step)};")
+        following = merges[:1] or [follow]
+        ends = self.write_steps(block, following[0], depth)
+        for place, merge in enumerate(merges):
+            following = merges[place + 1:place + 2] or [follow]
+            ends = self.write(merge, following[0], depth)
+        return ends
+
+    def write_steps(self, block, follow, depth):
+        """Writes the instructions of a block, and answers whether nothing follows them."""
+        for step in self.blocks[block]:
+            if step.act == "phi":
+                continue
+            if step.act == "store":
+                self.say(depth, f"{self.place(step.operands[1], step.kind)} = "
+                         f"{bare(self.value(step.operands[0], step.kind))};")
+            elif step.act == "clear":
+                self.clear(step, depth)
+            elif step.act == "ret":
+                return self.end(step, None, depth)
+            elif step.act == "br":
+                return self.branch(block, step, follow, depth)
+            elif step.kind != "ptr" and step.name not in self.inlined and \
+                    step.name not in self.nulls:
+                text = bare(self.expression(step))
+                self.say(depth, f"const {C_TYPES[step.kind]} {self.name_of(step)} = {text};")
+        raise Unknown(f"a block without an end in {self.name}")
+
+    def branch(self, block, step, follow, depth):
+        """Writes where a block goes on."""
+        if len(step.more) == 1:
+            return self.go(block, step.more[0], follow, depth)
+        (yes, no), condition = step.more, step.operands[0]
+        texts = bare(self.value(condition, "i1")), self.negated(condition)
+        if self.is_return(no) and not self.is_return(yes):
+            yes, no, texts = no, yes, texts[::-1]
+        at = len(self.lines)
+        self.say(depth, f"if ({texts[0]}) {{")
+        body = len(self.lines)
+        ends = self.go(block, yes, follow, depth + 1)
+        if len(self.lines) == body:
+            # (nothing is done on this way)
+            del self.lines[at:]
+            self.say(depth, f"if ({texts[1]}) {{")
+            self.go(block, no, follow, depth + 1)
+            self.say(depth, "}")
+            return False
+        self.say(depth, "}")
+        if ends:
+            return self.go(block, no, follow, depth)
+        at = len(self.lines)
+        self.lines[-1] += " else {"
+        ends = self.go(block, no, follow, depth + 1)
+        if len(self.lines) == at:
+            self.lines[-1] = "    " * depth + "}"
+        else:
+            self.say(depth, "}")
+        return False
+
+    def go(self, block, to, follow, depth):
+        """Writes the way from one block to another, and answers whether nothing follows it."""
+        if self.is_return(to):
+            return self.end(self.blocks[to][-1], block, depth)
+        for step in self.phis(to):
+            value = bare(self.value(step.more[block], step.kind))
+            self.say(depth, f"{self.name_of(step)} = {value};")
+        if to not in self.merges:
+            return self.write(to, follow, depth)
+        if to != follow:
+            raise Unknown(f"a jump in {self.name}")
+        return False
+
+    def end(self, step, block, depth):
+        """Writes the return of a block, which is reached from another one."""
+        if step.operands:
+            value = step.operands[0]
+            if block is not None and self.steps.get(value) in self.phis_of_return(step):
+                value = self.steps[value].more[block]
+            self.say(depth, f"return {bare(self.value(value, step.kind))};")
+        elif depth > 1 or block is not None:
+            self.say(depth, "return;")
+        return True
+
+    def phis_of_return(self, step):
+        return [it for block in self.blocks.values() if block[-1] is step
+                for it in block if it.act == "phi"]
+
+    def phis(self, block):
+        return [it for it in self.blocks[block] if it.act == "phi"]
+
+    def is_return(self, block):
+        """Whether a block only returns what it is given."""
+        return all(it.act in ("phi", "ret") for it in self.blocks[block])
+
+    def name_of(self, step):
+        """The name in C of a value: that of the member that it was loaded from, or a letter."""
+        if step.name not in self.names:
+            name = "value"
+            if step.act == "load":
+                name = re.search(r"(\w+)(?:\[.*\])?$", self.place(step.operands[0], step.kind))[1]
+                name = {"list": "item"}.get(name, name)
+            elif step.kind == "i1":
+                name = "holds"
+            self.taken[name] += 1
+            if self.taken[name] > 1:
+                name += f"_{self.taken[name]}"
+            self.names[step.name] = name
+        return self.names[step.name]
+
+    # Places in memory.
+
+    def place(self, pointer, kind):
+        """What lies at a pointer, as C writes it."""
+        name, at, index = self.pointer(pointer)
+        of, star, it = self.given[name]
+        of = of.replace("const ", "")
+        width = SIZES[C_TYPES[kind]]
+        if index is not None:
+            if self.header.sizes[of] != width or at:
+                raise Unknown(f"an entry of {it} in {self.name}")
+            return f"{it}[{bare(self.value(index, 'i64'))}]"
+        if of in SIZES:
+            if at or SIZES[of] != width:
+                raise Unknown(f"{width} bytes at {at} of {it} in {self.name}")
+            return f"*{it}"
+        for place, size, path in self.header.members[of]:
+            if (place, size) == (at, width):
+                return f"{it}->{path}"
+        raise Unknown(f"{width} bytes at {at} of {it} in {self.name}")
+
+    def pointer(self, pointer):
+        """Where a pointer leads: a pointer that was given, bytes behind it, or an entry."""
+        if pointer in self.given:
+            return pointer, 0, None
+        step = self.steps[pointer]
+        if step.act == "getelementptr":
+            name, at, index = self.pointer(step.operands[0])
+            if index is not None:
+                raise Unknown(f"an entry of an entry in {self.name}")
+            by = step.operands[1]
+            if self.nulls.get(by) == name and at == 0:
+                return name, 0, None
+            if step.more != "i8":
+                raise Unknown(f"a pointer into {step.more} in {self.name}")
+            if re.fullmatch(r"-?\d+", by):
+                return name, at + int(by), None
+            scaled = self.steps.get(by)
+            if scaled and scaled.act == "shl" and scaled.operands[1] == "2" and by in self.inlined:
+                return name, at, scaled.operands[0]
+        raise Unknown(f"a pointer in {self.name}: {step.act}")
+
+    def clear(self, step, depth):
+        """Writes 0 to all members of some bytes."""
+        name, at, index = self.pointer(step.operands[0])
+        of, _, it = self.given[name]
+        inside = [entry for entry in self.header.members[of] if at <= entry[0] < at + step.more]
+        end = at
+        for place, size, path in inside:
+            if place - end not in range(size):
+                raise Unknown(f"bytes between members of {it} in {self.name}")
+            end = place + size
+            self.say(depth, f"{it}->{path} = 0;")
+        if index is not None or end != at + step.more:
+            raise Unknown(f"{step.more} bytes at {at} of {it} in {self.name}")
+
+    # Values.
+
+    def value(self, operand, kind):
+        """A value as C writes it, in parentheses where it is more than a name."""
+        if operand in ("true", "false"):
+            return operand
+        if re.fullmatch(r"-?\d+", operand):
+            number = int(operand) % 2 ** int(kind[1:])
+            if number == 2 ** int(kind[1:]) - 1 and kind != "i8":
+                return f"UINT{kind[1:]}_MAX"
+            return f"{number}u" if number > 2 ** 15 - 1 else str(number)
+        if operand in self.given:
+            return self.given[operand][2]
+        if operand not in self.steps:
+            raise Unknown(f"the value {operand} in {self.name}")
+        if operand not in self.inlined:
+            return self.names[operand]
+        return self.expression(self.steps[operand], inside=True)
+
+    def expression(self, step, inside=False):
+        """What an instruction does, as an expression."""
+        if step.act == "load":
+            return self.place(step.operands[0], step.kind)
+        if step.act == "phi":
+            raise Unknown(f"a value of another block in {self.name}")
+        if step.act == "freeze":
+            return self.value(step.operands[0], step.kind)
+        if step.act in ("zext", "trunc"):
+            text = self.value(step.operands[0], step.more)
+            if step.act == "trunc" and step.kind == "i1":
+                return f"(({text} & 1) != 0)"
+            return f"({C_TYPES[step.kind]}){text}"
+        if step.act == "icmp":
+            text = self.relation(step, False)
+        elif step.act == "select":
+            condition, a, b = step.operands
+            one, other = self.value(a, step.kind), self.value(b, step.kind)
+            text = self.value(condition, "i1")
+            if one == "true":
+                text += f" || {other}"
+            elif other == "false":
+                text += f" && {one}"
+            else:
+                text = self.narrowed(f"{text} ? {one} : {other}", step.kind)
+        elif step.act == "minmax":
+            text = self.minmax(step)
+        else:
+            text = self.operation(step)
+        is_one = re.fullmatch(r"\w+|\(\w+\)\([^()]*\)|!\w+", text)
+        return f"({text})" if inside and not is_one else text
+
+    def narrowed(self, text, kind):
+        """An expression that C makes wider than its type."""
+        return f"({C_TYPES[kind]})({text})" if kind in ("i8", "i16") else text
+
+    def operation(self, step):
+        """A sum, a product, or the like."""
+        kind, (a, b) = step.kind, step.operands
+        if kind == "i1":
+            if step.act not in ("and", "or", "xor"):
+                raise Unknown(f"{step.act} of truths in {self.name}")
+            if step.act == "xor":
+                return self.negated(a) if b == "true" else \
+                    f"{self.value(a, kind)} != {self.value(b, kind)}"
+            sign = "&&" if step.act == "and" else "||"
+            return f"{self.value(a, kind)} {sign} {self.value(b, kind)}"
+        sign = OPERATORS[step.act]
+        if step.act == "add" and b.startswith("-"):
+            sign, b = "-", b[1:]
+        one, other = self.value(a, kind), self.value(b, kind)
+        if kind in ("i8", "i16") and step.act in ("mul", "shl"):
+            one = f"(uint32_t){one}"
+        if self.given.get(a, [""])[0] == "size_t" and b not in self.steps:
+            # (a size may be narrower in C)
+            one = f"(uint64_t){one}"
+        return self.narrowed(f"{one} {sign} {other}", kind)
+
+    def minmax(self, step):
+        """The least or greatest of two values, or a sum or difference that stops."""
+        one, other = (self.value(it, step.kind) for it in step.operands)
+        if step.more in ("umax", "umin"):
+            return self.narrowed(
+                f"{one} {'>' if step.more == 'umax' else '<'} {other} ? {one} : {other}", step.kind)
+        if step.more == "usub.sat":
+            return self.narrowed(f"{one} > {other} ? {one} - {other} : 0", step.kind)
+        if step.kind not in ("i32", "i64"):
+            raise Unknown(f"a sum of {step.kind} that stops in {self.name}")
+        most = f"UINT{step.kind[1:]}_MAX"
+        return f"{one} > {most} - {other} ? {most} : {one} + {other}"
+
+    def relation(self, step, negated):
+        """Whether two values are so, or not so."""
+        (how, kind), (a, b) = step.more, step.operands
+        sign = RELATIONS.get(how)
+        if sign is None or kind == "ptr":
+            raise Unknown(f"icmp {how} {kind} in {self.name}")
+        sign = OPPOSITE[sign] if negated else sign
+        return f"{self.value(a, kind)} {sign} {self.value(b, kind)}"
+
+    def negated(self, condition):
+        """The opposite of a truth."""
+        step = self.steps.get(condition)
+        if condition in self.inlined and step.act == "icmp":
+            return self.relation(step, True)
+        return self.negated_text(self.value(condition, "i1"))
+
+    @staticmethod
+    def negated_text(text):
+        return f"!({bare(text)})" if re.search(r"\W", text) else f"!{text}"
+
+
+def bare(text):
+    """A text without parentheses around all of it."""
+    while text.startswith("(") and text.endswith(")"):
+        depth = 0
+        for place, sign in enumerate(text):
+            depth += (sign == "(") - (sign == ")")
+            if depth == 0 and place < len(text) - 1:
+                return text
+        text = text[1:-1]
+    return text
+
+
+def wrapped(before, words, after):
+    """A line that goes on under its parenthesis."""
+    lines, line = [], before
+    for word in re.findall(r"[^,]+,?", words):
+        word = word.strip()
+        if len(line) + len(word) + 2 > 100:
+            lines.append(line.rstrip())
+            line = " " * len(before)
+        line += word + (" " if word.endswith(",") else "")
+    return "\n".join([*lines, line + after])
+
+
+def plainly_named(text):
+    """The text of a module with names of letters and figures alone."""
+    names = {}
+    return re.sub(r'^("[^"\n]*"|[\w.$-]+)(?=:)|(?<=%)("[^"\n]*"|[\w.$-]+)',
+                  lambda it: names.setdefault(it[0], f"n{len(names)}"), text, flags=re.M)
+
+
+def translated(text, header):
+    """The header of inline functions, of the text of a module."""
+    found, text = {}, plainly_named(text)
+    for name, words, body in re.findall(
+            r"^define [^@]*@(\w+)\((.*?)\)(?: \w+)*(?: #\d+)?(?: align \d+)? \{\n(.*?)^\}", text,
+            re.M | re.S):
+        if name in header.calls:
+            lines = [line for line in body.splitlines() if line.strip()]
+            found[name] = Function(name, words, lines, header).text()
+    missing = [it for it in header.calls if it not in found]
+    if missing:
+        raise Unknown(f"no text of {' '.join(missing)}")
+    return HEAD + "\n" + "\n".join(found[it] for it in header.calls)
+
+
+def build(work):
+    """Builds the archive in a folder as a release does, and answers its file and the text of the
+    module that clang was given."""
+    home, tools = kit(), work / "toolchain"
+    (tools / "bin").mkdir(parents=True)
+    for path in Path(home, "toolchain").iterdir():
+        if path.name != "bin":
+            (tools / path.name).symlink_to(path)
+    for path in Path(home, "toolchain/bin").iterdir():
+        (tools / "bin" / path.name).symlink_to(path)
+    clang, module, archive = f"{home}/toolchain/bin/clang", work / "module.bc", work / "library.a"
+    (tools / "bin/clang").unlink()
+    (tools / "bin/clang").write_text(KEEPER.format(kept=module, clang=clang))
+    (tools / "bin/clang").chmod(0o755)
+    home_of_crate = TOP / "crates" / CRATE
+    libraries = [TOP / f"crates/{it}/out/rlib" for it in below(CRATE, listed())[:-1]]
+    if any((it / "stamp").is_file() or not it.is_dir() for it in libraries):
+        # (rt ci leaves of libraries what rt check would make again)
+        subprocess.run(["rt", "check"], cwd=home_of_crate, check=True, stdout=sys.stderr)
+    words = compiler("build", CRATE, "src/lib.rt", TOP)
+    words[words.index("--toolchain") + 1] = str(tools)
+    words += ["-o", str(archive), "--crate-type", "staticlib", "--backend", "llvm", "--jobs", "2"]
+    if (home_of_crate / "out/incremental").is_dir():
+        words += ["--incremental", "out/incremental"]
+    subprocess.run(words, cwd=home_of_crate, check=True, stdout=sys.stderr)
+    text = subprocess.run([clang, *AS_TEXT, "-o", "-", str(module)], check=True,
+                          stdout=subprocess.PIPE, text=True).stdout
+    return archive, text
+
+
+def main(words):
+    if words not in ([], ["--check"]):
+        sys.exit(__doc__)
+    with tempfile.TemporaryDirectory() as work:
+        try:
+            archive, text = build(Path(work))
+            made = translated(text, Header(read(HEADER)))
+        except Unknown as fault:
+            sys.exit(f"inline_header.py: there is no translation of {fault}")
+        if not words:
+            MADE.write_text(made)
+            return 0
+        cases = Cases()
+        cases.holds("the archive of the release is of the same build",
+                    archive.read_bytes() == ARCHIVE.read_bytes(), "run ./release.sh")
+        cases.holds("the inline calls are those of the module", made == read(MADE),
+                    "run tools/inline_header.py")
+        return cases.sum_up()
+
+
+if __name__ == "__main__":
+    sys.exit(main(sys.argv[1:]))
