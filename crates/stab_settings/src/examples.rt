@@ -16,9 +16,11 @@ pub fn worked_out()
     ensures harmless { apply_items (λ item. []) empty_table (5 ∷ 7 ∷ []) 5 ≡ None }
     // Where each item sets the key that it is, the items from place 3 up to 5 of 1, 2, 0, 2, 1 are
     // a refresh of the keys 1 and 2, and those from 3 up to 4 are none.
-    ensures refresh { let reading : Reading = (λ item. record { key = item; value = Some 9 } ∷ []) in
+    ensures refresh { let reading : Reading = (λ item.
+        record { key = item; value = Some 9 } ∷ []) in
         IsRefresh reading (1 ∷ 2 ∷ []) (1 ∷ 2 ∷ 0 ∷ 2 ∷ 1 ∷ []) 3 5 }
-    ensures no_refresh { let reading : Reading = (λ item. record { key = item; value = Some 9 } ∷ []) in
+    ensures no_refresh { let reading : Reading = (λ item.
+        record { key = item; value = Some 9 } ∷ []) in
         ¬ IsRefresh reading (1 ∷ 2 ∷ []) (1 ∷ 2 ∷ 0 ∷ 2 ∷ 1 ∷ []) 3 4 }
     // A node that received the items at the places 3, 5 and 6 has come to 7.
     ensures come { (reached (3 ∷ 5 ∷ 6 ∷ []) ≡ 7) × (reached [] ≡ 0) }
