@@ -1,6 +1,7 @@
 ghost use Rattle.std.specs.Prelude.{◌≡◌, ◌↔◌, ◌<◌, ◌≤◌, ◌++◌, IsTrue, OnErr, OnOk, decimal};
 ghost use Rattle.std.specs.Prelude.{length, string_bytes};
-ghost use Rattle.rignolda_findings.specs.Gathered.{Adds, Counts, most_counted, most_findings, nothing};
+ghost use Rattle.rignolda_findings.specs.Gathered.{Adds, Counts, most_counted, most_findings};
+ghost use Rattle.rignolda_findings.specs.Gathered.{nothing};
 ghost use Rattle.rignolda_findings.specs.Shapes.{of_json, of_shape};
 
 use crate::explanation::{Finding, Matter};

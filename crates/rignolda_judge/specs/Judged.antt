@@ -1,7 +1,7 @@
 -- Logs that are judged, and why some bytes have no verdict.
 -- Example: The bytes of a job whose member `received` has one list for each of its nodes are
--- judged: the answer is `obeys` and a newline, or names the node whose list the laws do not allow. Without
--- that member the fault is a wrong shape of the logs.
+-- judged: the answer is `obeys` and a newline, or names the node whose list the laws do not allow.
+-- Without that member the fault is a wrong shape of the logs.
 -- Source: this project's own.
 use Rattle.std.specs.Prelude.{◌≡◌, ℕ, ◌↔◌, Bool, List, Option, Some, None, IsTrue, Result, Ok, Err}
 use Rattle.serde_json.specs.Data.{Data}
@@ -35,8 +35,8 @@ logs_in t None = Err fault.Shape
 logs_in t (Some d) = logs t d
 
 -- These bytes are a job with logs. It is answered that they obey exactly if they obey the laws
--- since a moment, whatever was in the links and nodes then; and the answer says so, or which part is
--- broken.
+-- since a moment, whatever was in the links and nodes then; and the answer says so, or which part
+-- is broken.
 pub record IsJudged (input : List ℕ) (obeys : Bool) (answer : List ℕ) : Type 0 where
   pub its_job : JobValue
   pub read : IsJob input its_job

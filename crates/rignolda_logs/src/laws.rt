@@ -16,8 +16,8 @@ ghost use Rattle.stab_treecore.specs.TreeReplay.{initial_tree};
 /// since the last fault on its path, each node has one.
 pub fn runs_since_a_fault_obey()
     ensures moments { (net : Network) (logs : LogsValue) (m : Moment)
-        (gain : ℕ → List ℕ) (node : ℕ) → IsMomentOf net m → IsLogOf net logs m gain node → LawSince m gain node
-        → LogObeys net logs node }
+        (gain : ℕ → List ℕ) (node : ℕ) → IsMomentOf net m → IsLogOf net logs m gain node
+        → LawSince m gain node → LogObeys net logs node }
     ensures runs { (first net : Network) (before after : List Change) (logs : LogsValue) (node : ℕ)
         → IsNetwork first → Fit (initial_tree first) before
         → let s = changes_replay (initial_tree first) before in

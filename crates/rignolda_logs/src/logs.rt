@@ -3,7 +3,8 @@
 ghost use Rattle.std.specs.Prelude.{◌≡◌, ◌≢◌, ◌<◌, MatchResult, Ok, Err, IfOk, length, option_map};
 ghost use Rattle.serde_json.specs.View.{view};
 ghost use Rattle.stab_json.specs.Values.{item_number, list_of};
-ghost use Rattle.rignolda_logs.specs.Logs.{fitting, from_at, from_of, logs, received_at, received_of};
+ghost use Rattle.rignolda_logs.specs.Logs.{fitting, from_at, from_of, logs, received_at};
+ghost use Rattle.rignolda_logs.specs.Logs.{received_of};
 
 use serde_json::Value;
 use stab_frames::{Item, Sequence};

@@ -5,12 +5,12 @@ ghost use Rattle.std.specs.Prelude.{IfOk, OnOk, Some};
 ghost use Rattle.stab_job.specs.JobValues.{network};
 ghost use Rattle.stab_tree.specs.Nodes.{parent_at};
 ghost use Rattle.rignolda_verdict.specs.BoundsTexts.{arrival_line, bounds_text, cost_words};
-ghost use Rattle.rignolda_verdict.specs.BoundsTexts.{more_words, parts_words};
 ghost use Rattle.rignolda_verdict.specs.BoundsTexts.{fault_lines, inner_line, leaf_line};
-ghost use Rattle.rignolda_verdict.specs.BoundsTexts.{lines_below_root, missing_words, no_more_words};
-ghost use Rattle.rignolda_verdict.specs.BoundsTexts.{node_bounds, node_lines, published_line};
-ghost use Rattle.rignolda_verdict.specs.BoundsTexts.{restart_line, root_line, rounds_words};
-ghost use Rattle.rignolda_verdict.specs.BoundsTexts.{strays_words, strike_line, sums_words};
+ghost use Rattle.rignolda_verdict.specs.BoundsTexts.{lines_below_root, missing_words, more_words};
+ghost use Rattle.rignolda_verdict.specs.BoundsTexts.{no_more_words, node_bounds, node_lines};
+ghost use Rattle.rignolda_verdict.specs.BoundsTexts.{parts_words, published_line, restart_line};
+ghost use Rattle.rignolda_verdict.specs.BoundsTexts.{root_line, rounds_words, strays_words};
+ghost use Rattle.rignolda_verdict.specs.BoundsTexts.{strike_line, sums_words};
 ghost use Rattle.rignolda_verdict.specs.Costs.{missing_of};
 
 use crate::costs::greatest_below;

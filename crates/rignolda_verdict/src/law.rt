@@ -1,8 +1,8 @@
 //! A link that breaks the link law, as text.
 
 ghost use Rattle.std.specs.Prelude.{◌≡◌, ◌++◌, ◌<◌, length, string_bytes, OnOk};
-ghost use Rattle.rignolda_verdict.specs.Verdicts.{acked_words, capacity_words, law_above, law_below};
-ghost use Rattle.rignolda_verdict.specs.Verdicts.{law_head, link_head, link_law_text};
+ghost use Rattle.rignolda_verdict.specs.Verdicts.{acked_words, capacity_words, law_above};
+ghost use Rattle.rignolda_verdict.specs.Verdicts.{law_below, law_head, link_head, link_law_text};
 ghost use Rattle.rignolda_verdict.specs.Verdicts.{lists_above};
 
 use crate::broken::{push_items, push_own_lists};

@@ -39,9 +39,11 @@ pub extern "C" fn stab_page_tree_report(
     numbers: &mut [u64],
 ) -> usize
     ensures count { result ≡ length (tree_answer (map parent_of parents.now)
-        (openings_of hold openings.now) links.now published.now (map tree_event_of events.now) (length numbers.old)) }
+        (openings_of hold openings.now) links.now published.now (map tree_event_of events.now)
+        (length numbers.old)) }
     ensures numbers { take result numbers.new ≡ tree_answer (map parent_of parents.now)
-        (openings_of hold openings.now) links.now published.now (map tree_event_of events.now) (length numbers.old) }
+        (openings_of hold openings.now) links.now published.now (map tree_event_of events.now)
+        (length numbers.old) }
     ensures states { (tree : Nodes) → tree.parents ≡ map parent_of parents.now
         → let openings = openings_of hold openings.now in
         whole (traced_tree_replay (traced_initial_tree tree.parents openings

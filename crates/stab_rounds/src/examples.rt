@@ -41,8 +41,8 @@ pub fn worked_out()
         × (acks_received four_labels s (worst_events 1 10) ≡ 3)
         × (ignored_among four_labels s (worst_events 1 10) ≡ 0) }
     // Capacity 2: nineteen of the slowest rounds acknowledge three items, one each five.
-    ensures slowest { (replay (fewest_labels_of 2) (initial (slow_start 2)) (slow_rounds 10 19)).acked
-        ≡ 3 }
+    ensures slowest { let s = initial (slow_start 2) in
+        (replay (fewest_labels_of 2) s (slow_rounds 10 19)).acked ≡ 3 }
     // Of a chain of two links and one round of all: the upper link's five acts, and then the lower
     // one's.
     ensures chain { let parents = None ∷ Some 0 ∷ Some 1 ∷ [] in
@@ -53,7 +53,8 @@ pub fn worked_out()
     // Three items in that chain, with capacity 1 and a hold of 2 at the inner node: below the root
     // 4 reading rounds or 3 * 4 rounds are enough. The inner node can have 3 items and 3 strays, so
     // below it 8 reading rounds, or 3 * 7 + 1 rounds.
-    ensures enough { let own : LinkSetup = record { params = fewest_labels_of 1; start = clean_start } in
+    ensures enough { let own : LinkSetup =
+        record { params = fewest_labels_of 1; start = clean_start } in
         let net : Network = record {
           tree = record {
             names = [];
