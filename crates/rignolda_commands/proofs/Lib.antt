@@ -3,4 +3,5 @@ pub mod Unscheduled
 pub mod Offers
 pub mod Told
 pub mod Drawn
+pub mod ReadAs
 pub mod Unread

@@ -15,9 +15,9 @@ ghost use Rattle.rignolda_commands.specs.Checked.{IsUncheckedTree, IsUnloadedRep
 ghost use Rattle.rignolda_moment.specs.Backlogs.{backlogs};
 
 use crate::answer::write_text;
-use crate::draw::kind_of_bytes;
 use crate::fault::{CheckFault, unread, unread_link};
 use crate::job::{begun_job_and_members, begun_link_job};
+use crate::kind::{kind_of_bytes, seems_a_job};
 use rignolda_findings::Kind;
 use rignolda_moment::{BacklogFault, read_backlogs, verdict_since};
 use rignolda_verdict::{link_verdict, read_link_report, verdict};
@@ -82,8 +82,60 @@ fn check_input<J: Read, R: Read>(
     Ok(said)
 }
 
-/// What is said of the report or the link that this text is, of the job that these bytes are.
+/// What is said of the report or the link that this text is, of the job that these bytes are. A job
+/// of a tree is read at once where it seems to be one, and else they are looked at first.
 fn check_bytes(alloc: Global, bytes: &[u8], text: &[u8]) -> Result<(String, bool), CheckFault>
+    ensures checked { IfOk result (λ said.
+        IsChecked bytes.now text.now said.1 (string_bytes said.0)) }
+    ensures fault { IfErr result (IsUnchecked bytes.now) }
+    ensures loaded { (fault : CliFault) → result ≢ Err (CheckFault.Unloaded fault) }
+    ensures no_write { IfErr result (λ fault. fault ≢ CheckFault.Job CliFault.Write) }
+{
+    if seems_a_job(bytes) {
+        check_tree_first(alloc, bytes, text)
+    } else {
+        check_by_looks(alloc, bytes, text)
+    }
+}
+
+/// The same, where the bytes are read as a job of a tree first.
+fn check_tree_first(alloc: Global, bytes: &[u8], text: &[u8]) -> Result<(String, bool), CheckFault>
+    ensures checked { IfOk result (λ said.
+        IsChecked bytes.now text.now said.1 (string_bytes said.0)) }
+    ensures fault { IfErr result (IsUnchecked bytes.now) }
+    ensures loaded { (fault : CliFault) → result ≢ Err (CheckFault.Unloaded fault) }
+    ensures no_write { IfErr result (λ fault. fault ≢ CheckFault.Job CliFault.Write) }
+{
+    match begun_job_and_members(alloc, bytes) {
+        Ok((job, members)) => check_begun(alloc, &job, &members, bytes, text),
+        Err(_) => check_by_looks(alloc, bytes, text),
+    }
+}
+
+/// The same of the job of a tree that these bytes are, which can begin.
+#[tactic(auto, using(crate::proofs::ReadAs::checked_as_a_tree, crate::proofs::ReadAs::unchecked_as_a_tree))]
+fn check_begun(
+    alloc: Global,
+    job: &Job,
+    members: &Value,
+    bytes: &[u8],
+    text: &[u8],
+) -> Result<(String, bool), CheckFault>
+    requires begun { IsBegunUnscheduled bytes.now job.now }
+    requires backlogs { given_backlogs (value_of bytes.now)
+        ≡ get (codes "backlogs") (view members.now) }
+    ensures checked { IfOk result (λ said.
+        IsChecked bytes.now text.now said.1 (string_bytes said.0)) }
+    ensures fault { IfErr result (IsUnchecked bytes.now) }
+    ensures loaded { (fault : CliFault) → result ≢ Err (CheckFault.Unloaded fault) }
+    ensures no_write { IfErr result (λ fault. fault ≢ CheckFault.Job CliFault.Write) }
+{
+    let said = check_job(alloc, job, members, bytes, text)?;
+    Ok(said)
+}
+
+/// The same, by what the bytes look like.
+fn check_by_looks(alloc: Global, bytes: &[u8], text: &[u8]) -> Result<(String, bool), CheckFault>
     ensures checked { IfOk result (λ said.
         IsChecked bytes.now text.now said.1 (string_bytes said.0)) }
     ensures fault { IfErr result (IsUnchecked bytes.now) }

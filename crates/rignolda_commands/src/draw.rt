@@ -1,6 +1,7 @@
-ghost use Rattle.std.specs.Prelude.{◌≡◌, ◌≢◌, ℕ, List, false, Some, None, option_map, string_bytes};
+ghost use Rattle.std.specs.Prelude.{◌≡◌, ◌≢◌, ℕ, List, false, Some, None, Ok, string_bytes};
 ghost use Rattle.std.specs.Prelude.{All, IfErr, IfOk, IfSome, OnOk};
 ghost use Rattle.std.specs.Io.KnownBytes.{Appends, Keeps};
+ghost use Rattle.serde_json.specs.Data.{Data};
 ghost use Rattle.serde_json.specs.View.{view};
 ghost use Rattle.rignolda_commands.specs.Drawn.{IsDrawn, IsDrawnAs, IsDrawnBy, IsDrawnLink};
 ghost use Rattle.rignolda_commands.specs.Drawn.{IsDrawnScenario, IsDrawnTree, IsUndrawn, IsUndrawnBy};
@@ -13,7 +14,9 @@ ghost use Rattle.rignolda_draw.specs.Schedules.{schedule_run_text};
 ghost use Rattle.rignolda_draw_scenario.specs.ScenarioRuns.{scenario_run_text};
 ghost use Rattle.rignolda_explain.specs.Kinds.{chosen};
 ghost use Rattle.stab_job.specs.JobValues.{network};
+ghost use Rattle.stab_job.specs.Jobs.{job};
 ghost use Rattle.stab_job.specs.Replays.{IsReplayReason};
+ghost use Rattle.stab_job_stream.specs.Parts.{SameMembers};
 ghost use Rattle.stab_json.specs.Values.{value_of};
 ghost use Rattle.rignolda_scenario.specs.Counts.{IsUnrun};
 ghost use Rattle.rignolda_scenario.specs.Scenarios.{scenario};
@@ -23,6 +26,7 @@ ghost use Rattle.stab_treecore.specs.Network.{IsNetwork};
 ghost use Rattle.stab_treecore.specs.Refusals.{NamesLink};
 
 use crate::answer::write_text;
+use crate::kind::{has_steps, looks_of_bytes, seems_a_job, seems_to_have_steps};
 use crate::scenario::StepsFault;
 use rignolda_draw::{run_text, schedule_run_text};
 use rignolda_draw_scenario::scenario_run_text;
@@ -32,12 +36,12 @@ use rignolda_scenario::{Scenario, ScenarioFault, read_scenario};
 use serde_json::Value;
 use stab_core::StartFault;
 use stab_job::Job;
-use stab_job_stream::{read_job, read_members};
+use stab_job_stream::{read_job, read_job_and_members};
 use stab_script::LinkJob;
 use stab_stream::read_link_job;
 use stab_task::{CliFault, load};
 use stab_treecore::TreeStartFault;
-use std::alloc::{AllocError, Global};
+use std::alloc::Global;
 use std::io::{Read, Write};
 
 /// Reads a job, and writes its run step by step, as text or as a picture: that of the link of a
@@ -81,9 +85,108 @@ fn draw_input<R: Read>(
     Ok(text)
 }
 
-/// The run of the job that these bytes are, or of its steps.
-#[tactic(auto, using(crate::proofs::Drawn::memory_is_refused))]
+/// The run of the job that these bytes are, or of its steps. A job of a tree is read at once where
+/// it seems to be one, and else they are looked at first.
 fn draw_bytes(alloc: Global, is_picture: bool, bytes: &[u8]) -> Result<String, StepsFault>
+    ensures drawn { IfOk result (λ text. IsDrawn is_picture bytes.now (string_bytes text)) }
+    ensures fault { IfErr result (IsUndrawn bytes.now) }
+    ensures no_write { IfErr result (λ fault. fault ≢ StepsFault.Job CliFault.Write) }
+{
+    if !seems_a_job(bytes) {
+        draw_by_looks(alloc, is_picture, bytes)
+    } else if seems_to_have_steps(bytes) {
+        draw_steps_first(alloc, is_picture, bytes)
+    } else {
+        draw_schedule_first(alloc, is_picture, bytes)
+    }
+}
+
+/// The same, where the bytes are read as a scenario first.
+fn draw_steps_first(alloc: Global, is_picture: bool, bytes: &[u8]) -> Result<String, StepsFault>
+    ensures drawn { IfOk result (λ text. IsDrawn is_picture bytes.now (string_bytes text)) }
+    ensures fault { IfErr result (IsUndrawn bytes.now) }
+    ensures no_write { IfErr result (λ fault. fault ≢ StepsFault.Job CliFault.Write) }
+{
+    match read_scenario(alloc, bytes) {
+        Ok(scenario) => draw_steps(alloc, is_picture, bytes, &scenario),
+        Err(_) => draw_by_looks(alloc, is_picture, bytes),
+    }
+}
+
+/// The run of the scenario that these bytes are.
+#[tactic(auto, using(crate::proofs::ReadAs::drawn_with_steps, crate::proofs::ReadAs::undrawn_with_steps, crate::proofs::Told::no_write))]
+fn draw_steps(
+    alloc: Global,
+    is_picture: bool,
+    bytes: &[u8],
+    its_scenario: &Scenario,
+) -> Result<String, StepsFault>
+    requires { scenario bytes.now ≡ Ok its_scenario.now }
+    ensures drawn { IfOk result (λ text. IsDrawn is_picture bytes.now (string_bytes text)) }
+    ensures fault { IfErr result (IsUndrawn bytes.now) }
+    ensures no_write { IfErr result (λ fault. fault ≢ StepsFault.Job CliFault.Write) }
+{
+    let text = scenario_run(alloc, is_picture, its_scenario)?;
+    Ok(text)
+}
+
+/// The same, where the bytes are read as a job first.
+fn draw_schedule_first(alloc: Global, is_picture: bool, bytes: &[u8]) -> Result<String, StepsFault>
+    ensures drawn { IfOk result (λ text. IsDrawn is_picture bytes.now (string_bytes text)) }
+    ensures fault { IfErr result (IsUndrawn bytes.now) }
+    ensures no_write { IfErr result (λ fault. fault ≢ StepsFault.Job CliFault.Write) }
+{
+    match read_job_and_members(alloc, bytes) {
+        Ok((job, members)) => draw_job(alloc, is_picture, bytes, &job, &members),
+        Err(_) => draw_by_looks(alloc, is_picture, bytes),
+    }
+}
+
+/// The run of the job that these bytes are, or of its steps, where there are some among the members
+/// of this value.
+#[tactic(auto, using(crate::proofs::ReadAs::with_their_steps))]
+fn draw_job(
+    alloc: Global,
+    is_picture: bool,
+    bytes: &[u8],
+    its_job: &Job,
+    members: &Value,
+) -> Result<String, StepsFault>
+    requires job { job bytes.now ≡ Ok its_job.now }
+    requires members { (d : Data) × (value_of bytes.now ≡ Some d) × SameMembers d (view members.now) }
+    ensures drawn { IfOk result (λ text. IsDrawn is_picture bytes.now (string_bytes text)) }
+    ensures fault { IfErr result (IsUndrawn bytes.now) }
+    ensures no_write { IfErr result (λ fault. fault ≢ StepsFault.Job CliFault.Write) }
+{
+    if has_steps(Some(members)) {
+        draw_by_looks(alloc, is_picture, bytes)
+    } else {
+        let text = draw_schedule(alloc, is_picture, bytes, its_job)?;
+        Ok(text)
+    }
+}
+
+/// The run of the schedule of the job that these bytes are, which have no steps.
+#[tactic(auto, using(crate::proofs::ReadAs::drawn_without_steps, crate::proofs::ReadAs::undrawn_without_steps))]
+fn draw_schedule(
+    alloc: Global,
+    is_picture: bool,
+    bytes: &[u8],
+    its_job: &Job,
+) -> Result<String, CliFault>
+    requires job { job bytes.now ≡ Ok its_job.now }
+    requires steps { has_steps (value_of bytes.now) ≡ false }
+    ensures drawn { IfOk result (λ text. IsDrawn is_picture bytes.now (string_bytes text)) }
+    ensures fault { IfErr result (λ fault. IsUndrawn bytes.now (StepsFault.Job fault)) }
+    ensures no_write { IfErr result (λ fault. fault ≢ CliFault.Write) }
+{
+    let text = tree_run(alloc, is_picture, its_job)?;
+    Ok(text)
+}
+
+/// The run of the job that these bytes are, or of its steps, by what they look like.
+#[tactic(auto, using(crate::proofs::Drawn::memory_is_refused))]
+fn draw_by_looks(alloc: Global, is_picture: bool, bytes: &[u8]) -> Result<String, StepsFault>
     ensures drawn { IfOk result (λ text. IsDrawn is_picture bytes.now (string_bytes text)) }
     ensures fault { IfErr result (IsUndrawn bytes.now) }
     ensures no_write { IfErr result (λ fault. fault ≢ StepsFault.Job CliFault.Write) }
@@ -91,28 +194,6 @@ fn draw_bytes(alloc: Global, is_picture: bool, bytes: &[u8]) -> Result<String, S
     let (kind, is_scenario) = looks_of_bytes(alloc, bytes)?;
     let text = draw_by(alloc, is_scenario, kind, is_picture, bytes)?;
     Ok(text)
-}
-
-/// What these bytes are read as, and whether they are an object with the members `tree` and
-/// `steps`.
-#[tactic(auto, using(crate::proofs::Looks::same_kind, crate::proofs::Looks::same_steps))]
-fn looks_of_bytes(alloc: Global, bytes: &[u8]) -> Result<(Kind, bool), CliFault>
-    ensures kind { IfOk result (λ looks. looks.0 ≡ chosen None (value_of bytes.now)) }
-    ensures has { IfOk result (λ looks. looks.1 ≡ has_steps (value_of bytes.now)) }
-    ensures memory { IfErr result (λ fault. fault ≡ CliFault.Memory) }
-{
-    let members = read_members(alloc, bytes)?;
-    Ok((kind_of(members.as_ref()), has_steps(members.as_ref())))
-}
-
-/// Whether there is a value, and it is an object with the members `tree` and `steps`.
-fn has_steps(value: Option<&Value>) -> bool
-    ensures { result ≡ has_steps (option_map (λ lent. view lent.now) value.entry) }
-{
-    match value {
-        Some(value) if value.get("tree").is_some() => value.get("steps").is_some(),
-        _ => false,
-    }
 }
 
 /// The run of bytes that have steps, or of others of this kind.
@@ -176,26 +257,6 @@ fn draw_kind(alloc: Global, kind: Kind, is_picture: bool, bytes: &[u8]) -> Resul
     match kind {
         Kind::LinkJob => draw_link(alloc, is_picture, bytes),
         Kind::Job => draw_tree(alloc, is_picture, bytes),
-    }
-}
-
-/// What these bytes are read as: an object with a member `tree` is a job of a tree, and everything
-/// else a link job.
-#[tactic(auto, using(crate::proofs::Looks::same_kind))]
-pub(crate) fn kind_of_bytes(alloc: Global, bytes: &[u8]) -> Result<Kind, AllocError>
-    ensures { IfOk result (λ kind. kind ≡ chosen None (value_of bytes.now)) }
-{
-    let members = read_members(alloc, bytes)?;
-    Ok(kind_of(members.as_ref()))
-}
-
-/// What a value is read as, where there is one.
-fn kind_of(value: Option<&Value>) -> Kind
-    ensures { result ≡ chosen None (option_map (λ lent. view lent.now) value.entry) }
-{
-    match value {
-        Some(value) if value.get("tree").is_some() => Kind::Job,
-        _ => Kind::LinkJob,
     }
 }
 

@@ -12,6 +12,7 @@ mod check;
 mod draw;
 mod fault;
 mod job;
+mod kind;
 pub mod laws;
 mod random;
 mod scenario;

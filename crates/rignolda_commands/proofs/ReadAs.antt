@@ -1,0 +1,162 @@
+-- What is read as a job of a tree names a tree, and what is read as a scenario names steps as well;
+-- so both are known for what they are, and what is said of them is said of their bytes.
+use Rattle.std.proofs.Common.{◌≡◌, ℕ, List, Bool, true, false, Option, Some, None, Result, Ok, Err, All, codes, is_some, if◌then◌else◌, option_and_then, refl, sym, ap, ◌∙◌, subst}
+use Rattle.serde_json.specs.Data.{Data}
+use Rattle.serde_json.specs.Find.{as_array, get}
+use Rattle.stab_job.specs.JobMembers.{Members, members}
+use Rattle.stab_job.specs.JobOpenings.{version_of}
+use Rattle.stab_job.specs.Jobs.{job, job_of_data, job_of_members}
+use Rattle.stab_job.specs.JobValues.{JobValue, network}
+use Rattle.stab_job.specs.Replays.{IsReplayReason}
+use Rattle.stab_job.specs.declared.fault.JobFault.{JobFault}
+use Rattle.stab_job.specs.declared.fault.JobFault.TheVariants as job_fault
+use Rattle.stab_job_stream.specs.Parts.{SameMembers}
+use Rattle.stab_job_stream.specs.Unscheduled.{unscheduled}
+use Rattle.stab_json.specs.Checks.{◌>>=◌, ◌or◌, ◌refused_as◌}
+use Rattle.stab_json.specs.Values.{value_of, most_u16, capped}
+use Rattle.stab_task.specs.Answers.{IsFault}
+use Rattle.stab_task.specs.declared.fault.CliFault.TheVariants as task
+use Rattle.stab_treecore.specs.Network.{IsNetwork}
+use Rattle.stab_treecore.specs.Refusals.{NamesLink}
+use Rattle.stab_treecore.specs.declared.fault.TreeStartFault.{TreeStartFault}
+use Rattle.rignolda_draw.specs.Schedules.{schedule_run_text}
+use Rattle.rignolda_draw_scenario.specs.ScenarioRuns.{scenario_run_text}
+use Rattle.rignolda_explain.specs.Kinds.{chosen}
+use Rattle.rignolda_findings.specs.declared.refusal.Kind.TheVariants as kind
+use Rattle.rignolda_scenario.specs.Counts.{IsUnrun}
+use Rattle.rignolda_scenario.specs.Refusals.{job_refused}
+use Rattle.rignolda_scenario.specs.Scenarios.{scenario, steps_after, steps_of, with_steps}
+use Rattle.rignolda_scenario.specs.declared.fault.ScenarioFault.{ScenarioFault}
+use Rattle.rignolda_scenario.specs.declared.fault.ScenarioFault.TheVariants as scenario_fault
+use Rattle.rignolda_scenario.specs.declared.read.Scenario.{Scenario}
+use Rattle.rignolda_scenario.specs.declared.step.Step.{Step}
+use Rattle.rignolda_commands.specs.Begun.{IsBegunUnscheduled}
+use Rattle.rignolda_commands.specs.Checked.{IsChecked, IsCheckedAs, IsJudgedBy, IsUnchecked, IsUncheckedAs, IsUncheckedTree, given_backlogs}
+use Rattle.rignolda_commands.specs.Drawn.{IsDrawn, IsDrawnAs, IsDrawnBy, IsUndrawn, IsUndrawnBy, has_steps, task_of}
+use Rattle.rignolda_commands.specs.Told.{steps_refused}
+use Rattle.rignolda_commands.specs.declared.fault.CheckFault.{CheckFault}
+use Rattle.rignolda_commands.specs.declared.scenario.StepsFault.TheVariants.{Job}
+use Rattle.rignolda_commands.proofs.Looks.{same_steps}
+use Rattle.rignolda_commands.proofs.Told.{unrun}
+use Rattle.rignolda_commands.proofs.Unscheduled.{checked_by_whole}
+
+-- ---- what a job and a scenario name
+
+-- nothing comes of nothing, and nothing of what ends in nothing
+none_here : {A B : Type 0} (o : Option A) (f : A → Option B) → o ≡ None → option_and_then f o ≡ None
+none_here o f none = rw none refl
+
+none_after : {A B : Type 0} (o : Option A) (f : A → Option B) → ((x : A) → f x ≡ None) → option_and_then f o ≡ None
+none_after None f none = refl
+none_after (Some x) f none = none x
+
+-- without members there is no job, whatever its version is
+no_job_of : {V : Type 0} (o : Option V) (found : V → Option Members) (its_job : JobValue) → ((v : V) → found v ≡ None)
+    → ((o or job_fault.Version) >>= (λ v. (found v or job_fault.Shape) >>= job_of_members)) ≡ Ok its_job → ⊥
+no_job_of None found its_job none read = (let never : Err job_fault.Version ≡ Ok its_job = read in cc)
+no_job_of (Some v) found its_job none read =
+    let never : Err job_fault.Shape ≡ Ok its_job =
+    ap (λ (ms : Option Members). (ms or job_fault.Shape) >>= job_of_members) (sym (none v)) ∙ read in cc
+
+-- and without a tree there are no members, so a value that is a job has a tree
+value_has_tree : (d : Data) (its_job : JobValue) (o : Option Data) → get (codes "tree") d ≡ o → job_of_data d ≡ Ok its_job → is_some (get (codes "tree") d) ≡ true
+value_has_tree d its_job None is read =
+    absurd (no_job_of (version_of (get (codes "version") d)) (λ version. members version d) its_job
+    (λ version. none_after (option_and_then (capped most_u16) (get (codes "capacity") d)) _ (λ capacity.
+    none_after (option_and_then (capped most_u16) (get (codes "labels") d)) _ (λ labels. none_here (get (codes "tree") d) _ is))) read)
+value_has_tree d its_job (Some tree) is read = ap is_some is
+
+-- and bytes that are a job have one
+has_tree : (input : List ℕ) (its_job : JobValue) (d : Data) → value_of input ≡ Some d → job input ≡ Ok its_job → is_some (get (codes "tree") d) ≡ true
+has_tree input its_job d is read =
+    value_has_tree d its_job (get (codes "tree") d) refl (subst (λ o. ((o or job_fault.Json) >>= job_of_data) ≡ Ok its_job) is read)
+
+read_as_a_tree : (input : List ℕ) (its_job : JobValue) (o : Option Data) → value_of input ≡ o → job input ≡ Ok its_job → chosen None (value_of input) ≡ kind.Job
+read_as_a_tree input its_job None is read =
+    absurd (let never : Err job_fault.Json ≡ Ok its_job = subst (λ o. ((o or job_fault.Json) >>= job_of_data) ≡ Ok its_job) is read in cc)
+read_as_a_tree input its_job (Some d) is read =
+    ap (λ o. chosen None o) is ∙ ap (λ b. if b then kind.Job else kind.LinkJob) (has_tree input its_job d is read)
+
+-- so they are read as one
+pub job_is_a_tree : (input : List ℕ) (its_job : JobValue) → job input ≡ Ok its_job → chosen None (value_of input) ≡ kind.Job
+job_is_a_tree input its_job read = read_as_a_tree input its_job (value_of input) refl read
+
+-- the scenario of these steps
+abbrev of_steps : JobValue → List Step → Result Scenario ScenarioFault
+of_steps j steps = Ok (record { job = j; steps = steps })
+
+-- a value whose steps are read has some
+steps_needed : (d : Data) (j : JobValue) (its_scenario : Scenario) (o : Option Data) → get (codes "steps") d ≡ o
+    → (steps_of j d >>= of_steps j) ≡ Ok its_scenario → is_some (get (codes "steps") d) ≡ true
+steps_needed d j its_scenario None is read =
+    absurd (let never : Err scenario_fault.Steps ≡ Ok its_scenario =
+    subst (λ (o : Option Data). ((((option_and_then as_array o) or scenario_fault.Steps) >>= steps_after j.tree j.params 0) >>= of_steps j) ≡ Ok its_scenario) is read in cc)
+steps_needed d j its_scenario (Some steps) is read = ap is_some is
+
+-- and so do bytes that are a scenario, which are a job as well
+of_both : (input : List ℕ) (its_scenario : Scenario) (o : Option Data) (r : Result JobValue JobFault) → value_of input ≡ o → job input ≡ r
+    → ((r refused_as job_refused) >>= (λ its_job. with_steps (unscheduled its_job) input)) ≡ Ok its_scenario → has_steps (value_of input) ≡ true
+of_both input its_scenario o (Err refusal) is whole read = absurd (let never : Err (job_refused refusal) ≡ Ok its_scenario = read in cc)
+of_both input its_scenario None (Ok its_job) is whole read =
+    let j = unscheduled its_job in
+    absurd (let never : Err scenario_fault.Steps ≡ Ok its_scenario =
+    subst (λ (o : Option Data). (((o or scenario_fault.Steps) >>= steps_of j) >>= of_steps j) ≡ Ok its_scenario) is read in cc)
+of_both input its_scenario (Some d) (Ok its_job) is whole read =
+    let j = unscheduled its_job in
+    let steps =
+    steps_needed d j its_scenario (get (codes "steps") d) refl
+    (subst (λ (o : Option Data). (((o or scenario_fault.Steps) >>= steps_of j) >>= of_steps j) ≡ Ok its_scenario) is read) in
+    ap has_steps is
+    ∙ (ap (λ b. if b then is_some (get (codes "steps") d) else false) (has_tree input its_job d is whole) ∙ steps)
+
+pub scenario_has_steps : (input : List ℕ) (its_scenario : Scenario) → scenario input ≡ Ok its_scenario → has_steps (value_of input) ≡ true
+scenario_has_steps input its_scenario read = of_both input its_scenario (value_of input) (job input) refl refl read
+
+-- members that were read beside the schedule tell of the steps
+pub with_their_steps : (input : List ℕ) (others : Data) → (d : Data) × (value_of input ≡ Some d) × SameMembers d others
+    → has_steps (Some others) ≡ has_steps (value_of input)
+with_their_steps input others (d, is, same) = same_steps (Some d) (Some others) same ∙ ap has_steps (sym is)
+
+-- ---- a report that is checked
+
+pub checked_as_a_tree : (input text : List ℕ) (its_job : JobValue) (obeys : Bool) (answer : List ℕ) → IsBegunUnscheduled input its_job
+    → IsJudgedBy (given_backlogs (value_of input)) its_job text obeys answer → IsChecked input text obeys answer
+checked_as_a_tree input text its_job obeys answer begun is =
+    subst (λ k. IsCheckedAs k input text obeys answer) (sym (job_is_a_tree input begun.whole begun.begun.read))
+    (checked_by_whole input its_job text obeys answer begun is)
+
+pub unchecked_as_a_tree : (input : List ℕ) (its_job : JobValue) (fault : CheckFault) → IsBegunUnscheduled input its_job
+    → IsUncheckedTree input fault → IsUnchecked input fault
+unchecked_as_a_tree input its_job fault begun why =
+    subst (λ k. IsUncheckedAs k input fault) (sym (job_is_a_tree input begun.whole begun.begun.read)) why
+
+-- ---- a run that is drawn
+
+pub drawn_with_steps : (is_picture : Bool) (input text : List ℕ) (its_scenario : Scenario) → scenario input ≡ Ok its_scenario
+    → (is_picture ≡ false → text ≡ scenario_run_text its_scenario) → IsDrawn is_picture input text
+drawn_with_steps is_picture input text its_scenario read is =
+    subst (λ has. IsDrawnBy has is_picture input text) (sym (scenario_has_steps input its_scenario read))
+    (record { its_scenario = its_scenario; read = read; the_text = is })
+
+pub undrawn_with_steps : (input : List ℕ) (its_scenario : Scenario) (refusal : ScenarioFault) → scenario input ≡ Ok its_scenario
+    → IsUnrun its_scenario.job its_scenario.steps refusal → IsUndrawn input (steps_refused refusal)
+undrawn_with_steps input its_scenario refusal read why =
+    subst (λ has. IsUndrawnBy has input (steps_refused refusal)) (sym (scenario_has_steps input its_scenario read))
+    (unrun input its_scenario refusal read why)
+
+pub drawn_without_steps : (is_picture : Bool) (input text : List ℕ) (its_job : JobValue) → job input ≡ Ok its_job → has_steps (value_of input) ≡ false
+    → IsNetwork (network its_job) → All (NamesLink its_job.tree.parents) its_job.schedule
+    → (is_picture ≡ false → text ≡ schedule_run_text (network its_job) its_job.schedule) → IsDrawn is_picture input text
+drawn_without_steps is_picture input text its_job read none begins named is =
+    subst (λ has. IsDrawnBy has is_picture input text) (sym none)
+    (subst (λ k. IsDrawnAs k is_picture input text) (sym (job_is_a_tree input its_job read))
+    (record { job = its_job; read = read; begins = begins; named = named; the_text = is }))
+
+pub undrawn_without_steps : (input : List ℕ) (its_job : JobValue) (fault : TreeStartFault) → job input ≡ Ok its_job → has_steps (value_of input) ≡ false
+    → IsReplayReason its_job fault → IsUndrawn input (Job (task.Tree fault))
+undrawn_without_steps input its_job fault read none why =
+    subst (λ has. IsUndrawnBy has input (Job (task.Tree fault))) (sym none) (
+      task.Tree fault,
+      refl,
+      subst (λ k. IsFault (task_of k) input (task.Tree fault)) (sym (job_is_a_tree input its_job read)) (its_job, read, why),
+    )
