@@ -44,24 +44,25 @@ fn walked(
 {
     let value = read_value(alloc, bytes)?;
     let kind = chosen(given, value.as_ref());
-    let mut notes = Notes::new(alloc, kind);
-    look(&mut notes, kind, value.as_ref(), bytes)?;
-    let refusal = refusal_of(alloc, kind, bytes, value.as_ref())?;
+    let notes = look(alloc, kind, value.as_ref(), bytes)?;
+    let refusal = refusal_of(alloc, kind, value)?;
     Ok((kind, notes, refusal))
 }
 
-/// Adds what is found in the value of these bytes, or that they have none.
+/// What is found in the value of these bytes, or that they have none.
 fn look(
-    notes: &mut Notes,
+    alloc: Global,
     kind: Kind,
     value: Option<&Value>,
     bytes: &[u8],
-) -> Result<(), AllocError> {
+) -> Result<Notes, AllocError> {
+    let mut notes = Notes::new(alloc, kind);
     match (value, kind) {
-        (None, _) => look_at_bytes(notes, bytes),
-        (Some(value), Kind::LinkJob) => look_at_link_job(notes, value),
-        (Some(value), Kind::Job) => look_at_job(notes, value),
+        (None, _) => look_at_bytes(&mut notes, bytes)?,
+        (Some(value), Kind::LinkJob) => look_at_link_job(&mut notes, value)?,
+        (Some(value), Kind::Job) => look_at_job(&mut notes, value)?,
     }
+    Ok(notes)
 }
 
 /// The findings, of which the first is of the refusal, where there is one. The walk makes the

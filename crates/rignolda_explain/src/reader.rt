@@ -3,15 +3,14 @@ ghost use Rattle.std.specs.Prelude.{option_map, IfOk};
 ghost use Rattle.serde_json.specs.View.{view};
 ghost use Rattle.stab_job.specs.Jobs.{job_of_data};
 ghost use Rattle.stab_json.specs.Values.{value_of};
-ghost use Rattle.stab_script.specs.LinkJobs.{link_job};
+ghost use Rattle.stab_script.specs.LinkJobs.{link_job_of_data};
 ghost use Rattle.rignolda_explain.specs.Kinds.{chosen, kind_of};
 ghost use Rattle.rignolda_explain.specs.Refusals.{refusal_of, refused};
 
 use rignolda_findings::{Kind, Refusal};
 use serde_json::Value;
 use stab_job::{JobFault, job_of_value};
-use stab_script::LinkJobFault;
-use stab_stream::read_link_job;
+use stab_script::{LinkJobFault, link_job_of_value};
 use std::alloc::{AllocError, Global};
 
 /// The kind that is given, or the one that the value looks like: an object with a member `tree` is
@@ -35,21 +34,20 @@ fn kind_of(value: Option<&Value>) -> Kind
     }
 }
 
-/// The fault that the reader of that kind finds in the bytes of this value, or in bytes that have
-/// none; only memory can be refused. The value of a job of a tree is not read again.
+/// The fault that the reader of that kind finds in bytes of this value, or in bytes that have none;
+/// only memory can be refused. The bytes are not read again.
 pub(crate) fn refusal_of(
     alloc: Global,
     kind: Kind,
-    bytes: &[u8],
-    value: Option<&Value>,
+    value: Option<Value>,
 ) -> Result<Option<Refusal>, AllocError>
-    requires { option_map (λ lent. view lent.now) value ≡ value_of bytes.now }
-    ensures { IfOk result (λ refusal. refusal ≡ refusal_of kind bytes.now) }
+    ensures { IfOk result (λ refusal. (bytes : List ℕ)
+        → option_map view value ≡ value_of bytes → refusal ≡ refusal_of kind bytes) }
 {
     match (value, kind) {
         (None, _) => Ok(Some(not_json(kind))),
-        (Some(_), Kind::LinkJob) => link_job_refusal(alloc, bytes),
-        (Some(value), Kind::Job) => job_refusal(alloc, value),
+        (Some(value), Kind::LinkJob) => link_job_refusal(alloc, value),
+        (Some(value), Kind::Job) => job_refusal(alloc, &value),
     }
 }
 
@@ -63,11 +61,12 @@ fn not_json(kind: Kind) -> Refusal
     }
 }
 
-/// The fault that `read_link_job` finds.
-fn link_job_refusal(alloc: Global, bytes: &[u8]) -> Result<Option<Refusal>, AllocError>
-    ensures { IfOk result (λ refusal. refusal ≡ refused Refusal.LinkJob (link_job bytes.now)) }
+/// The fault that `read_link_job` finds in bytes of this value.
+fn link_job_refusal(alloc: Global, value: Value) -> Result<Option<Refusal>, AllocError>
+    ensures { IfOk result (λ refusal. refusal
+        ≡ refused Refusal.LinkJob (link_job_of_data (view value))) }
 {
-    match read_link_job(alloc, bytes) {
+    match link_job_of_value(alloc, value) {
         Ok(_) => Ok(None),
         Err(LinkJobFault::Memory) => Err(AllocError),
         Err(fault) => Ok(Some(Refusal::LinkJob(fault))),
