@@ -10,16 +10,13 @@
 //! first finding is of that fault. The places, and all findings after the first, are tested.
 #![tactic(auto)]
 
-mod backlogs;
 mod explained;
 mod job;
 mod links;
-mod logs;
 mod openings;
 mod reader;
 mod schedule;
 mod scripts;
-mod steps;
 mod text;
 
 pub use explained::explain;

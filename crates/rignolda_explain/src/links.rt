@@ -5,9 +5,9 @@ use rignolda_findings::{
     Known, Notes, Piece, Place, START_MEMBERS, count_of, list_or_absent, look_at_begin,
     look_at_members, look_at_numbers, look_at_params, look_at_start,
 };
+use rignolda_steps::capacity_at;
 use serde_json::Value;
 use stab_job::JobFault;
-use stab_json::u16_member;
 use stab_tree::{NodeId, Tree};
 use std::alloc::AllocError;
 
@@ -145,17 +145,6 @@ pub(crate) fn look_at_link_params(
         look_at_params(notes, place_of_link("links", i, tree), link, Some(child))?;
     }
     Ok(())
-}
-
-/// The capacity of the link at a place: its own, or the job's.
-pub(crate) fn capacity_at(value: &Value, place: usize) -> Option<u16> {
-    match value.get("links") {
-        Some(Value::Array(links)) => match links.get(place) {
-            Some(Value::Object(_)) => u16_member(&links[place], "capacity"),
-            _ => u16_member(value, "capacity"),
-        },
-        _ => u16_member(value, "capacity"),
-    }
 }
 
 /// Looks whether each link can begin.

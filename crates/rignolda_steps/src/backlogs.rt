@@ -1,6 +1,6 @@
 //! What is wrong with the backlogs of a moment, which no reader of `stab` looks at.
 
-use crate::steps::{add_found, look_at_list};
+use crate::found::{add_found, look_at_list};
 use rignolda_findings::{Matter, Notes, Piece, Place};
 use serde_json::Value;
 use stab_tree::Tree;
@@ -13,7 +13,7 @@ const BACKLOGS: &str = "the backlogs are a list of lists of items, one for each 
 const BACKLOG: &str = "a backlog is a list of items, which the parent of its node had for the node";
 
 /// Looks at the backlogs of a job, where it has some.
-pub(crate) fn look_at_backlogs(
+pub fn look_at_backlogs(
     notes: &mut Notes,
     backlogs: Option<&Value>,
     tree: &Tree,

@@ -1,7 +1,7 @@
 //! What is wrong with the logs since a moment, which no reader of `stab` looks at.
 
 use crate::backlogs::{add_number, look_at_lists};
-use crate::steps::add_found;
+use crate::found::add_found;
 use rignolda_findings::{Notes, Place};
 use serde_json::Value;
 use stab_json::item;
@@ -21,7 +21,7 @@ const FROM: &str = "the places where counts begin are a list of whole numbers, o
 const PLACE: &str = "a place is a whole number from 0 to 4294967295";
 
 /// Looks at the logs of a job, where it has some, and at where the counts of the nodes begin.
-pub(crate) fn look_at_logs(notes: &mut Notes, job: &Value, tree: &Tree) -> Result<(), AllocError> {
+pub fn look_at_logs(notes: &mut Notes, job: &Value, tree: &Tree) -> Result<(), AllocError> {
     look_at_received(notes, job.get("received"), tree)?;
     look_at_places(notes, job.get("from"), tree)
 }
