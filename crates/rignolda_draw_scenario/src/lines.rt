@@ -184,7 +184,7 @@ fn push_reading_rounds(
     ensures same_tree { OnOk result (state.new.parents ≡ job.now.tree.parents) }
 {
     let tree = job.tree();
-    let round = reading_round_of_all(alloc, tree, job.params())?;
+    let round = reading_round_of_all(alloc, job)?;
     push_rounds(text, tree, state, number, "reading round", &round, count)?;
     Ok(())
 }

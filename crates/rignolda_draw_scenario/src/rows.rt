@@ -21,7 +21,7 @@ pub fn scenario_rows(alloc: Global, scenario: &Scenario) -> Result<Vec<Row>, Sce
 {
     let end = state_after(alloc, &scenario.job, scenario.steps.as_slice())?;
     drop(end);
-    let changes = listed_changes(alloc, scenario)?;
+    let changes = listed_changes(alloc, &scenario.job, scenario.steps.as_slice())?;
     match made_rows(alloc, scenario, &changes) {
         Ok(rows) => Ok(rows),
         Err(_) => Err(ScenarioFault::Memory),

@@ -5,10 +5,10 @@ use Rattle.serde_json.specs.declared.value.Value.{Value}
 use Rattle.rignolda_scenario.specs.Entries.{two_or_three}
 
 -- fewer than two values
-pub fewer_are_none : (vs : List Value) → length vs < 2 → two_or_three (items_view vs) ≡ None
-fewer_are_none [] few = refl
-fewer_are_none (v ∷ []) few = refl
-fewer_are_none (v ∷ w ∷ rest) few = absurd (omega arith)
+pub few_are_none : (vs : List Value) → length vs < 2 → two_or_three (items_view vs) ≡ None
+few_are_none [] few = refl
+few_are_none (v ∷ []) few = refl
+few_are_none (v ∷ w ∷ rest) few = absurd (omega arith)
 
 -- more than three values
 pub more_are_none : (vs : List Value) → 4 ≤ length vs → two_or_three (items_view vs) ≡ None

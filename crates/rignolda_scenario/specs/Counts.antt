@@ -37,17 +37,21 @@ pub record Counted : Type 0 where
   -- what was published since, in its count
   pub published : List ℕ
 
-abbrev pub counted : JobValue → List Step → ℕ → Counted
-counted j steps node =
-    let s = state_since j steps node in
-    let t = state_after j steps in
+-- what happens to a node from the state `s`, which the step of this number left, to the state `t`
+abbrev pub counted_over : ℕ → WholeTree → WholeTree → ℕ → Counted
+counted_over since s t node =
     record {
-      since = last_fault j.tree.parents node steps;
+      since = since;
       gained = gained s t node;
       strays = strays_since (moment s) node;
       missing = missing_since (moment s) node;
       published = published_since (moment s) (gained s t) node;
     }
+
+abbrev pub counted : JobValue → List Step → ℕ → Counted
+counted j steps node =
+    counted_over (last_fault j.tree.parents node steps) (state_since j steps node)
+    (state_after j steps) node
 
 -- why a scenario is not run: its steps are too many changes; its tree cannot begin, or one of them
 -- cannot be made; or memory

@@ -4,4 +4,5 @@ pub mod Scenarios
 pub mod Played
 pub mod LastFault
 pub mod Counts
+pub mod NodeCounts
 pub mod Texts

@@ -12,8 +12,8 @@ use Rattle.stab_treecore.specs.declared.fault.TreeStepFault.TheVariants as step_
 use Rattle.rignolda_scenario.specs.declared.fault.ListFault.{ListFault}
 use Rattle.rignolda_scenario.specs.declared.fault.ListFault.TheVariants as list
 use Rattle.rignolda_scenario.specs.declared.fault.ScenarioFault.{ScenarioFault}
-use Rattle.rignolda_scenario.specs.declared.fault.ScenarioFault.TheVariants.{Job, Run, TooManyEvents}
-use Rattle.rignolda_scenario.specs.declared.fault.ScenarioFault.TheVariants.{Memory}
+use Rattle.rignolda_scenario.specs.declared.fault.ScenarioFault.TheVariants.{Job, Memory, Run}
+use Rattle.rignolda_scenario.specs.declared.fault.ScenarioFault.TheVariants.{TooManyEvents}
 
 abbrev pub job_refused : JobFault → ScenarioFault
 job_refused job_fault.Memory = Memory

@@ -9,14 +9,13 @@ ghost use Rattle.rignolda_scenario.specs.Played.{most_changes, reading_round_of}
 ghost use Rattle.rignolda_scenario.specs.Played.{reading_round_on, repeated};
 
 use crate::fault::{ListFault, ScenarioFault};
-use crate::read::Scenario;
 use crate::step::Step;
 use stab_core::LinkAct;
 use stab_faults::Change;
-use stab_frames::Params;
+use stab_job::Job;
 use stab_rounds::round_of_all;
 use stab_script::MAX_EVENTS;
-use stab_tree::{NodeId, Tree};
+use stab_tree::NodeId;
 use stab_treecore::TreeEvent;
 use std::alloc::{AllocError, Global};
 
@@ -74,16 +73,13 @@ fn push_reading_round(
     push_act(events, child, LinkAct::RecvAck { keep: false })
 }
 
-/// One reading round of every link, in file order.
-pub fn reading_round_of_all(
-    alloc: Global,
-    tree: &Tree,
-    params: &[Params],
-) -> Result<Vec<TreeEvent>, AllocError>
-    requires { length params.now ≡ length (links_of tree.now.parents) }
+/// One reading round of every link of a job, in file order.
+pub fn reading_round_of_all(alloc: Global, job: &Job) -> Result<Vec<TreeEvent>, AllocError>
     ensures { IfOk result (λ events.
-        events.items ≡ reading_round_of (links_of tree.now.parents) params.now) }
+        events.items ≡ reading_round_of (links_of job.now.tree.parents) job.now.params) }
 {
+    let tree = job.tree();
+    let params = job.params();
     let mut events = Vec::new(alloc);
     'links: for place in 0..tree.link_count() {
         let capacity = params[usize::from(place)].capacity();
@@ -131,53 +127,45 @@ fn push_repeated(
     Ok(())
 }
 
-/// Adds the changes of a step.
+/// Adds the changes that a step of a job is.
 fn push_step(
     alloc: Global,
     changes: &mut Vec<Change>,
-    tree: &Tree,
-    params: &[Params],
+    job: &Job,
     step: &Step,
 ) -> Result<(), ListFault>
-    requires { length params.now ≡ length (links_of tree.now.parents) }
     ensures added { OnOk result (changes.new.items
-        ≡ changes.old.items ++ changes_in tree.now.parents params.now step.now) }
+        ≡ changes.old.items ++ changes_in job.now.tree.parents job.now.params step.now) }
     ensures refused { IfErr result (IsUnlisted
-        (changes.old.items ++ changes_in tree.now.parents params.now step.now)) }
+        (changes.old.items ++ changes_in job.now.tree.parents job.now.params step.now)) }
 {
     match step {
         Step::One(change) => push_copy(alloc, changes, change)?,
         Step::Rounds(count) => {
-            let round = round_of_all(alloc, tree)?;
+            let round = round_of_all(alloc, job.tree())?;
             push_repeated(changes, &round, *count)?;
         }
         Step::ReadingRounds(count) => {
-            let round = reading_round_of_all(alloc, tree, params)?;
+            let round = reading_round_of_all(alloc, job)?;
             push_repeated(changes, &round, *count)?;
         }
     }
     Ok(())
 }
 
-/// The changes that these steps are.
+/// The changes that these steps of a job are.
 #[tactic(auto, using(crate::proofs::Refused::unlisted_there))]
-pub(crate) fn changes_of(
-    alloc: Global,
-    tree: &Tree,
-    params: &[Params],
-    steps: &[Step],
-) -> Result<Vec<Change>, ListFault>
-    requires { length params.now ≡ length (links_of tree.now.parents) }
+fn changes_of(alloc: Global, job: &Job, steps: &[Step]) -> Result<Vec<Change>, ListFault>
     ensures listed { IfOk result (λ changes.
-        changes.items ≡ changes_of tree.now.parents params.now steps.now) }
+        changes.items ≡ changes_of job.now.tree.parents job.now.params steps.now) }
     ensures few { OnOk result
-        (length (changes_of tree.now.parents params.now steps.now) ≤ most_changes) }
+        (length (changes_of job.now.tree.parents job.now.params steps.now) ≤ most_changes) }
     ensures refused { IfErr result
-        (IsUnlisted (changes_of tree.now.parents params.now steps.now)) }
+        (IsUnlisted (changes_of job.now.tree.parents job.now.params steps.now)) }
 {
     let mut changes = Vec::new(alloc);
     for step in steps {
-        push_step(alloc, &mut changes, tree, params, step)?;
+        push_step(alloc, &mut changes, job, step)?;
     }
     if changes.len() > MAX_EVENTS {
         return Err(ListFault::TooMany);
@@ -185,14 +173,17 @@ pub(crate) fn changes_of(
     Ok(changes)
 }
 
-/// The changes that the steps of a scenario are. They are refused where they are too many.
+/// The changes that these steps of a job are. They are refused where they are too many.
 #[tactic(auto, using(crate::proofs::Refused::unrun_by_list))]
-pub fn listed_changes(alloc: Global, scenario: &Scenario) -> Result<Vec<Change>, ScenarioFault>
-    ensures listed { IfOk result (λ changes. changes.items ≡ changes_of
-        scenario.now.job.tree.parents scenario.now.job.params scenario.now.steps) }
-    ensures refused { IfErr result (IsUnrun scenario.now.job scenario.now.steps) }
+pub fn listed_changes(
+    alloc: Global,
+    job: &Job,
+    steps: &[Step],
+) -> Result<Vec<Change>, ScenarioFault>
+    ensures listed { IfOk result (λ changes.
+        changes.items ≡ changes_of job.now.tree.parents job.now.params steps.now) }
+    ensures refused { IfErr result (IsUnrun job.now steps.now) }
 {
-    let job = &scenario.job;
-    let changes = changes_of(alloc, job.tree(), job.params(), scenario.steps.as_slice())?;
+    let changes = changes_of(alloc, job, steps)?;
     Ok(changes)
 }

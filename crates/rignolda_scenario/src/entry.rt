@@ -8,9 +8,9 @@ ghost use Rattle.stab_json.specs.Values.{entries, item_number};
 ghost use Rattle.stab_script.specs.Events.{plain_act, loss_act};
 ghost use Rattle.stab_script.specs.Starts.{start};
 ghost use Rattle.rignolda_scenario.specs.Entries.{act_step, is_word, link_named, node_named};
-ghost use Rattle.rignolda_scenario.specs.Entries.{publish_step};
-ghost use Rattle.rignolda_scenario.specs.Entries.{restart_step, rounds_step, step_of, step_of_items};
-ghost use Rattle.rignolda_scenario.specs.Entries.{step_of_three, step_of_two, strike_step, start_fits};
+ghost use Rattle.rignolda_scenario.specs.Entries.{publish_step, restart_step, rounds_step};
+ghost use Rattle.rignolda_scenario.specs.Entries.{start_fits, step_of, step_of_items};
+ghost use Rattle.rignolda_scenario.specs.Entries.{step_of_three, step_of_two, strike_step};
 ghost use Rattle.rignolda_scenario.specs.Entries.{two_or_three};
 
 use crate::fault::StepFault;
@@ -19,6 +19,7 @@ use serde_json::Value;
 use stab_core::{LinkAct, Start};
 use stab_faults::Change;
 use stab_frames::{Item, Params, Sequence};
+use stab_job::Job;
 use stab_json::{label, read_entries};
 use stab_script::{PartFault, loss_act, plain_act, read_start};
 use stab_tree::{NodeId, Tree};
@@ -161,28 +162,27 @@ fn start_fits(params: Params, start: &Start) -> Result<(), StepFault>
     Ok(())
 }
 
-/// A strike at the link that a value names, after which this is in it.
+/// A strike at the link of a job that a value names, after which this is in it.
 fn strike_step(
     alloc: Global,
-    tree: &Tree,
-    params: &[Params],
+    job: &Job,
     word: &Value,
     name: &Value,
     value: &Value,
 ) -> Result<Step, StepFault>
     ensures { MatchResult result
-        (λ step. strike_step tree.now params.now (view word.now) (view name.now) (view value.now)
-        ≡ Ok step)
+        (λ step. strike_step job.now.tree job.now.params (view word.now) (view name.now)
+        (view value.now) ≡ Ok step)
         (λ fault. fault ≢ StepFault.Memory
-        → strike_step tree.now params.now (view word.now) (view name.now) (view value.now)
-        ≡ Err fault) }
+        → strike_step job.now.tree job.now.params (view word.now) (view name.now)
+        (view value.now) ≡ Err fault) }
 {
     if !is_word(word, "strike") {
         return Err(StepFault::Shape);
     }
     let start = start_of(alloc, value)?;
-    let (child, place) = link_named(tree, name)?;
-    let Some(own) = params.get(usize::from(place)) else {
+    let (child, place) = link_named(job.tree(), name)?;
+    let Some(own) = job.params().get(usize::from(place)) else {
         return Err(StepFault::Root);
     };
     start_fits(*own, &start)?;
@@ -219,34 +219,33 @@ fn step_of_two(alloc: Global, tree: &Tree, first: &Value, second: &Value) -> Res
     }
 }
 
-/// The step of a list of three values.
+/// The step of a list of three values, for a job.
 fn step_of_three(
     alloc: Global,
-    tree: &Tree,
-    params: &[Params],
+    job: &Job,
     first: &Value,
     second: &Value,
     third: &Value,
 ) -> Result<Step, StepFault>
     ensures { MatchResult result
-        (λ step. step_of_three tree.now params.now (view first.now) (view second.now)
+        (λ step. step_of_three job.now.tree job.now.params (view first.now) (view second.now)
         (view third.now) ≡ Ok step)
         (λ fault. fault ≢ StepFault.Memory
-        → step_of_three tree.now params.now (view first.now) (view second.now) (view third.now)
-        ≡ Err fault) }
+        → step_of_three job.now.tree job.now.params (view first.now) (view second.now)
+        (view third.now) ≡ Err fault) }
 {
     match third {
-        Value::Array(values) => restart_step(alloc, tree, first, second, values.as_slice()),
-        Value::Object(_) => strike_step(alloc, tree, params, first, second, third),
-        _ => act_step(tree, first, loss_of(second, third)),
+        Value::Array(values) => restart_step(alloc, job.tree(), first, second, values.as_slice()),
+        Value::Object(_) => strike_step(alloc, job, first, second, third),
+        _ => act_step(job.tree(), first, loss_of(second, third)),
     }
 }
 
 /// The two values of a list, and the third where there are three.
-#[tactic(auto, using(crate::proofs::Entries::fewer_are_none, crate::proofs::Entries::more_are_none))]
+#[tactic(auto, using(crate::proofs::Entries::few_are_none, crate::proofs::Entries::more_are_none))]
 fn two_or_three(values: &[Value]) -> Option<(&Value, &Value, Option<&Value>)>
-    ensures { option_map (λ p. (view p.0.now, view p.1.now, option_map (λ v. view v.now) p.2)) result
-        ≡ two_or_three (items_view values.now) }
+    ensures { option_map (λ p. (view p.0.now, view p.1.now, option_map (λ v. view v.now) p.2))
+        result ≡ two_or_three (items_view values.now) }
 {
     match values {
         [first, second] => Some((first, second, None)),
@@ -255,41 +254,29 @@ fn two_or_three(values: &[Value]) -> Option<(&Value, &Value, Option<&Value>)>
     }
 }
 
-/// The step that these values are.
-fn step_of_values(
-    alloc: Global,
-    tree: &Tree,
-    params: &[Params],
-    values: &[Value],
-) -> Result<Step, StepFault>
+/// The step that these values are, for a job.
+fn step_of_values(alloc: Global, job: &Job, values: &[Value]) -> Result<Step, StepFault>
     ensures { MatchResult result
-        (λ step. step_of_items tree.now params.now (items_view values.now) ≡ Ok step)
+        (λ step. step_of_items job.now.tree job.now.params (items_view values.now) ≡ Ok step)
         (λ fault. fault ≢ StepFault.Memory
-        → step_of_items tree.now params.now (items_view values.now) ≡ Err fault) }
+        → step_of_items job.now.tree job.now.params (items_view values.now) ≡ Err fault) }
 {
     match two_or_three(values) {
-        Some((first, second, None)) => step_of_two(alloc, tree, first, second),
-        Some((first, second, Some(third))) => {
-            step_of_three(alloc, tree, params, first, second, third)
-        }
+        Some((first, second, None)) => step_of_two(alloc, job.tree(), first, second),
+        Some((first, second, Some(third))) => step_of_three(alloc, job, first, second, third),
         None => Err(StepFault::Shape),
     }
 }
 
-/// The step that a value is, of a tree whose links have these parameters.
-pub(crate) fn read_step(
-    alloc: Global,
-    tree: &Tree,
-    params: &[Params],
-    value: &Value,
-) -> Result<Step, StepFault>
+/// The step that a value is, for a job.
+pub(crate) fn read_step(alloc: Global, job: &Job, value: &Value) -> Result<Step, StepFault>
     ensures { MatchResult result
-        (λ step. step_of tree.now params.now (view value.now) ≡ Ok step)
+        (λ step. step_of job.now.tree job.now.params (view value.now) ≡ Ok step)
         (λ fault. fault ≢ StepFault.Memory
-        → step_of tree.now params.now (view value.now) ≡ Err fault) }
+        → step_of job.now.tree job.now.params (view value.now) ≡ Err fault) }
 {
     match value.as_array() {
-        Some(values) => step_of_values(alloc, tree, params, values.as_slice()),
+        Some(values) => step_of_values(alloc, job, values.as_slice()),
         None => Err(StepFault::Shape),
     }
 }

@@ -9,10 +9,9 @@ use crate::entry::read_step;
 use crate::fault::{ScenarioFault, StepFault};
 use crate::step::Step;
 use serde_json::Value;
-use stab_frames::{Params, Sequence};
+use stab_frames::Sequence;
 use stab_job::{Job, JobFault};
 use stab_job_stream::read_unscheduled_job;
-use stab_tree::Tree;
 use std::alloc::Global;
 
 /// A job of a tree, and the steps that happen to it.
@@ -71,49 +70,47 @@ fn steps_of_value(alloc: Global, job: &Job, value: &Value) -> Result<Sequence<St
         (λ fault. fault ≢ ScenarioFault.Memory → steps_of job.now (view value.now) ≡ Err fault) }
 {
     match listed_steps(value) {
-        Some(values) => steps_of_values(alloc, job.tree(), job.params(), values),
+        Some(values) => steps_of_values(alloc, job, values),
         None => Err(ScenarioFault::Steps),
     }
 }
 
-/// The step of this number that a value means.
+/// The step of this number that a value means, for a job.
 fn numbered_step(
     alloc: Global,
-    tree: &Tree,
-    params: &[Params],
+    job: &Job,
     number: u64,
     value: &Value,
 ) -> Result<Step, ScenarioFault>
     ensures { MatchResult result
-        (λ step. numbered tree.now params.now number (view value.now) ≡ Ok step)
+        (λ step. numbered job.now.tree job.now.params number (view value.now) ≡ Ok step)
         (λ fault. fault ≢ ScenarioFault.Memory
-        → numbered tree.now params.now number (view value.now) ≡ Err fault) }
+        → numbered job.now.tree job.now.params number (view value.now) ≡ Err fault) }
 {
-    match read_step(alloc, tree, params, value) {
+    match read_step(alloc, job, value) {
         Ok(step) => Ok(step),
         Err(StepFault::Memory) => Err(ScenarioFault::Memory),
         Err(fault) => Err(ScenarioFault::Step(number, fault)),
     }
 }
 
-/// The steps that these values mean, or the fault of the first that means none.
+/// The steps that these values mean for a job, or the fault of the first that means none.
 #[tactic(auto, using(crate::proofs::Stepwise::none_before, crate::proofs::Stepwise::no_step_there))]
 fn steps_of_values(
     alloc: Global,
-    tree: &Tree,
-    params: &[Params],
+    job: &Job,
     values: &[Value],
 ) -> Result<Sequence<Step>, ScenarioFault>
     ensures { MatchResult result
-        (λ steps. steps_after tree.now params.now 0 (items_view values.now) ≡ Ok steps)
+        (λ steps. steps_after job.now.tree job.now.params 0 (items_view values.now) ≡ Ok steps)
         (λ fault. fault ≢ ScenarioFault.Memory
-        → steps_after tree.now params.now 0 (items_view values.now) ≡ Err fault) }
+        → steps_after job.now.tree job.now.params 0 (items_view values.now) ≡ Err fault) }
 {
     let mut steps = Sequence::new(alloc);
     let _total = values.len();
     for value in values {
         let number = steps.len() as u64 + 1;
-        let step = numbered_step(alloc, tree, params, number, value)?;
+        let step = numbered_step(alloc, job, number, value)?;
         steps.push(step)?;
     }
     Ok(steps)

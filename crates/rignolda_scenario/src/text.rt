@@ -2,17 +2,18 @@
 
 ghost use Rattle.std.specs.Prelude.{◌≡◌, ◌<◌, ◌≤◌, ◌++◌, ℕ, [], slice_index_or, take, length};
 ghost use Rattle.std.specs.Prelude.{string_bytes, IfErr, IfOk, OnOk};
-ghost use Rattle.stab_faults.specs.Moment.{missing_since, published_since, strays_since};
-ghost use Rattle.stab_faults.specs.Since.{capacity_at, gained, moment};
+ghost use Rattle.stab_faults.specs.Moment.{missing_since, strays_since};
+ghost use Rattle.stab_faults.specs.Since.{capacity_at, moment};
 ghost use Rattle.stab_job.specs.JobValues.{network};
 ghost use Rattle.stab_tree.specs.Steps.{depth_of};
 ghost use Rattle.stab_treecore.specs.NodeLaws.{capacity_into};
-ghost use Rattle.rignolda_scenario.specs.Counts.{Counted, IsUnrun, counted, state_after};
+ghost use Rattle.rignolda_scenario.specs.Counts.{IsUnrun, counted_over, state_after};
 ghost use Rattle.rignolda_scenario.specs.LastFault.{last_fault};
+ghost use Rattle.rignolda_scenario.specs.NodeCounts.{counted_of};
 ghost use Rattle.rignolda_scenario.specs.Texts.{bounds_words, lines_of, node_text, root_text};
 ghost use Rattle.rignolda_scenario.specs.Texts.{scenario_text};
 
-use crate::changes::changes_of;
+use crate::changes::listed_changes;
 use crate::count::{gained_since, old_backlogs, published_since};
 use crate::fault::ScenarioFault;
 use crate::hits::last_fault;
@@ -27,9 +28,36 @@ use stab_tree::NodeId;
 use stab_treecore::TreeState;
 use std::alloc::{AllocError, Global};
 
+/// Steps of a job, and the tree after them.
+#[derive(Clone, Copy)]
+struct Played<'s> {
+    job: &'s Job,
+    steps: &'s [Step],
+    end: &'s TreeState,
+}
+
+/// Where a count begins and where it ends: the number of a step, the tree after that step, and the
+/// tree after all steps.
+#[derive(Clone, Copy)]
+struct Since<'s> {
+    step: usize,
+    state: &'s TreeState,
+    end: &'s TreeState,
+}
+
+/// What steps come to at a node that is not the root.
+#[derive(Clone, Copy)]
+struct NodeCount<'s> {
+    since: usize,
+    gained: &'s [Item],
+    strays: u128,
+    missing: u64,
+    published: &'s [Item],
+}
+
 /// The whole tree of a job after these steps. They are refused where they are too many changes, or
 /// one of these cannot be made.
-#[tactic(auto, using(crate::proofs::Refused::unrun_by_list, crate::proofs::Refused::unrun_by_change))]
+#[tactic(auto, using(crate::proofs::Refused::unrun_by_change))]
 pub fn state_after(alloc: Global, job: &Job, steps: &[Step]) -> Result<TreeState, ScenarioFault>
     ensures after { IfOk result (λ state. state ≡ state_after job.now steps.now) }
     ensures same_tree { IfOk result (λ state. state.parents ≡ job.now.tree.parents) }
@@ -37,7 +65,7 @@ pub fn state_after(alloc: Global, job: &Job, steps: &[Step]) -> Result<TreeState
         → capacity_at state w ≡ capacity_into (network job.now) w) }
     ensures refused { IfErr result (IsUnrun job.now steps.now) }
 {
-    let changes = changes_of(alloc, job.tree(), job.params(), steps)?;
+    let changes = listed_changes(alloc, job, steps)?;
     let state = run_changes(
         alloc,
         job.params(),
@@ -98,31 +126,19 @@ fn push_bounds(text: &mut String, strays: u128, missing: u64) -> Result<(), Allo
 
 /// Adds the lines of another node.
 #[tactic(auto, unfolding(crate::specs::Texts::node_text))]
-fn push_lines(
-    text: &mut String,
-    name: &str,
-    since: usize,
-    gained: &[Item],
-    strays: u128,
-    missing: u64,
-    published: &[Item],
-) -> Result<(), AllocError>
-    ensures { let count : Counted = record {
-      since = since;
-      gained = gained.now;
-      strays = strays;
-      missing = missing;
-      published = published.now;
-    } in OnOk result (string_bytes text.new ≡ string_bytes text.old ++ node_text name.now count) }
+fn push_lines(text: &mut String, name: &str, count: NodeCount<'_>) -> Result<(), AllocError>
+    ensures { OnOk result
+        (string_bytes text.new ≡ string_bytes text.old
+        ++ node_text name.now (counted_of count.entry)) }
 {
     text.push_str(name)?;
     text.push_str(" since")?;
-    push_number(text, since as u64)?;
+    push_number(text, count.since as u64)?;
     text.push_str(" received")?;
-    push_number(text, gained.len() as u64)?;
-    push_bounds(text, strays, missing)?;
-    push_items_line(text, "items:", gained)?;
-    push_items_line(text, "published:", published)
+    push_number(text, count.gained.len() as u64)?;
+    push_bounds(text, count.strays, count.missing)?;
+    push_items_line(text, "items:", count.gained)?;
+    push_items_line(text, "published:", count.published)
 }
 
 /// The most strays at a node since this state, and how many first items may be missing.
@@ -145,70 +161,66 @@ fn bounds_since(
     Ok((strays, bounds.missing))
 }
 
-/// Adds the lines of a node that is not the root, counted from this step and its state.
+/// Adds the lines of a node that is not the root, whose count begins and ends so.
 fn push_counted(
     alloc: Global,
     text: &mut String,
     job: &Job,
-    since: usize,
-    state: &TreeState,
-    end: &TreeState,
+    since: Since<'_>,
     node: NodeId,
 ) -> Result<(), AllocError>
-    requires same_tree { state.now.parents ≡ job.now.tree.parents }
-    requires same_end { end.now.parents ≡ job.now.tree.parents }
+    requires same_tree { since.state.now.parents ≡ job.now.tree.parents }
+    requires same_end { since.end.now.parents ≡ job.now.tree.parents }
     requires known { node < length job.now.tree.parents }
     requires below { 1 ≤ depth_of job.now.tree.parents node }
     requires same_capacities { (w : ℕ)
-        → capacity_at state.now w ≡ capacity_into (network job.now) w }
-    ensures { let count : Counted = record {
-      since = since;
-      gained = gained state.now end.now node;
-      strays = strays_since (moment state.now) node;
-      missing = missing_since (moment state.now) node;
-      published = published_since (moment state.now) (gained state.now end.now) node;
-    } in OnOk result (string_bytes text.new ≡ string_bytes text.old
-        ++ node_text (slice_index_or job.now.tree.names node []) count) }
+        → capacity_at since.state.now w ≡ capacity_into (network job.now) w }
+    ensures { OnOk result (string_bytes text.new ≡ string_bytes text.old
+        ++ node_text (slice_index_or job.now.tree.names node [])
+        (counted_over since.entry.step since.entry.state.now since.entry.end.now node)) }
 {
     let tree = job.tree();
-    let (strays, missing) = bounds_since(alloc, job, state, node)?;
-    let published = published_since(alloc, tree, state, end, node)?;
-    push_lines(
-        text,
-        tree.name(node),
-        since,
-        gained_since(state, end, node),
+    let (strays, missing) = bounds_since(alloc, job, since.state, node)?;
+    let published = published_since(alloc, tree, since.state, since.end, node)?;
+    let count = NodeCount {
+        since: since.step,
+        gained: gained_since(since.state, since.end, node),
         strays,
         missing,
-        &published,
-    )
+        published: &published,
+    };
+    push_lines(text, tree.name(node), count)
 }
 
-/// Adds the lines of a node of a scenario that ends so.
+/// Adds the lines of a node of a scenario that was played.
 #[tactic(auto, using(crate::proofs::Refused::unrun_front))]
 fn push_node(
     alloc: Global,
     text: &mut String,
-    job: &Job,
-    steps: &[Step],
-    end: &TreeState,
+    played: Played<'_>,
     node: NodeId,
 ) -> Result<(), ScenarioFault>
-    requires after { end.now ≡ state_after job.now steps.now }
-    requires same_end { end.now.parents ≡ job.now.tree.parents }
-    requires known { node < length job.now.tree.parents }
+    requires after { played.end.now ≡ state_after played.job.now played.steps.now }
+    requires same_end { played.end.now.parents ≡ played.job.now.tree.parents }
+    requires known { node < length played.job.now.tree.parents }
     ensures lines { OnOk result (string_bytes text.new
-        ≡ string_bytes text.old ++ lines_of job.now steps.now node) }
-    ensures refused { IfErr result (IsUnrun job.now steps.now) }
+        ≡ string_bytes text.old ++ lines_of played.entry.job.now played.entry.steps.now node) }
+    ensures refused { IfErr result (IsUnrun played.entry.job.now played.entry.steps.now) }
 {
+    let Played { job, steps, end } = played;
     let tree = job.tree();
-    let since = last_fault(tree, node, steps);
+    let step = last_fault(tree, node, steps);
     if tree.depth(node) == 0 {
-        push_root(text, tree.name(node), since, end.received(node))?;
+        push_root(text, tree.name(node), step, end.received(node))?;
         return Ok(());
     }
-    let state = state_after(alloc, job, &steps[..since])?;
-    push_counted(alloc, text, job, since, &state, end, node)?;
+    let state = state_after(alloc, job, &steps[..step])?;
+    let since = Since {
+        step,
+        state: &state,
+        end,
+    };
+    push_counted(alloc, text, job, since, node)?;
     Ok(())
 }
 
@@ -222,9 +234,14 @@ pub fn scenario_text(alloc: Global, scenario: &Scenario) -> Result<String, Scena
     let job = &scenario.job;
     let steps = scenario.steps.as_slice();
     let end = state_after(alloc, job, steps)?;
+    let played = Played {
+        job,
+        steps,
+        end: &end,
+    };
     let mut text = String::new(alloc);
     for place in 0..job.tree().len() {
-        push_node(alloc, &mut text, job, steps, &end, NodeId::new(place))?;
+        push_node(alloc, &mut text, played, NodeId::new(place))?;
     }
     Ok(text)
 }

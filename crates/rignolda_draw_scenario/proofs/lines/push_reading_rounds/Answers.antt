@@ -11,10 +11,7 @@ returns-clause-lines c =
     let j = c.args.job.now in
     let before = string_bytes c.args.text.now in
     let round_is : c.deref.result.now ≡ reading_round_of (links_of j.tree.parents) j.params =
-    c.deref.ensures.value
-    ∙ (c.in_ok-round.ensures
-    ∙ (ap (λ (t : Nodes). reading_round_of (links_of t.parents) c.params.result.now) c.tree-tree.ensures.tree
-    ∙ ap (reading_round_of (links_of j.tree.parents)) c.params.ensures.params)) in
+    c.deref.ensures.value ∙ c.in_ok-round.ensures in
     c.in_ok-push_rounds.ensures.lines
     ∙ (ap
     (λ (round : List TreeEvent). before

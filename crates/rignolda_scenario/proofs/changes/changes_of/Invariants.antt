@@ -5,4 +5,4 @@ use Rattle.rignolda_scenario.proofs.changes.changes_of.Given as goal
 -- the changes so far and those of the steps to come are all of them
 abbrev pub invariant-loop-step : goal.invariant-loop-step
 invariant-loop-step l =
-    l.changes.items ++ changes_of l.tree.parents l.params (drop l.step-index l.steps) ≡ changes_of l.tree.parents l.params l.steps
+    l.changes.items ++ changes_of l.job.tree.parents l.job.params (drop l.step-index l.steps) ≡ changes_of l.job.tree.parents l.job.params l.steps

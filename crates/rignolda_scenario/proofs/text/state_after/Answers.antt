@@ -14,13 +14,13 @@ use Rattle.rignolda_scenario.proofs.text.state_after.Goals as goal
 pub returns-clause-same_capacities : goal.returns-clause-same_capacities
 returns-clause-same_capacities c w =
     let j = c.args.job.now in
-    let net : Network = network_of c.params-2.result.now c.tree-2.result.now c.items.result.now c.starts.result.now c.openings.result.now in
+    let net : Network = network_of c.params.result.now c.tree.result.now c.items.result.now c.starts.result.now c.openings.result.now in
     let changes = c.deref.result.now in
     let replayed : c.in_ok-state.state ≡ changes_replay (initial_tree net) changes = c.in_ok-state.ensures.replay in
     ap (λ (t : WholeTree). capacity_at t w) replayed
     ∙ (capacities_of net changes w
-    ∙ (ap (λ ps. capacity_into (network_of ps c.tree-2.result.now c.items.result.now c.starts.result.now c.openings.result.now) w) c.params-2.ensures.params
-    ∙ (ap (λ (t : Nodes). capacity_into (network_of j.params t c.items.result.now c.starts.result.now c.openings.result.now) w) c.tree-2.ensures.tree
+    ∙ (ap (λ ps. capacity_into (network_of ps c.tree.result.now c.items.result.now c.starts.result.now c.openings.result.now) w) c.params.ensures.params
+    ∙ (ap (λ (t : Nodes). capacity_into (network_of j.params t c.items.result.now c.starts.result.now c.openings.result.now) w) c.tree.ensures.tree
     ∙ (ap (λ xs. capacity_into (network_of j.params j.tree xs c.starts.result.now c.openings.result.now) w) c.items.ensures.items
     ∙ (ap (λ ss. capacity_into (network_of j.params j.tree j.items ss c.openings.result.now) w) c.starts.ensures.starts
     ∙ ap (λ (os : OpeningsValue). capacity_into (network_of j.params j.tree j.items j.starts os) w) c.openings.ensures.openings)))))
