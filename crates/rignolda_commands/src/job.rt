@@ -5,8 +5,6 @@ ghost use Rattle.rignolda_commands.specs.Begun.{IsBegunLink, IsBegunUnscheduled}
 ghost use Rattle.rignolda_commands.specs.Checked.{given_backlogs};
 ghost use Rattle.serde_json.specs.Find.{get};
 ghost use Rattle.serde_json.specs.View.{view};
-ghost use Rattle.stab_core.specs.Link.{IsReason};
-ghost use Rattle.stab_core.specs.Replay.{IsLawful};
 ghost use Rattle.stab_job.specs.JobValues.{network};
 ghost use Rattle.stab_json.specs.Values.{value_of};
 ghost use Rattle.stab_task.specs.Answers.{IsFault};
@@ -15,13 +13,13 @@ ghost use Rattle.stab_treecore.specs.Refusals.{IsScheduleReason};
 ghost use Rattle.stab_treecore.specs.declared.event.TreeEvent.{TreeEvent};
 
 use serde_json::Value;
-use stab_core::{Link, StartFault};
+use stab_core::StartFault;
 use stab_job::Job;
 use stab_job_stream::read_unscheduled_job;
 use stab_script::LinkJob;
 use stab_stream::read_link_job;
 use stab_task::{CliFault, Task};
-use stab_treecore::TreeStartFault;
+use stab_treecore::{TreeStartFault, check_starts};
 use std::alloc::Global;
 
 /// The job that these bytes are, with an empty schedule, where each of its links can begin.
@@ -45,18 +43,19 @@ pub(crate) fn begun_job_and_members(alloc: Global, bytes: &[u8]) -> Result<(Job,
     ensures no_write { IfErr result (λ fault. fault ≢ CliFault.Write) }
 {
     let read = read_unscheduled_job(alloc, bytes)?;
-    begin(alloc, &read.0)?;
+    begin(&read.0)?;
     Ok(read)
 }
 
-/// Sees that each link of a job can begin, whatever its schedule is.
+/// Sees that each link of a job can begin, whatever its schedule is. It takes no memory.
 #[tactic(auto, using(stab_job::proofs::ForCallers::start_reason))]
-fn begin(alloc: Global, job: &Job) -> Result<(), TreeStartFault>
+fn begin(job: &Job) -> Result<(), TreeStartFault>
     ensures network { OnOk result (IsNetwork (network job.now)) }
     ensures refused { IfErr result (λ fault. (events : List TreeEvent)
         → IsScheduleReason job.now.params job.now.starts (network job.now) events fault) }
+    ensures no_memory { IfErr result (λ fault. fault ≢ TreeStartFault.Start StartFault.Memory) }
 {
-    job.initial_tree(alloc)?;
+    check_starts(job.params(), job.tree(), job.starts())?;
     Ok(())
 }
 
@@ -68,15 +67,6 @@ pub(crate) fn begun_link_job(alloc: Global, bytes: &[u8]) -> Result<LinkJob, Cli
     ensures no_write { IfErr result (λ fault. fault ≢ CliFault.Write) }
 {
     let job = read_link_job(alloc, bytes)?;
-    begin_link(alloc, &job)?;
+    job.start.check(job.params)?;
     Ok(job)
-}
-
-/// Sees that the link of a job can begin.
-fn begin_link(alloc: Global, job: &LinkJob) -> Result<(), StartFault>
-    ensures lawful { OnOk result (IsLawful job.now.params job.now.start) }
-    ensures refused { IfErr result (IsReason job.now.params job.now.start) }
-{
-    Link::new(alloc, job.params, &job.start)?;
-    Ok(())
 }
