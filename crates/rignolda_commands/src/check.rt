@@ -1,9 +1,10 @@
 //! The command `check`: whether a report, or the text of a link, obeys the laws of its job.
 
 ghost use Rattle.std.specs.Prelude.{◌≡◌, ◌≢◌, ℕ, List, string_bytes, Err, IfErr, IfOk, IfSome};
-ghost use Rattle.std.specs.Prelude.{Some, Ok, codes, length};
+ghost use Rattle.std.specs.Prelude.{Some, Ok, codes, length, option_map};
 ghost use Rattle.serde_json.specs.Find.{get};
 ghost use Rattle.serde_json.specs.View.{view};
+ghost use Rattle.stab_job_stream.specs.Parts.{HaveSameMembers};
 ghost use Rattle.stab_json.specs.Values.{value_of};
 ghost use Rattle.std.specs.Io.KnownBytes.{Appends, Keeps};
 ghost use Rattle.rignolda_commands.specs.Begun.{IsBegunLink, IsBegunUnscheduled};
@@ -17,7 +18,7 @@ ghost use Rattle.rignolda_moment.specs.Backlogs.{backlogs};
 use crate::answer::write_text;
 use crate::fault::{CheckFault, unread, unread_link};
 use crate::job::{begun_job_and_members, begun_link_job};
-use crate::kind::{kind_of_bytes, seems_a_job};
+use crate::kind::{Seen, looks_of_bytes, seems_a_job};
 use rignolda_findings::Kind;
 use rignolda_moment::{BacklogFault, read_backlogs, verdict_since};
 use rignolda_verdict::{link_verdict, read_link_report, verdict};
@@ -142,18 +143,24 @@ fn check_by_looks(alloc: Global, bytes: &[u8], text: &[u8]) -> Result<(String, b
     ensures loaded { (fault : CliFault) → result ≢ Err (CheckFault.Unloaded fault) }
     ensures no_write { IfErr result (λ fault. fault ≢ CheckFault.Job CliFault.Write) }
 {
-    let kind = kind_of_bytes(alloc, bytes)?;
-    let said = check_kind(alloc, kind, bytes, text)?;
+    let Seen {
+        kind,
+        is_scenario: _,
+        members,
+    } = looks_of_bytes(alloc, bytes)?;
+    let said = check_kind(alloc, kind, members, bytes, text)?;
     Ok(said)
 }
 
-/// The same of the job of this kind that these bytes are.
+/// The same of the job of this kind that these bytes are, which have these members.
 fn check_kind(
     alloc: Global,
     kind: Kind,
+    members: Option<Value>,
     bytes: &[u8],
     text: &[u8],
 ) -> Result<(String, bool), CheckFault>
+    requires { HaveSameMembers (value_of bytes.now) (option_map view members) }
     ensures checked { IfOk result (λ said.
         IsCheckedAs kind bytes.now text.now said.1 (string_bytes said.0)) }
     ensures fault { IfErr result (IsUncheckedAs kind bytes.now) }
@@ -161,20 +168,30 @@ fn check_kind(
     ensures no_write { IfErr result (λ fault. fault ≢ CheckFault.Job CliFault.Write) }
 {
     match kind {
-        Kind::LinkJob => check_link(alloc, bytes, text),
-        Kind::Job => check_tree(alloc, bytes, text),
+        Kind::LinkJob => check_link(alloc, members, bytes, text),
+        Kind::Job => {
+            drop(members);
+            check_tree(alloc, bytes, text)
+        }
     }
 }
 
-/// What is said of the link that this text is, of the link job that these bytes are.
-fn check_link(alloc: Global, bytes: &[u8], text: &[u8]) -> Result<(String, bool), CheckFault>
+/// What is said of the link that this text is, of the link job that these bytes are, which have
+/// these members.
+fn check_link(
+    alloc: Global,
+    members: Option<Value>,
+    bytes: &[u8],
+    text: &[u8],
+) -> Result<(String, bool), CheckFault>
+    requires { HaveSameMembers (value_of bytes.now) (option_map view members) }
     ensures checked { IfOk result (λ said.
         IsCheckedLink bytes.now text.now said.1 (string_bytes said.0)) }
     ensures fault { IfErr result (IsUncheckedLink bytes.now) }
     ensures loaded { (fault : CliFault) → result ≢ Err (CheckFault.Unloaded fault) }
     ensures no_write { IfErr result (λ fault. fault ≢ CheckFault.Job CliFault.Write) }
 {
-    let job = begun_link_job(alloc, bytes)?;
+    let job = begun_link_job(alloc, members, bytes)?;
     let said = check_link_text(alloc, &job, text)?;
     Ok(said)
 }

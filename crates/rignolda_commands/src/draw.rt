@@ -1,5 +1,5 @@
 ghost use Rattle.std.specs.Prelude.{◌≡◌, ◌≢◌, ℕ, List, false, Some, None, Ok, string_bytes};
-ghost use Rattle.std.specs.Prelude.{All, IfErr, IfOk, IfSome, OnOk};
+ghost use Rattle.std.specs.Prelude.{All, IfErr, IfOk, IfSome, OnOk, option_map};
 ghost use Rattle.std.specs.Io.KnownBytes.{Appends, Keeps};
 ghost use Rattle.serde_json.specs.Data.{Data};
 ghost use Rattle.serde_json.specs.View.{view};
@@ -16,7 +16,7 @@ ghost use Rattle.rignolda_explain.specs.Kinds.{chosen};
 ghost use Rattle.stab_job.specs.JobValues.{network};
 ghost use Rattle.stab_job.specs.Jobs.{job};
 ghost use Rattle.stab_job.specs.Replays.{IsReplayReason};
-ghost use Rattle.stab_job_stream.specs.Parts.{SameMembers};
+ghost use Rattle.stab_job_stream.specs.Parts.{HaveSameMembers, SameMembers};
 ghost use Rattle.stab_json.specs.Values.{value_of};
 ghost use Rattle.rignolda_scenario.specs.Counts.{IsUnrun};
 ghost use Rattle.rignolda_scenario.specs.Scenarios.{scenario};
@@ -26,7 +26,8 @@ ghost use Rattle.stab_treecore.specs.Network.{IsNetwork};
 ghost use Rattle.stab_treecore.specs.Refusals.{NamesLink};
 
 use crate::answer::write_text;
-use crate::kind::{has_steps, looks_of_bytes, seems_a_job, seems_to_have_steps};
+use crate::job::link_job_of;
+use crate::kind::{Seen, has_steps, looks_of_bytes, seems_a_job, seems_to_have_steps};
 use crate::scenario::StepsFault;
 use rignolda_draw::{run_text, schedule_run_text};
 use rignolda_draw_scenario::scenario_run_text;
@@ -38,7 +39,6 @@ use stab_core::StartFault;
 use stab_job::Job;
 use stab_job_stream::{read_job, read_job_and_members};
 use stab_script::LinkJob;
-use stab_stream::read_link_job;
 use stab_task::{CliFault, load};
 use stab_treecore::TreeStartFault;
 use std::alloc::Global;
@@ -191,29 +191,36 @@ fn draw_by_looks(alloc: Global, is_picture: bool, bytes: &[u8]) -> Result<String
     ensures fault { IfErr result (IsUndrawn bytes.now) }
     ensures no_write { IfErr result (λ fault. fault ≢ StepsFault.Job CliFault.Write) }
 {
-    let (kind, is_scenario) = looks_of_bytes(alloc, bytes)?;
-    let text = draw_by(alloc, is_scenario, kind, is_picture, bytes)?;
+    let Seen {
+        kind,
+        is_scenario,
+        members,
+    } = looks_of_bytes(alloc, bytes)?;
+    let text = draw_by(alloc, is_scenario, kind, members, is_picture, bytes)?;
     Ok(text)
 }
 
-/// The run of bytes that have steps, or of others of this kind.
+/// The run of bytes that have steps, or of others of this kind, which have these members.
 fn draw_by(
     alloc: Global,
     is_scenario: bool,
     kind: Kind,
+    members: Option<Value>,
     is_picture: bool,
     bytes: &[u8],
 ) -> Result<String, StepsFault>
-    requires { kind ≡ chosen None (value_of bytes.now) }
+    requires kind { kind ≡ chosen None (value_of bytes.now) }
+    requires members { HaveSameMembers (value_of bytes.now) (option_map view members) }
     ensures drawn { IfOk result (λ text.
         IsDrawnBy is_scenario is_picture bytes.now (string_bytes text)) }
     ensures fault { IfErr result (IsUndrawnBy is_scenario bytes.now) }
     ensures no_write { IfErr result (λ fault. fault ≢ StepsFault.Job CliFault.Write) }
 {
     if is_scenario {
+        drop(members);
         draw_scenario(alloc, is_picture, bytes)
     } else {
-        let text = draw_kind(alloc, kind, is_picture, bytes)?;
+        let text = draw_kind(alloc, kind, members, is_picture, bytes)?;
         Ok(text)
     }
 }
@@ -247,26 +254,42 @@ fn scenario_run(
     }
 }
 
-/// The run of the job of this kind that these bytes are.
-fn draw_kind(alloc: Global, kind: Kind, is_picture: bool, bytes: &[u8]) -> Result<String, CliFault>
+/// The run of the job of this kind that these bytes are, which have these members.
+fn draw_kind(
+    alloc: Global,
+    kind: Kind,
+    members: Option<Value>,
+    is_picture: bool,
+    bytes: &[u8],
+) -> Result<String, CliFault>
+    requires { HaveSameMembers (value_of bytes.now) (option_map view members) }
     ensures drawn { IfOk result (λ text.
         IsDrawnAs kind is_picture bytes.now (string_bytes text)) }
     ensures fault { IfErr result (IsFault (task_of kind) bytes.now) }
     ensures no_write { IfErr result (λ fault. fault ≢ CliFault.Write) }
 {
     match kind {
-        Kind::LinkJob => draw_link(alloc, is_picture, bytes),
-        Kind::Job => draw_tree(alloc, is_picture, bytes),
+        Kind::LinkJob => draw_link(alloc, members, is_picture, bytes),
+        Kind::Job => {
+            drop(members);
+            draw_tree(alloc, is_picture, bytes)
+        }
     }
 }
 
-/// The run of the link job that these bytes are.
-fn draw_link(alloc: Global, is_picture: bool, bytes: &[u8]) -> Result<String, CliFault>
+/// The run of the link job that these bytes are, which have these members.
+fn draw_link(
+    alloc: Global,
+    members: Option<Value>,
+    is_picture: bool,
+    bytes: &[u8],
+) -> Result<String, CliFault>
+    requires { HaveSameMembers (value_of bytes.now) (option_map view members) }
     ensures drawn { IfOk result (λ text. IsDrawnLink is_picture bytes.now (string_bytes text)) }
     ensures fault { IfErr result (IsFault (Link false) bytes.now) }
     ensures no_write { IfErr result (λ fault. fault ≢ CliFault.Write) }
 {
-    let job = read_link_job(alloc, bytes)?;
+    let job = link_job_of(alloc, members, bytes)?;
     let text = link_run(alloc, is_picture, &job)?;
     Ok(text)
 }

@@ -1,12 +1,15 @@
 //! The job of a tree, or of a link, that a command reads.
 
-ghost use Rattle.std.specs.Prelude.{◌≡◌, ◌≢◌, List, codes, false, IfErr, IfOk, OnOk};
+ghost use Rattle.std.specs.Prelude.{◌≡◌, ◌≢◌, List, codes, false, Ok, Err, IfErr, IfOk, OnOk};
+ghost use Rattle.std.specs.Prelude.{option_map, MatchResult};
 ghost use Rattle.rignolda_commands.specs.Begun.{IsBegunLink, IsBegunUnscheduled};
 ghost use Rattle.rignolda_commands.specs.Checked.{given_backlogs};
 ghost use Rattle.serde_json.specs.Find.{get};
 ghost use Rattle.serde_json.specs.View.{view};
 ghost use Rattle.stab_job.specs.JobValues.{network};
+ghost use Rattle.stab_job_stream.specs.Parts.{HaveSameMembers};
 ghost use Rattle.stab_json.specs.Values.{value_of};
+ghost use Rattle.stab_script.specs.LinkJobs.{link_job};
 ghost use Rattle.stab_task.specs.Answers.{IsFault};
 ghost use Rattle.stab_treecore.specs.Network.{IsNetwork};
 ghost use Rattle.stab_treecore.specs.Refusals.{IsScheduleReason};
@@ -16,8 +19,7 @@ use serde_json::Value;
 use stab_core::StartFault;
 use stab_job::Job;
 use stab_job_stream::read_unscheduled_job;
-use stab_script::LinkJob;
-use stab_stream::read_link_job;
+use stab_script::{LinkJob, LinkJobFault, link_job_of_value};
 use stab_task::{CliFault, Task};
 use stab_treecore::{TreeStartFault, check_starts};
 use std::alloc::Global;
@@ -59,14 +61,38 @@ fn begin(job: &Job) -> Result<(), TreeStartFault>
     Ok(())
 }
 
-/// The link job that these bytes are, where its link can begin. Otherwise the fault is that of
-/// `stab link`.
-pub(crate) fn begun_link_job(alloc: Global, bytes: &[u8]) -> Result<LinkJob, CliFault>
+/// The link job that these bytes are, which have these members, where its link can begin. Otherwise
+/// the fault is that of `stab link`.
+pub(crate) fn begun_link_job(
+    alloc: Global,
+    members: Option<Value>,
+    bytes: &[u8],
+) -> Result<LinkJob, CliFault>
+    requires { HaveSameMembers (value_of bytes.now) (option_map view members) }
     ensures begun { IfOk result (IsBegunLink bytes.now) }
     ensures fault { IfErr result (IsFault (Task.Link false) bytes.now) }
     ensures no_write { IfErr result (λ fault. fault ≢ CliFault.Write) }
 {
-    let job = read_link_job(alloc, bytes)?;
+    let job = link_job_of(alloc, members, bytes)?;
     job.start.check(job.params)?;
     Ok(job)
+}
+
+/// The link job that these bytes mean, which have these members, or the first check that they fail;
+/// memory may be refused before a later check. The bytes are not read again.
+#[tactic(auto, using(crate::proofs::Looks::same_link_job, crate::proofs::Looks::no_link_job))]
+pub(crate) fn link_job_of(
+    alloc: Global,
+    members: Option<Value>,
+    bytes: &[u8],
+) -> Result<LinkJob, LinkJobFault>
+    requires { HaveSameMembers (value_of bytes.now) (option_map view members) }
+    ensures job { MatchResult result
+        (λ job. link_job bytes.now ≡ Ok job)
+        (λ fault. fault ≢ LinkJobFault.Memory → link_job bytes.now ≡ Err fault) }
+{
+    match members {
+        Some(value) => link_job_of_value(alloc, value),
+        None => Err(LinkJobFault::Json),
+    }
 }

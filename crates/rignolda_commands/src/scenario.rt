@@ -10,7 +10,7 @@ use crate::answer::write_text;
 use rignolda_scenario::{ScenarioFault, read_scenario, scenario_text};
 use stab_faults::ChangeFault;
 use stab_task::{CliFault, load};
-use std::alloc::Global;
+use std::alloc::{AllocError, Global};
 use std::io::{Read, Write};
 use thiserror::Error;
 
@@ -52,6 +52,18 @@ impl From<CliFault> for StepsFault {
 
     fn from(refusal: CliFault) -> StepsFault {
         StepsFault::Job(refusal)
+    }
+}
+
+impl From<AllocError> for StepsFault {
+    ghost use Rattle.std.specs.Prelude.{◌≡◌};
+    ghost use Rattle.rignolda_commands.specs.declared.scenario.StepsFault.TheVariants.{Job};
+    ghost use Rattle.stab_task.specs.declared.fault.CliFault.TheVariants.{Memory};
+
+    ghost from_gives = { λ _ fault. fault ≡ Job Memory };
+
+    fn from(_refused: AllocError) -> StepsFault {
+        StepsFault::Job(CliFault::Memory)
     }
 }
 
