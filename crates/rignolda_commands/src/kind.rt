@@ -25,6 +25,9 @@ pub(crate) struct Seen {
     pub(crate) members: Option<Value>,
 }
 
+/// Among how many of the first bytes of a job its tree and its steps are looked for.
+const LOOKED_AT: usize = 65_536;
+
 /// Whether these bytes seem to be those of a job of a tree. No fact rests on it: the name of a member
 /// may be written otherwise, and it may be there and name no member.
 pub(crate) fn seems_a_job(bytes: &[u8]) -> bool {
@@ -36,9 +39,14 @@ pub(crate) fn seems_to_have_steps(bytes: &[u8]) -> bool {
     has_text(bytes, b"\"steps\"")
 }
 
-/// Whether a text is somewhere in these bytes.
+/// Whether a text begins among the first of these bytes.
 fn has_text(bytes: &[u8], text: &[u8]) -> bool {
-    for place in 0..bytes.len() {
+    let end = if bytes.len() < LOOKED_AT {
+        bytes.len()
+    } else {
+        LOOKED_AT
+    };
+    for place in 0..end {
         if bytes[place..].starts_with(text) {
             return true;
         }
