@@ -326,7 +326,7 @@ def pages():
 
 def all_files():
     """The files of the repository, without what was built."""
-    built = {"out", "build", ".git", "__pycache__"}
+    built = {"out", "build", "target", ".git", "__pycache__"}
     for path in sorted(TOP.glob("*")) + sorted(TOP.glob("*/**/*")):
         if path.is_file() and path.resolve() == path:
             if not built & set(path.relative_to(TOP).parts):
