@@ -18,9 +18,10 @@
  * nothing but what it names: counts, and the turn of a session.
  *
  * The calls are those of an archive, librignolda.a. Where RIGNOLDA_INLINE is defined before this
- * header is included, they are `static inline` functions, on any processor and without an archive:
- * rignolda_inline.h says what they are made from. A compiler then knows all that a call does. One
- * program may have both forms, since their structs are the same.
+ * header is included, they are `static inline` functions, which need no archive, so also processors
+ * for which there is none may have them: rignolda_inline.h says what they are made from, and x86-64
+ * is where they are tested. A compiler then knows all that a call does. One program may have both
+ * forms, since their structs are the same.
  *
  * What a struct means:
  *   - a label may be any uint16_t, as after a restart with whatever lay in memory;
