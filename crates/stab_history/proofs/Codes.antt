@@ -6,26 +6,25 @@ use Rattle.std.proofs.Math.Seq.{drop-cons, get_or-append_seam}
 use Rattle.std.proofs.lemmas.List.{length-append, take-append-drop, get_or_append_left, get_or-append-add}
 use Rattle.stab_core.specs.declared.event.Event.{Event}
 use Rattle.stab_core.specs.declared.event.Event.TheVariants as event
-use Rattle.stab_history.specs.declared.code.Code.{Code}
 use Rattle.stab_history.specs.declared.code.Kind.{Kind}
 use Rattle.stab_history.specs.declared.code.Kind.TheVariants as kind
 use Rattle.stab_history.specs.declared.run.Run.{Run}
-use Rattle.stab_history.specs.CodesInside.{code_of, count_left, event_left, event_of, has_value, kind_of}
+use Rattle.stab_history.specs.CodesInside.{CodeValue, code_of, count_left, event_left, event_of, has_value, kind_of}
 use Rattle.stab_history.specs.CodesInside.{numbers_in, numbers_of, run_at, unpack, value_numbers, wide_count, expand}
 use Rattle.stab_history.proofs.Runs.{place_in_run, place_past_run}
 
 -- the numbers of two lists of codes are those of the first, and then those of the second
-pub numbers_in-append : (xs ys : List Code) → numbers_in (xs ++ ys) ≡ numbers_in xs + numbers_in ys
+pub numbers_in-append : (xs ys : List CodeValue) → numbers_in (xs ++ ys) ≡ numbers_in xs + numbers_in ys
 numbers_in-append [] ys = omega arith
 numbers_in-append (x ∷ xs) ys = omega (arith, numbers_in-append xs ys)
 
 -- the first codes take no more numbers than all
-pub fewer_numbers : (n : ℕ) (xs : List Code) → numbers_in (take n xs) ≤ numbers_in xs
+pub fewer_numbers : (n : ℕ) (xs : List CodeValue) → numbers_in (take n xs) ≤ numbers_in xs
 fewer_numbers n xs =
     omega (arith, numbers_in-append (take n xs) (drop n xs), ap numbers_in (take-append-drop n xs))
 
 -- the runs of two lists of codes are those of the first, and then those of the second
-pub unpack-append : (numbers : List ℕ) (i : ℕ) (xs ys : List Code)
+pub unpack-append : (numbers : List ℕ) (i : ℕ) (xs ys : List CodeValue)
     → unpack numbers i (xs ++ ys) ≡ unpack numbers i xs ++ unpack numbers (i + numbers_in xs) ys
 unpack-append numbers i [] ys = ap (λ k. unpack numbers k ys) (omega arith)
 unpack-append numbers i (x ∷ xs) ys =
@@ -65,7 +64,7 @@ count_stays numbers more i count true within =
 count_stays numbers more i count false within = refl
 
 -- a code takes the numbers of its event, and those of its count
-numbers_apart : (c : Code) (wide : Bool)
+numbers_apart : (c : CodeValue) (wide : Bool)
     → (if wide then value_numbers c + 2 else value_numbers c) ≡ value_numbers c + (if wide then 2 else 0)
 numbers_apart c true = refl
 numbers_apart c false = omega arith
@@ -76,7 +75,7 @@ same_run one other events counts =
     ap (λ e. record one { event = e }) events ∙ ap (λ n. record other { count = n }) counts
 
 -- further numbers change no run that has its own
-run_stays : (numbers more : List ℕ) (i : ℕ) (c : Code) → i + numbers_of c ≤ length numbers
+run_stays : (numbers more : List ℕ) (i : ℕ) (c : CodeValue) → i + numbers_of c ≤ length numbers
     → run_at (numbers ++ more) i c ≡ run_at numbers i c
 run_stays numbers more i c within =
     let apart : numbers_of c ≡ value_numbers c + (if c.count == 0 then 2 else 0) = numbers_apart c (c.count == 0) in
@@ -85,7 +84,7 @@ run_stays numbers more i c within =
     (count_stays numbers more (i + value_numbers c) c.count (c.count == 0) (omega (arith, apart, within)))
 
 -- further numbers change no run of codes that have their own
-pub unpack_stays : (numbers more : List ℕ) (i : ℕ) (xs : List Code) → i + numbers_in xs ≤ length numbers
+pub unpack_stays : (numbers more : List ℕ) (i : ℕ) (xs : List CodeValue) → i + numbers_in xs ≤ length numbers
     → unpack (numbers ++ more) i xs ≡ unpack numbers i xs
 unpack_stays numbers more i [] within = refl
 unpack_stays numbers more i (x ∷ xs) within =
@@ -108,7 +107,7 @@ event_numbers (event.LoseAck place) = refl
 event_numbers event.Close = refl
 
 -- a count is in its code, or in both numbers that are added for it
-count_found : (numbers : List ℕ) (n : ℕ) (small : Bool) → (n / 256 == 0) ≡ small → 1 ≤ n
+count_found : (numbers : List ℕ) (n : ℕ) (small : Bool) → (n / 25 == 0) ≡ small → 1 ≤ n
     → (if (if small then n else 0) == 0
     then wide_count (numbers ++ (if small then [] else n % 4294967296 ∷ n / 4294967296 ∷ [])) (length numbers)
     else (if small then n else 0)) ≡ n
@@ -122,7 +121,7 @@ count_found numbers n false is some =
     )
     (omega arith)
 
-count_numbers : (n : ℕ) (small : Bool) → (n / 256 == 0) ≡ small → 1 ≤ n
+count_numbers : (n : ℕ) (small : Bool) → (n / 25 == 0) ≡ small → 1 ≤ n
     → length (if small then [] else n % 4294967296 ∷ n / 4294967296 ∷ [])
     ≡ (if (if small then n else 0) == 0 then 2 else 0)
 count_numbers n true is some =
@@ -144,7 +143,7 @@ module _ (numbers with_event : List ℕ) (run : Run) (are : with_event ≡ numbe
         arith,
         length-append with_event (count_left run.count),
         event_added,
-        count_numbers run.count (run.count / 256 == 0) refl some,
+        count_numbers run.count (run.count / 25 == 0) refl some,
         numbers_apart (code_of run) ((code_of run).count == 0),
       )
 
@@ -158,34 +157,38 @@ module _ (numbers with_event : List ℕ) (run : Run) (are : with_event ≡ numbe
       ∙ found)
       (ap (λ i. if (code_of run).count == 0 then wide_count (with_event ++ count_left run.count) i else (code_of run).count)
       (sym event_added)
-      ∙ count_found with_event run.count (run.count / 256 == 0) refl some)
+      ∙ count_found with_event run.count (run.count / 25 == 0) refl some)
 
-module _ (numbers : List ℕ) (n : ℕ) (xs : List Code) (i : ℕ) (d : Code) (run : Run) (within : i < length xs)
-    (is : run ≡ run_at numbers n (get_or xs i d)) where
+module _ (numbers : List ℕ) (n : ℕ) (xs : List CodeValue) (i : ℕ) (code : CodeValue) (run : Run) (within : i < length xs)
+    (at : code ≡ get_or xs i code) (is : run ≡ run_at numbers n code) where
   -- the codes that are left are this one and those after it
-  left_are : unpack numbers n (drop i xs) ≡ run ∷ unpack numbers (n + numbers_of (get_or xs i d)) (drop (i + 1) xs)
-  left_are =
+  codes_are : drop i xs ≡ code ∷ drop (i + 1) xs
+  codes_are =
       let next : i + 1 ≡ suc i = omega arith in
-      rw (drop-cons xs i d within, next, is) refl
+      rw next (drop-cons xs i code within ∙ ap (λ c. c ∷ drop (suc i) xs) (sym at))
+
+  -- and so are their runs
+  left_are : unpack numbers n (drop i xs) ≡ run ∷ unpack numbers (n + numbers_of code) (drop (i + 1) xs)
+  left_are =
+      ap (unpack numbers n) codes_are
+      ∙ ap (λ r. r ∷ unpack numbers (n + numbers_of code) (drop (i + 1) xs)) (sym is)
 
   -- what is at a place in this run
   pub place_in_code : (place : ℕ) → place < run.count
       → slice_get (expand (unpack numbers n (drop i xs))) place ≡ Some run.event
   place_in_code place inside =
       ap (λ runs. slice_get (expand runs) place) left_are
-      ∙ place_in_run run (unpack numbers (n + numbers_of (get_or xs i d)) (drop (i + 1) xs)) place inside
+      ∙ place_in_run run (unpack numbers (n + numbers_of code) (drop (i + 1) xs)) place inside
 
   -- what is at a place past it is in the codes after it
   pub place_past_code : (place : ℕ) → run.count ≤ place
-      → slice_get (expand (unpack numbers (n + numbers_of (get_or xs i d)) (drop (i + 1) xs))) (place - run.count)
+      → slice_get (expand (unpack numbers (n + numbers_of code) (drop (i + 1) xs))) (place - run.count)
       ≡ slice_get (expand (unpack numbers n (drop i xs))) place
   place_past_code place past =
-      place_past_run run (unpack numbers (n + numbers_of (get_or xs i d)) (drop (i + 1) xs)) place past
+      place_past_run run (unpack numbers (n + numbers_of code) (drop (i + 1) xs)) place past
       ∙ sym (ap (λ runs. slice_get (expand runs) place) left_are)
 
   -- the numbers of the codes after it are there as well
   pub numbers_left : n + numbers_in (drop i xs) ≤ length numbers
-      → n + numbers_of (get_or xs i d) + numbers_in (drop (i + 1) xs) ≤ length numbers
-  numbers_left all =
-      let next : i + 1 ≡ suc i = omega arith in
-      rw next (omega (arith, ap numbers_in (drop-cons xs i d within), all))
+      → n + numbers_of code + numbers_in (drop (i + 1) xs) ≤ length numbers
+  numbers_left all = omega (arith, ap numbers_in codes_are, all)

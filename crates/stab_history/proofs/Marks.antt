@@ -5,9 +5,8 @@ use Rattle.std.proofs.Common.{drop, slice_get, slice_index, Option, Bool, true, 
 use Rattle.std.proofs.lemmas.List.{get_or_default, take_all, length-drop, length-append, take-append-le, take-append-drop, append_assoc, get_or_append_left}
 use Rattle.std.proofs.Math.Seq.{get_or-append_seam}
 use Rattle.stab_core.specs.declared.event.Event.{Event}
-use Rattle.stab_history.specs.declared.code.Code.{Code}
 use Rattle.stab_history.specs.declared.run.Run.{Run}
-use Rattle.stab_history.specs.CodesInside.{code_of, count_left, event_left, event_of, expand, kind_of}
+use Rattle.stab_history.specs.CodesInside.{CodeValue, code_of, count_left, event_left, event_of, expand, kind_of}
 use Rattle.stab_history.specs.CodesInside.{numbers_in, run_at, unpack, AreRuns}
 use Rattle.stab_history.specs.HistoryInside.{AreMarks, ArePacked, events_before, numbers_before}
 use Rattle.stab_history.specs.History.{IsLast}
@@ -52,15 +51,15 @@ module _ (old new : ℕ → ℕ) (codes : ℕ) (same : (n : ℕ) → n ≤ codes
   marks_more marks false inside marked = marks_stay marks marked (search rules)
 
 -- all events, and all numbers, are those before the end
-all_events_before : (numbers : List ℕ) (codes : List Code)
+all_events_before : (numbers : List ℕ) (codes : List CodeValue)
     → events_before numbers codes (length codes) ≡ length (expand (unpack numbers 0 codes))
 all_events_before numbers codes =
     ap (λ xs. length (expand (unpack numbers 0 xs))) (take_all (length codes) codes (omega arith))
 
-all_numbers_before : (codes : List Code) → numbers_before codes (length codes) ≡ numbers_in codes
+all_numbers_before : (codes : List CodeValue) → numbers_before codes (length codes) ≡ numbers_in codes
 all_numbers_before codes = ap numbers_in (take_all (length codes) codes (omega arith))
 
-module _ (xs : List Code) (numbers with_event marks starts : List ℕ) (count : ℕ) (run : Run)
+module _ (xs : List CodeValue) (numbers with_event marks starts : List ℕ) (count : ℕ) (run : Run)
     (packed : ArePacked xs numbers marks starts count) (are : with_event ≡ numbers ++ event_left run.event)
     (found : event_of (kind_of run.event) (get_or with_event (length numbers) 0) ≡ run.event)
     (some : 1 ≤ run.count) where
@@ -138,7 +137,7 @@ module _ (xs : List Code) (numbers with_event marks starts : List ℕ) (count : 
       }
 
 -- the codes from a block on
-module _ (xs ys : List Code) (numbers all_numbers marks starts : List ℕ) (count block start : ℕ) (same : ys ≡ xs)
+module _ (xs ys : List CodeValue) (numbers all_numbers marks starts : List ℕ) (count block start : ℕ) (same : ys ≡ xs)
     (also : all_numbers ≡ numbers) (packed : ArePacked xs numbers marks starts count) (within : block < length marks)
     (started : start ≡ get_or starts block start) where
   -- their numbers come after those of the codes before them
@@ -171,7 +170,7 @@ module _ (xs ys : List Code) (numbers all_numbers marks starts : List ℕ) (coun
       → found ≡ slice_get (expand (unpack all_numbers start (take (length ys - block * 64) (drop (block * 64) ys)))) (place - mark)
       → found ≡ slice_get (expand (unpack numbers 0 xs)) place
   found_in_block place mark found marked begins finds =
-      let first : List Code = take (block * 64) xs in
+      let first : List CodeValue = take (block * 64) xs in
       let before : slice_index marks block ≡ length (expand (unpack numbers 0 first)) =
       packed.marked.1 block within
       in

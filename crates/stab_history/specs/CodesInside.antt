@@ -1,16 +1,34 @@
 -- What the codes of a packed history mean, with the numbers that they leave out: runs of equal
--- events. A code has the kind of the event, and the count where that is at most 255.
+-- events. A code has the kind of the event, and the count where that is at most 24.
 -- Example: the codes (Offer, 1), (SendAck, 0), (Close, 1) with the numbers 7, 300, 0 mean an offer
--- of 7, 300 times SendAck, and a close.
+-- of 7, 300 times SendAck, and a close. Their bytes are 1, 100 and 226.
 -- Source: this project's own.
 use Rattle.std.specs.Prelude.{◌≡◌, ℕ, ◌+◌, ◌*◌, ◌/◌, ◌%◌, ◌≤◌, ◌==◌, Bool, true, false}
 use Rattle.std.specs.Prelude.{if◌then◌else◌, List, [], ◌∷◌, ◌++◌, replicate, get_or}
 use Rattle.stab_core.specs.declared.event.Event.{Event}
 use Rattle.stab_core.specs.declared.event.Event.TheVariants as event
-use Rattle.stab_history.specs.declared.code.Code.{Code}
 use Rattle.stab_history.specs.declared.code.Kind.{Kind}
 use Rattle.stab_history.specs.declared.code.Kind.TheVariants as kind
 use Rattle.stab_history.specs.declared.run.Run.{Run}
+
+-- a code: the kind, and the count, 0 where the numbers have it
+pub record CodeValue : Type 0 where
+  pub kind : Kind
+  pub count : ℕ
+
+-- the kind of this number
+abbrev pub kind_at : ℕ → Kind
+kind_at n =
+    if n == 0 then kind.Offer
+    else (if n == 1 then kind.SendFrame
+    else (if n == 2 then kind.TakeFrame
+    else (if n == 3 then kind.KeepFrame
+    else (if n == 4 then kind.SendAck
+    else (if n == 5 then kind.TakeAck
+    else (if n == 6 then kind.KeepAck
+    else (if n == 7 then kind.LoseFrame
+    else (if n == 8 then kind.LoseAck
+    else kind.Close))))))))
 
 -- the kind of an event
 abbrev pub kind_of : Event → Kind
@@ -45,21 +63,22 @@ has_value kind.LoseFrame = true
 has_value kind.LoseAck = true
 has_value _ = false
 
+-- the count that is in a code
+abbrev pub small_count : ℕ → ℕ
+small_count n = if n / 25 == 0 then n else 0
+
 -- the code of a run
-abbrev pub code_of : Run → Code
-code_of run = record {
-  kind = kind_of run.event;
-  count = if run.count / 256 == 0 then run.count else 0;
-}
+abbrev pub code_of : Run → CodeValue
+code_of run = record { kind = kind_of run.event; count = small_count run.count }
 
 -- how many numbers a code takes for its item or its place, in all, and how many these codes take
-abbrev pub value_numbers : Code → ℕ
+abbrev pub value_numbers : CodeValue → ℕ
 value_numbers c = if has_value c.kind then 1 else 0
 
-abbrev pub numbers_of : Code → ℕ
+abbrev pub numbers_of : CodeValue → ℕ
 numbers_of c = if c.count == 0 then value_numbers c + 2 else value_numbers c
 
-abbrev pub numbers_in : List Code → ℕ
+abbrev pub numbers_in : List CodeValue → ℕ
 numbers_in [] = 0
 numbers_in (c ∷ codes) = numbers_of c + numbers_in codes
 
@@ -71,21 +90,21 @@ event_left (event.LoseAck place) = place ∷ []
 event_left _ = []
 
 abbrev pub count_left : ℕ → List ℕ
-count_left n = if n / 256 == 0 then [] else n % 4294967296 ∷ n / 4294967296 ∷ []
+count_left n = if n / 25 == 0 then [] else n % 4294967296 ∷ n / 4294967296 ∷ []
 
 -- the count in two numbers from this place on, the lower half first
 abbrev pub wide_count : List ℕ → ℕ → ℕ
 wide_count numbers i = get_or numbers i 0 + get_or numbers (i + 1) 0 * 4294967296
 
 -- the run of a code whose numbers begin at this place
-abbrev pub run_at : List ℕ → ℕ → Code → Run
+abbrev pub run_at : List ℕ → ℕ → CodeValue → Run
 run_at numbers i c = record {
   event = event_of c.kind (get_or numbers i 0);
   count = if c.count == 0 then wide_count numbers (i + value_numbers c) else c.count;
 }
 
 -- the runs of codes whose numbers begin at this place
-abbrev pub unpack : List ℕ → ℕ → List Code → List Run
+abbrev pub unpack : List ℕ → ℕ → List CodeValue → List Run
 unpack numbers i [] = []
 unpack numbers i (c ∷ codes) = run_at numbers i c ∷ unpack numbers (i + numbers_of c) codes
 

@@ -4,9 +4,8 @@
 use Rattle.std.specs.Prelude.{◌≡◌, ℕ, ◌+◌, ◌*◌, ◌/◌, ◌<◌, ◌≤◌, List, [], ◌++◌, length, take}
 use Rattle.std.specs.Prelude.{replicate, slice_index, Option, Some, None}
 use Rattle.stab_core.specs.declared.event.Event.{Event}
-use Rattle.stab_history.specs.declared.code.Code.{Code}
 use Rattle.stab_history.specs.declared.run.Run.{Run}
-use Rattle.stab_history.specs.CodesInside.{unpack, numbers_in, expand, AreRuns}
+use Rattle.stab_history.specs.CodesInside.{CodeValue, unpack, numbers_in, expand, AreRuns}
 use Rattle.stab_history.specs.History.{IsLast, most_events}
 
 -- packed runs, and for how many more there is room
@@ -21,14 +20,14 @@ AreMarks counted codes marks =
     × ((k : ℕ) → k < length marks → slice_index marks k ≡ counted (k * 64))
 
 -- how many events and how many numbers the first of these codes have
-abbrev pub events_before : List ℕ → List Code → ℕ → ℕ
+abbrev pub events_before : List ℕ → List CodeValue → ℕ → ℕ
 events_before numbers codes n = length (expand (unpack numbers 0 (take n codes)))
 
-abbrev pub numbers_before : List Code → ℕ → ℕ
+abbrev pub numbers_before : List CodeValue → ℕ → ℕ
 numbers_before codes n = numbers_in (take n codes)
 
 -- these codes and numbers are runs, with these marks of events and of numbers, and this many events
-pub record ArePacked (codes : List Code) (numbers marks starts : List ℕ) (count : ℕ)
+pub record ArePacked (codes : List CodeValue) (numbers marks starts : List ℕ) (count : ℕ)
     : Type 0 where
   pub runs : AreRuns (unpack numbers 0 codes)
   pub all_numbers : numbers_in codes ≡ length numbers

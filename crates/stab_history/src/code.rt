@@ -1,11 +1,15 @@
-ghost use Rattle.std.specs.Prelude.{◌≡◌, ◌+◌, ◌≤◌, ◌%◌, ◌++◌, length, get_or};
+ghost use Rattle.std.specs.Prelude.{◌≡◌, ◌+◌, ◌<◌, ◌≤◌, ◌%◌, ◌++◌, length, get_or};
 ghost use Rattle.std.specs.Prelude.{vec_len, vec_capacity};
-ghost use Rattle.stab_history.specs.CodesInside.{code_of, kind_of, event_of, has_value};
+ghost use Rattle.stab_history.specs.CodesInside.{code_of, kind_of, kind_at, event_of, has_value};
 ghost use Rattle.stab_history.specs.CodesInside.{value_numbers, numbers_of, run_at};
-ghost use Rattle.stab_history.specs.CodesInside.{event_left, count_left};
+ghost use Rattle.stab_history.specs.CodesInside.{event_left, count_left, small_count};
 
 use crate::run::Run;
 use stab_core::Event;
+use std::marker::Model;
+
+/// How many counts a code tells apart: 0, where its numbers have the count, and 1 to 24.
+const COUNTS: u8 = 25;
 
 /// The kind of an event: all of it but its item or its place.
 #[derive(Clone, Copy, Debug, PartialEq, Eq)]
@@ -38,6 +42,43 @@ impl Kind {
             Event::LoseFrame(_) => Kind::LoseFrame,
             Event::LoseAck(_) => Kind::LoseAck,
             Event::Close => Kind::Close,
+        }
+    }
+
+    /// The number of this kind.
+    fn number(self) -> u8
+        ensures within { result < 10 }
+        ensures kind { kind_at result ≡ self }
+    {
+        match self {
+            Kind::Offer => 0,
+            Kind::SendFrame => 1,
+            Kind::TakeFrame => 2,
+            Kind::KeepFrame => 3,
+            Kind::SendAck => 4,
+            Kind::TakeAck => 5,
+            Kind::KeepAck => 6,
+            Kind::LoseFrame => 7,
+            Kind::LoseAck => 8,
+            Kind::Close => 9,
+        }
+    }
+
+    /// The kind of this number.
+    fn at(number: u8) -> Kind
+        ensures { result ≡ kind_at number }
+    {
+        match number {
+            0 => Kind::Offer,
+            1 => Kind::SendFrame,
+            2 => Kind::TakeFrame,
+            3 => Kind::KeepFrame,
+            4 => Kind::SendAck,
+            5 => Kind::TakeAck,
+            6 => Kind::KeepAck,
+            7 => Kind::LoseFrame,
+            8 => Kind::LoseAck,
+            _ => Kind::Close,
         }
     }
 
@@ -74,14 +115,22 @@ fn place(value: u32) -> u16
     (value % 65_536) as u16
 }
 
-/// A run in 2 bytes: its kind, and its count where that is at most 255. What it leaves out is in a
+/// A run in one byte: its kind, and its count where that is at most 24. What it leaves out is in a
 /// list of numbers: the item or the place, where the event has one, and then a larger count as two
-/// numbers, the lower half first.
-#[derive(Clone, Copy, Debug)]
+/// numbers, the lower half first. Contracts see the kind and the count, 0 where the numbers have it.
+#[derive(Debug, Drop)]
 pub(crate) struct Code {
-    kind: Kind,
-    /// The count, 0 where the numbers have it.
-    count: u8,
+    /// The number of the kind, 25 times, and the count.
+    byte: u8,
+}
+
+impl Model for Code {
+    ghost use Rattle.std.specs.Prelude.{◌/◌, ◌%◌};
+    ghost use Rattle.stab_history.specs.CodesInside.{CodeValue, kind_at};
+
+    ghost Value = { CodeValue };
+
+    ghost view = { λ c. record { kind = kind_at (c.byte / 25); count = c.byte % 25 } };
 }
 
 impl Code {
@@ -89,21 +138,31 @@ impl Code {
     pub(crate) fn of(run: Run) -> Code
         ensures { result ≡ code_of run }
     {
+        let kind = Kind::of(run.event);
         Code {
-            kind: Kind::of(run.event),
-            count: if run.count / 256 == 0 {
-                run.count as u8
-            } else {
-                0
-            },
+            byte: kind.number() * COUNTS + small_count(run.count),
         }
     }
 
-    /// How many numbers it takes.
-    pub(crate) fn numbers(self) -> usize
-        ensures { result ≡ numbers_of self }
+    /// The kind of its event.
+    fn kind(&self) -> Kind
+        ensures { result ≡ self.now.kind }
     {
-        if self.count == 0 {
+        Kind::at(self.byte / COUNTS)
+    }
+
+    /// Its count, 0 where the numbers have it.
+    fn count(&self) -> u8
+        ensures { result ≡ self.now.count }
+    {
+        self.byte % COUNTS
+    }
+
+    /// How many numbers it takes.
+    pub(crate) fn numbers(&self) -> usize
+        ensures { result ≡ numbers_of self.now }
+    {
+        if self.count() == 0 {
             self.value_numbers() + 2
         } else {
             self.value_numbers()
@@ -111,45 +170,59 @@ impl Code {
     }
 
     /// How many of them are for its item or its place.
-    fn value_numbers(self) -> usize
-        ensures { result ≡ value_numbers self }
+    fn value_numbers(&self) -> usize
+        ensures { result ≡ value_numbers self.now }
     {
-        if self.kind.has_value() { 1 } else { 0 }
+        if self.kind().has_value() { 1 } else { 0 }
     }
 
     /// The run, whose numbers begin at this place.
-    pub(crate) fn run(self, numbers: &[u32], first: usize) -> Run
-        requires { first + numbers_of self ≤ length numbers.now }
-        ensures { result ≡ run_at numbers.now first self }
+    pub(crate) fn run(&self, numbers: &[u32], first: usize) -> Run
+        requires { first + numbers_of self.now ≤ length numbers.now }
+        ensures { result ≡ run_at numbers.now first self.now }
     {
         Run {
             event: self.event(numbers, first),
-            count: self.count(numbers, first),
+            count: self.events(numbers, first),
         }
     }
 
     /// The event that it repeats.
-    fn event(self, numbers: &[u32], first: usize) -> Event
-        requires { first + numbers_of self ≤ length numbers.now }
-        ensures { result ≡ (run_at numbers.now first self).event }
+    fn event(&self, numbers: &[u32], first: usize) -> Event
+        requires { first + numbers_of self.now ≤ length numbers.now }
+        ensures { result ≡ (run_at numbers.now first self.now).event }
     {
-        if self.kind.has_value() {
-            self.kind.event(numbers[first])
+        let kind = self.kind();
+        if kind.has_value() {
+            kind.event(numbers[first])
         } else {
-            self.kind.event(0)
+            kind.event(0)
         }
     }
 
     /// How often it repeats it.
-    fn count(self, numbers: &[u32], first: usize) -> u64
-        requires { first + numbers_of self ≤ length numbers.now }
-        ensures { result ≡ (run_at numbers.now first self).count }
+    fn events(&self, numbers: &[u32], first: usize) -> u64
+        requires { first + numbers_of self.now ≤ length numbers.now }
+        ensures { result ≡ (run_at numbers.now first self.now).count }
     {
-        if self.count > 0 {
-            return u64::from(self.count);
+        let count = self.count();
+        if count > 0 {
+            return u64::from(count);
         }
         let low = first + self.value_numbers();
         u64::from(numbers[low]) + u64::from(numbers[low + 1]) * 4_294_967_296
+    }
+}
+
+/// The count as a code has it: 0 where it is larger than that.
+fn small_count(count: u64) -> u8
+    ensures within { result < 25 }
+    ensures count { result ≡ small_count count }
+{
+    if count / u64::from(COUNTS) == 0 {
+        count as u8
+    } else {
+        0
     }
 }
 
@@ -176,10 +249,10 @@ pub(crate) fn add_count(numbers: &mut Vec<u32>, count: u64)
     ensures len { vec_len numbers.new ≤ vec_len numbers.old + 2 }
     ensures capacity { vec_capacity numbers.new ≡ vec_capacity numbers.old }
 {
-    if count / 256 > 0 {
+    if count / u64::from(COUNTS) > 0 {
         numbers.push_reserved((count % 4_294_967_296) as u32);
         numbers.push_reserved((count / 4_294_967_296) as u32);
     }
 }
 
-const _: () = prove!(size_of::<Code>() == 2);
+const _: () = prove!(size_of::<Code>() == 1);

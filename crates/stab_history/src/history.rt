@@ -12,8 +12,8 @@ use std::marker::Model;
 /// counts it once more. Contracts see the list of the events, and for how many more of any kind
 /// there is room.
 ///
-/// The last run is kept as it is, since it may still grow. The runs before it are packed: 2 bytes
-/// for each, 4 more for an item or a place, and 8 more where its count is over 255.
+/// The last run is kept as it is, since it may still grow. The runs before it are packed: one byte
+/// for each, 4 more for an item or a place, and 8 more where its count is over 24.
 #[derive(Debug)]
 pub struct History {
     packed: PackedRuns,

@@ -16,7 +16,7 @@ const BLOCK: usize = 64;
 /// How many numbers a code takes at most.
 const NUMBERS: usize = 3;
 
-/// The runs that are over, as codes of 2 bytes and the numbers that they leave out, with two marks
+/// The runs that are over, as codes of one byte and the numbers that they leave out, with two marks
 /// for every 64th code. Contracts see the runs, and for how many more there is room.
 #[derive(Debug, Drop)]
 pub(crate) struct PackedRuns {

@@ -23,7 +23,11 @@ const ONE_OF_EACH: [(Event, u32); 10] = [
 
 /// Runs on both sides of the borders at which a count takes more bytes; two neighbours differ in
 /// their items alone.
-const COUNT_BORDERS: [(Event, u32); 8] = [
+const COUNT_BORDERS: [(Event, u32); 12] = [
+    (Event::Close, 24),
+    (Event::Offer(3), 24),
+    (Event::Close, 25),
+    (Event::Offer(4), 25),
     (Event::Offer(5), 255),
     (Event::Offer(6), 256),
     (Event::Offer(7), 65_535),
