@@ -15,37 +15,37 @@ use Rattle.stab_history.proofs.Codes.{fewer_numbers, numbers_in-append, numbers_
 
 module _ (old new : ℕ → ℕ) (codes : ℕ) (same : (n : ℕ) → n ≤ codes → new n ≡ old n) where
   -- within a block the marks stay
-  marks_stay : (marks : List ℕ) → AreMarks old codes marks → (codes % 64 ≡ 0 → ⊥)
+  marks_stay : (marks : List ℕ) → AreMarks old codes marks → (codes % 256 ≡ 0 → ⊥)
       → AreMarks new (codes + 1) marks
   marks_stay marks marked inside = (
     omega (arith, marked.0),
-    λ k within. marked.1 k within ∙ sym (same (k * 64) (omega (arith, marked.0))),
+    λ k within. marked.1 k within ∙ sym (same (k * 256) (omega (arith, marked.0))),
   )
 
   -- a new block has a mark of its own
-  marks_grow : (marks : List ℕ) → AreMarks old codes marks → codes % 64 ≡ 0
+  marks_grow : (marks : List ℕ) → AreMarks old codes marks → codes % 256 ≡ 0
       → AreMarks new (codes + 1) (marks ++ old codes ∷ [])
   marks_grow marks marked full = (
     omega (arith, length-append marks (old codes ∷ []), marked.0),
     λ k within. by_place k (omega (arith, length-append marks (old codes ∷ []))),
   )
     where
-      before : (k : ℕ) → k < length marks → get_or (marks ++ old codes ∷ []) k 0 ≡ new (k * 64)
+      before : (k : ℕ) → k < length marks → get_or (marks ++ old codes ∷ []) k 0 ≡ new (k * 256)
       before k within =
           get_or_append_left marks (old codes ∷ []) 0 k within
-          ∙ (marked.1 k within ∙ sym (same (k * 64) (omega (arith, marked.0))))
+          ∙ (marked.1 k within ∙ sym (same (k * 256) (omega (arith, marked.0))))
 
-      last : get_or (marks ++ old codes ∷ []) (length marks) 0 ≡ new (length marks * 64)
+      last : get_or (marks ++ old codes ∷ []) (length marks) 0 ≡ new (length marks * 256)
       last =
-          let whole : codes ≡ length marks * 64 = omega (arith, marked.0) in
+          let whole : codes ≡ length marks * 256 = omega (arith, marked.0) in
           get_or-append_seam marks (old codes) [] 0
-          ∙ (ap old whole ∙ sym (same (length marks * 64) (omega (arith, whole))))
+          ∙ (ap old whole ∙ sym (same (length marks * 256) (omega (arith, whole))))
 
-      by_place : (k : ℕ) → k < length marks + 1 → get_or (marks ++ old codes ∷ []) k 0 ≡ new (k * 64)
-      by_place = below_more (λ k. get_or (marks ++ old codes ∷ []) k 0 ≡ new (k * 64)) (length marks) before last
+      by_place : (k : ℕ) → k < length marks + 1 → get_or (marks ++ old codes ∷ []) k 0 ≡ new (k * 256)
+      by_place = below_more (λ k. get_or (marks ++ old codes ∷ []) k 0 ≡ new (k * 256)) (length marks) before last
 
   -- the marks after one more code
-  marks_more : (marks : List ℕ) (starts : Bool) → (codes % 64 == 0) ≡ starts → AreMarks old codes marks
+  marks_more : (marks : List ℕ) (starts : Bool) → (codes % 256 == 0) ≡ starts → AreMarks old codes marks
       → AreMarks new (codes + 1) (if starts then marks ++ old codes ∷ [] else marks)
   marks_more marks true full marked = marks_grow marks marked (search rules)
   marks_more marks false inside marked = marks_stay marks marked (search rules)
@@ -103,8 +103,8 @@ module _ (xs : List CodeValue) (numbers with_event marks starts : List ℕ) (cou
   -- runs stay packed where one is added of whose event they do not end
   pub packed_more : (IsLast run.event (expand (unpack numbers 0 xs)) → ⊥)
       → ArePacked (xs ++ code_of run ∷ []) after
-      (if length xs % 64 == 0 then marks ++ count ∷ [] else marks)
-      (if length xs % 64 == 0 then starts ++ length numbers ∷ [] else starts) (count + run.count)
+      (if length xs % 256 == 0 then marks ++ count ∷ [] else marks)
+      (if length xs % 256 == 0 then starts ++ length numbers ∷ [] else starts) (count + run.count)
   packed_more differs =
       let longer : length (xs ++ code_of run ∷ []) ≡ length xs + 1 = length-append xs (code_of run ∷ []) in
       let events : events_before numbers xs (length xs) ≡ count =
@@ -125,12 +125,12 @@ module _ (xs : List CodeValue) (numbers with_event marks starts : List ℕ) (cou
             rw (longer, ← events)
             (marks_more (events_before numbers xs) (events_before after (xs ++ code_of run ∷ [])) (length xs)
             (λ n within. ap (λ runs. length (expand runs)) (first_stay n within))
-            marks (length xs % 64 == 0) refl packed.marked);
+            marks (length xs % 256 == 0) refl packed.marked);
         started =
             rw (longer, ← all)
             (marks_more (numbers_before xs) (numbers_before (xs ++ code_of run ∷ [])) (length xs)
             (λ n within. ap numbers_in (take-append-le n xs (code_of run ∷ []) within))
-            starts (length xs % 64 == 0) refl packed.started);
+            starts (length xs % 256 == 0) refl packed.started);
         counted =
             ap (λ n. n + run.count) packed.counted
             ∙ (sym (count_more (unpack numbers 0 xs) run) ∙ sym (ap (λ runs. length (expand runs)) unpacked_more));
@@ -141,36 +141,36 @@ module _ (xs ys : List CodeValue) (numbers all_numbers marks starts : List ℕ) 
     (also : all_numbers ≡ numbers) (packed : ArePacked xs numbers marks starts count) (within : block < length marks)
     (started : start ≡ get_or starts block start) where
   -- their numbers come after those of the codes before them
-  start_is : start ≡ numbers_in (take (block * 64) xs)
+  start_is : start ≡ numbers_in (take (block * 256) xs)
   start_is =
       let inside : block < length starts = omega (arith, within, packed.marked.0, packed.started.0) in
       started ∙ (get_or_default starts block start 0 inside ∙ packed.started.1 block inside)
 
   -- they are all codes that are left
-  block_is : take (length ys - block * 64) (drop (block * 64) ys) ≡ drop (block * 64) xs
+  block_is : take (length ys - block * 256) (drop (block * 256) ys) ≡ drop (block * 256) xs
   block_is =
       rw same
-      (take_all (length xs - block * 64) (drop (block * 64) xs) (omega (arith, length-drop (block * 64) xs)))
+      (take_all (length xs - block * 256) (drop (block * 256) xs) (omega (arith, length-drop (block * 256) xs)))
 
   -- their numbers are there
-  pub numbers_in_block : start + numbers_in (take (length ys - block * 64) (drop (block * 64) ys)) ≤ length all_numbers
+  pub numbers_in_block : start + numbers_in (take (length ys - block * 256) (drop (block * 256) ys)) ≤ length all_numbers
   numbers_in_block =
       rw (block_is, also)
       (omega (
         arith,
         start_is,
         packed.all_numbers,
-        numbers_in-append (take (block * 64) xs) (drop (block * 64) xs),
-        ap numbers_in (take-append-drop (block * 64) xs),
+        numbers_in-append (take (block * 256) xs) (drop (block * 256) xs),
+        ap numbers_in (take-append-drop (block * 256) xs),
       ))
 
   -- what is at a place is in them where they begin at the place or before it
   pub found_in_block : (place mark : ℕ) (found : Option Event) → mark ≡ get_or marks block mark
       → slice_index marks block ≤ place
-      → found ≡ slice_get (expand (unpack all_numbers start (take (length ys - block * 64) (drop (block * 64) ys)))) (place - mark)
+      → found ≡ slice_get (expand (unpack all_numbers start (take (length ys - block * 256) (drop (block * 256) ys)))) (place - mark)
       → found ≡ slice_get (expand (unpack numbers 0 xs)) place
   found_in_block place mark found marked begins finds =
-      let first : List CodeValue = take (block * 64) xs in
+      let first : List CodeValue = take (block * 256) xs in
       let before : slice_index marks block ≡ length (expand (unpack numbers 0 first)) =
       packed.marked.1 block within
       in
@@ -179,11 +179,11 @@ module _ (xs ys : List CodeValue) (numbers all_numbers marks starts : List ℕ) 
       in
       let from : start ≡ 0 + numbers_in first = omega (arith, start_is) in
       let past : length (expand (unpack numbers 0 first)) ≤ place = omega (arith, before, begins) in
-      let whole : unpack numbers 0 first ++ unpack numbers (0 + numbers_in first) (drop (block * 64) xs) ≡ unpack numbers 0 xs =
-      sym (unpack-append numbers 0 first (drop (block * 64) xs))
-      ∙ ap (unpack numbers 0) (take-append-drop (block * 64) xs)
+      let whole : unpack numbers 0 first ++ unpack numbers (0 + numbers_in first) (drop (block * 256) xs) ≡ unpack numbers 0 xs =
+      sym (unpack-append numbers 0 first (drop (block * 256) xs))
+      ∙ ap (unpack numbers 0) (take-append-drop (block * 256) xs)
       in
       finds
       ∙ (rw (block_is, also, at, from)
-      (past_first (unpack numbers 0 first) (unpack numbers (0 + numbers_in first) (drop (block * 64) xs)) place past
+      (past_first (unpack numbers 0 first) (unpack numbers (0 + numbers_in first) (drop (block * 256) xs)) place past
       ∙ ap (λ runs. slice_get (expand runs) place) whole))

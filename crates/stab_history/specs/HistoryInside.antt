@@ -13,11 +13,11 @@ pub record PackedValue : Type 0 where
   pub runs : List Run
   pub room : ℕ
 
--- of so many codes, each 64th has a mark: what this counts of the codes before it
+-- of so many codes, each 256th has a mark: what this counts of the codes before it
 abbrev pub AreMarks : (ℕ → ℕ) → ℕ → List ℕ → Type 0
 AreMarks counted codes marks =
-    (length marks ≡ (codes + 63) / 64)
-    × ((k : ℕ) → k < length marks → slice_index marks k ≡ counted (k * 64))
+    (length marks ≡ (codes + 255) / 256)
+    × ((k : ℕ) → k < length marks → slice_index marks k ≡ counted (k * 256))
 
 -- how many events and how many numbers the first of these codes have
 abbrev pub events_before : List ℕ → List CodeValue → ℕ → ℕ

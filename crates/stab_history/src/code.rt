@@ -117,10 +117,11 @@ fn place(value: u32) -> u16
 
 /// A run in one byte: its kind, and its count where that is at most 24. What it leaves out is in a
 /// list of numbers: the item or the place, where the event has one, and then a larger count as two
-/// numbers, the lower half first. Contracts see the kind and the count, 0 where the numbers have it.
+/// numbers, the lower half first. Contracts see the kind and the count, which is 0 where the numbers
+/// have it.
 #[derive(Debug, Drop)]
 pub(crate) struct Code {
-    /// The number of the kind, 25 times, and the count.
+    /// `COUNTS` times the number of the kind, and the count.
     byte: u8,
 }
 

@@ -11,13 +11,13 @@ use std::alloc::{AllocError, Global};
 use std::marker::Model;
 
 /// How many codes share one mark.
-const BLOCK: usize = 64;
+const BLOCK: usize = 256;
 
 /// How many numbers a code takes at most.
 const NUMBERS: usize = 3;
 
 /// The runs that are over, as codes of one byte and the numbers that they leave out, with two marks
-/// for every 64th code. Contracts see the runs, and for how many more there is room.
+/// for every 256th code. Contracts see the runs, and for how many more there is room.
 #[derive(Debug, Drop)]
 pub(crate) struct PackedRuns {
     codes: Vec<Code>,
@@ -123,7 +123,7 @@ impl PackedRuns {
 fn mark(marks: &mut Vec<u64>, place: usize, count: u64)
     requires { vec_len marks.old < vec_capacity marks.old }
     ensures items { marks.new.items
-        ≡ (if place % 64 == 0 then marks.old.items ++ count ∷ [] else marks.old.items) }
+        ≡ (if place % 256 == 0 then marks.old.items ++ count ∷ [] else marks.old.items) }
     ensures len { vec_len marks.new ≤ vec_len marks.old + 1 }
     ensures capacity { vec_capacity marks.new ≡ vec_capacity marks.old }
 {
