@@ -87,6 +87,17 @@ impl Link {
         })
     }
 
+    /// Makes room for this many more offered and delivered items, as far as memory is there.
+    ///
+    /// Whoever knows how long the lists will be spares them growing step by step. Where memory is
+    /// refused, they grow in their steps as without this call, so there is nothing to report.
+    pub fn reserve(&mut self, additional: usize)
+        ensures { self.new ≡ self.old }
+    {
+        let _offered = self.offered.reserve_exact(additional);
+        let _delivered = self.delivered.reserve_exact(additional);
+    }
+
     /// One step. Where memory is refused, which only an event that makes a list grow can meet, the
     /// link is as it was.
     pub fn apply(&mut self, event: Event) -> Result<Effect, AllocError>

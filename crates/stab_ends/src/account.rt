@@ -48,6 +48,14 @@ impl SendAccount {
         }
     }
 
+    /// Makes room for this many more items, as far as memory is there. Where it is refused, the list
+    /// grows step by step as without this call, so there is nothing to report.
+    pub fn reserve(&mut self, additional: usize)
+        ensures { self.new ≡ self.old }
+    {
+        let _offered = self.offered.reserve_exact(additional);
+    }
+
     /// Whether each item that was taken is acknowledged.
     pub fn is_idle(&self) -> bool
         ensures { IsTrue result ↔ (length self.now.offered ≡ self.now.acked) }
@@ -100,5 +108,13 @@ impl RecvAccount {
             delivered: Vec::new(alloc),
             closed: false,
         }
+    }
+
+    /// Makes room for this many more items, as far as memory is there. Where it is refused, the list
+    /// grows step by step as without this call, so there is nothing to report.
+    pub fn reserve(&mut self, additional: usize)
+        ensures { self.new ≡ self.old }
+    {
+        let _delivered = self.delivered.reserve_exact(additional);
     }
 }

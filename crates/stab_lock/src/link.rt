@@ -85,6 +85,13 @@ impl LockLink {
         })
     }
 
+    /// Makes room for this many more items in the lists behind the lock, as far as memory is there.
+    pub fn reserve(&mut self, additional: usize)
+        ensures { self.new ≡ self.old }
+    {
+        self.book.get_mut().reserve(additional);
+    }
+
     /// The two ends of the link, with empty accounts. It takes no memory.
     pub fn split<R>(&self) -> (LockSend<'_, R>, LockRecv<'_, R>)
         ensures send { send_end result.0 ≡ record { account = new_sender } }

@@ -40,6 +40,13 @@ impl<'a, R> LockRecv<'a, R> {
             runtime: PhantomData,
         }
     }
+
+    /// Makes room for this many more items in the account, as far as memory is there.
+    pub fn reserve(&mut self, additional: usize)
+        ensures { recv_end self.new ≡ recv_end self.old }
+    {
+        self.account.reserve(additional);
+    }
 }
 
 impl<'a, R: Wait> RecvSide for LockRecv<'a, R> {

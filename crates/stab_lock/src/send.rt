@@ -41,6 +41,13 @@ impl<'a, R> LockSend<'a, R> {
             runtime: PhantomData,
         }
     }
+
+    /// Makes room for this many more items in the account, as far as memory is there.
+    pub fn reserve(&mut self, additional: usize)
+        ensures { send_end self.new ≡ send_end self.old }
+    {
+        self.account.reserve(additional);
+    }
 }
 
 impl<'a, R: Wait> SendSide for LockSend<'a, R> {

@@ -70,6 +70,13 @@ impl SharedBook {
         })
     }
 
+    /// Makes room for this many more items in the lists of the link, as far as memory is there.
+    pub(crate) fn reserve(&mut self, additional: usize)
+        ensures { self.new ≡ self.old }
+    {
+        self.book.reserve(additional);
+    }
+
     /// Offers an item to the sender.
     pub(crate) fn offer(&mut self, item: Item) -> Result<bool, AllocError>
         ensures noted { OnOk result (self.new ≡ after_call (offering item) self.old) }

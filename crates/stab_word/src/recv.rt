@@ -71,6 +71,13 @@ impl<'a> WordRecv<'a> {
             acts,
         }
     }
+
+    /// Makes room for this many more items in the account, as far as memory is there. No step.
+    pub fn reserve(&mut self, additional: usize)
+        ensures { self.new ≡ self.old }
+    {
+        self.account.reserve(additional);
+    }
 }
 
 /// A finished receiver's end, which borrows nothing: what its link needs to settle it. Contracts
