@@ -131,7 +131,7 @@ where
         → IsRefused (G.has_passed gate.now node) (G.may_refuse gate.now node) turns) }
 {
     let room = Vec::with_capacity(alloc, downs.len())?;
-    let mut received = Vec::from_slice(alloc, initial)?;
+    let mut received = begun(alloc, initial, up)?;
     let ended = take_turns(pass, node, up, downs, &mut received, turns, gate)?;
     close_all(pass, downs)?;
     Ok(Served {
@@ -139,6 +139,22 @@ where
         ended,
         room,
     })
+}
+
+/// The list of a node before its first turn. It has room for as many more items as the account of
+/// the upper end, as far as memory is there: the node adds what that one adds.
+fn begun<U: RecvSide>(
+    alloc: Global,
+    initial: &[Item],
+    up: &Option<U>,
+) -> Result<Vec<Item>, AllocError>
+    ensures items { IfOk result (λ list. list.items ≡ initial.now) }
+{
+    let mut list = Vec::from_slice(alloc, initial)?;
+    if let Some(end) = up {
+        let _room = list.reserve_exact(end.account().delivered.capacity());
+    }
+    Ok(list)
 }
 
 /// Makes turns until the worker has handed everything on or its turns are over.
