@@ -56,13 +56,15 @@ fn is_of_words(links: Links, params: Params) -> bool
 }
 
 impl AnyLink {
-    /// A link at a lawful start, and what splits it. A link with a lock gets a copy of the script.
+    /// A link at a lawful start, and what splits it. A link with a lock gets a copy of the script,
+    /// and room for `room` items in each of its lists, as far as memory is there.
     pub fn make(
         alloc: Global,
         links: Links,
         params: Params,
         start: &Start,
         script: &Script,
+        room: usize,
     ) -> Result<(AnyLink, AnyOpening), AllocError>
         requires one_place { HaveOnePlace links (params ∷ []) }
         requires lawful { IsLawful params start.now }
@@ -78,20 +80,25 @@ impl AnyLink {
             }
         } else {
             match LockLink::new(alloc, params, start.copy(alloc)?, script.copy(alloc)?) {
-                Ok(link) => Ok((AnyLink::Lock(link), AnyOpening::Lock)),
+                Ok(mut link) => {
+                    link.reserve(room);
+                    Ok((AnyLink::Lock(link), AnyOpening::Lock))
+                }
                 Err(_) => Err(AllocError),
             }
         }
     }
 
     /// The two ends of the link, which have made no call, for `turns` turns. Those of a link of two
-    /// words have each its half of a copy of the script.
+    /// words have each its half of a copy of the script. The account of each has room for `room`
+    /// items, as far as memory is there.
     pub fn split<'a, 's, R>(
         &'a self,
         alloc: Global,
         opening: AnyOpening,
         script: &'s Script,
         turns: u32,
+        room: usize,
     ) -> Result<(ScriptedSend<'a, 's, R>, ScriptedRecv<'a, 's, R>), AllocError>
         requires { IsOpenedBy self.now opening }
         ensures sends { IfOk result (λ ends. Sends self.now ends.0) }
@@ -103,14 +110,18 @@ impl AnyLink {
     {
         match (self, opening) {
             (AnyLink::Lock(link), AnyOpening::Lock) => {
-                let (send, recv) = link.split();
+                let (mut send, mut recv) = link.split();
+                send.reserve(room);
+                recv.reserve(room);
                 Ok((
                     ScriptedSend::new(AnySend::Lock(send), Plan::new(script, turns)),
                     ScriptedRecv::new(AnyRecv::Lock(recv), Plan::new(script, turns)),
                 ))
             }
             (AnyLink::Word(link), AnyOpening::Word(opening)) => {
-                let (send, recv) = link.split(alloc, opening, script.copy(alloc)?)?;
+                let (mut send, mut recv) = link.split(alloc, opening, script.copy(alloc)?)?;
+                send.reserve(room);
+                recv.reserve(room);
                 Ok((
                     ScriptedSend::new(AnySend::Word(send), Plan::new(script, turns)),
                     ScriptedRecv::new(AnyRecv::Word(recv), Plan::new(script, turns)),

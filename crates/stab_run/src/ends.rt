@@ -29,13 +29,14 @@ fn take_first(openings: &mut VecDeque<AnyOpening>) -> AnyOpening
 }
 
 /// The two ends of each link, which have made no call and follow the link's script, for `turns`
-/// turns.
+/// turns, with room for `room` items.
 fn split_all<'a, 's, R>(
     alloc: Global,
     links: &'a [AnyLink],
     openings: Vec<AnyOpening>,
     scripts: &'s [Script],
     turns: u32,
+    room: usize,
 ) -> Result<(Vec<ScriptedSend<'a, 's, R>>, Vec<ScriptedRecv<'a, 's, R>>), AllocError>
     requires scripts { length scripts.now ≡ length links.now }
     requires openings { AllZip IsOpenedBy links.now openings.items }
@@ -57,20 +58,22 @@ fn split_all<'a, 's, R>(
     let mut openings = VecDeque::from(openings);
     'links: for place in 0..links.len() {
         let opening = take_first(&mut openings);
-        let (send, recv) = links[place].split(alloc, opening, &scripts[place], turns)?;
+        let (send, recv) = links[place].split(alloc, opening, &scripts[place], turns, room)?;
         sends.push_reserved(send);
         recvs.push_reserved(recv);
     }
     Ok((sends, recvs))
 }
 
-/// Splits the links of a job and runs its workers over their ends, which follow its scripts.
+/// Splits the links of a job and runs its workers over their ends, which follow its scripts and
+/// have room for `room` items.
 pub(crate) fn run_links<'j, R: Threads + Wait + Send + Sync, G: Gate + Sync>(
     rt: &R,
     alloc: Global,
     job: &'j Job,
     links: &[AnyLink],
     openings: Vec<AnyOpening>,
+    room: usize,
     gate: &G,
 ) -> Result<Gathered<ScriptedRecvDone<'j>, ScriptedSendDone<'j>>, WorkersFault>
     requires links { length links.now ≡ length (links_of job.now.tree.parents) }
@@ -84,7 +87,7 @@ pub(crate) fn run_links<'j, R: Threads + Wait + Send + Sync, G: Gate + Sync>(
         (length job.now.tree.parents) job.now.turns) }
 {
     let turns = job.turns();
-    let (sends, recvs) = split_all::<R>(alloc, links, openings, job.scripts(), turns)?;
+    let (sends, recvs) = split_all::<R>(alloc, links, openings, job.scripts(), turns, room)?;
     let gathered = run_workers(
         rt,
         rt,

@@ -11,6 +11,7 @@ mod ends;
 mod kept_links;
 pub mod laws;
 mod report;
+mod room;
 mod run;
 mod run_fault;
 mod runs;

@@ -17,6 +17,7 @@ use crate::ends::run_links;
 use crate::kept_links::KeptLinks;
 use crate::laws;
 use crate::report::Report;
+use crate::room::room_of;
 use crate::run_fault::RunFault;
 use crate::settle::settle_all;
 use crate::starts::{check_starts, make_links};
@@ -47,8 +48,16 @@ pub(crate) fn run<R: Threads + Wait + Send + Sync, G: Gate + Sync>(
         (G.has_passed gate.now) (G.may_refuse gate.now) (G.is_done gate.now)) }
 {
     check_starts(job.params(), job.tree(), job.starts())?;
-    let (links, openings) = make_links(alloc, which, job.params(), job.starts(), job.scripts())?;
-    let gathered = run_links(rt, alloc, job, &links, openings, gate)?;
+    let room = room_of(job);
+    let (links, openings) = make_links(
+        alloc,
+        which,
+        job.params(),
+        job.starts(),
+        job.scripts(),
+        room,
+    )?;
+    let gathered = run_links(rt, alloc, job, &links, openings, room, gate)?;
     let report = report_of(alloc, which, job, links, gathered)?;
     Ok(report)
 }

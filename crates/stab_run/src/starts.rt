@@ -55,14 +55,15 @@ pub(crate) fn check_starts(params: &[Params], tree: &Tree, starts: &[Start]) -> 
     Ok(())
 }
 
-/// Each link with its parameters at its start, those with a lock with their script, and what splits
-/// it.
+/// Each link with its parameters at its start, those with a lock with their script and with room
+/// for `room` items in each of their lists, and what splits it.
 pub(crate) fn make_links(
     alloc: Global,
     which: Links,
     params: &[Params],
     starts: &[Start],
     scripts: &[Script],
+    room: usize,
 ) -> Result<(Vec<AnyLink>, Vec<AnyOpening>), AllocError>
     requires one_place { HaveOnePlace which params.now }
     requires one_each { length params.now ≡ length starts.now }
@@ -86,6 +87,7 @@ pub(crate) fn make_links(
             params[place],
             &starts[place],
             &scripts[place],
+            room,
         )?;
         links.push_reserved(link);
         openings.push_reserved(opening);
