@@ -1,2 +1,3 @@
+pub mod ActLists
 pub mod Scripts
 pub mod Draws

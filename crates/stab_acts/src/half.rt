@@ -2,7 +2,7 @@ ghost use Rattle.std.specs.Prelude.{◌≡◌};
 ghost use Rattle.stab_acts.specs.Scripts.{out_act, in_act, after_out, after_in};
 
 use crate::act::{InAct, OutAct};
-use stab_frames::Sequence;
+use crate::acts::ActList;
 use std::marker::Model;
 
 /// The acts that one end of a link has still to take: for what it sends, and for what it receives.
@@ -11,9 +11,9 @@ use std::marker::Model;
 /// was. No call takes memory.
 #[derive(Debug)]
 pub struct HalfScript {
-    outs: Sequence<OutAct>,
+    outs: ActList<OutAct>,
     outs_taken: usize,
-    ins: Sequence<InAct>,
+    ins: ActList<InAct>,
     ins_taken: usize,
 }
 
@@ -39,7 +39,7 @@ impl Model for HalfScript {
 
 impl HalfScript {
     /// The half of these acts, none of which is taken.
-    pub(crate) fn new(outs: Sequence<OutAct>, ins: Sequence<InAct>) -> HalfScript
+    pub(crate) fn new(outs: ActList<OutAct>, ins: ActList<InAct>) -> HalfScript
         ensures { result ≡ record { outs = outs; ins = ins } }
     {
         HalfScript {

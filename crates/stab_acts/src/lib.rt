@@ -7,6 +7,7 @@
 #![tactic(auto)]
 
 mod act;
+mod acts;
 mod draw;
 pub mod examples;
 mod fault;

@@ -2,9 +2,9 @@ ghost use Rattle.std.specs.Prelude.{◌≡◌, IfOk};
 ghost use Rattle.stab_acts.specs.Scripts.{acts, no_acts, script_of, sender_half, receiver_half};
 
 use crate::act::{InAct, OutAct};
+use crate::acts::ActList;
 use crate::fault::ScriptFault;
 use crate::half::HalfScript;
-use stab_frames::Sequence;
 use std::alloc::{AllocError, Global};
 use std::marker::Model;
 
@@ -13,13 +13,14 @@ pub(crate) const MAX_ACTS: u32 = 100_000;
 
 /// What a link is to lose and to repeat: a list of acts for each of frames going out, frames coming
 /// in, acknowledgements going out and acknowledgements coming in. Past its end a list passes or
-/// takes.
+/// takes. A script never changes, so copies of one that is [shared](Script::share) have the same
+/// acts in memory.
 #[derive(Debug)]
 pub struct Script {
-    frames_out: Sequence<OutAct>,
-    frames_in: Sequence<InAct>,
-    acks_out: Sequence<OutAct>,
-    acks_in: Sequence<InAct>,
+    frames_out: ActList<OutAct>,
+    frames_in: ActList<InAct>,
+    acks_out: ActList<OutAct>,
+    acks_in: ActList<InAct>,
 }
 
 impl Drop for Script {
@@ -72,10 +73,10 @@ impl Script {
         ensures { result ≡ acts frames_out.items frames_in.items acks_out.items acks_in.items }
     {
         Script {
-            frames_out: Sequence::from_vec(frames_out),
-            frames_in: Sequence::from_vec(frames_in),
-            acks_out: Sequence::from_vec(acks_out),
-            acks_in: Sequence::from_vec(acks_in),
+            frames_out: ActList::from_vec(frames_out),
+            frames_in: ActList::from_vec(frames_in),
+            acks_out: ActList::from_vec(acks_out),
+            acks_in: ActList::from_vec(acks_in),
         }
     }
 
@@ -84,14 +85,32 @@ impl Script {
         ensures { result ≡ no_acts }
     {
         Script {
-            frames_out: Sequence::new(alloc),
-            frames_in: Sequence::new(alloc),
-            acks_out: Sequence::new(alloc),
-            acks_in: Sequence::new(alloc),
+            frames_out: ActList::from_vec(Vec::new(alloc)),
+            frames_in: ActList::from_vec(Vec::new(alloc)),
+            acks_out: ActList::from_vec(Vec::new(alloc)),
+            acks_in: ActList::from_vec(Vec::new(alloc)),
         }
     }
 
-    /// A script of the same acts.
+    /// The same script, whose copies take no memory for their acts.
+    pub fn share(self) -> Result<Script, AllocError>
+        ensures { IfOk result (λ script. script ≡ self) }
+    {
+        let Script {
+            frames_out,
+            frames_in,
+            acks_out,
+            acks_in,
+        } = self;
+        Ok(Script {
+            frames_out: frames_out.share()?,
+            frames_in: frames_in.share()?,
+            acks_out: acks_out.share()?,
+            acks_in: acks_in.share()?,
+        })
+    }
+
+    /// A script of the same acts, which is shared.
     pub fn copy(&self, alloc: Global) -> Result<Script, AllocError>
         ensures { IfOk result (λ script. script ≡ self.now) }
     {

@@ -64,7 +64,7 @@ fn make_all(alloc: Global, entries: Vec<ScriptEntry>) -> Result<Sequence<Script>
 {
     let mut scripts = Sequence::with_capacity(alloc, entries.len())?;
     for entry in entries {
-        scripts.push(entry.make(alloc)?)?;
+        scripts.push(entry.make(alloc)?.share()?)?;
     }
     Ok(scripts)
 }
