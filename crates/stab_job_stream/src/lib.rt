@@ -3,13 +3,13 @@
 //! [`read_job`] has the contract of the function of that name in `stab_job`, clause by clause,
 //! which is the one fact that the layer above uses. Only the schedule of a job is long. So its
 //! steps are read token by token, and each takes no more memory than the event that it becomes:
-//! the names of nodes, which the text lends, are in a table beside them. The other members are read
-//! as values, and `stab_job` makes the job of them. Then each name of the table is looked up in the
-//! tree. A job that fails a check, or whose schedule has not the plain form, is read by `stab_job`
-//! from its bytes, so each refusal and their order are its own. [`read_job_and_members`] hands out
-//! those values as well, for a caller to whom another member says something. For one to whom the
-//! schedule says nothing, [`read_unscheduled_job`] looks at each step and keeps none, and
-//! [`read_members`] makes no job.
+//! the names of nodes are in a table beside them. The other members are read as values, and
+//! `stab_job` makes the job of them. Then each name of the table is looked up in the tree. A job
+//! that fails a check, or whose schedule has not the plain form, is read by `stab_job` from its
+//! bytes, so each refusal and their order are its own. [`read_job_and_members`] hands out those
+//! values as well, for a caller to whom another member says something. For one to whom the schedule
+//! says nothing, [`read_unscheduled_job`] looks at each step and keeps none, and [`read_members`]
+//! makes no job.
 #![tactic(auto)]
 
 mod events;

@@ -15,19 +15,19 @@ use std::alloc::{AllocError, Global};
 
 /// What was read of a job so far: the steps of its schedule, and the other members.
 #[derive(Drop)]
-pub(crate) struct JobParts<'t> {
+pub(crate) struct JobParts {
     pub(crate) others: Map<String, Value>,
-    pub(crate) steps: Option<Schedule<'t>>,
+    pub(crate) steps: Option<Schedule>,
 }
 
 /// Reads the member of that name, whose value comes next; false where it has not the plain form.
 /// Steps are kept, or only counted.
-fn read_member<'t>(
+fn read_member(
     alloc: Global,
-    reader: &mut Reader<'t>,
+    reader: &mut Reader<'_>,
     name: &str,
     keeps: bool,
-    parts: &mut JobParts<'t>,
+    parts: &mut JobParts,
 ) -> Result<bool, AllocError>
     ensures value { IfOk result (λ done. IsTrue done → (d : Data)
         × (Stands in_member reader.old d reader.new)
@@ -48,11 +48,11 @@ fn read_member<'t>(
 }
 
 /// The members of a job, whose opening brace was taken.
-fn read_members<'t>(
+fn read_members(
     alloc: Global,
-    reader: &mut Reader<'t>,
+    reader: &mut Reader<'_>,
     keeps: bool,
-) -> Result<Option<JobParts<'t>>, AllocError>
+) -> Result<Option<JobParts>, AllocError>
     ensures { IfOk result (λ found. IfSome found (λ parts. (ms : Members)
         × (MembersMake in_member no_members (length reader.old) reader.old ms reader.new)
         × HasParts keeps (members_view parts.others.entries) parts.steps ms)) }
@@ -75,20 +75,20 @@ fn read_members<'t>(
 }
 
 /// The parts of the job that a text is, where it has the plain form. The steps of its schedule are
-/// kept, or only counted.
-pub(crate) fn read_text<'t>(
+/// kept, or only counted. The parts borrow nothing, so the memory that reading needs is free after.
+pub(crate) fn read_text(
     alloc: Global,
-    text: &'t str,
-    scratch: &'t mut Scratch,
+    text: &str,
     keeps: bool,
-) -> Result<Option<JobParts<'t>>, AllocError>
+) -> Result<Option<JobParts>, AllocError>
     ensures value { IfOk result (λ found. IfSome found (λ parts. (ms : Members)
         × (Stands in_job (tokens text.now) (object ms) [])
         × HasParts keeps (members_view parts.others.entries) parts.steps ms)) }
     ensures some { IfOk result (λ found. IfSome found (λ _. 0 < length text.now)) }
     ensures memory { OnErr result (0 < length text.now) }
 {
-    let mut reader = Reader::new(text, scratch)?;
+    let mut scratch = Scratch::new(alloc);
+    let mut reader = Reader::new(text, &mut scratch)?;
     let Some(Token::BeginObject) = reader.next() else {
         return Ok(None);
     };

@@ -15,21 +15,21 @@ const MAX_NAMES: usize = 64;
 /// What a slot has that is empty: more than the place of any name.
 const EMPTY: u8 = 255;
 
-/// Different names, which a text lends. Its slots say where to look, so a name is compared with one
-/// or two others, however many there are. A place is answered only where the name is there, so no
-/// fact rests on what is in a slot.
+/// Different names. Its slots say where to look, so a name is compared with one or two others,
+/// however many there are. A place is answered only where the name is there, so no fact rests on
+/// what is in a slot.
 #[derive(Drop)]
-pub(crate) struct Names<'t> {
-    list: Vec<&'t str>,
+pub(crate) struct Names {
+    list: Vec<String>,
     slots: [u8; SLOTS],
 }
 
-impl<'t> Model for Names<'t> {
-    ghost use Rattle.std.specs.Prelude.{ℕ, List, map};
+impl Model for Names {
+    ghost use Rattle.std.specs.Prelude.{ℕ, List, map, string_bytes};
 
     ghost Value = { List (List ℕ) };
 
-    ghost view = { λ n. map (λ name. name.now) n.list.items };
+    ghost view = { λ n. map string_bytes n.list.items };
 }
 
 /// The slot at which the search for a name begins.
@@ -55,9 +55,9 @@ fn fill_slot(slots: &mut [u8; SLOTS], name: &str, place: u8) {
     }
 }
 
-impl<'t> Names<'t> {
+impl Names {
     /// No names.
-    pub(crate) fn new(alloc: Global) -> Names<'t>
+    pub(crate) fn new(alloc: Global) -> Names
         ensures { result ≡ [] }
     {
         Names {
@@ -78,7 +78,7 @@ impl<'t> Names<'t> {
         requires { place < length self.now }
         ensures { slice_get self.now place ≡ Some result.now }
     {
-        self.list[place]
+        self.list[place].as_str()
     }
 
     /// Whether a name is at a place.
@@ -109,14 +109,14 @@ impl<'t> Names<'t> {
     }
 
     /// The place of a name, which is added where it is not found; none where there are too many.
-    pub(crate) fn place(&mut self, name: &'t str) -> Result<Option<u16>, AllocError>
+    pub(crate) fn place(&mut self, alloc: Global, name: &str) -> Result<Option<u16>, AllocError>
         ensures grown { (self.new ≡ self.old) ⊎ (self.new ≡ self.old ++ name.now ∷ []) }
         ensures place { IfOk result (λ found. IfSome found (λ place.
             slice_get self.new place ≡ Some name.now)) }
     {
         match self.find(name) {
             Some(place) => Ok(Some(place)),
-            None => self.add(name),
+            None => self.add(alloc, name),
         }
     }
 
@@ -138,7 +138,7 @@ impl<'t> Names<'t> {
     }
 
     /// Adds a name, and answers its place; none where there are too many.
-    fn add(&mut self, name: &'t str) -> Result<Option<u16>, AllocError>
+    fn add(&mut self, alloc: Global, name: &str) -> Result<Option<u16>, AllocError>
         ensures grown { (self.new ≡ self.old) ⊎ (self.new ≡ self.old ++ name.now ∷ []) }
         ensures place { IfOk result (λ found. IfSome found (λ place.
             slice_get self.new place ≡ Some name.now)) }
@@ -147,7 +147,7 @@ impl<'t> Names<'t> {
         if place >= MAX_NAMES {
             return Ok(None);
         }
-        self.list.push(name)?;
+        self.list.push(String::from_str(alloc, name)?)?;
         fill_slot(&mut self.slots, name, place as u8);
         Ok(Some(place as u16))
     }

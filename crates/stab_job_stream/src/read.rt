@@ -9,7 +9,6 @@ ghost use Rattle.stab_job_stream.specs.Unscheduled.{IsKeptOf, IsUnscheduled, uns
 
 use crate::members::{JobParts, read_text};
 use crate::schedule::Schedule;
-use json::Scratch;
 use serde_json::{Map, Value};
 use stab_frames::Sequence;
 use stab_job::{Job, JobFault, job_of_value};
@@ -171,8 +170,7 @@ fn plain_members(alloc: Global, bytes: &[u8]) -> Result<Option<Value>, AllocErro
     let Ok(text) = std::str::from_utf8(bytes) else {
         return Ok(None);
     };
-    let mut scratch = Scratch::new(alloc);
-    let Some(parts) = read_text(alloc, text, &mut scratch, false)? else {
+    let Some(parts) = read_text(alloc, text, false)? else {
         return Ok(None);
     };
     let JobParts { others, steps: _ } = parts;
@@ -192,8 +190,7 @@ fn read_plain(alloc: Global, bytes: &[u8], keeps: bool) -> Result<Option<(Job, V
     let Ok(text) = std::str::from_utf8(bytes) else {
         return Ok(None);
     };
-    let mut scratch = Scratch::new(alloc);
-    let Some(parts) = read_text(alloc, text, &mut scratch, keeps)? else {
+    let Some(parts) = read_text(alloc, text, keeps)? else {
         return Ok(None);
     };
     let Some(read) = whole_job(alloc, keeps, parts)? else {
@@ -207,7 +204,7 @@ fn read_plain(alloc: Global, bytes: &[u8], keeps: bool) -> Result<Option<(Job, V
 fn whole_job(
     alloc: Global,
     keeps: bool,
-    parts: JobParts<'_>,
+    parts: JobParts,
 ) -> Result<Option<(Job, Value)>, AllocError>
     ensures job { IfOk result (λ found. IfSome found (λ read. (ms : Members)
         → HasParts keeps (members_view parts.entry.others.entries) parts.entry.steps ms
@@ -243,7 +240,7 @@ fn job_of_others(alloc: Global, others: &Value) -> Result<Option<Job>, AllocErro
 
 /// The job of the members with their schedule, where it passes each check, by that without one. It
 /// has the steps that were kept.
-fn with_steps(alloc: Global, job: Job, steps: Schedule<'_>) -> Result<Option<Job>, AllocError>
+fn with_steps(alloc: Global, job: Job, steps: Schedule) -> Result<Option<Job>, AllocError>
     ensures { IfOk result (λ found. IfSome found (λ kept. (keeps : Bool) (others ms : Members)
         → HasParts keeps others (Some steps.entry) ms → job_of_data (object others) ≡ Ok job
         → IsKeptOf keeps (job_of_data (object ms)) kept)) }

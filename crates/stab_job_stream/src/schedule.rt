@@ -17,14 +17,14 @@ use std::marker::Model;
 /// The steps of a schedule. Each is kept in the form of an event, in which the place of its name in
 /// a table stands for the node; so a step takes no more memory than the event that it becomes. Or
 /// none is kept, and they are only counted.
-pub(crate) struct Schedule<'t> {
-    names: Names<'t>,
+pub(crate) struct Schedule {
+    names: Names,
     count: usize,
     are_kept: bool,
     kept: Vec<TreeEvent>,
 }
 
-impl<'t> Drop for Schedule<'t> {
+impl Drop for Schedule {
     fn drop(self) {
         let Schedule {
             names: _,
@@ -35,7 +35,7 @@ impl<'t> Drop for Schedule<'t> {
     }
 }
 
-impl<'t> Model for Schedule<'t> {
+impl Model for Schedule {
     ghost use Rattle.stab_job_stream.specs.Steps.{AreIn, KeptSteps};
 
     ghost Value = { KeptSteps };
@@ -62,10 +62,10 @@ fn keep(kept: &mut Vec<TreeEvent>, are_kept: bool, step: TreeEvent) -> Result<()
     Ok(())
 }
 
-impl<'t> Schedule<'t> {
+impl Schedule {
     /// No steps. Those that are added are kept, or only counted.
     #[tactic(auto, using(crate::proofs::Kept::none_kept))]
-    pub(crate) fn new(alloc: Global, are_kept: bool) -> Schedule<'t>
+    pub(crate) fn new(alloc: Global, are_kept: bool) -> Schedule
         ensures { AreKept are_kept result [] }
     {
         Schedule {
@@ -78,14 +78,14 @@ impl<'t> Schedule<'t> {
 
     /// Adds a step, and answers whether it could: there are not too many steps or names.
     #[tactic(auto, using(crate::proofs::Kept::kept_within))]
-    pub(crate) fn push(&mut self, step: Step<'t>) -> Result<bool, AllocError>
+    pub(crate) fn push(&mut self, alloc: Global, step: Step<'_>) -> Result<bool, AllocError>
         ensures { IfOk result (λ done. IsTrue done → (keeps : Bool) (acts : List NamedAct)
             → AreKept keeps self.old acts → AreKept keeps self.new (acts ++ step.entry ∷ [])) }
     {
         if self.count >= MAX_EVENTS {
             return Ok(false);
         }
-        let Some(place) = self.names.place(step.child)? else {
+        let Some(place) = self.names.place(alloc, step.child)? else {
             return Ok(false);
         };
         let event = TreeEvent {

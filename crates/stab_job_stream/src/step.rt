@@ -123,11 +123,11 @@ fn next_step<'t>(reader: &mut Reader<'t>) -> Option<Step<'t>>
 }
 
 /// The steps of a list, whose opening bracket was taken; they are kept, or only counted.
-fn read_entries<'t>(
+fn read_entries(
     alloc: Global,
-    reader: &mut Reader<'t>,
+    reader: &mut Reader<'_>,
     keeps: bool,
-) -> Result<Option<Schedule<'t>>, AllocError>
+) -> Result<Option<Schedule>, AllocError>
     ensures value { IfOk result (λ found. IfSome found (λ steps. (acts : List NamedAct)
         × AreKept keeps steps acts × ((depth : ℕ) → 0 < depth
         → EntriesMean depth named_act (length reader.old) reader.old acts reader.new))) }
@@ -139,7 +139,7 @@ fn read_entries<'t>(
         let Some(step) = next_step(reader) else {
             return Ok(None);
         };
-        if !steps.push(step)? {
+        if !steps.push(alloc, step)? {
             return Ok(None);
         }
     }
@@ -148,11 +148,11 @@ fn read_entries<'t>(
 
 /// The schedule that comes next, where each entry of it is a step; the steps are kept, or only
 /// counted.
-pub(crate) fn read_steps<'t>(
+pub(crate) fn read_steps(
     alloc: Global,
-    reader: &mut Reader<'t>,
+    reader: &mut Reader<'_>,
     keeps: bool,
-) -> Result<Option<Schedule<'t>>, AllocError>
+) -> Result<Option<Schedule>, AllocError>
     ensures value { IfOk result (λ found. IfSome found (λ steps. (acts : List NamedAct)
         × AreKept keeps steps acts
         × MeansWithin in_member (list_of named_act) reader.old acts reader.new)) }
