@@ -29,6 +29,7 @@ pub use replay::run_link;
 pub use sender::Sender;
 pub use start::{Start, StartFault};
 pub use text::{
-    link_text, origins_text, push_items_line, push_link_text, push_number, push_origins_text,
+    link_text, origins_text, push_closed_line, push_frame, push_items_line, push_link_text,
+    push_number, push_number_line, push_origins_text,
 };
 pub use tracer::{run_traced, trace};

@@ -86,9 +86,10 @@ pub fn push_number(text: &mut String, number: u64) -> Result<(), AllocError>
     text.push_str(buffer.format(number))
 }
 
-/// Adds a line: the label, then the number after one space.
+/// Adds a line: the label, then the number after one space. Where memory is refused, a part of the
+/// line may have been added.
 #[tactic(auto, unfolding(crate::specs::Texts::number_line))]
-fn push_number_line(text: &mut String, label: &str, number: u64) -> Result<(), AllocError>
+pub fn push_number_line(text: &mut String, label: &str, number: u64) -> Result<(), AllocError>
     ensures { OnOk result
         (string_bytes text.new ≡ string_bytes text.old ++ number_line label.now number) }
 {
@@ -110,8 +111,9 @@ fn push_frames_line(text: &mut String, link: &Link) -> Result<(), AllocError>
     text.push_str("\n")
 }
 
-/// Adds a frame, where there is one.
-fn push_frame(text: &mut String, entry: Option<Frame>) -> Result<(), AllocError>
+/// Adds a frame after one space, where there is one. Where memory is refused, a part of it may have
+/// been added.
+pub fn push_frame(text: &mut String, entry: Option<Frame>) -> Result<(), AllocError>
     ensures { OnOk result
         (string_bytes text.new ≡
         string_bytes text.old ++ flat_map frame_entry (option_to_list entry)) }
@@ -151,9 +153,9 @@ fn push_ack(text: &mut String, entry: Option<Label>) -> Result<(), AllocError>
     }
 }
 
-/// Adds the line that says whether the link is closed.
+/// Adds the line that says whether the link is closed. Where memory is refused, nothing is added.
 #[tactic(auto, unfolding(crate::specs::Texts::closed_line))]
-fn push_closed_line(text: &mut String, closed: bool) -> Result<(), AllocError>
+pub fn push_closed_line(text: &mut String, closed: bool) -> Result<(), AllocError>
     ensures { OnOk result
         (string_bytes text.new ≡ string_bytes text.old ++ closed_line closed) }
 {
