@@ -1,6 +1,6 @@
 -- A member that was read is put among the others, which stay as they are.
-use Rattle.std.proofs.Common.{◌≡◌, ℕ, List, get_or, Option, Some, None, codes, ap, ◌∙◌, arith}
-use Rattle.serde_json.specs.Data.{Data, Members, put}
+use Rattle.std.proofs.Common.{◌≡◌, ◌≢◌, ℕ, List, get_or, Option, Some, None, codes, ap, ◌∙◌, arith}
+use Rattle.serde_json.specs.Data.{Data, Members, object, put}
 use Rattle.serde_json.specs.Find.{get_member}
 use Rattle.serde_json.proofs.Views.{get_member-put, get_member-put_other}
 use Rattle.stab_core.specs.declared.event.Event.{Event}
@@ -9,7 +9,7 @@ use Rattle.stab_frames.specs.declared.frame.Frame.{Frame}
 use Rattle.stab_json.specs.Values.{◌>>=◌, most_u16, capped, label, list_of, list_or_absent}
 use Rattle.stab_script.specs.Events.{event}
 use Rattle.stab_script.specs.Starts.{frame, start}
-use Rattle.stab_stream.specs.Members.{Holds, HasStart, HasJob}
+use Rattle.stab_stream.specs.Members.{Holds, HasStart, HasJob, HasNoOthers, IsOther}
 
 -- the names of an object's members begin with different letters
 abbrev Apart : List ℕ → List ℕ → Type 0
@@ -17,6 +17,10 @@ Apart q k = get_or q 0 0 ≡ get_or k 0 0 → ⊥
 
 stays : (q k : List ℕ) (d : Data) (ms : Members) → Apart q k → get_member q (put k d ms) ≡ get_member q ms
 stays q k d ms apart = get_member-put_other q k d ms (λ same. apart (ap (λ s. get_or s 0 0) same))
+
+-- a member of a link job that is put among such members leaves no others
+still_no_others : (k : List ℕ) (d : Data) (ms : Members) → ((name : List ℕ) → IsOther name → name ≢ k) → HasNoOthers (object ms) → HasNoOthers (object (put k d ms))
+still_no_others k d ms apart none = λ name other. get_member-put_other name k d ms (apart name other) ∙ none name other
 
 module _ {X : Type 0} (meaning : Data → Option X) where
   put_there : (k : List ℕ) (d : Data) (ms : Members) (x : X) → meaning d ≡ Some x → Holds meaning k (put k d ms) (Some x)
@@ -74,6 +78,7 @@ module _ (capacity labels : Option ℕ) (its_start : Option Start) (events : Opt
     holds_on (capped most_u16) (codes "labels") (codes "capacity") d ms labels (λ e. omega (arith, e)) has.1,
     holds_on start (codes "start") (codes "capacity") d ms its_start (λ e. omega (arith, e)) has.2,
     holds_on (list_of event) (codes "events") (codes "capacity") d ms events (λ e. omega (arith, e)) has.3,
+    still_no_others (codes "capacity") d ms (λ name other. other.0) has.4,
   )
 
   pub has_labels : (x : ℕ) → capped most_u16 d ≡ Some x → HasJob capacity (Some x) its_start events (put (codes "labels") d ms)
@@ -82,6 +87,7 @@ module _ (capacity labels : Option ℕ) (its_start : Option Start) (events : Opt
     put_there (capped most_u16) (codes "labels") d ms x is,
     holds_on start (codes "start") (codes "labels") d ms its_start (λ e. omega (arith, e)) has.2,
     holds_on (list_of event) (codes "events") (codes "labels") d ms events (λ e. omega (arith, e)) has.3,
+    still_no_others (codes "labels") d ms (λ name other. other.1) has.4,
   )
 
   pub has_start : (x : Start) → start d ≡ Some x → HasJob capacity labels (Some x) events (put (codes "start") d ms)
@@ -90,6 +96,7 @@ module _ (capacity labels : Option ℕ) (its_start : Option Start) (events : Opt
     holds_on (capped most_u16) (codes "labels") (codes "start") d ms labels (λ e. omega (arith, e)) has.1,
     put_there start (codes "start") d ms x is,
     holds_on (list_of event) (codes "events") (codes "start") d ms events (λ e. omega (arith, e)) has.3,
+    still_no_others (codes "start") d ms (λ name other. other.2) has.4,
   )
 
   pub has_events : (xs : List Event) → list_of event d ≡ Some xs → HasJob capacity labels its_start (Some xs) (put (codes "events") d ms)
@@ -98,4 +105,5 @@ module _ (capacity labels : Option ℕ) (its_start : Option Start) (events : Opt
     holds_on (capped most_u16) (codes "labels") (codes "events") d ms labels (λ e. omega (arith, e)) has.1,
     holds_on start (codes "start") (codes "events") d ms its_start (λ e. omega (arith, e)) has.2,
     put_there (list_of event) (codes "events") d ms xs is,
+    still_no_others (codes "events") d ms (λ name other. other.3) has.4,
   )

@@ -1,11 +1,13 @@
 -- Members: what was read so far of the members of an object is what those members mean.
+-- Example: Of `"capacity": 1, "labels": 4` the capacity is 1, there are four labels, and there is no
+-- member but those of a link job. An object with a member `tree` has another one.
 -- Source: this project's own.
-use Rattle.std.specs.Prelude.{◌≡◌, ℕ, codes, List, Option, Some, IfSome}
+use Rattle.std.specs.Prelude.{◌≡◌, ◌≢◌, ℕ, codes, List, Option, Some, None, IfSome}
 use Rattle.stab_core.specs.declared.event.Event.{Event}
 use Rattle.stab_core.specs.declared.start.Start.{Start}
 use Rattle.stab_frames.specs.declared.frame.Frame.{Frame}
-use Rattle.serde_json.specs.Data.{Data, Members}
-use Rattle.serde_json.specs.Find.{get_member}
+use Rattle.serde_json.specs.Data.{Data, Members, object}
+use Rattle.serde_json.specs.Find.{get, get_member}
 use Rattle.stab_json.specs.Values.{◌>>=◌, most_u16, capped, label, list_of, list_or_absent}
 use Rattle.stab_script.specs.Events.{event}
 use Rattle.stab_script.specs.Starts.{frame, start}
@@ -32,10 +34,20 @@ HasStart frames acks send recv ms =
     × Holds label (codes "send") ms send
     × Holds label (codes "recv") ms recv
 
--- the members of a link job
+-- no member of a link job has this name
+abbrev pub IsOther : List ℕ → Type 0
+IsOther name = (name ≢ codes "capacity") × (name ≢ codes "labels") × (name ≢ codes "start")
+    × (name ≢ codes "events")
+
+-- a value has no members but those of a link job
+abbrev pub HasNoOthers : Data → Type 0
+HasNoOthers d = (name : List ℕ) → IsOther name → get name d ≡ None
+
+-- the members of a link job, and there are no others
 abbrev pub HasJob : Option ℕ → Option ℕ → Option Start → Option (List Event) → Members → Type 0
 HasJob capacity labels its_start events ms =
     Holds (capped most_u16) (codes "capacity") ms capacity
     × Holds (capped most_u16) (codes "labels") ms labels
     × Holds start (codes "start") ms its_start
     × Holds (list_of event) (codes "events") ms events
+    × HasNoOthers (object ms)

@@ -6,7 +6,7 @@ ghost use Rattle.stab_frames.specs.Parameters.{fault_of};
 ghost use Rattle.stab_json.specs.Values.{value_of};
 ghost use Rattle.stab_script.specs.LinkJobs.{link_job, most_events};
 ghost use Rattle.stab_stream.specs.Standing.{Stands, MembersMake};
-ghost use Rattle.stab_stream.specs.Members.{in_job, in_member, HasJob};
+ghost use Rattle.stab_stream.specs.Members.{in_job, in_member, HasJob, HasNoOthers};
 
 use crate::list::read_list;
 use crate::number::next_u16;
@@ -36,7 +36,7 @@ pub fn read_link_job(alloc: Global, bytes: &[u8]) -> Result<LinkJob, LinkJobFaul
     ensures json { result ≡ Err LinkJobFault.Json → value_of bytes.now ≡ None }
     ensures memory { result ≡ Err LinkJobFault.Memory → 0 < length bytes.now }
 {
-    match read_plain(alloc, bytes) {
+    match read_plain_link_job(alloc, bytes) {
         Ok(Some(job)) => Ok(job),
         Ok(None) => stab_script::read_link_job(alloc, bytes),
         Err(_) => Err(LinkJobFault::Memory),
@@ -44,9 +44,11 @@ pub fn read_link_job(alloc: Global, bytes: &[u8]) -> Result<LinkJob, LinkJobFaul
 }
 
 /// The link job that these bytes mean, where they have the plain form; nothing is said of them
-/// where there is none.
-fn read_plain(alloc: Global, bytes: &[u8]) -> Result<Option<LinkJob>, AllocError>
+/// where there is none. The value of a text in this form has no members but those of a link job.
+pub fn read_plain_link_job(alloc: Global, bytes: &[u8]) -> Result<Option<LinkJob>, AllocError>
     ensures job { IfOk result (λ found. IfSome found (λ job. link_job bytes.now ≡ Ok job)) }
+    ensures others { IfOk result (λ found. IfSome found (λ _.
+        IfSome (value_of bytes.now) HasNoOthers)) }
     ensures memory { OnErr result (0 < length bytes.now) }
 {
     let Ok(text) = std::str::from_utf8(bytes) else {

@@ -4,7 +4,8 @@
 //! clause, which is the one fact that the layer above uses. A job in the plain form is a text of
 //! the members of a link job and nothing else, each as it has to be: it is read token by token,
 //! straight into its lists. Any other text is read by `stab_script`, through a value of
-//! `serde_json`, so each refusal and their order are its own.
+//! `serde_json`, so each refusal and their order are its own. [`read_plain_link_job`] reads the
+//! plain form alone, for a caller who has to see first which kind of job a text is.
 #![tactic(auto)]
 
 mod entry;
@@ -15,5 +16,5 @@ mod list;
 mod number;
 mod start;
 
-pub use job::read_link_job;
+pub use job::{read_link_job, read_plain_link_job};
 pub use number::whole_of;

@@ -1,4 +1,4 @@
-use Rattle.std.proofs.Common.{◌≡◌, ◌-◌, ◌<◌, length, Some, None, option_map, ap, ◌∙◌, arith}
+use Rattle.std.proofs.Common.{◌≡◌, ◌-◌, ◌<◌, length, Some, None, option_map, refl, ap, ◌∙◌, arith}
 use Rattle.json.specs.Json.{read_key}
 use Rattle.json.proofs.Grammar.{read_key-shorter}
 use Rattle.serde_json.specs.Data as values
@@ -9,7 +9,7 @@ use Rattle.stab_stream.proofs.Standing.{no_members}
 use Rattle.stab_stream.proofs.job.read_members.Goals as goal
 
 pub members-init : goal.members-init
-members-init c = (length c.args.reader.now, omega arith, omega arith, values.no_members, λ ms rest later. later, (tt, tt, tt, tt))
+members-init c = (length c.args.reader.now, omega arith, omega arith, values.no_members, λ ms rest later. later, (tt, tt, tt, tt, λ name other. refl))
 
 pub returns-in_default-name : goal.returns-in_default-name
 returns-in_default-name c =
