@@ -15,7 +15,7 @@ use rignolda_logs::{Logs, LogsFault, read_logs, verdict_of_logs};
 use serde_json::Value;
 use stab_job::Job;
 use stab_job_stream::read_unscheduled_job;
-use stab_task::{CliFault, load};
+use stab_task::{CliFault, load, write_text};
 use std::alloc::Global;
 use std::io::{Read, Write};
 
@@ -93,17 +93,4 @@ fn logs_of(alloc: Global, job: &Job, members: &Value) -> Result<Logs, JudgeFault
         Err(LogsFault::Memory) => Err(JudgeFault::Job(CliFault::Memory)),
         Err(fault) => Err(JudgeFault::Logs(fault)),
     }
-}
-
-/// Writes a whole text, and asks the writer for a flush.
-fn write_text<W: Write>(writer: &mut W, text: &str) -> Result<(), CliFault>
-    ensures written { OnOk result
-        (Appends (W.contents writer.old) (W.contents writer.new) text.now) }
-    ensures fault { IfErr result (λ fault. fault ≡ CliFault.Write) }
-{
-    writer
-        .write_all(text.as_bytes())
-        .map_err(|_| CliFault::Write)?;
-    writer.flush().map_err(|_| CliFault::Write)?;
-    Ok(())
 }

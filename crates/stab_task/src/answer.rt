@@ -271,7 +271,7 @@ fn run_job<T: Threads + Wait + Send + Sync>(
 }
 
 /// Writes a whole text, and asks the writer for a flush.
-fn write_text<W: Write>(writer: &mut W, text: &str) -> Result<(), CliFault>
+pub fn write_text<W: Write>(writer: &mut W, text: &str) -> Result<(), CliFault>
     ensures written { OnOk result
         (Appends (W.contents writer.old) (W.contents writer.new) text.now) }
     ensures fault { IfErr result (λ fault. fault ≡ CliFault.Write) }

@@ -13,7 +13,7 @@ mod fault;
 mod file;
 mod run;
 
-pub use answer::act;
+pub use answer::{act, write_text};
 pub use command::{Task, parse};
 pub use fault::CliFault;
 pub use file::{LoadFault, load};
