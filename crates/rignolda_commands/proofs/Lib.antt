@@ -1,4 +1,4 @@
-pub mod Looks
+pub mod Values
 pub mod Unscheduled
 pub mod Offers
 pub mod Told

@@ -1,6 +1,6 @@
 -- What is read as a job of a tree names a tree, and what is read as a scenario names steps as well;
 -- so both are known for what they are, and what is said of them is said of their bytes.
-use Rattle.std.proofs.Common.{◌≡◌, ℕ, List, Bool, true, false, Option, Some, None, Result, Ok, Err, All, codes, is_some, if◌then◌else◌, option_and_then, refl, sym, ap, ◌∙◌, subst}
+use Rattle.std.proofs.Common.{◌≡◌, ◌≢◌, ℕ, List, Bool, true, false, Option, Some, None, Result, Ok, Err, All, codes, get_or, IfSome, is_some, if◌then◌else◌, option_and_then, refl, sym, ap, ◌∙◌, subst, arith}
 use Rattle.serde_json.specs.Data.{Data}
 use Rattle.serde_json.specs.Find.{as_array, get}
 use Rattle.stab_job.specs.JobMembers.{Members, members}
@@ -10,11 +10,14 @@ use Rattle.stab_job.specs.JobValues.{JobValue, network}
 use Rattle.stab_job.specs.Replays.{IsReplayReason}
 use Rattle.stab_job.specs.declared.fault.JobFault.{JobFault}
 use Rattle.stab_job.specs.declared.fault.JobFault.TheVariants as job_fault
-use Rattle.stab_job_stream.specs.Parts.{SameMembers}
-use Rattle.stab_job_stream.specs.Unscheduled.{unscheduled}
+use Rattle.stab_job_stream.specs.Parts.{SameMembers, the_schedule}
+use Rattle.stab_job_stream.specs.Unscheduled.{IsUnscheduled, unscheduled}
 use Rattle.stab_json.specs.Checks.{◌>>=◌, ◌or◌, ◌refused_as◌}
 use Rattle.stab_json.specs.Values.{value_of, most_u16, capped}
+use Rattle.stab_stream.specs.Members.{HasNoOthers, IsOther}
 use Rattle.stab_task.specs.Answers.{IsFault}
+use Rattle.stab_task.specs.declared.command.Task.TheVariants.{Link}
+use Rattle.stab_task.specs.declared.fault.CliFault.{CliFault}
 use Rattle.stab_task.specs.declared.fault.CliFault.TheVariants as task
 use Rattle.stab_treecore.specs.Network.{IsNetwork}
 use Rattle.stab_treecore.specs.Refusals.{NamesLink}
@@ -30,15 +33,12 @@ use Rattle.rignolda_scenario.specs.declared.fault.ScenarioFault.{ScenarioFault}
 use Rattle.rignolda_scenario.specs.declared.fault.ScenarioFault.TheVariants as scenario_fault
 use Rattle.rignolda_scenario.specs.declared.read.Scenario.{Scenario}
 use Rattle.rignolda_scenario.specs.declared.step.Step.{Step}
-use Rattle.rignolda_commands.specs.Begun.{IsBegunUnscheduled}
-use Rattle.rignolda_commands.specs.Checked.{IsChecked, IsCheckedAs, IsJudgedBy, IsUnchecked, IsUncheckedAs, IsUncheckedTree, given_backlogs}
-use Rattle.rignolda_commands.specs.Drawn.{IsDrawn, IsDrawnAs, IsDrawnBy, IsUndrawn, IsUndrawnBy, has_steps, task_of}
+use Rattle.rignolda_commands.specs.Checked.{IsChecked, IsCheckedAs, IsCheckedLink, IsCheckedTree, IsUnchecked, IsUncheckedAs, IsUncheckedLink, IsUncheckedTree}
+use Rattle.rignolda_commands.specs.Drawn.{IsDrawn, IsDrawnAs, IsDrawnBy, IsDrawnLink, IsUndrawn, IsUndrawnBy, has_steps, task_of}
 use Rattle.rignolda_commands.specs.Told.{steps_refused}
 use Rattle.rignolda_commands.specs.declared.fault.CheckFault.{CheckFault}
 use Rattle.rignolda_commands.specs.declared.scenario.StepsFault.TheVariants.{Job}
-use Rattle.rignolda_commands.proofs.Looks.{same_steps}
-use Rattle.rignolda_commands.proofs.Told.{unrun}
-use Rattle.rignolda_commands.proofs.Unscheduled.{checked_by_whole}
+use Rattle.rignolda_commands.proofs.Told.{unread, unrun}
 
 -- ---- what a job and a scenario name
 
@@ -81,6 +81,24 @@ read_as_a_tree input its_job (Some d) is read =
 pub job_is_a_tree : (input : List ℕ) (its_job : JobValue) → job input ≡ Ok its_job → chosen None (value_of input) ≡ kind.Job
 job_is_a_tree input its_job read = read_as_a_tree input its_job (value_of input) refl read
 
+-- a value without other members than those of a link job has no tree
+tree_is_other : IsOther (codes "tree")
+tree_is_other = (
+  λ e. let at : get_or (codes "tree") 0 0 ≡ get_or (codes "capacity") 0 0 = ap (λ s. get_or s 0 0) e in absurd (omega (arith, at)),
+  λ e. let at : get_or (codes "tree") 0 0 ≡ get_or (codes "labels") 0 0 = ap (λ s. get_or s 0 0) e in absurd (omega (arith, at)),
+  λ e. let at : get_or (codes "tree") 0 0 ≡ get_or (codes "start") 0 0 = ap (λ s. get_or s 0 0) e in absurd (omega (arith, at)),
+  λ e. let at : get_or (codes "tree") 0 0 ≡ get_or (codes "events") 0 0 = ap (λ s. get_or s 0 0) e in absurd (omega (arith, at)),
+)
+
+read_as_a_link : (o : Option Data) → IfSome o HasNoOthers → chosen None o ≡ kind.LinkJob
+read_as_a_link None none = refl
+read_as_a_link (Some d) none = ap (λ m. if is_some m then kind.Job else kind.LinkJob) (none (codes "tree") tree_is_other)
+
+-- so it has no steps either
+link_has_no_steps : (o : Option Data) → IfSome o HasNoOthers → has_steps o ≡ false
+link_has_no_steps None none = refl
+link_has_no_steps (Some d) none = ap (λ m. if is_some m then is_some (get (codes "steps") d) else false) (none (codes "tree") tree_is_other)
+
 -- the scenario of these steps
 abbrev of_steps : JobValue → List Step → Result Scenario ScenarioFault
 of_steps j steps = Ok (record { job = j; steps = steps })
@@ -112,25 +130,65 @@ of_both input its_scenario (Some d) (Ok its_job) is whole read =
 pub scenario_has_steps : (input : List ℕ) (its_scenario : Scenario) → scenario input ≡ Ok its_scenario → has_steps (value_of input) ≡ true
 scenario_has_steps input its_scenario read = of_both input its_scenario (value_of input) (job input) refl refl read
 
+-- the tree and the steps are members of other names than the schedule
+tree_is_none : codes "tree" ≢ the_schedule
+tree_is_none e = let at : get_or (codes "tree") 0 0 ≡ get_or the_schedule 0 0 = ap (λ s. get_or s 0 0) e in absurd (omega (arith, at))
+
+steps_are_none : codes "steps" ≢ the_schedule
+steps_are_none e = let at : get_or (codes "steps") 1 0 ≡ get_or the_schedule 1 0 = ap (λ s. get_or s 1 0) e in absurd (omega (arith, at))
+
+same_steps : (d others : Data) → SameMembers d others → has_steps (Some others) ≡ has_steps (Some d)
+same_steps d others same =
+    ap (λ m. if is_some m then is_some (get (codes "steps") others) else false) (sym (same (codes "tree") tree_is_none))
+    ∙ ap (λ m. if is_some (get (codes "tree") d) then is_some m else false) (sym (same (codes "steps") steps_are_none))
+
 -- members that were read beside the schedule tell of the steps
 pub with_their_steps : (input : List ℕ) (others : Data) → (d : Data) × (value_of input ≡ Some d) × SameMembers d others
     → has_steps (Some others) ≡ has_steps (value_of input)
-with_their_steps input others (d, is, same) = same_steps (Some d) (Some others) same ∙ ap has_steps (sym is)
+with_their_steps input others (d, is, same) = same_steps d others same ∙ ap has_steps (sym is)
 
 -- ---- a report that is checked
 
-pub checked_as_a_tree : (input text : List ℕ) (its_job : JobValue) (obeys : Bool) (answer : List ℕ) → IsBegunUnscheduled input its_job
-    → IsJudgedBy (given_backlogs (value_of input)) its_job text obeys answer → IsChecked input text obeys answer
-checked_as_a_tree input text its_job obeys answer begun is =
-    subst (λ k. IsCheckedAs k input text obeys answer) (sym (job_is_a_tree input begun.whole begun.begun.read))
-    (checked_by_whole input its_job text obeys answer begun is)
+-- of a job of a tree
+pub checked_as_a_tree : (input text : List ℕ) (its_job : JobValue) (obeys : Bool) (answer : List ℕ) → IsUnscheduled (job input) its_job
+    → IsCheckedTree input text obeys answer → IsChecked input text obeys answer
+checked_as_a_tree input text its_job obeys answer (whole, read, same) is =
+    subst (λ k. IsCheckedAs k input text obeys answer) (sym (job_is_a_tree input whole read)) is
 
-pub unchecked_as_a_tree : (input : List ℕ) (its_job : JobValue) (fault : CheckFault) → IsBegunUnscheduled input its_job
+pub unchecked_as_a_tree : (input : List ℕ) (its_job : JobValue) (fault : CheckFault) → IsUnscheduled (job input) its_job
     → IsUncheckedTree input fault → IsUnchecked input fault
-unchecked_as_a_tree input its_job fault begun why =
-    subst (λ k. IsUncheckedAs k input fault) (sym (job_is_a_tree input begun.whole begun.begun.read)) why
+unchecked_as_a_tree input its_job fault (whole, read, same) why =
+    subst (λ k. IsUncheckedAs k input fault) (sym (job_is_a_tree input whole read)) why
+
+-- of a link job
+pub checked_as_a_link : (input text : List ℕ) (obeys : Bool) (answer : List ℕ) → IfSome (value_of input) HasNoOthers
+    → IsCheckedLink input text obeys answer → IsChecked input text obeys answer
+checked_as_a_link input text obeys answer none is =
+    subst (λ k. IsCheckedAs k input text obeys answer) (sym (read_as_a_link (value_of input) none)) is
+
+pub unchecked_as_a_link : (input : List ℕ) (fault : CheckFault) → IfSome (value_of input) HasNoOthers
+    → IsUncheckedLink input fault → IsUnchecked input fault
+unchecked_as_a_link input fault none why =
+    subst (λ k. IsUncheckedAs k input fault) (sym (read_as_a_link (value_of input) none)) why
 
 -- ---- a run that is drawn
+
+-- of a link job
+pub drawn_as_a_link : (is_picture : Bool) (input text : List ℕ) → IfSome (value_of input) HasNoOthers → IsDrawnLink is_picture input text → IsDrawn is_picture input text
+drawn_as_a_link is_picture input text none is =
+    subst (λ has. IsDrawnBy has is_picture input text) (sym (link_has_no_steps (value_of input) none))
+    (subst (λ k. IsDrawnAs k is_picture input text) (sym (read_as_a_link (value_of input) none)) is)
+
+pub undrawn_as_a_link : (input : List ℕ) (fault : CliFault) → IfSome (value_of input) HasNoOthers → IsFault (Link false) input fault → IsUndrawn input (Job fault)
+undrawn_as_a_link input fault none why =
+    subst (λ has. IsUndrawnBy has input (Job fault)) (sym (link_has_no_steps (value_of input) none))
+    (fault, refl, subst (λ k. IsFault (task_of k) input fault) (sym (read_as_a_link (value_of input) none)) why)
+
+-- of a job of a tree with steps, or without
+pub undrawn_unread : (input : List ℕ) (refusal : ScenarioFault) → has_steps (value_of input) ≡ true
+    → (refusal ≢ scenario_fault.Memory → scenario input ≡ Err refusal) → IsUndrawn input (steps_refused refusal)
+undrawn_unread input refusal has why =
+    subst (λ b. IsUndrawnBy b input (steps_refused refusal)) (sym has) (unread input refusal why)
 
 pub drawn_with_steps : (is_picture : Bool) (input text : List ℕ) (its_scenario : Scenario) → scenario input ≡ Ok its_scenario
     → (is_picture ≡ false → text ≡ scenario_run_text its_scenario) → IsDrawn is_picture input text

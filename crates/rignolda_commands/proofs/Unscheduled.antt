@@ -1,12 +1,17 @@
 -- What is said of a job that was read without the steps of its schedule is said of the whole job.
-use Rattle.std.proofs.Common.{◌≡◌, ℕ, Bool, List, Option, Some, None, Ok, Err, refl, sym, ap, ◌∙◌, subst}
+use Rattle.std.proofs.Common.{◌≡◌, ℕ, Bool, List, Option, Some, None, Ok, Err, codes, get_or, refl, sym, ap, ◌∙◌, subst, arith}
 use Rattle.serde_json.specs.Data.{Data}
+use Rattle.serde_json.specs.Find.{get}
 use Rattle.stab_job.specs.JobValues.{JobValue, network}
 use Rattle.stab_job.specs.Jobs.{job}
+use Rattle.stab_job.specs.declared.fault.JobFault.TheVariants as tree
+use Rattle.stab_job_stream.specs.Parts.{SameMembers, the_schedule}
+use Rattle.stab_job_stream.proofs.ForCallers.{member_of}
 use Rattle.stab_job_stream.specs.Unscheduled.{unscheduled, IsUnscheduled}
 use Rattle.stab_json.specs.Values.{value_of}
 use Rattle.stab_task.specs.Answers.{IsFault}
 use Rattle.stab_task.specs.declared.command.Task.TheVariants.{Tree}
+use Rattle.stab_task.specs.declared.fault.CliFault.{CliFault}
 use Rattle.stab_task.specs.declared.fault.CliFault.TheVariants as task
 use Rattle.stab_treecore.specs.Network.{IsNetwork}
 use Rattle.stab_treecore.specs.Refusals.{IsScheduleReason}
@@ -15,7 +20,8 @@ use Rattle.stab_treecore.specs.declared.fault.TreeStartFault.{TreeStartFault}
 use Rattle.rignolda_moment.specs.Backlogs.{backlogs}
 use Rattle.rignolda_moment.specs.declared.backlogs.BacklogFault.{BacklogFault}
 use Rattle.rignolda_verdict.specs.BoundsTexts.{bounds_text}
-use Rattle.rignolda_commands.specs.Begun.{AreBounds, IsBegunUnscheduled}
+use Rattle.rignolda_commands.specs.Begun.{AreBounds, HasNoBounds, IsBegunUnscheduled}
+use Rattle.rignolda_commands.specs.declared.bounds.BoundsFault.TheVariants as bounds
 use Rattle.rignolda_commands.specs.Checked.{IsCheckedTree, IsJudgedBy, IsUncheckedTree, given_backlogs}
 use Rattle.rignolda_commands.specs.declared.fault.CheckFault.TheVariants.{Backlogs, Line}
 
@@ -32,6 +38,14 @@ pub unbegun : (input : List ℕ) (its_job : JobValue) (fault : TreeStartFault) �
     → ((events : List TreeEvent) → IsScheduleReason its_job.params its_job.starts (network its_job) events fault) → IsFault Tree input (task.Tree fault)
 unbegun input its_job fault (whole, read, same) why =
     (whole, read, subst (λ j. IsScheduleReason j.params j.starts (network j) whole.schedule fault) same (why whole.schedule))
+
+-- why it has no bounds, where its links cannot begin: it has the shape of a job of a tree
+pub no_bounds : (input : List ℕ) (its_job : JobValue) (fault : CliFault) → IsUnscheduled (job input) its_job → IsFault Tree input fault → HasNoBounds input (bounds.Job fault)
+no_bounds input its_job fault (whole, read, same) why = (
+  why,
+  λ is shaped. let refused : IsFault Tree input (task.Job tree.Shape) = subst (IsFault Tree input) is why in
+      absurd (let never : job input ≡ Err tree.Shape = refused (λ memory. absurd (cc)) in cc),
+)
 
 -- its bounds
 pub bounds_of_whole : (input : List ℕ) (its_job : JobValue) (text : List ℕ) → IsBegunUnscheduled input its_job → text ≡ bounds_text (network its_job) → AreBounds input text
@@ -55,6 +69,13 @@ checked_by_whole input its_job text obeys answer begun is = record {
   judged = judged_by_whole (given_backlogs (value_of input)) begun.whole text obeys answer
       (subst (λ j. IsJudgedBy (given_backlogs (value_of input)) j text obeys answer) begun.same is);
 }
+
+-- its backlogs, which were read beside it
+pub backlogs_beside : (input : List ℕ) (others : Data) → (d : Data) × (value_of input ≡ Some d) × SameMembers d others
+    → given_backlogs (value_of input) ≡ get (codes "backlogs") others
+backlogs_beside input others (d, is, same) =
+    member_of input d others (codes "backlogs") is same
+    (λ e. let at : get_or (codes "backlogs") 0 0 ≡ get_or the_schedule 0 0 = ap (λ s. get_or s 0 0) e in absurd (omega (arith, at)))
 
 -- backlogs of it that are refused
 pub refused_backlogs : (input : List ℕ) (its_job : JobValue) (given : Data) (refusal : BacklogFault) → IsBegunUnscheduled input its_job → given_backlogs (value_of input) ≡ Some given

@@ -8,7 +8,7 @@ ghost use Rattle.rignolda_write.specs.WorstTexts.{IsWorstText};
 use rignolda_explain::{explain, explanation_text};
 use rignolda_write::worst_text;
 use stab_frames::Params;
-use stab_task::{CliFault, load};
+use stab_task::{CliFault, load, write_text};
 use std::alloc::{AllocError, Global};
 use std::io::{Read, Write};
 
@@ -65,17 +65,4 @@ fn explain_bytes(alloc: Global, bytes: &[u8]) -> Result<(String, bool), AllocErr
     let text = explanation_text(alloc, &explanation)?;
     let is_clean = explanation.is_clean();
     Ok((text, is_clean))
-}
-
-/// Writes a whole text, and asks the writer for a flush.
-pub(crate) fn write_text<W: Write>(writer: &mut W, text: &str) -> Result<(), CliFault>
-    ensures written { OnOk result
-        (Appends (W.contents writer.old) (W.contents writer.new) text.now) }
-    ensures fault { IfErr result (λ fault. fault ≡ CliFault.Write) }
-{
-    writer
-        .write_all(text.as_bytes())
-        .map_err(|_| CliFault::Write)?;
-    writer.flush().map_err(|_| CliFault::Write)?;
-    Ok(())
 }

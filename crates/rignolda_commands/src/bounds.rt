@@ -1,17 +1,23 @@
 //! The command `bounds`: what the laws allow each node of a job, and what faults cost it.
 
 ghost use Rattle.std.specs.Prelude.{◌≡◌, ◌≢◌, ℕ, List, string_bytes, Err, IfErr, IfOk, IfSome};
-ghost use Rattle.std.specs.Prelude.{OnOk};
+ghost use Rattle.std.specs.Prelude.{OnOk, option_map};
 ghost use Rattle.std.specs.Io.KnownBytes.{Appends, Keeps};
 ghost use Rattle.rignolda_commands.specs.Begun.{AreBounds, HasNoBounds};
+ghost use Rattle.serde_json.specs.View.{view};
 ghost use Rattle.stab_job.specs.Jobs.{job};
+ghost use Rattle.stab_job_stream.specs.Unscheduled.{IsUnscheduled};
+ghost use Rattle.stab_json.specs.Values.{value_of};
 
-use crate::answer::write_text;
-use crate::job::begun_job;
+use crate::job::{begin_job, link_job_of, unscheduled_job_of};
+use crate::kind::seems_a_link_job;
 use rignolda_verdict::bounds_text;
-use stab_job::JobFault;
-use stab_script::{LinkJobFault, read_link_job};
-use stab_task::{CliFault, load};
+use serde_json::Value;
+use stab_job::{Job, JobFault};
+use stab_job_stream::read_plain_job;
+use stab_json::read_value;
+use stab_script::LinkJobFault;
+use stab_task::{CliFault, load, write_text};
 use std::alloc::{AllocError, Global};
 use std::io::{Read, Write};
 use thiserror::Error;
@@ -102,28 +108,68 @@ fn bounds_of_input<R: Read>(alloc: Global, reader: &mut R) -> Result<String, Bou
     Ok(text)
 }
 
-/// The bounds of the job that these bytes are.
-#[tactic(auto, using(crate::proofs::Unscheduled::bounds_of_whole))]
+/// The bounds of the job that these bytes are. It is read off the text, and where that fails, or the
+/// bytes seem to be a link job, all that is said comes from their value.
 fn bounds_of_bytes(alloc: Global, bytes: &[u8]) -> Result<String, BoundsFault>
     ensures bounds { IfOk result (λ text. AreBounds bytes.now (string_bytes text)) }
     ensures fault { IfErr result (HasNoBounds bytes.now) }
     ensures no_write { IfErr result (λ fault. fault ≢ BoundsFault.Job CliFault.Write) }
 {
-    let job = match begun_job(alloc, bytes) {
-        Ok(job) => job,
-        Err(CliFault::Job(JobFault::Shape)) => return Err(unshaped(alloc, bytes)),
-        Err(fault) => return Err(BoundsFault::Job(fault)),
-    };
-    let text = bounds_text(alloc, &job)?;
+    if seems_a_link_job(bytes) {
+        return bounds_by_value(alloc, bytes);
+    }
+    match read_plain_job(alloc, bytes, false)? {
+        Some((job, _)) => bounds_of_job(alloc, &job, bytes),
+        None => bounds_by_value(alloc, bytes),
+    }
+}
+
+/// The same by the value of the bytes.
+fn bounds_by_value(alloc: Global, bytes: &[u8]) -> Result<String, BoundsFault>
+    ensures bounds { IfOk result (λ text. AreBounds bytes.now (string_bytes text)) }
+    ensures fault { IfErr result (HasNoBounds bytes.now) }
+    ensures no_write { IfErr result (λ fault. fault ≢ BoundsFault.Job CliFault.Write) }
+{
+    let value = read_value(alloc, bytes)?;
+    let text = bounds_of_value(alloc, value, bytes)?;
     Ok(text)
 }
 
-/// The fault of bytes that have not the shape of a job of a tree: they may have that of a link job.
-fn unshaped(alloc: Global, bytes: &[u8]) -> BoundsFault
+/// The bounds of the job that these bytes are, which have this value.
+fn bounds_of_value(alloc: Global, value: Option<Value>, bytes: &[u8]) -> Result<String, BoundsFault>
+    requires { option_map view value ≡ value_of bytes.now }
+    ensures bounds { IfOk result (λ text. AreBounds bytes.now (string_bytes text)) }
+    ensures fault { IfErr result (HasNoBounds bytes.now) }
+    ensures no_write { IfErr result (λ fault. fault ≢ BoundsFault.Job CliFault.Write) }
+{
+    match unscheduled_job_of(alloc, value.as_ref(), bytes) {
+        Ok(job) => bounds_of_job(alloc, &job, bytes),
+        Err(JobFault::Shape) => Err(unshaped(alloc, value, bytes)),
+        Err(fault) => Err(BoundsFault::Job(CliFault::Job(fault))),
+    }
+}
+
+/// The bounds of the job that these bytes are, where each of its links can begin.
+#[tactic(auto, using(crate::proofs::Unscheduled::bounds_of_whole, crate::proofs::Unscheduled::no_bounds))]
+fn bounds_of_job(alloc: Global, its_job: &Job, bytes: &[u8]) -> Result<String, BoundsFault>
+    requires { IsUnscheduled (job bytes.now) its_job.now }
+    ensures bounds { IfOk result (λ text. AreBounds bytes.now (string_bytes text)) }
+    ensures fault { IfErr result (HasNoBounds bytes.now) }
+    ensures no_write { IfErr result (λ fault. fault ≢ BoundsFault.Job CliFault.Write) }
+{
+    begin_job(its_job, bytes)?;
+    let text = bounds_text(alloc, its_job)?;
+    Ok(text)
+}
+
+/// The fault of bytes that have not the shape of a job of a tree, and have this value: they may have
+/// the shape of a link job.
+fn unshaped(alloc: Global, value: Option<Value>, bytes: &[u8]) -> BoundsFault
+    requires { option_map view value ≡ value_of bytes.now }
     ensures fault { job bytes.now ≡ Err JobFault.Shape → HasNoBounds bytes.now result }
     ensures no_write { result ≢ BoundsFault.Job CliFault.Write }
 {
-    match read_link_job(alloc, bytes) {
+    match link_job_of(alloc, value, bytes) {
         Err(LinkJobFault::Memory) => BoundsFault::Job(CliFault::Memory),
         Err(LinkJobFault::Json | LinkJobFault::Shape) => {
             BoundsFault::Job(CliFault::Job(JobFault::Shape))

@@ -1,33 +1,34 @@
 //! The command `check`: whether a report, or the text of a link, obeys the laws of its job.
 
 ghost use Rattle.std.specs.Prelude.{◌≡◌, ◌≢◌, ℕ, List, string_bytes, Err, IfErr, IfOk, IfSome};
-ghost use Rattle.std.specs.Prelude.{Some, Ok, codes, length, option_map};
+ghost use Rattle.std.specs.Prelude.{Some, Ok, codes, option_map};
+ghost use Rattle.serde_json.specs.Data.{Data};
 ghost use Rattle.serde_json.specs.Find.{get};
 ghost use Rattle.serde_json.specs.View.{view};
-ghost use Rattle.stab_job_stream.specs.Parts.{HaveSameMembers};
+ghost use Rattle.stab_job.specs.Jobs.{job};
+ghost use Rattle.stab_job_stream.specs.Parts.{SameMembers};
+ghost use Rattle.stab_job_stream.specs.Unscheduled.{IsUnscheduled};
 ghost use Rattle.stab_json.specs.Values.{value_of};
+ghost use Rattle.stab_script.specs.LinkJobs.{link_job};
+ghost use Rattle.stab_stream.specs.Members.{HasNoOthers};
 ghost use Rattle.std.specs.Io.KnownBytes.{Appends, Keeps};
-ghost use Rattle.rignolda_commands.specs.Begun.{IsBegunLink, IsBegunUnscheduled};
 ghost use Rattle.rignolda_commands.specs.Checked.{IsChecked, IsCheckedAs, IsCheckedLink};
-ghost use Rattle.rignolda_commands.specs.Checked.{IsCheckedTree, IsJudged, IsJudgedBy, IsJudgedLink};
-ghost use Rattle.rignolda_commands.specs.Checked.{IsJudgedSince, given_backlogs};
-ghost use Rattle.rignolda_commands.specs.Checked.{IsUnchecked, IsUncheckedAs, IsUncheckedLink};
-ghost use Rattle.rignolda_commands.specs.Checked.{IsUncheckedTree, IsUnloadedReport};
-ghost use Rattle.rignolda_moment.specs.Backlogs.{backlogs};
+ghost use Rattle.rignolda_commands.specs.Checked.{IsCheckedTree, IsUnchecked, IsUncheckedAs};
+ghost use Rattle.rignolda_commands.specs.Checked.{IsUncheckedLink, IsUncheckedTree, IsUnloadedReport};
+ghost use Rattle.rignolda_commands.specs.Checked.{given_backlogs};
 
-use crate::answer::write_text;
-use crate::fault::{CheckFault, unread, unread_link};
-use crate::job::{begun_job_and_members, begun_link_job};
-use crate::kind::{Seen, looks_of_bytes, seems_a_job};
+use crate::fault::CheckFault;
+use crate::job::{begin_job, begin_link_job, link_job_of, unscheduled_job_of};
+use crate::kind::{kind_of, seems_a_link_job};
+use crate::report::{check_job, check_link_text};
 use rignolda_findings::Kind;
-use rignolda_moment::{BacklogFault, read_backlogs, verdict_since};
-use rignolda_verdict::{link_verdict, read_link_report, verdict};
 use serde_json::Value;
-use stab_frames::{Item, Sequence};
-use stab_job::Job;
-use stab_report::read_text;
+use stab_job::{Job, JobFault};
+use stab_job_stream::read_plain_job;
+use stab_json::read_value;
 use stab_script::LinkJob;
-use stab_task::{CliFault, load};
+use stab_stream::read_plain_link_job;
+use stab_task::{CliFault, load, write_text};
 use std::alloc::Global;
 use std::io::{Read, Write};
 
@@ -83,8 +84,9 @@ fn check_input<J: Read, R: Read>(
     Ok(said)
 }
 
-/// What is said of the report or the link that this text is, of the job that these bytes are. A job
-/// of a tree is read at once where it seems to be one, and else they are looked at first.
+/// What is said of the report or the link that this text is, of the job that these bytes are. The job
+/// is read off the text, as one of the kind that it seems to be; and where that fails, all that is
+/// said comes from its value.
 fn check_bytes(alloc: Global, bytes: &[u8], text: &[u8]) -> Result<(String, bool), CheckFault>
     ensures checked { IfOk result (λ said.
         IsChecked bytes.now text.now said.1 (string_bytes said.0)) }
@@ -92,11 +94,45 @@ fn check_bytes(alloc: Global, bytes: &[u8], text: &[u8]) -> Result<(String, bool
     ensures loaded { (fault : CliFault) → result ≢ Err (CheckFault.Unloaded fault) }
     ensures no_write { IfErr result (λ fault. fault ≢ CheckFault.Job CliFault.Write) }
 {
-    if seems_a_job(bytes) {
-        check_tree_first(alloc, bytes, text)
+    if seems_a_link_job(bytes) {
+        check_link_first(alloc, bytes, text)
     } else {
-        check_by_looks(alloc, bytes, text)
+        check_tree_first(alloc, bytes, text)
     }
+}
+
+/// The same, where the bytes are read as a link job first.
+fn check_link_first(alloc: Global, bytes: &[u8], text: &[u8]) -> Result<(String, bool), CheckFault>
+    ensures checked { IfOk result (λ said.
+        IsChecked bytes.now text.now said.1 (string_bytes said.0)) }
+    ensures fault { IfErr result (IsUnchecked bytes.now) }
+    ensures loaded { (fault : CliFault) → result ≢ Err (CheckFault.Unloaded fault) }
+    ensures no_write { IfErr result (λ fault. fault ≢ CheckFault.Job CliFault.Write) }
+{
+    match read_plain_link_job(alloc, bytes)? {
+        Some(job) => check_plain_link(alloc, &job, bytes, text),
+        None => check_by_value(alloc, bytes, text),
+    }
+}
+
+/// The same of the link job that these bytes are, which have no other members.
+#[tactic(auto, using(crate::proofs::ReadAs::checked_as_a_link, crate::proofs::ReadAs::unchecked_as_a_link))]
+fn check_plain_link(
+    alloc: Global,
+    job: &LinkJob,
+    bytes: &[u8],
+    text: &[u8],
+) -> Result<(String, bool), CheckFault>
+    requires job { link_job bytes.now ≡ Ok job.now }
+    requires others { IfSome (value_of bytes.now) HasNoOthers }
+    ensures checked { IfOk result (λ said.
+        IsChecked bytes.now text.now said.1 (string_bytes said.0)) }
+    ensures fault { IfErr result (IsUnchecked bytes.now) }
+    ensures loaded { (fault : CliFault) → result ≢ Err (CheckFault.Unloaded fault) }
+    ensures no_write { IfErr result (λ fault. fault ≢ CheckFault.Job CliFault.Write) }
+{
+    let said = check_link_job(alloc, job, bytes, text)?;
+    Ok(said)
 }
 
 /// The same, where the bytes are read as a job of a tree first.
@@ -107,60 +143,56 @@ fn check_tree_first(alloc: Global, bytes: &[u8], text: &[u8]) -> Result<(String,
     ensures loaded { (fault : CliFault) → result ≢ Err (CheckFault.Unloaded fault) }
     ensures no_write { IfErr result (λ fault. fault ≢ CheckFault.Job CliFault.Write) }
 {
-    match begun_job_and_members(alloc, bytes) {
-        Ok((job, members)) => check_begun(alloc, &job, &members, bytes, text),
-        Err(_) => check_by_looks(alloc, bytes, text),
+    match read_plain_job(alloc, bytes, false)? {
+        Some((job, members)) => check_plain_job(alloc, &job, &members, bytes, text),
+        None => check_by_value(alloc, bytes, text),
     }
 }
 
-/// The same of the job of a tree that these bytes are, which can begin.
-#[tactic(auto, using(crate::proofs::ReadAs::checked_as_a_tree, crate::proofs::ReadAs::unchecked_as_a_tree))]
-fn check_begun(
+/// The same of the job of a tree that these bytes are, which was read beside these members.
+#[tactic(auto, using(crate::proofs::ReadAs::checked_as_a_tree, crate::proofs::ReadAs::unchecked_as_a_tree, crate::proofs::Unscheduled::backlogs_beside))]
+fn check_plain_job(
     alloc: Global,
-    job: &Job,
+    its_job: &Job,
     members: &Value,
     bytes: &[u8],
     text: &[u8],
 ) -> Result<(String, bool), CheckFault>
-    requires begun { IsBegunUnscheduled bytes.now job.now }
-    requires backlogs { given_backlogs (value_of bytes.now)
-        ≡ get (codes "backlogs") (view members.now) }
+    requires job { IsUnscheduled (job bytes.now) its_job.now }
+    requires members { (d : Data) × (value_of bytes.now ≡ Some d) × SameMembers d (view members.now) }
     ensures checked { IfOk result (λ said.
         IsChecked bytes.now text.now said.1 (string_bytes said.0)) }
     ensures fault { IfErr result (IsUnchecked bytes.now) }
     ensures loaded { (fault : CliFault) → result ≢ Err (CheckFault.Unloaded fault) }
     ensures no_write { IfErr result (λ fault. fault ≢ CheckFault.Job CliFault.Write) }
 {
-    let said = check_job(alloc, job, members, bytes, text)?;
+    let said = check_tree_job(alloc, its_job, members, bytes, text)?;
     Ok(said)
 }
 
-/// The same, by what the bytes look like.
-fn check_by_looks(alloc: Global, bytes: &[u8], text: &[u8]) -> Result<(String, bool), CheckFault>
+/// The same, by the value of the bytes.
+fn check_by_value(alloc: Global, bytes: &[u8], text: &[u8]) -> Result<(String, bool), CheckFault>
     ensures checked { IfOk result (λ said.
         IsChecked bytes.now text.now said.1 (string_bytes said.0)) }
     ensures fault { IfErr result (IsUnchecked bytes.now) }
     ensures loaded { (fault : CliFault) → result ≢ Err (CheckFault.Unloaded fault) }
     ensures no_write { IfErr result (λ fault. fault ≢ CheckFault.Job CliFault.Write) }
 {
-    let Seen {
-        kind,
-        is_scenario: _,
-        members,
-    } = looks_of_bytes(alloc, bytes)?;
-    let said = check_kind(alloc, kind, members, bytes, text)?;
+    let value = read_value(alloc, bytes)?;
+    let kind = kind_of(value.as_ref());
+    let said = check_kind(alloc, kind, value, bytes, text)?;
     Ok(said)
 }
 
-/// The same of the job of this kind that these bytes are, which have these members.
+/// The same of the job of this kind that these bytes are, which have this value.
 fn check_kind(
     alloc: Global,
     kind: Kind,
-    members: Option<Value>,
+    value: Option<Value>,
     bytes: &[u8],
     text: &[u8],
 ) -> Result<(String, bool), CheckFault>
-    requires { HaveSameMembers (value_of bytes.now) (option_map view members) }
+    requires { option_map view value ≡ value_of bytes.now }
     ensures checked { IfOk result (λ said.
         IsCheckedAs kind bytes.now text.now said.1 (string_bytes said.0)) }
     ensures fault { IfErr result (IsUncheckedAs kind bytes.now) }
@@ -168,168 +200,112 @@ fn check_kind(
     ensures no_write { IfErr result (λ fault. fault ≢ CheckFault.Job CliFault.Write) }
 {
     match kind {
-        Kind::LinkJob => check_link(alloc, members, bytes, text),
-        Kind::Job => {
-            drop(members);
-            check_tree(alloc, bytes, text)
-        }
+        Kind::LinkJob => check_link(alloc, value, bytes, text),
+        Kind::Job => check_tree(alloc, value, bytes, text),
     }
 }
 
 /// What is said of the link that this text is, of the link job that these bytes are, which have
-/// these members.
+/// this value.
 fn check_link(
     alloc: Global,
-    members: Option<Value>,
+    value: Option<Value>,
     bytes: &[u8],
     text: &[u8],
 ) -> Result<(String, bool), CheckFault>
-    requires { HaveSameMembers (value_of bytes.now) (option_map view members) }
+    requires { option_map view value ≡ value_of bytes.now }
     ensures checked { IfOk result (λ said.
         IsCheckedLink bytes.now text.now said.1 (string_bytes said.0)) }
     ensures fault { IfErr result (IsUncheckedLink bytes.now) }
     ensures loaded { (fault : CliFault) → result ≢ Err (CheckFault.Unloaded fault) }
     ensures no_write { IfErr result (λ fault. fault ≢ CheckFault.Job CliFault.Write) }
 {
-    let job = begun_link_job(alloc, members, bytes)?;
-    let said = check_link_text(alloc, &job, text)?;
+    let job = link_job_of(alloc, value, bytes)?;
+    let said = check_link_job(alloc, &job, bytes, text)?;
     Ok(said)
 }
 
-/// What is said of the link that this text is.
-fn check_link_text(alloc: Global, job: &LinkJob, text: &[u8]) -> Result<(String, bool), CheckFault>
+/// The same of the link job that these bytes are.
+fn check_link_job(
+    alloc: Global,
+    job: &LinkJob,
+    bytes: &[u8],
+    text: &[u8],
+) -> Result<(String, bool), CheckFault>
+    requires { link_job bytes.now ≡ Ok job.now }
     ensures checked { IfOk result (λ said.
-        IsJudgedLink job.now text.now said.1 (string_bytes said.0)) }
-    ensures fault { IfErr result (λ fault. (input : List ℕ) → IsBegunLink input job.now
-        → IsUncheckedLink input fault) }
+        IsCheckedLink bytes.now text.now said.1 (string_bytes said.0)) }
+    ensures fault { IfErr result (IsUncheckedLink bytes.now) }
     ensures loaded { (fault : CliFault) → result ≢ Err (CheckFault.Unloaded fault) }
     ensures no_write { IfErr result (λ fault. fault ≢ CheckFault.Job CliFault.Write) }
 {
-    let report = match read_link_report(alloc, text) {
-        Ok(report) => report,
-        Err(fault) => return Err(unread_link(fault)),
-    };
-    let said = link_verdict(alloc, job, &report)?;
+    begin_link_job(job, bytes)?;
+    let said = check_link_text(alloc, job, text)?;
     Ok(said)
 }
 
-/// What is said of the report that this text is, of the job of a tree that these bytes are.
-#[tactic(auto, using(crate::proofs::Unscheduled::checked_by_whole))]
-fn check_tree(alloc: Global, bytes: &[u8], text: &[u8]) -> Result<(String, bool), CheckFault>
+/// What is said of the report that this text is, of the job of a tree that these bytes are, which
+/// have this value.
+#[tactic(auto, using(crate::proofs::Values::no_job))]
+fn check_tree(
+    alloc: Global,
+    value: Option<Value>,
+    bytes: &[u8],
+    text: &[u8],
+) -> Result<(String, bool), CheckFault>
+    requires { option_map view value ≡ value_of bytes.now }
     ensures checked { IfOk result (λ said.
         IsCheckedTree bytes.now text.now said.1 (string_bytes said.0)) }
     ensures fault { IfErr result (IsUncheckedTree bytes.now) }
     ensures loaded { (fault : CliFault) → result ≢ Err (CheckFault.Unloaded fault) }
     ensures no_write { IfErr result (λ fault. fault ≢ CheckFault.Job CliFault.Write) }
 {
-    let (job, members) = begun_job_and_members(alloc, bytes)?;
-    let said = check_job(alloc, &job, &members, bytes, text)?;
+    let Some(value) = value else {
+        return Err(CheckFault::Job(CliFault::Job(JobFault::Json)));
+    };
+    let said = check_value(alloc, &value, bytes, text)?;
     Ok(said)
 }
 
-/// What is said of the report that this text is, of the job that these bytes are: by the backlogs
-/// that are among its members, or as of a whole run.
-fn check_job(
+/// The same by the value of the bytes.
+fn check_value(
     alloc: Global,
-    job: &Job,
+    value: &Value,
+    bytes: &[u8],
+    text: &[u8],
+) -> Result<(String, bool), CheckFault>
+    requires { Some (view value.now) ≡ value_of bytes.now }
+    ensures checked { IfOk result (λ said.
+        IsCheckedTree bytes.now text.now said.1 (string_bytes said.0)) }
+    ensures fault { IfErr result (IsUncheckedTree bytes.now) }
+    ensures loaded { (fault : CliFault) → result ≢ Err (CheckFault.Unloaded fault) }
+    ensures no_write { IfErr result (λ fault. fault ≢ CheckFault.Job CliFault.Write) }
+{
+    let job = unscheduled_job_of(alloc, Some(value), bytes)?;
+    let said = check_tree_job(alloc, &job, value, bytes, text)?;
+    Ok(said)
+}
+
+/// What is said of the report that this text is, of the job of a tree that these bytes are, whose
+/// backlogs are among these members.
+#[tactic(auto, using(crate::proofs::Unscheduled::checked_by_whole))]
+fn check_tree_job(
+    alloc: Global,
+    its_job: &Job,
     members: &Value,
     bytes: &[u8],
     text: &[u8],
 ) -> Result<(String, bool), CheckFault>
-    requires begun { IsBegunUnscheduled bytes.now job.now }
+    requires job { IsUnscheduled (job bytes.now) its_job.now }
     requires backlogs { given_backlogs (value_of bytes.now)
         ≡ get (codes "backlogs") (view members.now) }
-    ensures checked { IfOk result (λ said. IsJudgedBy (given_backlogs (value_of bytes.now)) job.now
-        text.now said.1 (string_bytes said.0)) }
+    ensures checked { IfOk result (λ said.
+        IsCheckedTree bytes.now text.now said.1 (string_bytes said.0)) }
     ensures fault { IfErr result (IsUncheckedTree bytes.now) }
     ensures loaded { (fault : CliFault) → result ≢ Err (CheckFault.Unloaded fault) }
     ensures no_write { IfErr result (λ fault. fault ≢ CheckFault.Job CliFault.Write) }
 {
-    match members.get("backlogs") {
-        None => check_text(alloc, job, text),
-        Some(given) => check_since(alloc, job, bytes, given, text),
-    }
-}
-
-/// What is said of the report that this text is, by the backlogs that this value means.
-fn check_since(
-    alloc: Global,
-    job: &Job,
-    bytes: &[u8],
-    given: &Value,
-    text: &[u8],
-) -> Result<(String, bool), CheckFault>
-    requires begun { IsBegunUnscheduled bytes.now job.now }
-    requires given { given_backlogs (value_of bytes.now) ≡ Some (view given.now) }
-    ensures checked { IfOk result (λ said. IsJudgedBy (Some (view given.now)) job.now
-        text.now said.1 (string_bytes said.0)) }
-    ensures fault { IfErr result (IsUncheckedTree bytes.now) }
-    ensures loaded { (fault : CliFault) → result ≢ Err (CheckFault.Unloaded fault) }
-    ensures no_write { IfErr result (λ fault. fault ≢ CheckFault.Job CliFault.Write) }
-{
-    let lists = backlogs_of(alloc, job, bytes, given)?;
-    let said = check_text_since(alloc, job, lists.as_slice(), text)?;
-    Ok(said)
-}
-
-/// The backlogs of the job that these bytes are, which this value means.
-#[tactic(auto, using(crate::proofs::Unscheduled::refused_backlogs))]
-fn backlogs_of(
-    alloc: Global,
-    job: &Job,
-    bytes: &[u8],
-    given: &Value,
-) -> Result<Sequence<Sequence<Item>>, CheckFault>
-    requires begun { IsBegunUnscheduled bytes.now job.now }
-    requires given { given_backlogs (value_of bytes.now) ≡ Some (view given.now) }
-    ensures read { IfOk result (λ lists. backlogs job.now.tree (view given.now) ≡ Ok lists) }
-    ensures per_node { IfOk result (λ lists. length lists ≡ length job.now.tree.parents) }
-    ensures fault { IfErr result (IsUncheckedTree bytes.now) }
-    ensures loaded { (fault : CliFault) → result ≢ Err (CheckFault.Unloaded fault) }
-    ensures no_write { IfErr result (λ fault. fault ≢ CheckFault.Job CliFault.Write) }
-{
-    match read_backlogs(alloc, job.tree(), given) {
-        Ok(lists) => Ok(lists),
-        Err(BacklogFault::Memory) => Err(CheckFault::Job(CliFault::Memory)),
-        Err(fault) => Err(CheckFault::Backlogs(fault)),
-    }
-}
-
-/// What is said of the report that this text is, by these backlogs.
-fn check_text_since(
-    alloc: Global,
-    job: &Job,
-    lists: &[Sequence<Item>],
-    text: &[u8],
-) -> Result<(String, bool), CheckFault>
-    requires per_node { length lists.now ≡ length job.now.tree.parents }
-    ensures checked { IfOk result (λ said. IsJudgedSince job.now lists.now
-        text.now said.1 (string_bytes said.0)) }
-    ensures fault { IfErr result (λ fault. (input : List ℕ) → IsBegunUnscheduled input job.now
-        → IsUncheckedTree input fault) }
-    ensures loaded { (fault : CliFault) → result ≢ Err (CheckFault.Unloaded fault) }
-    ensures no_write { IfErr result (λ fault. fault ≢ CheckFault.Job CliFault.Write) }
-{
-    let report = match read_text(alloc, job.tree(), text) {
-        Ok(report) => report,
-        Err(fault) => return Err(unread(fault)),
-    };
-    let said = verdict_since(alloc, job, lists, &report)?;
-    Ok(said)
-}
-
-/// What is said of the report that this text is.
-fn check_text(alloc: Global, job: &Job, text: &[u8]) -> Result<(String, bool), CheckFault>
-    ensures checked { IfOk result (λ said. IsJudged job.now text.now said.1 (string_bytes said.0)) }
-    ensures fault { IfErr result (λ fault. (input : List ℕ) → IsBegunUnscheduled input job.now
-        → IsUncheckedTree input fault) }
-    ensures loaded { (fault : CliFault) → result ≢ Err (CheckFault.Unloaded fault) }
-    ensures no_write { IfErr result (λ fault. fault ≢ CheckFault.Job CliFault.Write) }
-{
-    let report = match read_text(alloc, job.tree(), text) {
-        Ok(report) => report,
-        Err(fault) => return Err(unread(fault)),
-    };
-    let said = verdict(alloc, job, &report)?;
+    begin_job(its_job, bytes)?;
+    let said = check_job(alloc, its_job, members, bytes, text)?;
     Ok(said)
 }

@@ -1,5 +1,5 @@
 ghost use Rattle.std.specs.Prelude.{◌≡◌, ◌≢◌, ℕ, List, false, Some, None, Ok, string_bytes};
-ghost use Rattle.std.specs.Prelude.{All, IfErr, IfOk, IfSome, OnOk, option_map};
+ghost use Rattle.std.specs.Prelude.{IfErr, IfOk, IfSome, OnOk, option_map};
 ghost use Rattle.std.specs.Io.KnownBytes.{Appends, Keeps};
 ghost use Rattle.serde_json.specs.Data.{Data};
 ghost use Rattle.serde_json.specs.View.{view};
@@ -7,40 +7,30 @@ ghost use Rattle.rignolda_commands.specs.Drawn.{IsDrawn, IsDrawnAs, IsDrawnBy, I
 ghost use Rattle.rignolda_commands.specs.Drawn.{IsDrawnScenario, IsDrawnTree, IsUndrawn, IsUndrawnBy};
 ghost use Rattle.rignolda_commands.specs.Drawn.{has_steps, task_of};
 ghost use Rattle.rignolda_commands.specs.Told.{IsUntold};
-ghost use Rattle.stab_core.specs.Link.{IsReason};
-ghost use Rattle.stab_core.specs.Replay.{IsLawful};
-ghost use Rattle.rignolda_draw.specs.Runs.{run_text};
-ghost use Rattle.rignolda_draw.specs.Schedules.{schedule_run_text};
-ghost use Rattle.rignolda_draw_scenario.specs.ScenarioRuns.{scenario_run_text};
 ghost use Rattle.rignolda_explain.specs.Kinds.{chosen};
-ghost use Rattle.stab_job.specs.JobValues.{network};
 ghost use Rattle.stab_job.specs.Jobs.{job};
-ghost use Rattle.stab_job.specs.Replays.{IsReplayReason};
-ghost use Rattle.stab_job_stream.specs.Parts.{HaveSameMembers, SameMembers};
+ghost use Rattle.stab_job_stream.specs.Parts.{SameMembers};
+ghost use Rattle.stab_job_stream.specs.Unscheduled.{IsUnscheduled};
 ghost use Rattle.stab_json.specs.Values.{value_of};
-ghost use Rattle.rignolda_scenario.specs.Counts.{IsUnrun};
 ghost use Rattle.rignolda_scenario.specs.Scenarios.{scenario};
+ghost use Rattle.stab_script.specs.LinkJobs.{link_job};
+ghost use Rattle.stab_stream.specs.Members.{HasNoOthers};
 ghost use Rattle.stab_task.specs.Answers.{IsFault};
 ghost use Rattle.stab_task.specs.declared.command.Task.TheVariants.{Link, Tree};
-ghost use Rattle.stab_treecore.specs.Network.{IsNetwork};
-ghost use Rattle.stab_treecore.specs.Refusals.{NamesLink};
 
-use crate::answer::write_text;
-use crate::job::link_job_of;
-use crate::kind::{Seen, has_steps, looks_of_bytes, seems_a_job, seems_to_have_steps};
+use crate::job::{job_of, link_job_of, scenario_beside, scenario_of};
+use crate::kind::{has_steps, kind_of, seems_a_link_job, seems_to_have_steps};
+use crate::run::{link_run, scenario_run, tree_run};
 use crate::scenario::StepsFault;
-use rignolda_draw::{run_text, schedule_run_text};
-use rignolda_draw_scenario::scenario_run_text;
 use rignolda_findings::Kind;
-use rignolda_picture::{link_picture, scenario_picture, schedule_picture};
-use rignolda_scenario::{Scenario, ScenarioFault, read_scenario};
+use rignolda_scenario::Scenario;
 use serde_json::Value;
-use stab_core::StartFault;
 use stab_job::Job;
-use stab_job_stream::{read_job, read_job_and_members};
+use stab_job_stream::read_plain_job;
+use stab_json::read_value;
 use stab_script::LinkJob;
-use stab_task::{CliFault, load};
-use stab_treecore::TreeStartFault;
+use stab_stream::read_plain_link_job;
+use stab_task::{CliFault, load, write_text};
 use std::alloc::Global;
 use std::io::{Read, Write};
 
@@ -85,15 +75,15 @@ fn draw_input<R: Read>(
     Ok(text)
 }
 
-/// The run of the job that these bytes are, or of its steps. A job of a tree is read at once where
-/// it seems to be one, and else they are looked at first.
+/// The run of the job that these bytes are, or of its steps. The job is read off the text, as one of
+/// the kind that it seems to be; and where that fails, all that is said comes from its value.
 fn draw_bytes(alloc: Global, is_picture: bool, bytes: &[u8]) -> Result<String, StepsFault>
     ensures drawn { IfOk result (λ text. IsDrawn is_picture bytes.now (string_bytes text)) }
     ensures fault { IfErr result (IsUndrawn bytes.now) }
     ensures no_write { IfErr result (λ fault. fault ≢ StepsFault.Job CliFault.Write) }
 {
-    if !seems_a_job(bytes) {
-        draw_by_looks(alloc, is_picture, bytes)
+    if seems_a_link_job(bytes) {
+        draw_link_first(alloc, is_picture, bytes)
     } else if seems_to_have_steps(bytes) {
         draw_steps_first(alloc, is_picture, bytes)
     } else {
@@ -101,16 +91,71 @@ fn draw_bytes(alloc: Global, is_picture: bool, bytes: &[u8]) -> Result<String, S
     }
 }
 
+/// The same, where the bytes are read as a link job first.
+#[tactic(auto, using(crate::proofs::Drawn::memory_is_refused))]
+fn draw_link_first(alloc: Global, is_picture: bool, bytes: &[u8]) -> Result<String, StepsFault>
+    ensures drawn { IfOk result (λ text. IsDrawn is_picture bytes.now (string_bytes text)) }
+    ensures fault { IfErr result (IsUndrawn bytes.now) }
+    ensures no_write { IfErr result (λ fault. fault ≢ StepsFault.Job CliFault.Write) }
+{
+    match read_plain_link_job(alloc, bytes)? {
+        Some(job) => draw_plain_link(alloc, is_picture, bytes, &job),
+        None => draw_by_value(alloc, is_picture, bytes),
+    }
+}
+
+/// The run of the link job that these bytes are, which have no other members.
+#[tactic(auto, using(crate::proofs::ReadAs::drawn_as_a_link, crate::proofs::ReadAs::undrawn_as_a_link))]
+fn draw_plain_link(
+    alloc: Global,
+    is_picture: bool,
+    bytes: &[u8],
+    job: &LinkJob,
+) -> Result<String, StepsFault>
+    requires job { link_job bytes.now ≡ Ok job.now }
+    requires others { IfSome (value_of bytes.now) HasNoOthers }
+    ensures drawn { IfOk result (λ text. IsDrawn is_picture bytes.now (string_bytes text)) }
+    ensures fault { IfErr result (IsUndrawn bytes.now) }
+    ensures no_write { IfErr result (λ fault. fault ≢ StepsFault.Job CliFault.Write) }
+{
+    let text = draw_link_job(alloc, is_picture, bytes, job)?;
+    Ok(text)
+}
+
 /// The same, where the bytes are read as a scenario first.
+#[tactic(auto, using(crate::proofs::Drawn::memory_is_refused))]
 fn draw_steps_first(alloc: Global, is_picture: bool, bytes: &[u8]) -> Result<String, StepsFault>
     ensures drawn { IfOk result (λ text. IsDrawn is_picture bytes.now (string_bytes text)) }
     ensures fault { IfErr result (IsUndrawn bytes.now) }
     ensures no_write { IfErr result (λ fault. fault ≢ StepsFault.Job CliFault.Write) }
 {
-    match read_scenario(alloc, bytes) {
-        Ok(scenario) => draw_steps(alloc, is_picture, bytes, &scenario),
-        Err(_) => draw_by_looks(alloc, is_picture, bytes),
+    match read_plain_job(alloc, bytes, false)? {
+        Some((job, members)) => draw_plain_steps(alloc, is_picture, bytes, job, &members),
+        None => draw_by_value(alloc, is_picture, bytes),
     }
+}
+
+/// The run of the steps of the job that these bytes are, where there are some among the members that
+/// were read beside it. Otherwise its schedule is drawn, which was not kept.
+#[tactic(auto, using(crate::proofs::ReadAs::with_their_steps, crate::proofs::ReadAs::undrawn_unread, crate::proofs::Told::no_write))]
+fn draw_plain_steps(
+    alloc: Global,
+    is_picture: bool,
+    bytes: &[u8],
+    its_job: Job,
+    members: &Value,
+) -> Result<String, StepsFault>
+    requires job { IsUnscheduled (job bytes.now) its_job }
+    requires members { (d : Data) × (value_of bytes.now ≡ Some d) × SameMembers d (view members.now) }
+    ensures drawn { IfOk result (λ text. IsDrawn is_picture bytes.now (string_bytes text)) }
+    ensures fault { IfErr result (IsUndrawn bytes.now) }
+    ensures no_write { IfErr result (λ fault. fault ≢ StepsFault.Job CliFault.Write) }
+{
+    if !has_steps(Some(members)) {
+        return draw_by_value(alloc, is_picture, bytes);
+    }
+    let scenario = scenario_beside(alloc, bytes, its_job, members)?;
+    draw_steps(alloc, is_picture, bytes, &scenario)
 }
 
 /// The run of the scenario that these bytes are.
@@ -130,15 +175,16 @@ fn draw_steps(
     Ok(text)
 }
 
-/// The same, where the bytes are read as a job first.
+/// The same, where the bytes are read as a job with its schedule first.
+#[tactic(auto, using(crate::proofs::Drawn::memory_is_refused))]
 fn draw_schedule_first(alloc: Global, is_picture: bool, bytes: &[u8]) -> Result<String, StepsFault>
     ensures drawn { IfOk result (λ text. IsDrawn is_picture bytes.now (string_bytes text)) }
     ensures fault { IfErr result (IsUndrawn bytes.now) }
     ensures no_write { IfErr result (λ fault. fault ≢ StepsFault.Job CliFault.Write) }
 {
-    match read_job_and_members(alloc, bytes) {
-        Ok((job, members)) => draw_job(alloc, is_picture, bytes, &job, &members),
-        Err(_) => draw_by_looks(alloc, is_picture, bytes),
+    match read_plain_job(alloc, bytes, true)? {
+        Some((job, members)) => draw_job(alloc, is_picture, bytes, &job, &members),
+        None => draw_by_value(alloc, is_picture, bytes),
     }
 }
 
@@ -159,7 +205,7 @@ fn draw_job(
     ensures no_write { IfErr result (λ fault. fault ≢ StepsFault.Job CliFault.Write) }
 {
     if has_steps(Some(members)) {
-        draw_by_looks(alloc, is_picture, bytes)
+        draw_by_value(alloc, is_picture, bytes)
     } else {
         let text = draw_schedule(alloc, is_picture, bytes, its_job)?;
         Ok(text)
@@ -184,152 +230,127 @@ fn draw_schedule(
     Ok(text)
 }
 
-/// The run of the job that these bytes are, or of its steps, by what they look like.
+/// The run of the job that these bytes are, or of its steps, by their value.
 #[tactic(auto, using(crate::proofs::Drawn::memory_is_refused))]
-fn draw_by_looks(alloc: Global, is_picture: bool, bytes: &[u8]) -> Result<String, StepsFault>
+fn draw_by_value(alloc: Global, is_picture: bool, bytes: &[u8]) -> Result<String, StepsFault>
     ensures drawn { IfOk result (λ text. IsDrawn is_picture bytes.now (string_bytes text)) }
     ensures fault { IfErr result (IsUndrawn bytes.now) }
     ensures no_write { IfErr result (λ fault. fault ≢ StepsFault.Job CliFault.Write) }
 {
-    let Seen {
-        kind,
-        is_scenario,
-        members,
-    } = looks_of_bytes(alloc, bytes)?;
-    let text = draw_by(alloc, is_scenario, kind, members, is_picture, bytes)?;
+    let value = read_value(alloc, bytes)?;
+    let kind = kind_of(value.as_ref());
+    let is_scenario = has_steps(value.as_ref());
+    let text = draw_by(alloc, is_scenario, kind, value, is_picture, bytes)?;
     Ok(text)
 }
 
-/// The run of bytes that have steps, or of others of this kind, which have these members.
+/// The run of bytes that have steps, or of others of this kind, which have this value.
 fn draw_by(
     alloc: Global,
     is_scenario: bool,
     kind: Kind,
-    members: Option<Value>,
+    value: Option<Value>,
     is_picture: bool,
     bytes: &[u8],
 ) -> Result<String, StepsFault>
     requires kind { kind ≡ chosen None (value_of bytes.now) }
-    requires members { HaveSameMembers (value_of bytes.now) (option_map view members) }
+    requires value { option_map view value ≡ value_of bytes.now }
     ensures drawn { IfOk result (λ text.
         IsDrawnBy is_scenario is_picture bytes.now (string_bytes text)) }
     ensures fault { IfErr result (IsUndrawnBy is_scenario bytes.now) }
     ensures no_write { IfErr result (λ fault. fault ≢ StepsFault.Job CliFault.Write) }
 {
     if is_scenario {
-        drop(members);
-        draw_scenario(alloc, is_picture, bytes)
+        draw_scenario(alloc, value, is_picture, bytes)
     } else {
-        let text = draw_kind(alloc, kind, members, is_picture, bytes)?;
+        let text = draw_kind(alloc, kind, value, is_picture, bytes)?;
         Ok(text)
     }
 }
 
-/// The run of the scenario that these bytes are.
+/// The run of the scenario that these bytes are, which have this value.
 #[tactic(auto, using(crate::proofs::Told::unread, crate::proofs::Told::unrun, crate::proofs::Told::no_write))]
-fn draw_scenario(alloc: Global, is_picture: bool, bytes: &[u8]) -> Result<String, StepsFault>
+fn draw_scenario(
+    alloc: Global,
+    value: Option<Value>,
+    is_picture: bool,
+    bytes: &[u8],
+) -> Result<String, StepsFault>
+    requires { option_map view value ≡ value_of bytes.now }
     ensures drawn { IfOk result (λ text. IsDrawnScenario is_picture bytes.now (string_bytes text)) }
     ensures fault { IfErr result (λ fault. IsUntold bytes.now fault) }
     ensures no_write { IfErr result (λ fault. fault ≢ StepsFault.Job CliFault.Write) }
 {
-    let scenario = read_scenario(alloc, bytes)?;
+    let scenario = scenario_of(alloc, value.as_ref(), bytes)?;
     let text = scenario_run(alloc, is_picture, &scenario)?;
     Ok(text)
 }
 
-/// The run of a scenario that was read.
-fn scenario_run(
-    alloc: Global,
-    is_picture: bool,
-    scenario: &Scenario,
-) -> Result<String, ScenarioFault>
-    ensures text { IfOk result (λ text.
-        is_picture ≡ false → string_bytes text ≡ scenario_run_text scenario.now) }
-    ensures refused { IfErr result (IsUnrun scenario.now.job scenario.now.steps) }
-{
-    if is_picture {
-        scenario_picture(alloc, scenario)
-    } else {
-        scenario_run_text(alloc, scenario)
-    }
-}
-
-/// The run of the job of this kind that these bytes are, which have these members.
+/// The run of the job of this kind that these bytes are, which have this value.
 fn draw_kind(
     alloc: Global,
     kind: Kind,
-    members: Option<Value>,
+    value: Option<Value>,
     is_picture: bool,
     bytes: &[u8],
 ) -> Result<String, CliFault>
-    requires { HaveSameMembers (value_of bytes.now) (option_map view members) }
+    requires { option_map view value ≡ value_of bytes.now }
     ensures drawn { IfOk result (λ text.
         IsDrawnAs kind is_picture bytes.now (string_bytes text)) }
     ensures fault { IfErr result (IsFault (task_of kind) bytes.now) }
     ensures no_write { IfErr result (λ fault. fault ≢ CliFault.Write) }
 {
     match kind {
-        Kind::LinkJob => draw_link(alloc, members, is_picture, bytes),
-        Kind::Job => {
-            drop(members);
-            draw_tree(alloc, is_picture, bytes)
-        }
+        Kind::LinkJob => draw_link(alloc, value, is_picture, bytes),
+        Kind::Job => draw_tree(alloc, value, is_picture, bytes),
     }
 }
 
-/// The run of the link job that these bytes are, which have these members.
+/// The run of the link job that these bytes are, which have this value.
 fn draw_link(
     alloc: Global,
-    members: Option<Value>,
+    value: Option<Value>,
     is_picture: bool,
     bytes: &[u8],
 ) -> Result<String, CliFault>
-    requires { HaveSameMembers (value_of bytes.now) (option_map view members) }
+    requires { option_map view value ≡ value_of bytes.now }
     ensures drawn { IfOk result (λ text. IsDrawnLink is_picture bytes.now (string_bytes text)) }
     ensures fault { IfErr result (IsFault (Link false) bytes.now) }
     ensures no_write { IfErr result (λ fault. fault ≢ CliFault.Write) }
 {
-    let job = link_job_of(alloc, members, bytes)?;
-    let text = link_run(alloc, is_picture, &job)?;
+    let job = link_job_of(alloc, value, bytes)?;
+    draw_link_job(alloc, is_picture, bytes, &job)
+}
+
+/// The run of the link job that these bytes are.
+fn draw_link_job(
+    alloc: Global,
+    is_picture: bool,
+    bytes: &[u8],
+    job: &LinkJob,
+) -> Result<String, CliFault>
+    requires { link_job bytes.now ≡ Ok job.now }
+    ensures drawn { IfOk result (λ text. IsDrawnLink is_picture bytes.now (string_bytes text)) }
+    ensures fault { IfErr result (IsFault (Link false) bytes.now) }
+    ensures no_write { IfErr result (λ fault. fault ≢ CliFault.Write) }
+{
+    let text = link_run(alloc, is_picture, job)?;
     Ok(text)
 }
 
-/// The run of a link job that was read.
-fn link_run(alloc: Global, is_picture: bool, job: &LinkJob) -> Result<String, StartFault>
-    ensures text { IfOk result (λ text.
-        is_picture ≡ false → string_bytes text ≡ run_text job.now) }
-    ensures lawful { OnOk result (IsLawful job.now.params job.now.start) }
-    ensures refused { IfErr result (IsReason job.now.params job.now.start) }
-{
-    if is_picture {
-        link_picture(alloc, job)
-    } else {
-        run_text(alloc, job)
-    }
-}
-
-/// The run of the schedule of the job that these bytes are.
-fn draw_tree(alloc: Global, is_picture: bool, bytes: &[u8]) -> Result<String, CliFault>
+/// The run of the schedule of the job that these bytes are, which have this value.
+fn draw_tree(
+    alloc: Global,
+    value: Option<Value>,
+    is_picture: bool,
+    bytes: &[u8],
+) -> Result<String, CliFault>
+    requires { option_map view value ≡ value_of bytes.now }
     ensures drawn { IfOk result (λ text. IsDrawnTree is_picture bytes.now (string_bytes text)) }
     ensures fault { IfErr result (IsFault Tree bytes.now) }
     ensures no_write { IfErr result (λ fault. fault ≢ CliFault.Write) }
 {
-    let job = read_job(alloc, bytes)?;
+    let job = job_of(alloc, value.as_ref(), bytes)?;
     let text = tree_run(alloc, is_picture, &job)?;
     Ok(text)
-}
-
-/// The run of the schedule of a job that was read.
-fn tree_run(alloc: Global, is_picture: bool, job: &Job) -> Result<String, TreeStartFault>
-    ensures text { IfOk result (λ text. is_picture ≡ false
-        → string_bytes text ≡ schedule_run_text (network job.now) job.now.schedule) }
-    ensures network { OnOk result (IsNetwork (network job.now)) }
-    ensures named { OnOk result (All (NamesLink job.now.tree.parents) job.now.schedule) }
-    ensures refused { IfErr result (IsReplayReason job.now) }
-{
-    if is_picture {
-        schedule_picture(alloc, job)
-    } else {
-        schedule_run_text(alloc, job)
-    }
 }

@@ -5,7 +5,9 @@ ghost use Rattle.stab_job.specs.JobValues.{JobValue};
 ghost use Rattle.stab_script.specs.declared.link_job.LinkJob.{LinkJob};
 
 use rignolda_moment::BacklogFault;
+use stab_job::JobFault;
 use stab_report::ReportFault;
+use stab_script::LinkJobFault;
 use stab_task::CliFault;
 use std::alloc::AllocError;
 use thiserror::Error;
@@ -57,6 +59,30 @@ impl From<CliFault> for CheckFault {
 
     fn from(refusal: CliFault) -> CheckFault {
         CheckFault::Job(refusal)
+    }
+}
+
+impl From<JobFault> for CheckFault {
+    ghost use Rattle.std.specs.Prelude.{◌≡◌};
+    ghost use Rattle.rignolda_commands.specs.declared.fault.CheckFault.TheVariants.{Job};
+    ghost use Rattle.stab_task.specs.declared.fault.CliFault.TheVariants as task;
+
+    ghost from_gives = { λ refusal fault. fault ≡ Job (task.Job refusal) };
+
+    fn from(refusal: JobFault) -> CheckFault {
+        CheckFault::Job(CliFault::Job(refusal))
+    }
+}
+
+impl From<LinkJobFault> for CheckFault {
+    ghost use Rattle.std.specs.Prelude.{◌≡◌};
+    ghost use Rattle.rignolda_commands.specs.declared.fault.CheckFault.TheVariants.{Job};
+    ghost use Rattle.stab_task.specs.declared.fault.CliFault.TheVariants.{LinkJob};
+
+    ghost from_gives = { λ refusal fault. fault ≡ Job (LinkJob refusal) };
+
+    fn from(refusal: LinkJobFault) -> CheckFault {
+        CheckFault::Job(CliFault::LinkJob(refusal))
     }
 }
 

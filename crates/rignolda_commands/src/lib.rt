@@ -15,6 +15,8 @@ mod job;
 mod kind;
 pub mod laws;
 mod random;
+mod report;
+mod run;
 mod scenario;
 
 pub use answer::{act_explain, act_worst};

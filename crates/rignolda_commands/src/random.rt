@@ -6,8 +6,8 @@ ghost use Rattle.std.specs.Io.KnownBytes.{Appends, Keeps};
 ghost use Rattle.rignolda_random.specs.Options.{options_fault};
 ghost use Rattle.rignolda_random.specs.RandomJobs.{IsRandomText};
 
-use crate::answer::write_text;
 use rignolda_random::{DrawOptions, OptionsFault, RandomFault, random_text};
+use stab_task::write_text;
 use std::alloc::Global;
 use std::io::Write;
 use thiserror::Error;

@@ -6,10 +6,9 @@ ghost use Rattle.rignolda_commands.specs.Told.{IsTold, IsUntold};
 ghost use Rattle.rignolda_scenario.specs.Counts.{IsUnrun};
 ghost use Rattle.rignolda_scenario.specs.Scenarios.{scenario};
 
-use crate::answer::write_text;
 use rignolda_scenario::{ScenarioFault, read_scenario, scenario_text};
 use stab_faults::ChangeFault;
-use stab_task::{CliFault, load};
+use stab_task::{CliFault, load, write_text};
 use std::alloc::{AllocError, Global};
 use std::io::{Read, Write};
 use thiserror::Error;

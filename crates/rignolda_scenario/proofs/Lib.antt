@@ -6,3 +6,4 @@ pub mod Spared
 pub mod Reading
 pub mod Refused
 pub mod Climbing
+pub mod ForCallers

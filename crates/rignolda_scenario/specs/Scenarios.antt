@@ -11,7 +11,7 @@ use Rattle.serde_json.specs.Find.{as_array, get}
 use Rattle.stab_frames.specs.Parameters.{Parameters}
 use Rattle.stab_json.specs.Checks.{◌>>=◌, ◌>>◌, ◌or◌, ◌when◌, ◌refused_as◌}
 use Rattle.stab_json.specs.Values.{value_of}
-use Rattle.stab_job.specs.Jobs.{job}
+use Rattle.stab_job.specs.Jobs.{job, job_of_data}
 use Rattle.stab_job.specs.JobValues.{JobValue}
 use Rattle.stab_job_stream.specs.Unscheduled.{unscheduled}
 use Rattle.stab_tree.specs.Nodes.{Nodes}
@@ -44,6 +44,18 @@ abbrev pub steps_of : JobValue → Data → Result (List Step) ScenarioFault
 steps_of j d = do
   values ← listed_steps d or fault.Steps
   steps_after j.tree j.params 0 values
+
+-- the scenario of a job, with the steps of this value
+abbrev pub with_steps_of : JobValue → Data → Result Scenario ScenarioFault
+with_steps_of j d = do
+  steps ← steps_of j d
+  Ok (record { job = j; steps = steps })
+
+-- the scenario that this value means
+abbrev pub scenario_of_data : Data → Result Scenario ScenarioFault
+scenario_of_data d = do
+  its_job ← job_of_data d refused_as job_refused
+  with_steps_of (unscheduled its_job) d
 
 -- the steps of these bytes, for a job
 abbrev pub steps_of_bytes : JobValue → List ℕ → Result (List Step) ScenarioFault

@@ -3,7 +3,7 @@
 //! A step is a [`Change`](stab_faults::Change) of the tree, or a number of rounds or of reading
 //! rounds of all its links. [`read_scenario`] reads a job that has one member more, `steps`, and
 //! answers the scenario that the bytes mean, or the first check that they fail, by the definitions
-//! in `specs/`. The layer above uses one fact: the text of [`scenario_text`] says of each node what
+//! in `specs/`; [`scenario_of_value`] does the same of a value that was read. The layer above uses one fact: the text of [`scenario_text`] says of each node what
 //! the definition of its scenario gives, counted from the last fault on the node's path, and beside
 //! it what the law allows.
 #![tactic(auto)]
@@ -20,6 +20,6 @@ mod text;
 
 pub use changes::{listed_changes, reading_round_of_all};
 pub use fault::{ScenarioFault, StepFault};
-pub use read::{Scenario, read_scenario};
+pub use read::{Scenario, read_scenario, scenario_of_steps, scenario_of_value};
 pub use step::Step;
 pub use text::{scenario_text, state_after};

@@ -3,7 +3,8 @@ ghost use Rattle.serde_json.specs.View.{view, items_view};
 ghost use Rattle.stab_job.specs.Jobs.{job};
 ghost use Rattle.stab_job_stream.specs.Unscheduled.{IsUnscheduled};
 ghost use Rattle.rignolda_scenario.specs.Scenarios.{listed_steps, numbered, scenario, steps_after};
-ghost use Rattle.rignolda_scenario.specs.Scenarios.{steps_of, steps_of_bytes};
+ghost use Rattle.rignolda_scenario.specs.Scenarios.{scenario_of_data, steps_of, steps_of_bytes};
+ghost use Rattle.rignolda_scenario.specs.Scenarios.{with_steps_of};
 
 use crate::entry::read_step;
 use crate::fault::{ScenarioFault, StepFault};
@@ -11,7 +12,7 @@ use crate::step::Step;
 use serde_json::Value;
 use stab_frames::Sequence;
 use stab_job::{Job, JobFault};
-use stab_job_stream::read_unscheduled_job;
+use stab_job_stream::{read_unscheduled_job, unscheduled_job_of_value};
 use std::alloc::Global;
 
 /// A job of a tree, and the steps that happen to it.
@@ -39,7 +40,31 @@ pub fn read_scenario(alloc: Global, bytes: &[u8]) -> Result<Scenario, ScenarioFa
         (λ fault. fault ≢ ScenarioFault.Memory → scenario bytes.now ≡ Err fault) }
 {
     let (job, members) = read_members(alloc, bytes)?;
-    let steps = steps_of_value(alloc, &job, &members)?;
+    scenario_of_steps(alloc, job, &members)
+}
+
+/// The scenario that this value means, or the first check that it fails; memory may be refused
+/// before a later check.
+#[tactic(auto, using(crate::proofs::Unscheduled::value_by_its_steps))]
+pub fn scenario_of_value(alloc: Global, value: &Value) -> Result<Scenario, ScenarioFault>
+    ensures scenario { MatchResult result
+        (λ its_scenario. scenario_of_data (view value.now) ≡ Ok its_scenario)
+        (λ fault. fault ≢ ScenarioFault.Memory
+        → scenario_of_data (view value.now) ≡ Err fault) }
+{
+    let job = unscheduled_job_of_value(alloc, value)?;
+    scenario_of_steps(alloc, job, value)
+}
+
+/// The scenario of this job with the steps of a value, or the first check that they fail; memory
+/// may be refused before a later check.
+pub fn scenario_of_steps(alloc: Global, job: Job, value: &Value) -> Result<Scenario, ScenarioFault>
+    ensures scenario { MatchResult result
+        (λ its_scenario. with_steps_of job (view value.now) ≡ Ok its_scenario)
+        (λ fault. fault ≢ ScenarioFault.Memory
+        → with_steps_of job (view value.now) ≡ Err fault) }
+{
+    let steps = steps_of_value(alloc, &job, value)?;
     Ok(Scenario { job, steps })
 }
 

@@ -3,12 +3,12 @@ use Rattle.std.proofs.Common.{◌≡◌, ◌≢◌, ℕ, List, Bool, true, false
 use Rattle.std.proofs.lemmas.Slice.Eq.{bytes_eq-Decides}
 use Rattle.std.specs.Str.{bytes_eq}
 use Rattle.serde_json.specs.Data.{Data, Members, put, no_members}
-use Rattle.serde_json.specs.Find.{get, get_member}
+use Rattle.serde_json.specs.Find.{get_member}
 use Rattle.serde_json.proofs.Views.{get_member-put, get_member-put_other}
 use Rattle.stab_json.specs.Values.{◌>>=◌, list_of}
 use Rattle.stab_job.specs.ScheduleEntries.{NamedAct, named_act}
 use Rattle.stab_stream.specs.Members.{Holds}
-use Rattle.stab_job_stream.specs.Parts.{the_schedule, HasSteps, HasParts, HaveSameMembers, SameMembers}
+use Rattle.stab_job_stream.specs.Parts.{the_schedule, HasSteps, HasParts}
 use Rattle.stab_job_stream.specs.Steps.{KeptSteps, AreKept}
 
 -- a member put into two objects, by whether the name is that member's
@@ -56,16 +56,3 @@ the_steps keeps others ms steps d kept acts is are has = (
   (acts, are, ap (λ o. o >>= list_of named_act) (get_member-put the_schedule d ms) ∙ is),
   λ none. absurd (cc),
 )
-
--- a value that has the members of the bytes
-pub same_but_steps : (read : Option Data) (d others : Data) → read ≡ Some d → SameMembers d others → HaveSameMembers read (Some others)
-same_but_steps (Some e) d others is same = let e_is : e ≡ d = cc in λ name other. ap (get name) e_is ∙ same name other
-same_but_steps None d others is same = absurd (cc)
-
--- or is theirs, if they have one
-have_same : (read : Option Data) → HaveSameMembers read read
-have_same (Some d) = λ name other. refl
-have_same None = tt
-
-pub same_value : (read found : Option Data) → found ≡ read → HaveSameMembers read found
-same_value read found is = subst (λ o. HaveSameMembers read o) (sym is) (have_same read)

@@ -19,12 +19,6 @@ the_schedule = codes "schedule"
 abbrev pub SameMembers : Data → Data → Type 0
 SameMembers d others = (name : List ℕ) → name ≢ the_schedule → get name d ≡ get name others
 
--- there are two such values, or none
-abbrev pub HaveSameMembers : Option Data → Option Data → Type 0
-HaveSameMembers (Some d) (Some others) = SameMembers d others
-HaveSameMembers None None = Unit {0}
-HaveSameMembers _ _ = ⊥
-
 -- what was kept of a schedule, if there is one, was kept of what it means
 abbrev pub HasSteps : Bool → Option KeptSteps → Members → Type 0
 HasSteps keeps steps ms =

@@ -6,10 +6,11 @@
 //! the names of nodes are in a table beside them. The other members are read as values, and
 //! `stab_job` makes the job of them. Then each name of the table is looked up in the tree. A job
 //! that fails a check, or whose schedule has not the plain form, is read by `stab_job` from its
-//! bytes, so each refusal and their order are its own. [`read_job_and_members`] hands out those
-//! values as well, for a caller to whom another member says something. For one to whom the schedule
-//! says nothing, [`read_unscheduled_job`] looks at each step and keeps none, and [`read_members`]
-//! makes no job.
+//! bytes, so each refusal and their order are its own. To a caller to whom the schedule says nothing
+//! [`read_unscheduled_job`] answers, which looks at each step and keeps none, and hands out the
+//! values of the other members. [`read_plain_job`] makes the attempt off the text alone, for a
+//! caller who has to read the value where it fails, and [`unscheduled_job_of_value`] is the job of
+//! that value.
 #![tactic(auto)]
 
 mod events;
@@ -20,4 +21,4 @@ mod schedule;
 mod step;
 mod value;
 
-pub use read::{read_job, read_job_and_members, read_members, read_unscheduled_job};
+pub use read::{read_job, read_plain_job, read_unscheduled_job, unscheduled_job_of_value};

@@ -1,10 +1,11 @@
-ghost use Rattle.std.specs.Prelude.{◌≡◌, ◌≢◌, ◌<◌, Bool, length, option_map, Some, None};
-ghost use Rattle.std.specs.Prelude.{Ok, Err, MatchResult, IfOk, IfSome, OnErr};
+ghost use Rattle.std.specs.Prelude.{◌≡◌, ◌≢◌, ◌<◌, Bool, true, length, Some, None, Ok, Err};
+ghost use Rattle.std.specs.Prelude.{MatchResult, IfErr, IfOk, IfSome, OnErr};
 ghost use Rattle.serde_json.specs.Data.{Data, Members, object};
 ghost use Rattle.serde_json.specs.View.{view, members_view};
 ghost use Rattle.stab_json.specs.Values.{value_of};
 ghost use Rattle.stab_job.specs.Jobs.{job, job_of_data};
-ghost use Rattle.stab_job_stream.specs.Parts.{HasParts, HaveSameMembers, SameMembers};
+ghost use Rattle.stab_job.specs.Refusals.{is_of_value};
+ghost use Rattle.stab_job_stream.specs.Parts.{HasParts, SameMembers};
 ghost use Rattle.stab_job_stream.specs.Unscheduled.{IsKeptOf, IsUnscheduled, unscheduled};
 
 use crate::members::{JobParts, read_text};
@@ -31,40 +32,18 @@ pub fn read_job(alloc: Global, bytes: &[u8]) -> Result<Job, JobFault>
     ensures tree_memory { result ≢ Err (JobFault.Tree TreeFault.Memory) }
     ensures script_memory { result ≢ Err (JobFault.Script ScriptFault.Memory) }
 {
-    match read_plain(alloc, bytes, true) {
+    match read_plain_job(alloc, bytes, true) {
         Ok(Some((job, _))) => Ok(job),
         Ok(None) => stab_job::read_job(alloc, bytes),
         Err(_) => Err(JobFault::Memory),
     }
 }
 
-/// The job that these bytes mean, and a value with the members that they have, where that of the
-/// name `schedule` may be missing; or the first check that they fail. Memory may be refused before
+/// The job that these bytes mean, but for the steps of its schedule, and a value with the members
+/// that they have, where that of the name `schedule` may be missing; or the first check that they
+/// fail. Each step is looked at, and none is kept. So the job has an empty schedule, and there is
+/// one only where the bytes are a job with the schedule that they have. Memory may be refused before
 /// a later check.
-pub fn read_job_and_members(alloc: Global, bytes: &[u8]) -> Result<(Job, Value), JobFault>
-    ensures job { MatchResult result
-        (λ read. job bytes.now ≡ Ok read.0)
-        (λ fault. fault ≢ JobFault.Memory → job bytes.now ≡ Err fault) }
-    ensures members { IfOk result (λ read. (d : Data)
-        × (value_of bytes.now ≡ Some d) × SameMembers d (view read.1)) }
-    // `Json` comes only where the bytes have no value.
-    ensures json { result ≡ Err JobFault.Json → value_of bytes.now ≡ None }
-
-    // Refused memory is reported as that alone, and only where there is at least one byte.
-    ensures memory { result ≡ Err JobFault.Memory → 0 < length bytes.now }
-    ensures tree_memory { result ≢ Err (JobFault.Tree TreeFault.Memory) }
-    ensures script_memory { result ≢ Err (JobFault.Script ScriptFault.Memory) }
-{
-    match read_plain(alloc, bytes, true) {
-        Ok(Some(read)) => Ok(read),
-        Ok(None) => read_by_value(alloc, bytes),
-        Err(_) => Err(JobFault::Memory),
-    }
-}
-
-/// The same, but for the steps of the schedule: each is looked at, and none is kept. So the job has
-/// an empty schedule, and there is one only where the bytes are a job with the schedule that they
-/// have.
 pub fn read_unscheduled_job(alloc: Global, bytes: &[u8]) -> Result<(Job, Value), JobFault>
     ensures job { MatchResult result
         (λ read. IsUnscheduled (job bytes.now) read.0)
@@ -79,54 +58,15 @@ pub fn read_unscheduled_job(alloc: Global, bytes: &[u8]) -> Result<(Job, Value),
     ensures tree_memory { result ≢ Err (JobFault.Tree TreeFault.Memory) }
     ensures script_memory { result ≢ Err (JobFault.Script ScriptFault.Memory) }
 {
-    match read_plain(alloc, bytes, false) {
+    match read_plain_job(alloc, bytes, false) {
         Ok(Some(read)) => Ok(read),
         Ok(None) => unscheduled_by_value(alloc, bytes),
         Err(_) => Err(JobFault::Memory),
     }
 }
 
-/// A value with the members that these bytes have, where that of the name `schedule` may be
-/// missing; or none, where they are no JSON. It takes less memory than the value of the bytes, where
-/// the steps of the schedule have their plain form.
-#[tactic(auto, using(crate::proofs::Parts::same_but_steps, crate::proofs::Parts::same_value))]
-pub fn read_members(alloc: Global, bytes: &[u8]) -> Result<Option<Value>, AllocError>
-    ensures members { IfOk result (λ found.
-        HaveSameMembers (value_of bytes.now) (option_map view found)) }
-    // Memory is refused only where there is at least one byte.
-    ensures memory { OnErr result (0 < length bytes.now) }
-{
-    if let Some(members) = plain_members(alloc, bytes)? {
-        return Ok(Some(members));
-    }
-    let value = read_value(alloc, bytes)?;
-    Ok(value)
-}
-
 /// The same, read as one value.
-#[tactic(auto, using(stab_json::proofs::ForCallers::some_bytes))]
-fn read_by_value(alloc: Global, bytes: &[u8]) -> Result<(Job, Value), JobFault>
-    ensures job { MatchResult result
-        (λ read. job bytes.now ≡ Ok read.0)
-        (λ fault. fault ≢ JobFault.Memory → job bytes.now ≡ Err fault) }
-    ensures members { IfOk result (λ read. (d : Data)
-        × (value_of bytes.now ≡ Some d) × SameMembers d (view read.1)) }
-    // `Json` comes only where the bytes have no value.
-    ensures json { result ≡ Err JobFault.Json → value_of bytes.now ≡ None }
-
-    // Refused memory is reported as that alone, and only where there is at least one byte.
-    ensures memory { result ≡ Err JobFault.Memory → 0 < length bytes.now }
-    ensures tree_memory { result ≢ Err (JobFault.Tree TreeFault.Memory) }
-    ensures script_memory { result ≢ Err (JobFault.Script ScriptFault.Memory) }
-{
-    let Some(value) = read_value(alloc, bytes)? else {
-        return Err(JobFault::Json);
-    };
-    let job = job_of_value(alloc, &value)?;
-    Ok((job, value))
-}
-
-/// The same without the steps of the schedule.
+#[tactic(auto, using(stab_json::proofs::ForCallers::some_bytes, crate::proofs::ForCallers::unscheduled_by_value))]
 fn unscheduled_by_value(alloc: Global, bytes: &[u8]) -> Result<(Job, Value), JobFault>
     ensures job { MatchResult result
         (λ read. IsUnscheduled (job bytes.now) read.0)
@@ -141,8 +81,24 @@ fn unscheduled_by_value(alloc: Global, bytes: &[u8]) -> Result<(Job, Value), Job
     ensures tree_memory { result ≢ Err (JobFault.Tree TreeFault.Memory) }
     ensures script_memory { result ≢ Err (JobFault.Script ScriptFault.Memory) }
 {
-    let (job, value) = read_by_value(alloc, bytes)?;
-    Ok((unscheduled(alloc, job), value))
+    let Some(value) = read_value(alloc, bytes)? else {
+        return Err(JobFault::Json);
+    };
+    let job = unscheduled_job_of_value(alloc, &value)?;
+    Ok((job, value))
+}
+
+/// The job that this value means, with an empty schedule, or the first check that it fails; memory
+/// may be refused before a later check. There is one only where the value is a job with the
+/// schedule that it has.
+pub fn unscheduled_job_of_value(alloc: Global, value: &Value) -> Result<Job, JobFault>
+    ensures job { MatchResult result
+        (λ its_job. IsUnscheduled (job_of_data (view value.now)) its_job)
+        (λ fault. fault ≢ JobFault.Memory → job_of_data (view value.now) ≡ Err fault) }
+    ensures reported { IfErr result (λ fault. is_of_value fault ≡ true) }
+{
+    let job = job_of_value(alloc, value)?;
+    Ok(unscheduled(alloc, job))
 }
 
 /// The job with an empty schedule.
@@ -160,27 +116,14 @@ fn kept_job(alloc: Global, keeps: bool, job: Job) -> Job
     if keeps { job } else { unscheduled(alloc, job) }
 }
 
-/// The members of the value of these bytes but the schedule, where they have the plain form;
-/// nothing is said of them where there is none.
-fn plain_members(alloc: Global, bytes: &[u8]) -> Result<Option<Value>, AllocError>
-    ensures members { IfOk result (λ found. IfSome found (λ members. (d : Data)
-        × (value_of bytes.now ≡ Some d) × SameMembers d (view members))) }
-    ensures memory { OnErr result (0 < length bytes.now) }
-{
-    let Ok(text) = std::str::from_utf8(bytes) else {
-        return Ok(None);
-    };
-    let Some(parts) = read_text(alloc, text, false)? else {
-        return Ok(None);
-    };
-    let JobParts { others, steps: _ } = parts;
-    Ok(Some(Value::Object(others)))
-}
-
 /// The job that these bytes mean, and its members but the schedule, where they have the plain form
 /// and pass each check; nothing is said of them where there is none. The steps of the schedule are
-/// kept, or only counted.
-fn read_plain(alloc: Global, bytes: &[u8], keeps: bool) -> Result<Option<(Job, Value)>, AllocError>
+/// kept, or only counted, and then the job has an empty schedule.
+pub fn read_plain_job(
+    alloc: Global,
+    bytes: &[u8],
+    keeps: bool,
+) -> Result<Option<(Job, Value)>, AllocError>
     ensures job { IfOk result (λ found. IfSome found (λ read.
         IsKeptOf keeps (job bytes.now) read.0)) }
     ensures members { IfOk result (λ found. IfSome found (λ read. (d : Data)

@@ -10,7 +10,7 @@ use Rattle.stab_stream.specs.Members.{in_job}
 use Rattle.stab_stream.specs.Standing.{Stands}
 use Rattle.stab_stream.proofs.Jobs.{whole_text}
 use Rattle.stab_job_stream.specs.Unscheduled.{IsKeptOf}
-use Rattle.stab_job_stream.proofs.read.read_plain.Goals as goal
+use Rattle.stab_job_stream.proofs.read.read_plain_job.Goals as goal
 
 pub returns-clause-job : goal.returns-clause-job
 returns-clause-job c =

@@ -1,6 +1,6 @@
 use Rattle.stab_node.proofs.ForCallers.{at_error}
 use Rattle.rignolda_commands.specs.Checked.{IsUncheckedTree}
-use Rattle.rignolda_commands.proofs.check.check_since.Goals as goal
+use Rattle.rignolda_commands.proofs.report.check_since.Goals as goal
 
 pub returns-in_err-said-clause-fault : goal.returns-in_err-said-clause-fault
 returns-in_err-said-clause-fault c =
