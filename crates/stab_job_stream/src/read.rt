@@ -10,7 +10,7 @@ ghost use Rattle.stab_job_stream.specs.Unscheduled.{IsKeptOf, IsUnscheduled, uns
 
 use crate::members::{JobParts, read_text};
 use crate::schedule::Schedule;
-use serde_json::{Map, Value};
+use serde_json::Value;
 use stab_frames::Sequence;
 use stab_job::{Job, JobFault, job_of_value};
 use stab_json::read_value;
