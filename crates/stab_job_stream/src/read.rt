@@ -150,10 +150,10 @@ fn whole_job(
     parts: JobParts,
 ) -> Result<Option<(Job, Value)>, AllocError>
     ensures job { IfOk result (λ found. IfSome found (λ read. (ms : Members)
-        → HasParts keeps (members_view parts.entry.others.entries) parts.entry.steps ms
+        → HasParts keeps (members_view parts.others.entries) parts.steps ms
         → IsKeptOf keeps (job_of_data (object ms)) read.0)) }
     ensures members { IfOk result (λ found. IfSome found (λ read.
-        view read.1 ≡ object (members_view parts.entry.others.entries))) }
+        view read.1 ≡ object (members_view parts.others.entries))) }
 {
     let JobParts { others, steps } = parts;
     let members = Value::Object(others);
@@ -185,7 +185,7 @@ fn job_of_others(alloc: Global, others: &Value) -> Result<Option<Job>, AllocErro
 /// has the steps that were kept.
 fn with_steps(alloc: Global, job: Job, steps: Schedule) -> Result<Option<Job>, AllocError>
     ensures { IfOk result (λ found. IfSome found (λ kept. (keeps : Bool) (others ms : Members)
-        → HasParts keeps others (Some steps.entry) ms → job_of_data (object others) ≡ Ok job
+        → HasParts keeps others (Some steps) ms → job_of_data (object others) ≡ Ok job
         → IsKeptOf keeps (job_of_data (object ms)) kept)) }
 {
     let Some(events) = steps.into_events(alloc, job.tree())? else {

@@ -105,7 +105,7 @@ impl Schedule {
         tree: &Tree,
     ) -> Result<Option<Sequence<TreeEvent>>, AllocError>
         ensures { IfOk result (λ found. IfSome found (λ events. (keeps : Bool)
-            (acts : List NamedAct) → AreKept keeps self.entry acts
+            (acts : List NamedAct) → AreKept keeps self acts
             → (whole : List TreeEvent) × (events_of tree.now.names acts ≡ Some whole)
             × (events ≡ kept_of keeps whole) × (length acts ≤ most_events))) }
     {
