@@ -1,4 +1,4 @@
-//! The calls that make a script: a copy, and draws of a generator.
+//! The calls that make a script: a copy, one that is shared, and draws of a generator.
 
 use crate::again::{Calls, Made, Row, push_answer};
 use crate::readers::script_of;
@@ -10,13 +10,14 @@ use std::alloc::{AllocError, Global};
 /// A script with acts in each of its lists.
 const SCRIPT: &str = r#"{"frames_out":"DPE","frames_in":"K","acks_out":"ED","acks_in":"TK"}"#;
 
-/// A copy of a script, and draws of one generator, one after the other: the length of each list,
+/// A copy of a script, a script that is shared, and draws of one generator, one after the other: the length of each list,
 /// the loss, and the repetition. The last draw but one is refused for its rate, and one draws
 /// nothing. Then the generator gave no word but those of the draws.
 pub const ROW: Row<'static, ScriptCall> = (
     1,
     &[
         ("Script::copy", ScriptCall::Copy),
+        ("Script::share", ScriptCall::Share),
         ("Script::from_seed", ScriptCall::FromSeed(6, 100, 0)),
         ("Script::draw", ScriptCall::Draw(6, 100, 0)),
         ("Script::from_seed", ScriptCall::FromSeed(1, 800, 100)),
@@ -33,11 +34,12 @@ pub const ROW: Row<'static, ScriptCall> = (
     ],
 );
 
-/// A script, and a generator that scripts are drawn of.
+/// A script, others for the calls that take one away, and a generator that scripts are drawn of.
 #[derive(Drop)]
 pub struct Scripts {
     alloc: Global,
     script: Script,
+    others: Vec<Script>,
     generator: Pcg32,
 }
 
@@ -45,9 +47,19 @@ pub struct Scripts {
 #[derive(Clone, Copy)]
 pub enum ScriptCall {
     Copy,
+    Share,
     Draw(u32, u16, u16),
     FromSeed(u32, u16, u16),
     NextWord,
+}
+
+/// A script for a call, and one for when it is made again.
+fn scripts_of(alloc: Global) -> anyhow::Result<Vec<Script>> {
+    let mut scripts = Vec::with_capacity(alloc, 2)?;
+    for _ in 0..2u32 {
+        scripts.push(script_of(alloc, SCRIPT)?)?;
+    }
+    Ok(scripts)
 }
 
 impl Made for Scripts {
@@ -57,6 +69,7 @@ impl Made for Scripts {
         Ok(Scripts {
             alloc,
             script: script_of(alloc, SCRIPT)?,
+            others: scripts_of(alloc)?,
             generator: Pcg32::new(42, 54),
         })
     }
@@ -74,6 +87,10 @@ impl Calls for Scripts {
         let (alloc, generator) = (self.alloc, &mut self.generator);
         match *call {
             ScriptCall::Copy => push_answer(text, self.script.copy(alloc)),
+            ScriptCall::Share => {
+                let script = self.others.pop().ok_or(AllocError)?;
+                push_answer(text, script.share())
+            }
             ScriptCall::Draw(len, loss, repeat) => {
                 push_answer(text, Script::draw(alloc, generator, len, loss, repeat))
             }
