@@ -59,7 +59,7 @@ pub(crate) fn unscheduled_job_of(
     value: Option<&Value>,
     bytes: &[u8],
 ) -> Result<Job, JobFault>
-    requires { option_map (λ lent. view lent.now) value.entry ≡ value_of bytes.now }
+    requires { option_map (λ lent. view lent.now) value ≡ value_of bytes.now }
     ensures job { MatchResult result
         (λ its_job. IsUnscheduled (job bytes.now) its_job)
         (λ fault. fault ≢ JobFault.Memory → job bytes.now ≡ Err fault) }
@@ -73,7 +73,7 @@ pub(crate) fn unscheduled_job_of(
 /// The job that these bytes are, which have this value, with its schedule.
 #[tactic(auto, using(crate::proofs::Values::job_of_their_value, crate::proofs::Values::no_job))]
 pub(crate) fn job_of(alloc: Global, value: Option<&Value>, bytes: &[u8]) -> Result<Job, JobFault>
-    requires { option_map (λ lent. view lent.now) value.entry ≡ value_of bytes.now }
+    requires { option_map (λ lent. view lent.now) value ≡ value_of bytes.now }
     ensures job { MatchResult result
         (λ its_job. job bytes.now ≡ Ok its_job)
         (λ fault. fault ≢ JobFault.Memory → job bytes.now ≡ Err fault) }
@@ -123,7 +123,7 @@ pub(crate) fn scenario_of(
     value: Option<&Value>,
     bytes: &[u8],
 ) -> Result<Scenario, ScenarioFault>
-    requires { option_map (λ lent. view lent.now) value.entry ≡ value_of bytes.now }
+    requires { option_map (λ lent. view lent.now) value ≡ value_of bytes.now }
     ensures scenario { MatchResult result
         (λ its_scenario. scenario bytes.now ≡ Ok its_scenario)
         (λ fault. fault ≢ ScenarioFault.Memory → scenario bytes.now ≡ Err fault) }

@@ -6,5 +6,5 @@ use Rattle.rignolda_commands.proofs.job.begin_job.Goals as goal
 
 pub returns-in_err-begin-clause-fault : goal.returns-in_err-begin-clause-fault
 returns-in_err-begin-clause-fault c =
-    at_error _ _ (λ fault. IsFault Tree c.args.bytes.now fault) c.from_residual-in_err-begin.ensures.1
+    at_error _ _ (λ fault. IsFault Tree c.args.bytes.now fault) c.from_residual.ensures.1
     (unbegun c.args.bytes.now c.args.its_job.now c.in_err-begin.field-0.0 c.requires c.in_err-begin.ensures.refused)
