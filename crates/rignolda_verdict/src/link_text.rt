@@ -1,9 +1,8 @@
 ghost use Rattle.std.specs.Prelude.{◌≡◌, ◌++◌, codes, string_bytes, IfOk, OnOk};
-ghost use Rattle.stab_core.specs.Texts.{closed_line, frame_entry, frames_line, link_text};
-ghost use Rattle.stab_core.specs.Texts.{number_line, numbers_line};
+ghost use Rattle.stab_core.specs.Texts.{frames_line, link_text, numbers_line};
 
 use crate::link_report::LinkReport;
-use stab_core::{push_items_line, push_number};
+use stab_core::{push_closed_line, push_frame, push_items_line, push_number, push_number_line};
 use stab_frames::{Frame, Label};
 use std::alloc::{AllocError, Global};
 
@@ -24,17 +23,6 @@ pub fn link_report_text(alloc: Global, report: &LinkReport) -> Result<String, Al
     Ok(text)
 }
 
-/// Adds a line: the label, then the number after one space.
-#[tactic(auto, unfolding(stab_core::specs::Texts::number_line))]
-fn push_number_line(text: &mut String, label: &str, number: u64) -> Result<(), AllocError>
-    ensures { OnOk result
-        (string_bytes text.new ≡ string_bytes text.old ++ number_line label.now number) }
-{
-    text.push_str(label)?;
-    push_number(text, number)?;
-    text.push_str("\n")
-}
-
 /// Adds the line of the queued frames.
 #[tactic(auto, unfolding(stab_core::specs::Texts::frames_line))]
 fn push_frames_line(text: &mut String, frames: &[Frame]) -> Result<(), AllocError>
@@ -43,17 +31,9 @@ fn push_frames_line(text: &mut String, frames: &[Frame]) -> Result<(), AllocErro
 {
     text.push_str("frames:")?;
     for frame in frames {
-        push_frame(text, *frame)?;
+        push_frame(text, Some(*frame))?;
     }
     text.push_str("\n")
-}
-
-/// Adds a frame.
-fn push_frame(text: &mut String, frame: Frame) -> Result<(), AllocError>
-    ensures { OnOk result
-        (string_bytes text.new ≡ string_bytes text.old ++ frame_entry frame) }
-{
-    write!(text, " {}={}", frame.label, frame.item)
 }
 
 /// Adds the line of the queued acknowledgements.
@@ -67,17 +47,4 @@ fn push_labels_line(text: &mut String, labels: &[Label]) -> Result<(), AllocErro
         push_number(text, u64::from(*label))?;
     }
     text.push_str("\n")
-}
-
-/// Adds the line that says whether the link is closed.
-#[tactic(auto, unfolding(stab_core::specs::Texts::closed_line))]
-fn push_closed_line(text: &mut String, closed: bool) -> Result<(), AllocError>
-    ensures { OnOk result
-        (string_bytes text.new ≡ string_bytes text.old ++ closed_line closed) }
-{
-    if closed {
-        text.push_str("closed: yes\n")
-    } else {
-        text.push_str("closed: no\n")
-    }
 }
