@@ -1,6 +1,7 @@
 //! The text of a scenario's run.
 
-ghost use Rattle.std.specs.Prelude.{◌≡◌, ◌++◌, codes, string_bytes, IfErr, IfOk, OnOk};
+ghost use Rattle.std.specs.Prelude.{◌≡◌, ◌≤◌, ◌++◌, codes, length, string_bytes};
+ghost use Rattle.std.specs.Prelude.{IfErr, IfOk, OnOk};
 ghost use Rattle.rignolda_draw.specs.Schedules.{link_start_line};
 ghost use Rattle.rignolda_draw_scenario.specs.ScenarioRuns.{after_rounds, begin_line, begin_lines};
 ghost use Rattle.rignolda_draw_scenario.specs.ScenarioRuns.{change_lines, rounds_lines};
@@ -9,13 +10,16 @@ ghost use Rattle.rignolda_draw_scenario.specs.ScenarioRuns.{scenario_head, scena
 ghost use Rattle.rignolda_draw_scenario.specs.ScenarioRuns.{step_cell};
 ghost use Rattle.stab_faults.specs.Changes.{change_step, changes_replay};
 ghost use Rattle.rignolda_scenario.specs.Counts.{IsUnrun};
-ghost use Rattle.rignolda_scenario.specs.Played.{changes_in, reading_round_of};
+ghost use Rattle.rignolda_scenario.specs.Played.{changes_in, changes_of, most_changes};
+ghost use Rattle.rignolda_scenario.specs.Played.{reading_round_of};
 ghost use Rattle.stab_tree.specs.Links.{links_of};
 
 use crate::faults::{push_published, push_restarted, push_struck};
 use crate::rounds::{push_act, push_rounds};
 use rignolda_draw::{push_name_cell, push_number_cell, push_start_line};
-use rignolda_scenario::{Scenario, ScenarioFault, Step, reading_round_of_all, state_after};
+use rignolda_scenario::{
+    Scenario, ScenarioFault, Step, are_few, reading_round_of_all, state_after,
+};
 use stab_core::Link;
 use stab_faults::{Change, ChangeFault};
 use stab_job::Job;
@@ -33,13 +37,29 @@ remembers delivers\n";
 /// step. It refuses what `scenario_text` refuses.
 pub fn scenario_run_text(alloc: Global, scenario: &Scenario) -> Result<String, ScenarioFault>
     ensures text { IfOk result (λ text. string_bytes text ≡ scenario_run_text scenario.now) }
+    ensures few { OnOk result (length (changes_of scenario.now.job.tree.parents
+        scenario.now.job.params scenario.now.steps) ≤ most_changes) }
     ensures refused { IfErr result (IsUnrun scenario.now.job scenario.now.steps) }
 {
-    let end = state_after(alloc, &scenario.job, scenario.steps.as_slice())?;
-    drop(end);
+    if !are_few(&scenario.job, scenario.steps.as_slice()) {
+        return Err(ScenarioFault::TooManyEvents);
+    }
     match drawn(alloc, scenario) {
         Ok(text) => Ok(text),
-        Err(_) => Err(ScenarioFault::Memory),
+        Err(_) => Err(why_undrawn(alloc, scenario)),
+    }
+}
+
+/// Why the run of a scenario was not drawn: what keeps it from being run, or else memory.
+pub(crate) fn why_undrawn(alloc: Global, scenario: &Scenario) -> ScenarioFault
+    ensures { IsUnrun scenario.now.job scenario.now.steps result }
+{
+    match state_after(alloc, &scenario.job, scenario.steps.as_slice()) {
+        Ok(end) => {
+            drop(end);
+            ScenarioFault::Memory
+        }
+        Err(fault) => fault,
     }
 }
 

@@ -1,14 +1,16 @@
 //! The rows of a scenario.
 
-ghost use Rattle.std.specs.Prelude.{◌≡◌, ◌++◌, IfErr, IfOk, OnOk};
+ghost use Rattle.std.specs.Prelude.{◌≡◌, ◌≤◌, ◌++◌, length, IfErr, IfOk, OnOk};
 ghost use Rattle.rignolda_draw_scenario.specs.ScenarioRows.{change_row, change_rows, scenario_rows};
 ghost use Rattle.stab_faults.specs.Changes.{change_step};
 ghost use Rattle.stab_job.specs.JobValues.{network};
 ghost use Rattle.rignolda_scenario.specs.Counts.{IsUnrun};
+ghost use Rattle.rignolda_scenario.specs.Played.{changes_of, most_changes};
 ghost use Rattle.stab_treecore.specs.TreeReplay.{initial_tree};
 
+use crate::lines::why_undrawn;
 use rignolda_draw::{Row, push_step_row};
-use rignolda_scenario::{Scenario, ScenarioFault, listed_changes, state_after};
+use rignolda_scenario::{Scenario, ScenarioFault, listed_changes};
 use stab_faults::{Change, ChangeFault};
 use stab_tree::Tree;
 use stab_treecore::TreeState;
@@ -17,14 +19,14 @@ use std::alloc::Global;
 /// The rows of a scenario's acts, in their order. It refuses what `scenario_text` refuses.
 pub fn scenario_rows(alloc: Global, scenario: &Scenario) -> Result<Vec<Row>, ScenarioFault>
     ensures rows { IfOk result (λ rows. rows.items ≡ scenario_rows scenario.now) }
+    ensures few { OnOk result (length (changes_of scenario.now.job.tree.parents
+        scenario.now.job.params scenario.now.steps) ≤ most_changes) }
     ensures refused { IfErr result (IsUnrun scenario.now.job scenario.now.steps) }
 {
-    let end = state_after(alloc, &scenario.job, scenario.steps.as_slice())?;
-    drop(end);
     let changes = listed_changes(alloc, &scenario.job, scenario.steps.as_slice())?;
     match made_rows(alloc, scenario, &changes) {
         Ok(rows) => Ok(rows),
-        Err(_) => Err(ScenarioFault::Memory),
+        Err(_) => Err(why_undrawn(alloc, scenario)),
     }
 }
 

@@ -7,3 +7,4 @@ pub mod Reading
 pub mod Refused
 pub mod Climbing
 pub mod ForCallers
+pub mod Lengths

@@ -182,6 +182,8 @@ pub fn listed_changes(
 ) -> Result<Vec<Change>, ScenarioFault>
     ensures listed { IfOk result (λ changes.
         changes.items ≡ changes_of job.now.tree.parents job.now.params steps.now) }
+    ensures few { OnOk result
+        (length (changes_of job.now.tree.parents job.now.params steps.now) ≤ most_changes) }
     ensures refused { IfErr result (IsUnrun job.now steps.now) }
 {
     let changes = changes_of(alloc, job, steps)?;

@@ -12,6 +12,7 @@ mod changes;
 mod count;
 mod entry;
 mod fault;
+mod few;
 mod hits;
 pub mod laws;
 mod read;
@@ -20,6 +21,7 @@ mod text;
 
 pub use changes::{listed_changes, reading_round_of_all};
 pub use fault::{ScenarioFault, StepFault};
+pub use few::are_few;
 pub use read::{Scenario, read_scenario, scenario_of_steps, scenario_of_value};
 pub use step::Step;
 pub use text::{scenario_text, state_after};
