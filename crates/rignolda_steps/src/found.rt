@@ -1,5 +1,8 @@
 //! Findings that more than one member has.
 
+ghost use Rattle.std.specs.Prelude.{◌≡◌, ◌<◌, ◌≤◌, length, OnErr, OnOk};
+ghost use Rattle.rignolda_findings.specs.Gathered.{Adds, Counts, most_findings};
+
 use rignolda_findings::{Matter, Notes, Piece, Place};
 use serde_json::Value;
 use stab_json::item;
@@ -14,7 +17,12 @@ pub(crate) fn add_found<'x>(
     place: Place<'_>,
     value: &'x Value,
     want: &'x str,
-) -> Result<(), AllocError> {
+) -> Result<(), AllocError>
+    ensures added { OnOk result (length notes.old.findings < most_findings
+        → Adds Matter.Command notes.old notes.new) }
+    ensures full { most_findings ≤ length notes.old.findings → Counts notes.old notes.new }
+    ensures unchanged { OnErr result (notes.new ≡ notes.old) }
+{
     notes.add(
         Matter::Command,
         &place,

@@ -2,8 +2,10 @@
 //! and since a moment the backlogs of the nodes and their logs.
 //!
 //! Each function `look_at_..` looks at one member, in the order of the checks of the command that
-//! reads it. The layer above uses one fact: only memory is refused. All findings here are of a
-//! command of `rignolda`, so none of them is what `stab` answers.
+//! reads it. A contract says of the steps what they add where they are absent, which is nothing, or
+//! no list, and another one which capacity a link has; the rest is only tested. The layer above
+//! uses one fact: only memory is refused. All findings here are of a command of `rignolda`, so none
+//! of them is what `stab` answers.
 #![tactic(auto)]
 
 mod backlogs;

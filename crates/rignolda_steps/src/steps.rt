@@ -1,5 +1,11 @@
 //! What is wrong with the steps of a scenario, which no reader of `stab` looks at.
 
+ghost use Rattle.std.specs.Prelude.{◌≡◌, ◌<◌, None, Some, IsOk, OnOk, codes, length};
+ghost use Rattle.rignolda_findings.specs.Gathered.{Adds, most_findings};
+ghost use Rattle.serde_json.specs.Data.{Data};
+ghost use Rattle.serde_json.specs.Find.{as_array, get};
+ghost use Rattle.serde_json.specs.View.{view};
+
 use crate::found::{add_found, look_at_list};
 use crate::names::{Whole, look_at_link, look_at_name};
 use crate::strikes::{is_label, look_at_strike};
@@ -43,7 +49,15 @@ const LOSS: &str = "a loss is written with its place, a whole number from 0 to 6
 const PLAIN: &str = "this act has no place";
 
 /// Looks at the steps of a job, where it has some.
-pub fn look_at_steps(notes: &mut Notes, job: &Value, tree: &Tree) -> Result<(), AllocError> {
+pub fn look_at_steps(notes: &mut Notes, job: &Value, tree: &Tree) -> Result<(), AllocError>
+    ensures absent { OnOk result (get (codes "steps") (view job.now) ≡ None
+        → notes.new ≡ notes.old) }
+    ensures no_memory { get (codes "steps") (view job.now) ≡ None → IsOk result }
+    ensures no_list { OnOk result ((steps : Data)
+        → get (codes "steps") (view job.now) ≡ Some steps → as_array steps ≡ None
+        → length notes.old.findings < most_findings
+        → Adds Matter.Command notes.old notes.new) }
+{
     let Some(steps) = job.get("steps") else {
         return Ok(());
     };

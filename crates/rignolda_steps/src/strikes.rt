@@ -1,5 +1,10 @@
 //! The strikes of a scenario.
 
+ghost use Rattle.std.specs.Prelude.{◌≡◌, Some, codes, option_and_then, option_map};
+ghost use Rattle.serde_json.specs.Find.{at, get};
+ghost use Rattle.serde_json.specs.View.{view};
+ghost use Rattle.rignolda_steps.specs.Capacities.{capacity_at, entry_capacity};
+
 use crate::names::{Whole, look_at_link};
 use rignolda_findings::{Matter, Notes, Piece, Place, START_MEMBERS, count_of, look_at_members};
 use serde_json::Value;
@@ -132,12 +137,29 @@ fn look_at_length(
 }
 
 /// The capacity of the link at a place: its own, or the job's.
-pub fn capacity_at(value: &Value, place: usize) -> Option<u16> {
-    match value.get("links") {
-        Some(Value::Array(links)) => match links.get(place) {
-            Some(Value::Object(_)) => u16_member(&links[place], "capacity"),
-            _ => u16_member(value, "capacity"),
-        },
-        _ => u16_member(value, "capacity"),
+pub fn capacity_at(job: &Value, place: usize) -> Option<u16>
+    ensures { result ≡ capacity_at (view job.now) place }
+{
+    match link_entry(job, place) {
+        Some(entry) => entry_capacity(job, entry),
+        None => u16_member(job, "capacity"),
+    }
+}
+
+/// The entry of the link at a place.
+fn link_entry(job: &Value, place: usize) -> Option<&Value>
+    ensures { option_map (λ entry. view entry.now) result
+        ≡ option_and_then (at place) (get (codes "links") (view job.now)) }
+{
+    job.get("links")?.get(place)
+}
+
+/// The capacity of a link with this entry.
+fn entry_capacity(job: &Value, entry: &Value) -> Option<u16>
+    ensures { result ≡ entry_capacity (view job.now) (Some (view entry.now)) }
+{
+    match entry {
+        Value::Object(_) => u16_member(entry, "capacity"),
+        _ => u16_member(job, "capacity"),
     }
 }
