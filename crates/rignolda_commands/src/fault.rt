@@ -77,9 +77,9 @@ impl From<JobFault> for CheckFault {
 impl From<LinkJobFault> for CheckFault {
     ghost use Rattle.std.specs.Prelude.{◌≡◌};
     ghost use Rattle.rignolda_commands.specs.declared.fault.CheckFault.TheVariants.{Job};
-    ghost use Rattle.stab_task.specs.declared.fault.CliFault.TheVariants.{LinkJob};
+    ghost use Rattle.stab_task.specs.declared.fault.CliFault.TheVariants as task;
 
-    ghost from_gives = { λ refusal fault. fault ≡ Job (LinkJob refusal) };
+    ghost from_gives = { λ refusal fault. fault ≡ Job (task.LinkJob refusal) };
 
     fn from(refusal: LinkJobFault) -> CheckFault {
         CheckFault::Job(CliFault::LinkJob(refusal))
