@@ -6,7 +6,7 @@ use Rattle.rignolda_commands.proofs.job.scenario_of.Goals as goal
 
 pub returns-in-Some : goal.returns-in-Some
 returns-in-Some c = record {
-    scenario = same_scenario c.args.bytes.now (view c.in-Some.value.now) c.scenario_of_value.result
-        (sym (ap (λ (o : Option (Bor the_data)). option_map (λ lent. view lent.now) o) c.in-Some.is) ∙ c.requires)
-        c.scenario_of_value.ensures.scenario;
+  scenario = same_scenario c.args.bytes.now (view c.in-Some.value.now) c.scenario_of_value.result
+      (sym (ap (λ (o : Option (Bor the_data)). option_map (λ lent. view lent.now) o) c.in-Some.is) ∙ c.requires)
+      c.scenario_of_value.ensures.scenario;
 }
