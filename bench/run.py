@@ -21,7 +21,8 @@ BUILD = os.path.join(HERE, "build")
 TOP = os.path.dirname(HERE)
 sys.dont_write_bytecode = True
 sys.path[:0] = [os.path.join(TOP, "tools"), os.path.join(TOP, "tests", "hostile")]
-from largest import build_measure, built, run  # noqa: E402
+from largest import build_measure, run  # noqa: E402
+from programs import built  # noqa: E402
 
 RUNS = 5
 MAX_TREE_STEPS = 900_000  # more do not fit a file of 16,777,216 bytes
@@ -124,7 +125,7 @@ def main():
     program = options.stab or built("stab", BUILD)
     if not os.access(program, os.X_OK):
         sys.exit(f"there is no program at {program}")
-    measure = build_measure()
+    measure = build_measure(BUILD)
     load = os.getloadavg()[0]
     print(f"{time.strftime('%Y-%m-%d')}, {os.cpu_count()} processors, load {load:.1f}")
     print(f"{'job':24} {'events':>9} {'MB':>6} {'ms':>8} {'events/s':>11} {'peak MB':>8}")

@@ -328,26 +328,36 @@ def full_link_jobs():
                          '{"send":0,"recv":0,"frames":%s}' % listed(lambda n: "[1,2]"))
 
 
+def build_measure(room):
+    """Builds in a folder what measures a run of a program."""
+    made = Path(room) / "measure"
+    subprocess.run(clang("-ffreestanding", HERE / "measure.c", "-o", made), check=True)
+    return made
+
+
+def run(measure, program, command, job):
+    """A run of a program on a job: wall and processor seconds, the peak in bytes, the status and
+    standard error."""
+    report, to = os.pipe()
+    with open(report, "rb") as report:
+        ran = subprocess.run([measure, str(to), program, *command, job], pass_fds=[to], env={},
+                             stdout=subprocess.DEVNULL, stderr=subprocess.PIPE)
+        os.close(to)
+        wall, processor, peak, status = map(int, report.read().split())
+    return wall / 1e6, processor / 1e6, peak * 1024, status, ran.stderr.decode().strip()
+
+
 class Largest(Cases):
     """The programs, what measures them, and a folder for jobs."""
 
     def __init__(self, room):
         super().__init__()
         self.programs = {name: built(name, room) for name in ("stab", "rignolda")}
-        self.measure, self.job = room / "measure", room / "job.json"
-        subprocess.run(clang("-ffreestanding", HERE / "measure.c", "-o", self.measure), check=True)
+        self.measure, self.job = build_measure(room), room / "job.json"
 
     def run(self, name, command):
-        """A run on the job: wall and processor seconds, the peak in bytes, the status and standard
-        error."""
-        report, to = os.pipe()
-        with open(report, "rb") as report:
-            ran = subprocess.run(
-                [self.measure, str(to), self.programs[name], *command, self.job], pass_fds=[to],
-                env={}, stdout=subprocess.DEVNULL, stderr=subprocess.PIPE)
-            os.close(to)
-            wall, processor, peak, status = map(int, report.read().split())
-        return wall / 1e6, processor / 1e6, peak * 1024, status, ran.stderr.decode().strip()
+        """A run on the job."""
+        return run(self.measure, self.programs[name], command, self.job)
 
     def at_limits(self, all_jobs):
         """Measures stab on jobs at limits, and on one more."""
