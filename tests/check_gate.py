@@ -35,7 +35,7 @@ def run_gate(*words, **env):
 
 def run(first=PARTS[0], second=PARTS[1], *words, **env):
     """Runs the gate with these two parts. Further words are those of the gate."""
-    house.command(house.bin / "rt", f'[ "$1" = ci ] || {{ echo kit-1; exit; }}\n'
+    house.command(house.bin / "rt", f'[ "$1" = ci ] || {{ echo "kit-1 ${{KEEPS-}}"; exit; }}\n'
                   f'echo "$PWD: rt $*, ${{RT_JOBS-none}}"; {first}')
     house.command("tests/refused/check.py", f'echo "$PWD: check $*"; {second}')
     return run_gate(*words, **env)
@@ -106,9 +106,11 @@ holds("it says how many tasks run at once, and why", re.search("^gate: [0-9]+ ta
 run(RT_JOBS="3")
 holds("which the environment decides, if it does",
       {"gate: 3 tasks at once: as RT_JOBS says", f"{house.top}: rt ci, 3"} <= {*lines()})
-said = run(*PARTS, "--anew").out
-holds("with --anew all of it is proved again",
-      re.search(f"^{house.top}: rt ci --anew, [0-9]+$", said, re.M))
+for keeps, name in ("[--anew]", "with --anew all of it is proved again"), (
+        "", "also by a kit that keeps nothing, and has no such word"):
+    said = run(*PARTS, "--anew", KEEPS=keeps).out
+    words = " --anew" if keeps else ""
+    holds(name, re.search(f"^{house.top}: rt ci{words}, [0-9]+$", said, re.M))
 said = house.run("taskset", "-c", "0", "python3", "-B", house.top / "tools/crates.py", "tasks").out
 holds("never more than the processors", said.startswith("1 "))
 for pages, release, last, name in (

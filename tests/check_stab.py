@@ -423,6 +423,8 @@ holds("whose file is then the newest program of out",
 gave(stab("--prove", "one"), "with --prove, the program is built, and compared",
      "released; one; in", 1, "the release is the same program, byte for byte")
 holds("from nothing, whatever rt has proved before", house.read("calls") == "ci --anew\n")
+stab("--prove", KEEPS="")
+holds("also by a kit that keeps nothing, and has no such word", house.read("calls") == "ci\n")
 gave(stab("--prove"), "each time", "released; ; in", 1)
 gave(stab("one", "--prove"), "as the first word alone", "released; one --prove; in")
 kit("kit-3")

@@ -95,6 +95,15 @@ def tasks():
                              f" {fit} tasks of {TASK_BYTES / 1e9:.1f} GB")
 
 
+def anew():
+    """The words that have rt ci prove all from nothing. Of some kits it takes what it has passed
+    before on this machine, unless it is told this; of others it always begins from nothing, and
+    knows no such word."""
+    said = subprocess.run(["rt", "help"], stdin=subprocess.DEVNULL, stdout=subprocess.PIPE,
+                          stderr=subprocess.STDOUT, text=True).stdout
+    return ["--anew"] if "--anew" in said else []
+
+
 def kit():
     """The folder of the kit."""
     said = subprocess.run(["rt", "doc"], check=True, stdout=subprocess.PIPE, text=True).stdout

@@ -20,8 +20,8 @@ tools/build_daemon --keep, which takes a minute, and stay as they are here; what
 them is that they and their sources are those of their lines.
 
 A build is over what checks have kept, or by rt ci in a copy of the sources, which takes what it has
-passed before on this machine. Where it begins from nothing, rt ci does not get the crates beside
-which nothing can be proved, since it would not use all processors for them. What was built is kept
+passed before on this machine, if the kit keeps that. Where it begins from nothing, rt ci does not
+get the crates beside which nothing can be proved, since it would not use all processors for them. What was built is kept
 in out/, under names with its digest, that of its sources and the kit. It needs Python 3.8.
 """
 import contextlib
@@ -42,7 +42,7 @@ from collections import namedtuple
 from pathlib import Path
 
 import index_page
-from crates import below, compiler, kit, listed, read, tasks
+from crates import anew, below, compiler, kit, listed, read, tasks
 from programs import Cases
 from running import Commands, Interrupted
 
@@ -296,19 +296,20 @@ class Release(Commands):
             os.fchmod(to.fileno(), 0o755)
         self.fresh[name] = fresh
 
-    def build_in_copy(self, *words):
+    def build_in_copy(self, is_anew):
         """Proves and builds the artefacts, as the gate does, in a copy of the sources: each crate
-        once, side by side where they do not depend on each other. Further words are those of rt ci:
-        with --anew it does not get the last crates."""
+        once, side by side where they do not depend on each other. Where that is from nothing, rt ci
+        does not get the last crates."""
         crates, needed = listed(), []
         for it in self.artefacts.values():
             below(it.crate, crates, needed)
         self.needed, self.proved, self.begin = len(needed), 0, time.monotonic()
-        self.last = self.find_last(needed, crates) if words else []
+        self.last = self.find_last(needed, crates) if is_anew else []
         self.room = Path(tempfile.mkdtemp())
         tree = self.room / "tree"
         self.copy_sources(tree, needed, crates)
         with open(LOG, "a", encoding="utf-8") as self.log:
+            words = anew() if is_anew else []
             process = self.start(["rt", "ci", *words], tree, stdout=subprocess.PIPE)
             for line in process.stdout:
                 self.tell(line)
@@ -377,9 +378,9 @@ class Release(Commands):
         return (stat.S_ISDIR(it.st_mode) and it.st_uid in (0, os.geteuid())
                 and not it.st_mode & 0o022)
 
-    def build(self, why, anew):
-        """Proves and builds the artefacts. With `anew` this begins from nothing; else it takes what
-        was built before, and what checks or the gate have kept."""
+    def build(self, why, is_anew):
+        """Proves and builds the artefacts. With `is_anew` this begins from nothing; else it takes
+        what was built before, and what checks or the gate have kept."""
         if not shutil.which("rt"):
             self.fail(f"{why}: the command rt of the Rattle kit is needed to prove and build the "
                       "program")
@@ -392,13 +393,13 @@ class Release(Commands):
             self.fail(f"the file {LOG} cannot be written")
         self.take_lock()
         is_over, how = False, "which takes up to half an hour"
-        if anew:
+        if is_anew:
             how = "from nothing, which takes up to half an hour"
         elif any((TOP / f"crates/{it.crate}/out/incremental").is_dir()
                  for it in self.artefacts.values()):
             is_over, how = True, "over what was kept, which takes minutes"
         for count in range(MAX_BUILDS):
-            if not anew and all(it.built for it in self.artefacts.values()):
+            if not is_anew and all(it.built for it in self.artefacts.values()):
                 return
             self.say("the sources have changed during the build: building again" if count else
                      f"{why}: proving and building {' '.join(self.artefacts)} {how}")
@@ -407,7 +408,7 @@ class Release(Commands):
                 for name in self.artefacts:
                     if not self.artefacts[name].built:
                         self.build_over_kept(name)
-            elif not self.build_in_copy(*["--anew"] * anew):
+            elif not self.build_in_copy(is_anew):
                 self.fail(f"the program was not built, and what rt said is in {LOG}")
             self.look()
             if self.sources() == before:
@@ -447,10 +448,10 @@ class Release(Commands):
 
     # How it is released.
 
-    def make(self, anew):
+    def make(self, is_anew):
         """Makes the files of release/, which are built first if that was not done yet."""
-        if anew or not all(it.built for it in self.artefacts.values()):
-            self.build("a release is to be made", anew)
+        if is_anew or not all(it.built for it in self.artefacts.values()):
+            self.build("a release is to be made", is_anew)
         if not self.kit:
             self.fail("the command rt of the Rattle kit is needed for a release")
         files, lines = {}, [f"kit {self.kit}"]
