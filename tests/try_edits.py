@@ -139,6 +139,13 @@ def tried(crate, edits, names):
     return found
 
 
+def lines_of(crate):
+    """How many lines a crate has, which a check of it reads, whatever it proves of them."""
+    return sum(read(f"{at}/{name}").count("\n")
+               for at, _, names in os.walk(f"{TOP}/crates/{crate}") for name in names
+               if "/out" not in at and name.endswith((".rt", ".antt")))
+
+
 def main(words):
     folder = "tests/more_edits" if "--more" in words else "tests/edits"
     words, crates = [it for it in words if it != "--more"], listed()
@@ -148,14 +155,15 @@ def main(words):
         return 2
     passed = failed = 0
     jobs = os.environ.get("RT_JOBS", "")
+    edits = {crate: edits_in(f"{folder}/{crate}") for crate in words or crates}
+    works = [(crate, names) for crate in edits for names in rounds(crate, edits[crate])]
     with concurrent.futures.ThreadPoolExecutor(int(jobs) if jobs.isdigit() else tasks()[0]) as pool:
-        runs = []
-        for crate in words or crates:
-            edits = edits_in(f"{folder}/{crate}")
-            runs += [(crate, pool.submit(tried, crate, edits, names))
-                     for names in rounds(crate, edits)]
-        for crate, run in runs:
-            for name, is_refused, why in run.result():
+        # (the longest ones first, so that none of them is left alone at the end)
+        begun = {place: pool.submit(tried, crate, edits[crate], names)
+                 for place, (crate, names) in sorted(
+                     enumerate(works), key=lambda it: -lines_of(it[1][0]))}
+        for place, (crate, _) in enumerate(works):
+            for name, is_refused, why in begun[place].result():
                 passed, failed = passed + is_refused, failed + (not is_refused)
                 print(f"{'refused' if is_refused else 'FAILED'} {crate}/{name}: {why}", flush=True)
     print(f"{passed} passed, {failed} failed")
