@@ -495,9 +495,7 @@ class Release(Commands):
                f"it has not exactly MANIFEST and a file for {' '.join(self.artefacts)}")
         yield ("the manifest is one", {*self.released} == {*self.artefacts, *self.daemon},
                f"{RELEASE}/MANIFEST is missing or spoiled, or lists other files")
-        yield ("it names this kit", self.released_by == self.kit,
-               f"the release was built by another kit: {self.released_by}")
-        sources = self.sources(*self.daemon)
+        sources, differ = self.sources(*self.daemon), []
         for name in sources:
             yield (f"{name}: the manifest names these sources",
                    self.released.get(name, "??")[1] == sources[name],
@@ -509,12 +507,15 @@ class Release(Commands):
                 continue
             made = self.make_after_ci(TOP, name)
             data = self.contents(name)[0]
-            yield (f"{name}: the file is what was just built, byte for byte",
-                   made and data == made.read_bytes(),
+            is_same = bool(made) and data == made.read_bytes()
+            differ += [name] * (not is_same)
+            yield (f"{name}: the file is what was just built, byte for byte", is_same,
                    f"it differs, or that was not built: see {LOG}")
             if self.artefacts[name].kind == "module":
                 yield (f"{name}: page/index.html has it",
                        read(index_page.TO) == index_page.page(data), "run tools/index_page.py")
+        yield ("this kit built it, or builds the same", self.released_by == self.kit or not differ,
+               f"the release was built by another kit: {self.released_by}")
 
     def check(self):
         try:
