@@ -1,4 +1,4 @@
-ghost use Rattle.std.specs.Prelude.{◌≡◌};
+ghost use Rattle.std.specs.Prelude.{◌≡◌, length};
 ghost use Rattle.stab_acts.specs.Scripts.{out_act, in_act, after_out, after_in};
 
 use crate::act::{InAct, OutAct};
@@ -8,7 +8,7 @@ use std::marker::Model;
 /// The acts that one end of a link has still to take: for what it sends, and for what it receives.
 /// A contract sees exactly those, so a caller that is refused between
 /// [`peek_out`](HalfScript::peek_out) and [`next_out`](HalfScript::next_out) has the script as it
-/// was. No call takes memory.
+/// was. No call takes memory, and each takes the same time however many acts there are.
 #[derive(Debug)]
 pub struct HalfScript {
     outs: ActList<OutAct>,
@@ -70,6 +70,21 @@ impl HalfScript {
             .get(self.ins_taken)
             .copied()
             .unwrap_or(InAct::Take)
+    }
+
+    /// How many acts for what goes out remain. Whoever has the whole list knows from this which of
+    /// its acts were taken.
+    pub fn outs_left(&self) -> usize
+        ensures { result ≡ length self.now.outs }
+    {
+        self.outs.len().saturating_sub(self.outs_taken)
+    }
+
+    /// How many acts for what comes in remain.
+    pub fn ins_left(&self) -> usize
+        ensures { result ≡ length self.now.ins }
+    {
+        self.ins.len().saturating_sub(self.ins_taken)
     }
 
     /// Takes the act for what goes out next: the first that remains, and past the end `Pass`.

@@ -1,4 +1,5 @@
-pub mod Acts
 pub mod Reached
 pub mod Rooms
+pub mod SameActs
+pub mod SameCalls
 pub mod Starts

@@ -6,6 +6,8 @@ use Rattle.stab_acts.specs.Scripts.{Acts, ActsRemaining, receiver_half, sender_h
 use Rattle.stab_lock.specs.Book.{Book, book_of}
 use Rattle.stab_lock.specs.Calls.{Call, offering, sending, polling_ack, closing, polling_frame, sending_ack}
 use Rattle.stab_lock.specs.Scripted.{IsNotedUnder, IsReached, Shared, after_call, after_calls, before_calls}
+use Rattle.stab_lock.specs.Taken.{SameScriptTaken}
+use Rattle.stab_lock.proofs.SameCalls.{SameUpTo, same_after_calls}
 
 -- a call after some calls
 one_more_call : (calls : List Call) (call : Call) (s : Shared)
@@ -42,9 +44,18 @@ reached_after call old new is before =
           ∙ ap (after_calls (before.calls ++ call ∷ [])) (sym (same_begin call old)));
     })
 
--- so its history is by its script
-pub by_script : (s : Shared) → IsReached s → IsNotedUnder s.book.params s.book.start s.script s.book.history
-by_script s reached = record { calls = reached.calls; noted = ap (λ (x : Shared). x.book.history) reached.reached }
+-- so its history is by each script that is the same as far as acts were taken
+pub by_script : (s : Shared) (script : Acts) → SameScriptTaken s.sender s.receiver s.script script → IsReached s
+    → IsNotedUnder s.book.params s.book.start script s.book.history
+by_script s script same reached =
+    let begun : Shared = before_calls s.book.params s.book.start s.script in
+    let other : Shared = before_calls s.book.params s.book.start script in
+    let alike : SameUpTo s begun other = record { book = refl; sender = same.by_sender; receiver = same.by_receiver } in
+    let books = same_after_calls reached.calls begun other (subst (λ end. SameUpTo end begun other) reached.reached alike) in
+    record {
+      calls = reached.calls;
+      noted = ap (λ (x : Shared). x.book.history) reached.reached ∙ ap (λ (b : Book). b.history) books;
+    }
 
 -- a call that takes no act leads on, or changes nothing
 pub reached_by_book : {T E : Type 0} (r : Result T E) (call : Call) (s : Shared) (book after : Book) → after_call call s ≡ record s { book = after }

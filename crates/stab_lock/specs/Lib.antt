@@ -3,3 +3,4 @@ pub mod Calls
 pub mod Settling
 pub mod Ends
 pub mod Scripted
+pub mod Taken

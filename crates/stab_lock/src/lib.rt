@@ -10,12 +10,14 @@
 
 mod book;
 mod calls;
+pub mod examples;
 mod link;
 mod put;
 mod recv;
 mod send;
 mod settle;
 mod shared;
+mod taken;
 
 pub use book::LinkBook;
 pub use link::LockLink;

@@ -10,9 +10,11 @@ ghost use Rattle.stab_lock.specs.Calls.{offering, sending, polling_ack, closing,
 ghost use Rattle.stab_lock.specs.Calls.{sending_ack, answer_of, is_held, no_acts, seen_by};
 ghost use Rattle.stab_lock.specs.Scripted.{IsNotedUnder, IsReached, after_call, before_calls};
 ghost use Rattle.stab_lock.specs.Settling.{DifferFromReplay};
+ghost use Rattle.stab_lock.specs.Taken.{SameScriptTaken};
 
 use crate::book::LinkBook;
 use crate::settle::SettleFault;
+use crate::taken::same_taken;
 use stab_acts::{HalfScript, Script};
 use stab_core::{Effect, Start};
 use stab_ends::{FrameSeen, RecvAccount, SendAccount};
@@ -144,17 +146,21 @@ impl SharedBook {
         book
     }
 
-    /// Whether this is of a link with these parameters, this start and this script.
+    /// Whether this is of a link with these parameters and this start, and of a script with the
+    /// same acts as far as they were taken.
     fn is_of(&self, params: Params, start: &Start, script: &Script) -> bool
         ensures { IsTrue result → (self.now.book.params ≡ params)
-            × (self.now.book.start ≡ start.now) × (self.now.script ≡ script.now) }
+            × (self.now.book.start ≡ start.now)
+            × SameScriptTaken self.now.sender self.now.receiver self.now.script script.now }
     {
-        self.book.is_of(params, start) && same_script(&self.script, script)
+        self.book.is_of(params, start)
+            && same_taken(&self.script, script, &self.sender, &self.receiver)
     }
 
-    /// Whether two accounts agree with the book of a link with these parameters, this start and
-    /// this script, or the first thing in which they differ from it. Where the book is another
-    /// link's, the answer is OfferedDiffer.
+    /// Whether two accounts agree with the book of a link with these parameters and this start, or
+    /// the first thing in which they differ from it. Its history is by this script as well, since
+    /// what calls note depends only on the acts that they take. Where the book is another link's,
+    /// or one whose taken acts are not those of this script, the answer is OfferedDiffer.
     #[tactic(auto, using(crate::proofs::Reached::by_script))]
     fn check_of(
         &self,
@@ -210,20 +216,4 @@ fn with_halves(
     let own = script.copy(alloc)?;
     let (sender, receiver) = script.copy(alloc)?.split();
     Ok((own, sender, receiver))
-}
-
-/// Whether two scripts have the same acts in each list.
-fn same_script(one: &Script, other: &Script) -> bool
-    ensures { IsTrue result → one.now ≡ other.now }
-{
-    if one.frames_out() != other.frames_out() {
-        return false;
-    }
-    if one.frames_in() != other.frames_in() {
-        return false;
-    }
-    if one.acks_out() != other.acks_out() {
-        return false;
-    }
-    one.acks_in() == other.acks_in()
 }
