@@ -1,30 +1,44 @@
 -- Codes that are added to others, and the numbers that they leave out.
-use Rattle.std.proofs.Common.{◌≡◌, ℕ, suc, ◌+◌, ◌-◌, ◌/◌, ◌%◌, ◌<◌, ◌≤◌, List, [], ◌∷◌, ◌++◌, length}
-use Rattle.std.proofs.Common.{Bool, true, false, if◌then◌else◌, ◌==◌, take, drop, get_or, slice_get, Some, refl, sym, ap, ◌∙◌, arith}
+use Rattle.std.proofs.Common.{◌≡◌, ℕ, zero, suc, ◌+◌, ◌-◌, ◌/◌, ◌%◌, ◌<◌, ◌≤◌, List, [], ◌∷◌, ◌++◌, length}
+use Rattle.std.proofs.Common.{Bool, true, false, if◌then◌else◌, ◌==◌, take, drop, get_or, set, slice_get, refl, sym, ap, ◌∙◌, arith}
 use Rattle.std.proofs.lemmas.Bool.{ne_eqb}
 use Rattle.std.proofs.Math.Seq.{drop-cons, get_or-append_seam}
-use Rattle.std.proofs.lemmas.List.{length-append, take-append-drop, get_or_append_left, get_or-append-add}
+use Rattle.std.proofs.lemmas.List.{append-nil, append_assoc, length-append, take-append-drop, get_or_append_left, get_or-append-add}
+use Rattle.std.proofs.lemmas.List.{length-set, set-get_or, take-set-le}
 use Rattle.stab_core.specs.declared.event.Event.{Event}
 use Rattle.stab_core.specs.declared.event.Event.TheVariants as event
-use Rattle.stab_history.specs.declared.code.Kind.{Kind}
-use Rattle.stab_history.specs.declared.code.Kind.TheVariants as kind
+use Rattle.stab_history.specs.declared.kind.Kind.{Kind}
+use Rattle.stab_history.specs.declared.kind.Kind.TheVariants as kind
 use Rattle.stab_history.specs.declared.run.Run.{Run}
-use Rattle.stab_history.specs.CodesInside.{CodeValue, code_of, count_left, event_left, event_of, has_value, kind_of}
+use Rattle.stab_history.specs.declared.part.Part.{Part}
+use Rattle.stab_history.specs.CodesInside.{all_parts, IsJoined, part_of, count_left, event_left, event_of, has_value, kind_of}
 use Rattle.stab_history.specs.CodesInside.{numbers_in, numbers_of, run_at, unpack, value_numbers, wide_count, expand}
-use Rattle.stab_history.proofs.Runs.{place_in_run, place_past_run}
+use Rattle.stab_history.proofs.Runs.{in_first, past_first}
 
 -- the numbers of two lists of codes are those of the first, and then those of the second
-pub numbers_in-append : (xs ys : List CodeValue) → numbers_in (xs ++ ys) ≡ numbers_in xs + numbers_in ys
+pub numbers_in-append : (xs ys : List Part) → numbers_in (xs ++ ys) ≡ numbers_in xs + numbers_in ys
 numbers_in-append [] ys = omega arith
 numbers_in-append (x ∷ xs) ys = omega (arith, numbers_in-append xs ys)
 
--- the first codes take no more numbers than all
-pub fewer_numbers : (n : ℕ) (xs : List CodeValue) → numbers_in (take n xs) ≤ numbers_in xs
-fewer_numbers n xs =
-    omega (arith, numbers_in-append (take n xs) (drop n xs), ap numbers_in (take-append-drop n xs))
+-- the parts of two lists of codes are those of the first, and then those of the second
+pub all_parts-append : (xs ys : List (List Part)) → all_parts (xs ++ ys) ≡ all_parts xs ++ all_parts ys
+all_parts-append [] ys = refl
+all_parts-append (x ∷ xs) ys =
+    ap (λ parts. x ++ parts) (all_parts-append xs ys) ∙ sym (append_assoc x (all_parts xs) (all_parts ys))
+
+-- the first codes and the others have all parts
+pub first_and_others : (n : ℕ) (xs : List (List Part)) → all_parts (take n xs) ++ all_parts (drop n xs) ≡ all_parts xs
+first_and_others n xs =
+    sym (all_parts-append (take n xs) (drop n xs)) ∙ ap all_parts (take-append-drop n xs)
+
+-- and so have their numbers
+pub first_numbers : (n : ℕ) (xs : List (List Part))
+    → numbers_in (all_parts (take n xs)) + numbers_in (all_parts (drop n xs)) ≡ numbers_in (all_parts xs)
+first_numbers n xs =
+    sym (numbers_in-append (all_parts (take n xs)) (all_parts (drop n xs))) ∙ ap numbers_in (first_and_others n xs)
 
 -- the runs of two lists of codes are those of the first, and then those of the second
-pub unpack-append : (numbers : List ℕ) (i : ℕ) (xs ys : List CodeValue)
+pub unpack-append : (numbers : List ℕ) (i : ℕ) (xs ys : List Part)
     → unpack numbers i (xs ++ ys) ≡ unpack numbers i xs ++ unpack numbers (i + numbers_in xs) ys
 unpack-append numbers i [] ys = ap (λ k. unpack numbers k ys) (omega arith)
 unpack-append numbers i (x ∷ xs) ys =
@@ -64,7 +78,7 @@ count_stays numbers more i count true within =
 count_stays numbers more i count false within = refl
 
 -- a code takes the numbers of its event, and those of its count
-numbers_apart : (c : CodeValue) (wide : Bool)
+numbers_apart : (c : Part) (wide : Bool)
     → (if wide then value_numbers c + 2 else value_numbers c) ≡ value_numbers c + (if wide then 2 else 0)
 numbers_apart c true = refl
 numbers_apart c false = omega arith
@@ -75,7 +89,7 @@ same_run one other events counts =
     ap (λ e. record one { event = e }) events ∙ ap (λ n. record other { count = n }) counts
 
 -- further numbers change no run that has its own
-run_stays : (numbers more : List ℕ) (i : ℕ) (c : CodeValue) → i + numbers_of c ≤ length numbers
+run_stays : (numbers more : List ℕ) (i : ℕ) (c : Part) → i + numbers_of c ≤ length numbers
     → run_at (numbers ++ more) i c ≡ run_at numbers i c
 run_stays numbers more i c within =
     let apart : numbers_of c ≡ value_numbers c + (if c.count == 0 then 2 else 0) = numbers_apart c (c.count == 0) in
@@ -84,7 +98,7 @@ run_stays numbers more i c within =
     (count_stays numbers more (i + value_numbers c) c.count (c.count == 0) (omega (arith, apart, within)))
 
 -- further numbers change no run of codes that have their own
-pub unpack_stays : (numbers more : List ℕ) (i : ℕ) (xs : List CodeValue) → i + numbers_in xs ≤ length numbers
+pub unpack_stays : (numbers more : List ℕ) (i : ℕ) (xs : List Part) → i + numbers_in xs ≤ length numbers
     → unpack (numbers ++ more) i xs ≡ unpack numbers i xs
 unpack_stays numbers more i [] within = refl
 unpack_stays numbers more i (x ∷ xs) within =
@@ -107,7 +121,7 @@ event_numbers (event.LoseAck place) = refl
 event_numbers event.Close = refl
 
 -- a count is in its code, or in both numbers that are added for it
-count_found : (numbers : List ℕ) (n : ℕ) (small : Bool) → (n / 25 == 0) ≡ small → 1 ≤ n
+count_found : (numbers : List ℕ) (n : ℕ) (small : Bool) → (n / 15 == 0) ≡ small → 1 ≤ n
     → (if (if small then n else 0) == 0
     then wide_count (numbers ++ (if small then [] else n % 4294967296 ∷ n / 4294967296 ∷ [])) (length numbers)
     else (if small then n else 0)) ≡ n
@@ -121,7 +135,7 @@ count_found numbers n false is some =
     )
     (omega arith)
 
-count_numbers : (n : ℕ) (small : Bool) → (n / 25 == 0) ≡ small → 1 ≤ n
+count_numbers : (n : ℕ) (small : Bool) → (n / 15 == 0) ≡ small → 1 ≤ n
     → length (if small then [] else n % 4294967296 ∷ n / 4294967296 ∷ [])
     ≡ (if (if small then n else 0) == 0 then 2 else 0)
 count_numbers n true is some =
@@ -130,65 +144,90 @@ count_numbers n false is some = refl
 
 module _ (numbers with_event : List ℕ) (run : Run) (are : with_event ≡ numbers ++ event_left run.event) (some : 1 ≤ run.count) where
   -- the numbers of an event come first
-  event_added : length with_event ≡ length numbers + value_numbers (code_of run)
+  event_added : length with_event ≡ length numbers + value_numbers (part_of run)
   event_added =
       ap length are
       ∙ (length-append numbers (event_left run.event)
       ∙ ap (λ n. length numbers + n) (event_numbers run.event))
 
   -- a code takes the numbers that are added for its run
-  pub numbers_added : length (with_event ++ count_left run.count) ≡ length numbers + numbers_of (code_of run)
+  pub numbers_added : length (with_event ++ count_left run.count) ≡ length numbers + numbers_of (part_of run)
   numbers_added =
       omega (
         arith,
         length-append with_event (count_left run.count),
         event_added,
-        count_numbers run.count (run.count / 25 == 0) refl some,
-        numbers_apart (code_of run) ((code_of run).count == 0),
+        count_numbers run.count (run.count / 15 == 0) refl some,
+        numbers_apart (part_of run) ((part_of run).count == 0),
       )
 
   -- a run is in its code and the numbers that are added for it, where its event is
   pub run_found : event_of (kind_of run.event) (get_or with_event (length numbers) 0) ≡ run.event
-      → run_at (with_event ++ count_left run.count) (length numbers) (code_of run) ≡ run
+      → run_at (with_event ++ count_left run.count) (length numbers) (part_of run) ≡ run
   run_found found =
-      same_run (run_at (with_event ++ count_left run.count) (length numbers) (code_of run)) run
+      same_run (run_at (with_event ++ count_left run.count) (length numbers) (part_of run)) run
       (event_stays with_event (count_left run.count) (length numbers) (kind_of run.event) (has_value (kind_of run.event)) refl
       (omega (arith, event_added))
       ∙ found)
-      (ap (λ i. if (code_of run).count == 0 then wide_count (with_event ++ count_left run.count) i else (code_of run).count)
+      (ap (λ i. if (part_of run).count == 0 then wide_count (with_event ++ count_left run.count) i else (part_of run).count)
       (sym event_added)
-      ∙ count_found with_event run.count (run.count / 25 == 0) refl some)
+      ∙ count_found with_event run.count (run.count / 15 == 0) refl some)
 
-module _ (numbers : List ℕ) (n : ℕ) (xs : List CodeValue) (i : ℕ) (code : CodeValue) (run : Run) (within : i < length xs)
-    (at : code ≡ get_or xs i code) (is : run ≡ run_at numbers n code) where
-  -- the codes that are left are this one and those after it
-  codes_are : drop i xs ≡ code ∷ drop (i + 1) xs
-  codes_are =
+module _ (numbers : List ℕ) (n : ℕ) (xs : List (List Part)) (i : ℕ) (code : List Part) (within : i < length xs)
+    (at : code ≡ get_or xs i code) where
+  -- the parts that are left are those of this code and of the codes after it
+  parts_left : all_parts (drop i xs) ≡ code ++ all_parts (drop (i + 1) xs)
+  parts_left =
       let next : i + 1 ≡ suc i = omega arith in
-      rw next (drop-cons xs i code within ∙ ap (λ c. c ∷ drop (suc i) xs) (sym at))
+      rw next
+      (ap all_parts (drop-cons xs i code within) ∙ ap (λ c. c ++ all_parts (drop (suc i) xs)) (sym at))
 
   -- and so are their runs
-  left_are : unpack numbers n (drop i xs) ≡ run ∷ unpack numbers (n + numbers_of code) (drop (i + 1) xs)
-  left_are =
-      ap (unpack numbers n) codes_are
-      ∙ ap (λ r. r ∷ unpack numbers (n + numbers_of code) (drop (i + 1) xs)) (sym is)
+  runs_left : unpack numbers n (all_parts (drop i xs))
+      ≡ unpack numbers n code ++ unpack numbers (n + numbers_in code) (all_parts (drop (i + 1) xs))
+  runs_left = ap (unpack numbers n) parts_left ∙ unpack-append numbers n code (all_parts (drop (i + 1) xs))
 
-  -- what is at a place in this run
-  pub place_in_code : (place : ℕ) → place < run.count
-      → slice_get (expand (unpack numbers n (drop i xs))) place ≡ Some run.event
+  -- what is at a place in this code
+  pub place_in_code : (place : ℕ) → place < length (expand (unpack numbers n code))
+      → slice_get (expand (unpack numbers n (all_parts (drop i xs)))) place ≡ slice_get (expand (unpack numbers n code)) place
   place_in_code place inside =
-      ap (λ runs. slice_get (expand runs) place) left_are
-      ∙ place_in_run run (unpack numbers (n + numbers_of code) (drop (i + 1) xs)) place inside
+      ap (λ runs. slice_get (expand runs) place) runs_left
+      ∙ in_first (unpack numbers n code) (unpack numbers (n + numbers_in code) (all_parts (drop (i + 1) xs))) place inside
 
   -- what is at a place past it is in the codes after it
-  pub place_past_code : (place : ℕ) → run.count ≤ place
-      → slice_get (expand (unpack numbers (n + numbers_of code) (drop (i + 1) xs))) (place - run.count)
-      ≡ slice_get (expand (unpack numbers n (drop i xs))) place
+  pub place_past_code : (place : ℕ) → length (expand (unpack numbers n code)) ≤ place
+      → slice_get (expand (unpack numbers (n + numbers_in code) (all_parts (drop (i + 1) xs)))) (place - length (expand (unpack numbers n code)))
+      ≡ slice_get (expand (unpack numbers n (all_parts (drop i xs)))) place
   place_past_code place past =
-      place_past_run run (unpack numbers (n + numbers_of code) (drop (i + 1) xs)) place past
-      ∙ sym (ap (λ runs. slice_get (expand runs) place) left_are)
+      past_first (unpack numbers n code) (unpack numbers (n + numbers_in code) (all_parts (drop (i + 1) xs))) place past
+      ∙ sym (ap (λ runs. slice_get (expand runs) place) runs_left)
 
-  -- the numbers of the codes after it are there as well
-  pub numbers_left : n + numbers_in (drop i xs) ≤ length numbers
-      → n + numbers_of code + numbers_in (drop (i + 1) xs) ≤ length numbers
-  numbers_left all = omega (arith, ap numbers_in codes_are, all)
+  -- the numbers of this code are there, and those of the codes after it
+  pub numbers_left : n + numbers_in (all_parts (drop i xs)) ≤ length numbers
+      → n + numbers_in code + numbers_in (all_parts (drop (i + 1) xs)) ≤ length numbers
+  numbers_left all =
+      omega (arith, ap numbers_in parts_left, numbers_in-append code (all_parts (drop (i + 1) xs)), all)
+
+-- a part that is added to the last code is the last one of all
+joined_last : (xs : List (List Part)) (i : ℕ) (last : List Part) (part : Part) → i + 1 ≡ length xs
+    → last ≡ get_or xs i last → all_parts (set xs i (last ++ part ∷ [])) ≡ all_parts xs ++ part ∷ []
+joined_last [] i last part end at = absurd (omega (arith, end))
+joined_last (x ∷ []) zero last part end at =
+    append-nil (last ++ part ∷ []) ∙ ap (λ c. c ++ part ∷ []) (at ∙ sym (append-nil x))
+joined_last (x ∷ []) (suc i) last part end at = absurd (omega (arith, end))
+joined_last (x ∷ y ∷ ys) zero last part end at = absurd (omega (arith, end))
+joined_last (x ∷ y ∷ ys) (suc i) last part end at =
+    ap (λ parts. x ++ parts) (joined_last (y ∷ ys) i last part (omega (arith, end)) at)
+    ∙ sym (append_assoc x (all_parts (y ∷ ys)) (part ∷ []))
+
+-- the last code with one more part, or as it was
+pub last_joined : (xs : List (List Part)) (i : ℕ) (last more : List Part) (part : Part) (did : Bool) → i + 1 ≡ length xs
+    → last ≡ get_or xs i last → more ≡ (if did then last ++ part ∷ [] else last)
+    → IsJoined xs part (set xs i more) did
+last_joined xs i last more part true end at is = (
+  ap (λ c. all_parts (set xs i c)) is ∙ joined_last xs i last part end at,
+  length-set xs i more,
+  λ n within. take-set-le n xs i more (omega (arith, end)),
+)
+last_joined xs i last more part false end at is =
+    ap (set xs i) (is ∙ at) ∙ set-get_or xs i last

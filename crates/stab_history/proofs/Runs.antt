@@ -1,12 +1,12 @@
 -- Runs that are added to others: what they mean, and that neighbours differ as before.
 use Rattle.std.proofs.Common.{◌≡◌, ℕ, ◌+◌, ◌-◌, ◌<◌, ◌≤◌, List, [], ◌∷◌, ◌++◌, length, replicate}
-use Rattle.std.proofs.Common.{slice_get, Some, refl, sym, subst, ap, ◌∙◌, arith}
+use Rattle.std.proofs.Common.{slice_get, refl, sym, subst, ap, ◌∙◌}
 use Rattle.std.proofs.lemmas.List.{append_assoc, append-nil, length-append, length-replicate}
 use Rattle.stab_history.specs.declared.run.Run.{Run}
 use Rattle.stab_history.specs.CodesInside.{expand, AreRuns}
 use Rattle.stab_history.specs.History.{IsLast}
 use Rattle.stab_history.proofs.Places.{last_of_second, last_of_run}
-use Rattle.stab_history.proofs.Places.{slice_get-append_left, slice_get-append_right, slice_get-replicate}
+use Rattle.stab_history.proofs.Places.{slice_get-append_left, slice_get-append_right}
 
 -- the events of two lists of runs are those of the first, and then those of the second
 pub expand-append : (xs ys : List Run) → expand (xs ++ ys) ≡ expand xs ++ expand ys
@@ -28,25 +28,12 @@ count_more xs x =
     ∙ (length-append (expand xs) (replicate x.count x.event)
     ∙ ap (λ n. length (expand xs) + n) (length-replicate x.count x.event))
 
--- a place in the first run
-pub place_in_run : (x : Run) (xs : List Run) (place : ℕ) → place < x.count
-    → slice_get (expand (x ∷ xs)) place ≡ Some x.event
-place_in_run x xs place inside =
-    let first : place < length (replicate x.count x.event) =
-    omega (arith, length-replicate x.count x.event, inside)
-    in
-    slice_get-append_left (replicate x.count x.event) (expand xs) place first
-    ∙ slice_get-replicate x.count x.event place inside
-
--- a place past the first run
-pub place_past_run : (x : Run) (xs : List Run) (place : ℕ) → x.count ≤ place
-    → slice_get (expand xs) (place - x.count) ≡ slice_get (expand (x ∷ xs)) place
-place_past_run x xs place past =
-    let long : length (replicate x.count x.event) ≡ x.count = length-replicate x.count x.event in
-    let after : length (replicate x.count x.event) ≤ place = omega (arith, long, past) in
-    let left : place - x.count ≡ place - length (replicate x.count x.event) = omega (arith, long) in
-    ap (slice_get (expand xs)) left
-    ∙ sym (slice_get-append_right (replicate x.count x.event) (expand xs) place after)
+-- a place in the first runs
+pub in_first : (xs ys : List Run) (place : ℕ) → place < length (expand xs)
+    → slice_get (expand (xs ++ ys)) place ≡ slice_get (expand xs) place
+in_first xs ys place inside =
+    ap (λ events. slice_get events place) (expand-append xs ys)
+    ∙ slice_get-append_left (expand xs) (expand ys) place inside
 
 -- a place past the first runs is in the others
 pub past_first : (xs ys : List Run) (place : ℕ) → length (expand xs) ≤ place

@@ -1,20 +1,19 @@
 -- What the codes of a packed history mean, with the numbers that they leave out: runs of equal
--- events. A code has the kind of the event, and the count where that is at most 24.
--- Example: the codes (Offer, 1), (SendAck, 0), (Close, 1) with the numbers 7, 300, 0 mean an offer
--- of 7, 300 times SendAck, and a close. Their bytes are 1, 100 and 226.
+-- events. A code has one part or two, a part for each run: the kind of its event, and its count
+-- where that is at most 14.
+-- Example: the bytes 4, 157 and 19 are the codes (SendAck, 0), then (Offer, 1) with (LoseFrame, 1),
+-- then (Close, 1). With the numbers 300, 0, 7, 2 they mean 300 times SendAck, an offer of 7, the
+-- loss of the frame at place 2, and a close.
 -- Source: this project's own.
-use Rattle.std.specs.Prelude.{◌≡◌, ℕ, ◌+◌, ◌*◌, ◌/◌, ◌%◌, ◌≤◌, ◌==◌, Bool, true, false}
+use Rattle.std.specs.Prelude.{◌≡◌, ℕ, ◌+◌, ◌-◌, ◌*◌, ◌/◌, ◌%◌, ◌<◌, ◌≤◌, ◌==◌, Bool, true, false}
 use Rattle.std.specs.Prelude.{if◌then◌else◌, List, [], ◌∷◌, ◌++◌, replicate, get_or}
+use Rattle.std.specs.Prelude.{Option, Some, None, length, take}
 use Rattle.stab_core.specs.declared.event.Event.{Event}
 use Rattle.stab_core.specs.declared.event.Event.TheVariants as event
-use Rattle.stab_history.specs.declared.code.Kind.{Kind}
-use Rattle.stab_history.specs.declared.code.Kind.TheVariants as kind
+use Rattle.stab_history.specs.declared.kind.Kind.{Kind}
+use Rattle.stab_history.specs.declared.kind.Kind.TheVariants as kind
+use Rattle.stab_history.specs.declared.part.Part.{Part}
 use Rattle.stab_history.specs.declared.run.Run.{Run}
-
--- a code: the kind, and the count, 0 where the numbers have it
-pub record CodeValue : Type 0 where
-  pub kind : Kind
-  pub count : ℕ
 
 -- the kind of this number
 abbrev pub kind_at : ℕ → Kind
@@ -65,22 +64,54 @@ has_value _ = false
 
 -- the count that is in a code
 abbrev pub small_count : ℕ → ℕ
-small_count n = if n / 25 == 0 then n else 0
+small_count n = if n / 15 == 0 then n else 0
 
--- the code of a run
-abbrev pub code_of : Run → CodeValue
-code_of run = record { kind = kind_of run.event; count = small_count run.count }
+-- what a code says of a run
+abbrev pub part_of : Run → Part
+part_of run = record { kind = kind_of run.event; count = small_count run.count }
 
--- how many numbers a code takes for its item or its place, in all, and how many these codes take
-abbrev pub value_numbers : CodeValue → ℕ
-value_numbers c = if has_value c.kind then 1 else 0
+-- the part of this kind, by its number, and this count
+abbrev pub part_at : ℕ → ℕ → Part
+part_at n count = record { kind = kind_at n; count = count }
 
-abbrev pub numbers_of : CodeValue → ℕ
-numbers_of c = if c.count == 0 then value_numbers c + 2 else value_numbers c
+-- the parts of a code's byte: one below 150, and from there on two of one event each
+abbrev pub parts_of : ℕ → List Part
+parts_of byte =
+    if byte / 150 == 0 then part_at (byte % 10) (byte / 10) ∷ []
+    else part_at ((byte - 150) / 10) 1 ∷ part_at ((byte - 150) % 10) 1 ∷ []
 
-abbrev pub numbers_in : List CodeValue → ℕ
+-- the parts of a code, as they are read: the first one, and the second where there is one
+abbrev pub parts_in : Part → Option Part → List Part
+parts_in one None = one ∷ []
+parts_in one (Some second) = one ∷ second ∷ []
+
+-- both of two parts have one event
+abbrev pub AreOnes : Part → Option Part → Type 0
+AreOnes one None = Unit {0}
+AreOnes one (Some second) = (one.count ≡ 1) × (second.count ≡ 1)
+
+-- the parts of all these codes
+abbrev pub all_parts : List (List Part) → List Part
+all_parts [] = []
+all_parts (c ∷ codes) = c ++ all_parts codes
+
+-- this part is added to the last of these codes, or nothing is changed
+abbrev pub IsJoined : List (List Part) → Part → List (List Part) → Bool → Type 0
+IsJoined old part new true =
+    (all_parts new ≡ all_parts old ++ part ∷ []) × (length new ≡ length old)
+    × ((n : ℕ) → n < length old → take n new ≡ take n old)
+IsJoined old part new false = new ≡ old
+
+-- how many numbers a part takes for its item or its place, in all, and how many these parts take
+abbrev pub value_numbers : Part → ℕ
+value_numbers p = if has_value p.kind then 1 else 0
+
+abbrev pub numbers_of : Part → ℕ
+numbers_of p = if p.count == 0 then value_numbers p + 2 else value_numbers p
+
+abbrev pub numbers_in : List Part → ℕ
 numbers_in [] = 0
-numbers_in (c ∷ codes) = numbers_of c + numbers_in codes
+numbers_in (p ∷ parts) = numbers_of p + numbers_in parts
 
 -- the numbers of an event, and of a count
 abbrev pub event_left : Event → List ℕ
@@ -90,23 +121,23 @@ event_left (event.LoseAck place) = place ∷ []
 event_left _ = []
 
 abbrev pub count_left : ℕ → List ℕ
-count_left n = if n / 25 == 0 then [] else n % 4294967296 ∷ n / 4294967296 ∷ []
+count_left n = if n / 15 == 0 then [] else n % 4294967296 ∷ n / 4294967296 ∷ []
 
 -- the count in two numbers from this place on, the lower half first
 abbrev pub wide_count : List ℕ → ℕ → ℕ
 wide_count numbers i = get_or numbers i 0 + get_or numbers (i + 1) 0 * 4294967296
 
--- the run of a code whose numbers begin at this place
-abbrev pub run_at : List ℕ → ℕ → CodeValue → Run
-run_at numbers i c = record {
-  event = event_of c.kind (get_or numbers i 0);
-  count = if c.count == 0 then wide_count numbers (i + value_numbers c) else c.count;
+-- the run of a part whose numbers begin at this place
+abbrev pub run_at : List ℕ → ℕ → Part → Run
+run_at numbers i p = record {
+  event = event_of p.kind (get_or numbers i 0);
+  count = if p.count == 0 then wide_count numbers (i + value_numbers p) else p.count;
 }
 
--- the runs of codes whose numbers begin at this place
-abbrev pub unpack : List ℕ → ℕ → List CodeValue → List Run
+-- the runs of parts whose numbers begin at this place
+abbrev pub unpack : List ℕ → ℕ → List Part → List Run
 unpack numbers i [] = []
-unpack numbers i (c ∷ codes) = run_at numbers i c ∷ unpack numbers (i + numbers_of c) codes
+unpack numbers i (p ∷ parts) = run_at numbers i p ∷ unpack numbers (i + numbers_of p) parts
 
 -- the events of runs, the first ones first
 abbrev pub expand : List Run → List Event

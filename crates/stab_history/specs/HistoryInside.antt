@@ -5,7 +5,8 @@ use Rattle.std.specs.Prelude.{◌≡◌, ℕ, ◌+◌, ◌*◌, ◌/◌, ◌<◌
 use Rattle.std.specs.Prelude.{replicate, slice_index, Option, Some, None}
 use Rattle.stab_core.specs.declared.event.Event.{Event}
 use Rattle.stab_history.specs.declared.run.Run.{Run}
-use Rattle.stab_history.specs.CodesInside.{CodeValue, unpack, numbers_in, expand, AreRuns}
+use Rattle.stab_history.specs.declared.part.Part.{Part}
+use Rattle.stab_history.specs.CodesInside.{all_parts, unpack, numbers_in, expand, AreRuns}
 use Rattle.stab_history.specs.History.{IsLast, most_events}
 
 -- packed runs, and for how many more there is room
@@ -20,20 +21,20 @@ AreMarks counted codes marks =
     × ((k : ℕ) → k < length marks → slice_index marks k ≡ counted (k * 256))
 
 -- how many events and how many numbers the first of these codes have
-abbrev pub events_before : List ℕ → List CodeValue → ℕ → ℕ
-events_before numbers codes n = length (expand (unpack numbers 0 (take n codes)))
+abbrev pub events_before : List ℕ → List (List Part) → ℕ → ℕ
+events_before numbers codes n = length (expand (unpack numbers 0 (all_parts (take n codes))))
 
-abbrev pub numbers_before : List CodeValue → ℕ → ℕ
-numbers_before codes n = numbers_in (take n codes)
+abbrev pub numbers_before : List (List Part) → ℕ → ℕ
+numbers_before codes n = numbers_in (all_parts (take n codes))
 
 -- these codes and numbers are runs, with these marks of events and of numbers, and this many events
-pub record ArePacked (codes : List CodeValue) (numbers marks starts : List ℕ) (count : ℕ)
+pub record ArePacked (codes : List (List Part)) (numbers marks starts : List ℕ) (count : ℕ)
     : Type 0 where
-  pub runs : AreRuns (unpack numbers 0 codes)
-  pub all_numbers : numbers_in codes ≡ length numbers
+  pub runs : AreRuns (unpack numbers 0 (all_parts codes))
+  pub all_numbers : numbers_in (all_parts codes) ≡ length numbers
   pub marked : AreMarks (events_before numbers codes) (length codes) marks
   pub started : AreMarks (numbers_before codes) (length codes) starts
-  pub counted : count ≡ length (expand (unpack numbers 0 codes))
+  pub counted : count ≡ length (expand (unpack numbers 0 (all_parts codes)))
 
 -- the events of the run that still grows, where there is one
 abbrev pub open_events : Option Run → List Event

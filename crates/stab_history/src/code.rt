@@ -1,259 +1,140 @@
-ghost use Rattle.std.specs.Prelude.{◌≡◌, ◌+◌, ◌<◌, ◌≤◌, ◌%◌, ◌++◌, length, get_or};
-ghost use Rattle.std.specs.Prelude.{vec_len, vec_capacity};
-ghost use Rattle.stab_history.specs.CodesInside.{code_of, kind_of, kind_at, event_of, has_value};
-ghost use Rattle.stab_history.specs.CodesInside.{value_numbers, numbers_of, run_at};
-ghost use Rattle.stab_history.specs.CodesInside.{event_left, count_left, small_count};
+ghost use Rattle.std.specs.Prelude.{◌≡◌, ◌+◌, ◌-◌, ◌/◌, ◌%◌, ◌<◌, ◌≤◌, [], ◌∷◌, ◌++◌};
+ghost use Rattle.std.specs.Prelude.{if◌then◌else◌, length, slice_get, Some};
+ghost use Rattle.stab_history.specs.CodesInside.{numbers_in, unpack, expand, parts_in, AreOnes};
 
-use crate::run::Run;
+use crate::kind::Kind;
+use crate::part::{COUNTS, Part};
 use stab_core::Event;
 use std::marker::Model;
 
-/// How many counts a code tells apart: 0, where its numbers have the count, and 1 to 24.
-const COUNTS: u8 = 25;
+/// How many kinds there are.
+const KINDS: u8 = 10;
 
-/// The kind of an event: all of it but its item or its place.
-#[derive(Clone, Copy, Debug, PartialEq, Eq)]
-pub(crate) enum Kind {
-    Offer,
-    SendFrame,
-    TakeFrame,
-    KeepFrame,
-    SendAck,
-    TakeAck,
-    KeepAck,
-    LoseFrame,
-    LoseAck,
-    Close,
-}
+/// The first byte of two runs.
+const PAIRS: u8 = KINDS * COUNTS;
 
-impl Kind {
-    /// The kind of this event.
-    fn of(event: Event) -> Kind
-        ensures { result ≡ kind_of event }
-    {
-        match event {
-            Event::Offer(_) => Kind::Offer,
-            Event::SendFrame => Kind::SendFrame,
-            Event::RecvFrame { keep: false } => Kind::TakeFrame,
-            Event::RecvFrame { keep: true } => Kind::KeepFrame,
-            Event::SendAck => Kind::SendAck,
-            Event::RecvAck { keep: false } => Kind::TakeAck,
-            Event::RecvAck { keep: true } => Kind::KeepAck,
-            Event::LoseFrame(_) => Kind::LoseFrame,
-            Event::LoseAck(_) => Kind::LoseAck,
-            Event::Close => Kind::Close,
-        }
-    }
-
-    /// The number of this kind.
-    fn number(self) -> u8
-        ensures within { result < 10 }
-        ensures kind { kind_at result ≡ self }
-    {
-        match self {
-            Kind::Offer => 0,
-            Kind::SendFrame => 1,
-            Kind::TakeFrame => 2,
-            Kind::KeepFrame => 3,
-            Kind::SendAck => 4,
-            Kind::TakeAck => 5,
-            Kind::KeepAck => 6,
-            Kind::LoseFrame => 7,
-            Kind::LoseAck => 8,
-            Kind::Close => 9,
-        }
-    }
-
-    /// The kind of this number.
-    fn at(number: u8) -> Kind
-        ensures { result ≡ kind_at number }
-    {
-        match number {
-            0 => Kind::Offer,
-            1 => Kind::SendFrame,
-            2 => Kind::TakeFrame,
-            3 => Kind::KeepFrame,
-            4 => Kind::SendAck,
-            5 => Kind::TakeAck,
-            6 => Kind::KeepAck,
-            7 => Kind::LoseFrame,
-            8 => Kind::LoseAck,
-            _ => Kind::Close,
-        }
-    }
-
-    /// Whether an event of this kind has an item or a place.
-    fn has_value(self) -> bool
-        ensures { result ≡ has_value self }
-    {
-        matches!(self, Kind::Offer | Kind::LoseFrame | Kind::LoseAck)
-    }
-
-    /// The event of this kind with this item or place, where it has one.
-    fn event(self, value: u32) -> Event
-        ensures { result ≡ event_of self value }
-    {
-        match self {
-            Kind::Offer => Event::Offer(value),
-            Kind::SendFrame => Event::SendFrame,
-            Kind::TakeFrame => Event::RecvFrame { keep: false },
-            Kind::KeepFrame => Event::RecvFrame { keep: true },
-            Kind::SendAck => Event::SendAck,
-            Kind::TakeAck => Event::RecvAck { keep: false },
-            Kind::KeepAck => Event::RecvAck { keep: true },
-            Kind::LoseFrame => Event::LoseFrame(place(value)),
-            Kind::LoseAck => Event::LoseAck(place(value)),
-            Kind::Close => Event::Close,
-        }
-    }
-}
-
-/// The place that a number holds, which was a `u16`.
-fn place(value: u32) -> u16
-    ensures { result ≡ value % 65536 }
-{
-    (value % 65_536) as u16
-}
-
-/// A run in one byte: its kind, and its count where that is at most 24. What it leaves out is in a
-/// list of numbers: the item or the place, where the event has one, and then a larger count as two
-/// numbers, the lower half first. Contracts see the kind and the count, which is 0 where the numbers
-/// have it.
+/// One run or two in one byte: a run of any count, or two of one event each. Contracts see what it
+/// says of them, in their order.
 #[derive(Debug, Drop)]
 pub(crate) struct Code {
-    /// `COUNTS` times the number of the kind, and the count.
+    /// Below `PAIRS`, `KINDS` times the count and the number of the kind; from there on, `KINDS`
+    /// times the number of the first kind and the number of the second.
     byte: u8,
 }
 
 impl Model for Code {
-    ghost use Rattle.std.specs.Prelude.{◌/◌, ◌%◌};
-    ghost use Rattle.stab_history.specs.CodesInside.{CodeValue, kind_at};
+    ghost use Rattle.std.specs.Prelude.{List};
+    ghost use Rattle.stab_history.specs.declared.part.Part.{Part};
+    ghost use Rattle.stab_history.specs.CodesInside.{parts_of};
 
-    ghost Value = { CodeValue };
+    ghost Value = { List Part };
 
-    ghost view = { λ c. record { kind = kind_at (c.byte / 25); count = c.byte % 25 } };
+    ghost view = { λ c. parts_of c.byte };
 }
 
 impl Code {
-    /// The code of a run.
-    pub(crate) fn of(run: Run) -> Code
-        ensures { result ≡ code_of run }
+    /// The code of one run.
+    #[tactic(auto, using(crate::proofs::Bytes::single_is))]
+    pub(crate) fn of(part: Part) -> Code
+        requires { part.count < 15 }
+        ensures { result ≡ part ∷ [] }
     {
-        let kind = Kind::of(run.event);
         Code {
-            byte: kind.number() * COUNTS + small_count(run.count),
+            byte: byte_of_one(part.kind.number(), part.count),
         }
     }
 
-    /// The kind of its event.
-    fn kind(&self) -> Kind
-        ensures { result ≡ self.now.kind }
+    /// Adds a second run, where this is one run of one event and so is the other. It says whether
+    /// it did.
+    #[tactic(auto, using(crate::proofs::Bytes::pair_is))]
+    pub(crate) fn join(&mut self, part: Part) -> bool
+        ensures { self.new ≡ (if result then self.old ++ part ∷ [] else self.old) }
     {
-        Kind::at(self.byte / COUNTS)
+        if part.count != 1 || self.byte / KINDS != 1 {
+            return false;
+        }
+        self.byte = byte_of_two(self.byte % KINDS, part.kind.number());
+        true
     }
 
-    /// Its count, 0 where the numbers have it.
-    fn count(&self) -> u8
-        ensures { result ≡ self.now.count }
+    /// The first run, and the second where there is one.
+    fn parts(&self) -> (Part, Option<Part>)
+        ensures parts { self.now ≡ parts_in result.0 result.1 }
+        ensures ones { AreOnes result.0 result.1 }
     {
-        self.byte % COUNTS
+        if self.byte < PAIRS {
+            let kind = Kind::at(self.byte % KINDS);
+            let count = self.byte / KINDS;
+            return (Part { kind, count }, None);
+        }
+        let first = Kind::at((self.byte - PAIRS) / KINDS);
+        let second = Kind::at((self.byte - PAIRS) % KINDS);
+        (
+            Part {
+                kind: first,
+                count: 1,
+            },
+            Some(Part {
+                kind: second,
+                count: 1,
+            }),
+        )
     }
 
-    /// How many numbers it takes.
+    /// How many numbers its runs take.
     pub(crate) fn numbers(&self) -> usize
-        ensures { result ≡ numbers_of self.now }
+        ensures { result ≡ numbers_in self.now }
     {
-        if self.count() == 0 {
-            self.value_numbers() + 2
-        } else {
-            self.value_numbers()
+        match self.parts() {
+            (first, None) => first.numbers(),
+            (first, Some(second)) => first.numbers() + second.numbers(),
         }
     }
 
-    /// How many of them are for its item or its place.
-    fn value_numbers(&self) -> usize
-        ensures { result ≡ value_numbers self.now }
+    /// How many events its runs have, whose numbers begin at this place.
+    pub(crate) fn events(&self, numbers: &[u32], first: usize) -> u64
+        requires { first + numbers_in self.now ≤ length numbers.now }
+        ensures { result ≡ length (expand (unpack numbers.now first self.now)) }
     {
-        if self.kind().has_value() { 1 } else { 0 }
-    }
-
-    /// The run, whose numbers begin at this place.
-    pub(crate) fn run(&self, numbers: &[u32], first: usize) -> Run
-        requires { first + numbers_of self.now ≤ length numbers.now }
-        ensures { result ≡ run_at numbers.now first self.now }
-    {
-        Run {
-            event: self.event(numbers, first),
-            count: self.events(numbers, first),
+        match self.parts() {
+            (one, None) => one.events(numbers, first),
+            (_, Some(_)) => 2,
         }
     }
 
-    /// The event that it repeats.
-    fn event(&self, numbers: &[u32], first: usize) -> Event
-        requires { first + numbers_of self.now ≤ length numbers.now }
-        ensures { result ≡ (run_at numbers.now first self.now).event }
+    /// The event at a place of these, 0 being the first.
+    pub(crate) fn event(&self, numbers: &[u32], first: usize, place: u64) -> Event
+        requires numbers { first + numbers_in self.now ≤ length numbers.now }
+        requires place { place < length (expand (unpack numbers.now first self.now)) }
+        ensures { slice_get (expand (unpack numbers.now first self.now)) place ≡ Some result }
     {
-        let kind = self.kind();
-        if kind.has_value() {
-            kind.event(numbers[first])
-        } else {
-            kind.event(0)
+        match self.parts() {
+            (one, Some(second)) if place > 0 => second.event(numbers, first + one.numbers()),
+            (one, _) => one.event(numbers, first),
         }
-    }
-
-    /// How often it repeats it.
-    fn events(&self, numbers: &[u32], first: usize) -> u64
-        requires { first + numbers_of self.now ≤ length numbers.now }
-        ensures { result ≡ (run_at numbers.now first self.now).count }
-    {
-        let count = self.count();
-        if count > 0 {
-            return u64::from(count);
-        }
-        let low = first + self.value_numbers();
-        u64::from(numbers[low]) + u64::from(numbers[low + 1]) * 4_294_967_296
     }
 }
 
-/// The count as a code has it: 0 where it is larger than that.
-fn small_count(count: u64) -> u8
-    ensures within { result < 25 }
-    ensures count { result ≡ small_count count }
+/// The byte of one run, of the kind of this number.
+fn byte_of_one(kind: u8, count: u8) -> u8
+    requires kind { kind < 10 }
+    requires count { count < 15 }
+    ensures one { result / 150 ≡ 0 }
+    ensures kind { result % 10 ≡ kind }
+    ensures count { result / 10 ≡ count }
 {
-    if count / u64::from(COUNTS) == 0 {
-        count as u8
-    } else {
-        0
-    }
+    count * KINDS + kind
 }
 
-/// Adds the item or the place of an event, where it has one.
-pub(crate) fn add_event(numbers: &mut Vec<u32>, event: Event)
-    requires { vec_len numbers.old + 1 ≤ vec_capacity numbers.old }
-    ensures items { numbers.new.items ≡ numbers.old.items ++ event_left event }
-    ensures found { event_of (kind_of event) (get_or numbers.new.items (length numbers.old.items) 0)
-        ≡ event }
-    ensures len { vec_len numbers.new ≤ vec_len numbers.old + 1 }
-    ensures capacity { vec_capacity numbers.new ≡ vec_capacity numbers.old }
+/// The byte of two runs of one event each, of the kinds of these numbers.
+fn byte_of_two(first: u8, second: u8) -> u8
+    requires first { first < 10 }
+    requires second { second < 10 }
+    ensures two { result / 150 ≡ 1 }
+    ensures first { (result - 150) / 10 ≡ first }
+    ensures second { (result - 150) % 10 ≡ second }
 {
-    match event {
-        Event::Offer(item) => numbers.push_reserved(item),
-        Event::LoseFrame(place) | Event::LoseAck(place) => numbers.push_reserved(u32::from(place)),
-        _ => {}
-    }
-}
-
-/// Adds both halves of a count, where its code leaves it out.
-pub(crate) fn add_count(numbers: &mut Vec<u32>, count: u64)
-    requires { vec_len numbers.old + 2 ≤ vec_capacity numbers.old }
-    ensures items { numbers.new.items ≡ numbers.old.items ++ count_left count }
-    ensures len { vec_len numbers.new ≤ vec_len numbers.old + 2 }
-    ensures capacity { vec_capacity numbers.new ≡ vec_capacity numbers.old }
-{
-    if count / u64::from(COUNTS) > 0 {
-        numbers.push_reserved((count % 4_294_967_296) as u32);
-        numbers.push_reserved((count / 4_294_967_296) as u32);
-    }
+    PAIRS + first * KINDS + second
 }
 
 const _: () = prove!(size_of::<Code>() == 1);

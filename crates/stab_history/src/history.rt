@@ -13,7 +13,8 @@ use std::marker::Model;
 /// there is room.
 ///
 /// The last run is kept as it is, since it may still grow. The runs before it are packed: one byte
-/// for each, 4 more for an item or a place, and 8 more where its count is over 24.
+/// for each, or for two neighbours of one event each, 4 more for an item or a place, and 8 more
+/// where its count is over 14.
 #[derive(Debug)]
 pub struct History {
     packed: PackedRuns,

@@ -1,10 +1,11 @@
 ghost use Rattle.std.specs.Prelude.{◌≡◌, ◌+◌, ◌-◌, ◌<◌, ◌≤◌, [], ◌∷◌, ◌++◌, length, replicate};
 ghost use Rattle.std.specs.Prelude.{slice_get, slice_index, ◌%◌, ◌==◌, if◌then◌else◌, vec_len, vec_capacity};
 ghost use Rattle.std.specs.Prelude.{OnOk, OnErr};
-ghost use Rattle.stab_history.specs.CodesInside.{expand, numbers_in, unpack};
+ghost use Rattle.stab_history.specs.CodesInside.{expand, all_parts, numbers_in, unpack, IsJoined};
 ghost use Rattle.stab_history.specs.History.{IsLast, most_events};
 
-use crate::code::{Code, add_count, add_event};
+use crate::code::Code;
+use crate::part::{Part, add_count, add_event};
 use crate::run::Run;
 use stab_core::Event;
 use std::alloc::{AllocError, Global};
@@ -13,11 +14,12 @@ use std::marker::Model;
 /// How many codes share one mark.
 const BLOCK: usize = 256;
 
-/// How many numbers a code takes at most.
+/// How many numbers a run takes at most.
 const NUMBERS: usize = 3;
 
 /// The runs that are over, as codes of one byte and the numbers that they leave out, with two marks
-/// for every 256th code. Contracts see the runs, and for how many more there is room.
+/// for every 256th code. Contracts see the runs, and for how many more there is room. A run that
+/// joins the last code leaves the marks as they are, since they count what is before a code.
 #[derive(Debug, Drop)]
 pub(crate) struct PackedRuns {
     codes: Vec<Code>,
@@ -31,13 +33,13 @@ pub(crate) struct PackedRuns {
 
 impl Model for PackedRuns {
     ghost use Rattle.std.specs.Prelude.{◌-◌, ◌/◌, min, vec_len, vec_capacity};
-    ghost use Rattle.stab_history.specs.CodesInside.{unpack};
+    ghost use Rattle.stab_history.specs.CodesInside.{all_parts, unpack};
     ghost use Rattle.stab_history.specs.HistoryInside.{PackedValue, ArePacked};
 
     ghost Value = { PackedValue };
 
     ghost view = { λ c. record {
-      runs = unpack c.numbers.items 0 c.codes.items;
+      runs = unpack c.numbers.items 0 (all_parts c.codes.items);
       room = min
           (min (vec_capacity c.codes - vec_len c.codes)
           ((vec_capacity c.numbers - vec_len c.numbers) / 3))
@@ -93,12 +95,16 @@ impl PackedRuns {
             ≡ expand self.old.runs ++ replicate run.count run.event }
         ensures room { self.old.room ≤ self.new.room + 1 }
     {
-        let place = self.codes.len();
-        mark(&mut self.marks, place, self.count);
-        mark(&mut self.starts, place, self.numbers.len() as u64);
-        self.codes.push_reserved(Code::of(run));
+        let part = Part::of(run);
+        let start = self.numbers.len() as u64;
         add_event(&mut self.numbers, run.event);
         add_count(&mut self.numbers, run.count);
+        if !join_last(&mut self.codes, part) {
+            let place = self.codes.len();
+            mark(&mut self.marks, place, self.count);
+            mark(&mut self.starts, place, start);
+            self.codes.push_reserved(Code::of(part));
+        }
         self.count += run.count;
     }
 
@@ -116,6 +122,18 @@ impl PackedRuns {
             self.starts[block] as usize,
             place - self.marks[block],
         )
+    }
+}
+
+/// Adds a part to the last code, where it joins that. It says whether it did.
+fn join_last(codes: &mut Vec<Code>, part: Part) -> bool
+    ensures joined { IsJoined codes.old.items part codes.new.items result }
+    ensures len { vec_len codes.new ≡ vec_len codes.old }
+    ensures capacity { vec_capacity codes.new ≡ vec_capacity codes.old }
+{
+    match codes.last_mut() {
+        Some(last) => last.join(part),
+        None => false,
     }
 }
 
@@ -155,17 +173,17 @@ fn block_of(marks: &[u64], place: u64) -> usize
 
 /// The event at a place of these codes, 0 being the first; their numbers begin at `first`.
 fn event_in_codes(codes: &[Code], numbers: &[u32], first: usize, place: u64) -> Option<Event>
-    requires { first + numbers_in codes.now ≤ length numbers.now }
-    ensures { result ≡ slice_get (expand (unpack numbers.now first codes.now)) place }
+    requires { first + numbers_in (all_parts codes.now) ≤ length numbers.now }
+    ensures { result ≡ slice_get (expand (unpack numbers.now first (all_parts codes.now))) place }
 {
     let mut number = first;
     let mut left = place;
     for code in codes {
-        let run = code.run(numbers, number);
-        if left < run.count {
-            return Some(run.event);
+        let count = code.events(numbers, number);
+        if left < count {
+            return Some(code.event(numbers, number, left));
         }
-        left -= run.count;
+        left -= count;
         number += code.numbers();
     }
     None

@@ -1,0 +1,108 @@
+ghost use Rattle.std.specs.Prelude.{◌≡◌, ◌<◌, ◌%◌};
+ghost use Rattle.stab_history.specs.CodesInside.{kind_of, kind_at, event_of, has_value};
+
+use stab_core::Event;
+
+/// The kind of an event: all of it but its item or its place.
+#[derive(Clone, Copy, Debug, PartialEq, Eq)]
+pub(crate) enum Kind {
+    Offer,
+    SendFrame,
+    TakeFrame,
+    KeepFrame,
+    SendAck,
+    TakeAck,
+    KeepAck,
+    LoseFrame,
+    LoseAck,
+    Close,
+}
+
+impl Kind {
+    /// The kind of this event.
+    pub(crate) fn of(event: Event) -> Kind
+        ensures { result ≡ kind_of event }
+    {
+        match event {
+            Event::Offer(_) => Kind::Offer,
+            Event::SendFrame => Kind::SendFrame,
+            Event::RecvFrame { keep: false } => Kind::TakeFrame,
+            Event::RecvFrame { keep: true } => Kind::KeepFrame,
+            Event::SendAck => Kind::SendAck,
+            Event::RecvAck { keep: false } => Kind::TakeAck,
+            Event::RecvAck { keep: true } => Kind::KeepAck,
+            Event::LoseFrame(_) => Kind::LoseFrame,
+            Event::LoseAck(_) => Kind::LoseAck,
+            Event::Close => Kind::Close,
+        }
+    }
+
+    /// The number of this kind.
+    pub(crate) fn number(self) -> u8
+        ensures within { result < 10 }
+        ensures kind { kind_at result ≡ self }
+    {
+        match self {
+            Kind::Offer => 0,
+            Kind::SendFrame => 1,
+            Kind::TakeFrame => 2,
+            Kind::KeepFrame => 3,
+            Kind::SendAck => 4,
+            Kind::TakeAck => 5,
+            Kind::KeepAck => 6,
+            Kind::LoseFrame => 7,
+            Kind::LoseAck => 8,
+            Kind::Close => 9,
+        }
+    }
+
+    /// The kind of this number.
+    pub(crate) fn at(number: u8) -> Kind
+        ensures { result ≡ kind_at number }
+    {
+        match number {
+            0 => Kind::Offer,
+            1 => Kind::SendFrame,
+            2 => Kind::TakeFrame,
+            3 => Kind::KeepFrame,
+            4 => Kind::SendAck,
+            5 => Kind::TakeAck,
+            6 => Kind::KeepAck,
+            7 => Kind::LoseFrame,
+            8 => Kind::LoseAck,
+            _ => Kind::Close,
+        }
+    }
+
+    /// Whether an event of this kind has an item or a place.
+    pub(crate) fn has_value(self) -> bool
+        ensures { result ≡ has_value self }
+    {
+        matches!(self, Kind::Offer | Kind::LoseFrame | Kind::LoseAck)
+    }
+
+    /// The event of this kind with this item or place, where it has one.
+    pub(crate) fn event(self, value: u32) -> Event
+        ensures { result ≡ event_of self value }
+    {
+        match self {
+            Kind::Offer => Event::Offer(value),
+            Kind::SendFrame => Event::SendFrame,
+            Kind::TakeFrame => Event::RecvFrame { keep: false },
+            Kind::KeepFrame => Event::RecvFrame { keep: true },
+            Kind::SendAck => Event::SendAck,
+            Kind::TakeAck => Event::RecvAck { keep: false },
+            Kind::KeepAck => Event::RecvAck { keep: true },
+            Kind::LoseFrame => Event::LoseFrame(place(value)),
+            Kind::LoseAck => Event::LoseAck(place(value)),
+            Kind::Close => Event::Close,
+        }
+    }
+}
+
+/// The place that a number holds, which was a `u16`.
+fn place(value: u32) -> u16
+    ensures { result ≡ value % 65536 }
+{
+    (value % 65_536) as u16
+}
