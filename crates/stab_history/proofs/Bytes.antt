@@ -9,16 +9,16 @@ same_part one other kinds counts =
     ap (λ k. record one { kind = k }) kinds ∙ ap (λ n. record other { count = n }) counts
 
 -- a byte of one run has this part where it has its kind and its count
-pub single_is : (byte : ℕ) (part : Part) → byte / 150 ≡ 0 → kind_at (byte % 10) ≡ part.kind
-    → byte / 10 ≡ part.count → parts_of byte ≡ part ∷ []
+pub single_is : (byte : ℕ) (part : Part) → byte / 132 ≡ 0 → kind_at (byte % 11) ≡ part.kind
+    → byte / 11 ≡ part.count → parts_of byte ≡ part ∷ []
 single_is byte part single kind count =
-    rw single (ap (λ p. p ∷ []) (same_part (part_at (byte % 10) (byte / 10)) part kind count))
+    rw single (ap (λ p. p ∷ []) (same_part (part_at (byte % 11) (byte / 11)) part kind count))
 
 -- a byte of two runs has the part of another byte, of one event, and then this part
-pub pair_is : (byte more : ℕ) (part : Part) → byte / 10 ≡ 1 → part.count ≡ 1 → more / 150 ≡ 1
-    → (more - 150) / 10 ≡ byte % 10 → kind_at ((more - 150) % 10) ≡ part.kind
+pub pair_is : (byte more : ℕ) (part : Part) → byte / 11 ≡ 1 → part.count ≡ 1 → more / 132 ≡ 1
+    → (more - 132) / 11 ≡ byte % 11 → kind_at ((more - 132) % 11) ≡ part.kind
     → parts_of more ≡ parts_of byte ++ part ∷ []
 pair_is byte more part one count double first kind =
-    let single : byte / 150 ≡ 0 = omega (arith, one) in
+    let single : byte / 132 ≡ 0 = omega (arith, one) in
     rw (double, single, first, one)
-    (ap (λ p. part_at (byte % 10) 1 ∷ p ∷ []) (same_part (part_at ((more - 150) % 10) 1) part kind (sym count)))
+    (ap (λ p. part_at (byte % 11) 1 ∷ p ∷ []) (same_part (part_at ((more - 132) % 11) 1) part kind (sym count)))

@@ -11,8 +11,8 @@ use Rattle.stab_history.specs.declared.kind.Kind.{Kind}
 use Rattle.stab_history.specs.declared.kind.Kind.TheVariants as kind
 use Rattle.stab_history.specs.declared.run.Run.{Run}
 use Rattle.stab_history.specs.declared.part.Part.{Part}
-use Rattle.stab_history.specs.CodesInside.{all_parts, IsJoined, part_of, count_left, event_left, event_of, has_value, kind_of}
-use Rattle.stab_history.specs.CodesInside.{numbers_in, numbers_of, run_at, unpack, value_numbers, wide_count, expand}
+use Rattle.stab_history.specs.CodesInside.{all_parts, IsJoined, part_of, count_at, count_left, event_left, event_of, kind_numbers, kind_of}
+use Rattle.stab_history.specs.CodesInside.{numbers_in, numbers_of, run_at, unpack, value_at, wide_at, wide_left, expand}
 use Rattle.stab_history.proofs.Runs.{in_first, past_first}
 
 -- the numbers of two lists of codes are those of the first, and then those of the second
@@ -46,42 +46,43 @@ unpack-append numbers i (x ∷ xs) ys =
     ap (λ runs. run_at numbers i x ∷ runs) (unpack-append numbers (i + numbers_of x) xs ys
     ∙ ap (λ k. unpack numbers (i + numbers_of x) xs ++ unpack numbers k ys) same)
 
--- a kind without an item and a place has one event
-event_without_value : (k : Kind) (a b : ℕ) → has_value k ≡ false → event_of k a ≡ event_of k b
-event_without_value kind.Offer a b none = absurd (let never : true ≡ false = none in cc)
-event_without_value kind.SendFrame a b none = refl
-event_without_value kind.TakeFrame a b none = refl
-event_without_value kind.KeepFrame a b none = refl
-event_without_value kind.SendAck a b none = refl
-event_without_value kind.TakeAck a b none = refl
-event_without_value kind.KeepAck a b none = refl
-event_without_value kind.LoseFrame a b none = absurd (let never : true ≡ false = none in cc)
-event_without_value kind.LoseAck a b none = absurd (let never : true ≡ false = none in cc)
-event_without_value kind.Close a b none = refl
-
--- further numbers change no event, and no count, of a code that has its own
-event_stays : (numbers more : List ℕ) (i : ℕ) (k : Kind) (valued : Bool) → has_value k ≡ valued
-    → i + (if valued then 1 else 0) ≤ length numbers
-    → event_of k (get_or (numbers ++ more) i 0) ≡ event_of k (get_or numbers i 0)
-event_stays numbers more i k true is within =
-    ap (event_of k) (get_or_append_left numbers more 0 i (omega (arith, within)))
-event_stays numbers more i k false is within =
-    event_without_value k (get_or (numbers ++ more) i 0) (get_or numbers i 0) is
-
-count_stays : (numbers more : List ℕ) (i count : ℕ) (wide : Bool) → i + (if wide then 2 else 0) ≤ length numbers
-    → (if wide then wide_count (numbers ++ more) i else count) ≡ (if wide then wide_count numbers i else count)
-count_stays numbers more i count true within =
+-- further numbers change no two numbers, no item and no place that are there
+wide_stays : (numbers more : List ℕ) (i : ℕ) → i + 2 ≤ length numbers → wide_at (numbers ++ more) i ≡ wide_at numbers i
+wide_stays numbers more i within =
     rw (
       get_or_append_left numbers more 0 i (omega (arith, within)),
       get_or_append_left numbers more 0 (i + 1) (omega (arith, within)),
     ) refl
+
+value_stays : (numbers more : List ℕ) (i : ℕ) (k : Kind) → i + kind_numbers k ≤ length numbers
+    → value_at (numbers ++ more) i k ≡ value_at numbers i k
+value_stays numbers more i kind.Offer within = get_or_append_left numbers more 0 i (omega (arith, within))
+value_stays numbers more i kind.SendFrame within = refl
+value_stays numbers more i kind.TakeFrame within = refl
+value_stays numbers more i kind.KeepFrame within = refl
+value_stays numbers more i kind.SendAck within = refl
+value_stays numbers more i kind.TakeAck within = refl
+value_stays numbers more i kind.KeepAck within = refl
+value_stays numbers more i kind.LoseFrame within = get_or_append_left numbers more 0 i (omega (arith, within))
+value_stays numbers more i kind.LoseAck within = get_or_append_left numbers more 0 i (omega (arith, within))
+value_stays numbers more i kind.Close within = refl
+value_stays numbers more i kind.WideOffer within = wide_stays numbers more i within
+
+-- and no count of a part that has its own
+count_stays : (numbers more : List ℕ) (i count : ℕ) (wide : Bool) → i + (if wide then 4 else 0) ≤ length numbers
+    → (if wide then count_at (numbers ++ more) i else count) ≡ (if wide then count_at numbers i else count)
+count_stays numbers more i count true within =
+    rw (
+      wide_stays numbers more i (omega (arith, within)),
+      wide_stays numbers more (i + 2) (omega (arith, within)),
+    ) refl
 count_stays numbers more i count false within = refl
 
--- a code takes the numbers of its event, and those of its count
-numbers_apart : (c : Part) (wide : Bool)
-    → (if wide then value_numbers c + 2 else value_numbers c) ≡ value_numbers c + (if wide then 2 else 0)
-numbers_apart c true = refl
-numbers_apart c false = omega arith
+-- a part takes the numbers of its event, and those of its count
+numbers_apart : (p : Part) (wide : Bool)
+    → (if wide then kind_numbers p.kind + 4 else kind_numbers p.kind) ≡ kind_numbers p.kind + (if wide then 4 else 0)
+numbers_apart p true = refl
+numbers_apart p false = omega arith
 
 -- runs are equal where their events and their counts are
 same_run : (one other : Run) → one.event ≡ other.event → one.count ≡ other.count → one ≡ other
@@ -89,13 +90,13 @@ same_run one other events counts =
     ap (λ e. record one { event = e }) events ∙ ap (λ n. record other { count = n }) counts
 
 -- further numbers change no run that has its own
-run_stays : (numbers more : List ℕ) (i : ℕ) (c : Part) → i + numbers_of c ≤ length numbers
-    → run_at (numbers ++ more) i c ≡ run_at numbers i c
-run_stays numbers more i c within =
-    let apart : numbers_of c ≡ value_numbers c + (if c.count == 0 then 2 else 0) = numbers_apart c (c.count == 0) in
-    same_run (run_at (numbers ++ more) i c) (run_at numbers i c)
-    (event_stays numbers more i c.kind (has_value c.kind) refl (omega (arith, apart, within)))
-    (count_stays numbers more (i + value_numbers c) c.count (c.count == 0) (omega (arith, apart, within)))
+run_stays : (numbers more : List ℕ) (i : ℕ) (p : Part) → i + numbers_of p ≤ length numbers
+    → run_at (numbers ++ more) i p ≡ run_at numbers i p
+run_stays numbers more i p within =
+    let apart : numbers_of p ≡ kind_numbers p.kind + (if p.count == 0 then 4 else 0) = numbers_apart p (p.count == 0) in
+    same_run (run_at (numbers ++ more) i p) (run_at numbers i p)
+    (ap (event_of p.kind) (value_stays numbers more i p.kind (omega (arith, apart, within))))
+    (count_stays numbers more (i + kind_numbers p.kind) p.count (p.count == 0) (omega (arith, apart, within)))
 
 -- further numbers change no run of codes that have their own
 pub unpack_stays : (numbers more : List ℕ) (i : ℕ) (xs : List Part) → i + numbers_in xs ≤ length numbers
@@ -107,9 +108,14 @@ unpack_stays numbers more i (x ∷ xs) within =
       unpack_stays numbers more (i + numbers_of x) xs (omega (arith, within)),
     ) refl
 
--- the numbers of an event are as many as its code takes for it
-event_numbers : (e : Event) → length (event_left e) ≡ (if has_value (kind_of e) then 1 else 0)
-event_numbers (event.Offer item) = refl
+-- the numbers of an event are as many as its kind has
+offer_numbers : (item : ℕ) (narrow : Bool) → length (if narrow then item ∷ [] else wide_left item)
+    ≡ kind_numbers (if narrow then kind.Offer else kind.WideOffer)
+offer_numbers item true = refl
+offer_numbers item false = refl
+
+event_numbers : (e : Event) → length (event_left e) ≡ kind_numbers (kind_of e)
+event_numbers (event.Offer item) = offer_numbers item (item / 65536 == 0)
 event_numbers event.SendFrame = refl
 event_numbers (event.RecvFrame false) = refl
 event_numbers (event.RecvFrame true) = refl
@@ -120,31 +126,51 @@ event_numbers (event.LoseFrame place) = refl
 event_numbers (event.LoseAck place) = refl
 event_numbers event.Close = refl
 
--- a count is in its code, or in both numbers that are added for it
-count_found : (numbers : List ℕ) (n : ℕ) (small : Bool) → (n / 15 == 0) ≡ small → 1 ≤ n
-    → (if (if small then n else 0) == 0
-    then wide_count (numbers ++ (if small then [] else n % 4294967296 ∷ n / 4294967296 ∷ [])) (length numbers)
-    else (if small then n else 0)) ≡ n
-count_found numbers n true is some =
-    ap (λ b. if b then wide_count (numbers ++ []) (length numbers) else n)
-    (ne_eqb n 0 (λ same. omega (arith, same, some)))
-count_found numbers n false is some =
+-- the lower half of a count is in the first two numbers that are added for it
+low_found : (numbers : List ℕ) (low high : ℕ) → wide_at (numbers ++ (wide_left low ++ wide_left high)) (length numbers) ≡ low
+low_found numbers low high =
     rw (
-      get_or-append_seam numbers (n % 4294967296) (n / 4294967296 ∷ []) 0,
-      get_or-append-add numbers (n % 4294967296 ∷ n / 4294967296 ∷ []) 1 0,
+      get_or-append_seam numbers (low % 65536) (low / 65536 ∷ wide_left high) 0,
+      get_or-append-add numbers (wide_left low ++ wide_left high) 1 0,
     )
     (omega arith)
 
-count_numbers : (n : ℕ) (small : Bool) → (n / 15 == 0) ≡ small → 1 ≤ n
-    → length (if small then [] else n % 4294967296 ∷ n / 4294967296 ∷ [])
-    ≡ (if (if small then n else 0) == 0 then 2 else 0)
+-- and the upper half in the other two
+high_found : (numbers : List ℕ) (low high : ℕ) → wide_at (numbers ++ (wide_left low ++ wide_left high)) (length numbers + 2) ≡ high
+high_found numbers low high =
+    let last : length numbers + 2 + 1 ≡ length numbers + 3 = omega arith in
+    rw (
+      last,
+      get_or-append-add numbers (wide_left low ++ wide_left high) 2 0,
+      get_or-append-add numbers (wide_left low ++ wide_left high) 3 0,
+    )
+    (omega arith)
+
+-- a count is in its code, or in the four numbers that are added for it
+count_found : (numbers : List ℕ) (n : ℕ) (small : Bool) → (n / 12 == 0) ≡ small → 1 ≤ n
+    → (if (if small then n else 0) == 0
+    then count_at (numbers ++ (if small then [] else wide_left (n % 4294967296) ++ wide_left (n / 4294967296))) (length numbers)
+    else (if small then n else 0)) ≡ n
+count_found numbers n true is some =
+    ap (λ b. if b then count_at (numbers ++ []) (length numbers) else n)
+    (ne_eqb n 0 (λ same. omega (arith, same, some)))
+count_found numbers n false is some =
+    omega (
+      arith,
+      low_found numbers (n % 4294967296) (n / 4294967296),
+      high_found numbers (n % 4294967296) (n / 4294967296),
+    )
+
+count_numbers : (n : ℕ) (small : Bool) → (n / 12 == 0) ≡ small → 1 ≤ n
+    → length (if small then [] else wide_left (n % 4294967296) ++ wide_left (n / 4294967296))
+    ≡ (if (if small then n else 0) == 0 then 4 else 0)
 count_numbers n true is some =
-    ap (λ b. if b then 2 else 0) (sym (ne_eqb n 0 (λ same. omega (arith, same, some))))
+    ap (λ b. if b then 4 else 0) (sym (ne_eqb n 0 (λ same. omega (arith, same, some))))
 count_numbers n false is some = refl
 
 module _ (numbers with_event : List ℕ) (run : Run) (are : with_event ≡ numbers ++ event_left run.event) (some : 1 ≤ run.count) where
   -- the numbers of an event come first
-  event_added : length with_event ≡ length numbers + value_numbers (part_of run)
+  event_added : length with_event ≡ length numbers + kind_numbers (kind_of run.event)
   event_added =
       ap length are
       ∙ (length-append numbers (event_left run.event)
@@ -157,21 +183,21 @@ module _ (numbers with_event : List ℕ) (run : Run) (are : with_event ≡ numbe
         arith,
         length-append with_event (count_left run.count),
         event_added,
-        count_numbers run.count (run.count / 15 == 0) refl some,
+        count_numbers run.count (run.count / 12 == 0) refl some,
         numbers_apart (part_of run) ((part_of run).count == 0),
       )
 
-  -- a run is in its code and the numbers that are added for it, where its event is
-  pub run_found : event_of (kind_of run.event) (get_or with_event (length numbers) 0) ≡ run.event
+  -- a run is in its part and the numbers that are added for it, where its event is
+  pub run_found : event_of (kind_of run.event) (value_at with_event (length numbers) (kind_of run.event)) ≡ run.event
       → run_at (with_event ++ count_left run.count) (length numbers) (part_of run) ≡ run
   run_found found =
       same_run (run_at (with_event ++ count_left run.count) (length numbers) (part_of run)) run
-      (event_stays with_event (count_left run.count) (length numbers) (kind_of run.event) (has_value (kind_of run.event)) refl
-      (omega (arith, event_added))
+      (ap (event_of (kind_of run.event))
+      (value_stays with_event (count_left run.count) (length numbers) (kind_of run.event) (omega (arith, event_added)))
       ∙ found)
-      (ap (λ i. if (part_of run).count == 0 then wide_count (with_event ++ count_left run.count) i else (part_of run).count)
+      (ap (λ i. if (part_of run).count == 0 then count_at (with_event ++ count_left run.count) i else (part_of run).count)
       (sym event_added)
-      ∙ count_found with_event run.count (run.count / 15 == 0) refl some)
+      ∙ count_found with_event run.count (run.count / 12 == 0) refl some)
 
 module _ (numbers : List ℕ) (n : ℕ) (xs : List (List Part)) (i : ℕ) (code : List Part) (within : i < length xs)
     (at : code ≡ get_or xs i code) where

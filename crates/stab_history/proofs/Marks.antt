@@ -8,7 +8,7 @@ use Rattle.stab_core.specs.declared.event.Event.{Event}
 use Rattle.stab_history.specs.declared.run.Run.{Run}
 use Rattle.stab_history.specs.declared.part.Part.{Part}
 use Rattle.stab_history.specs.CodesInside.{all_parts, part_of, count_left, event_left, event_of, expand, kind_of}
-use Rattle.stab_history.specs.CodesInside.{numbers_in, run_at, unpack, AreRuns}
+use Rattle.stab_history.specs.CodesInside.{numbers_in, run_at, unpack, value_at, AreRuns}
 use Rattle.stab_history.specs.HistoryInside.{AreMarks, ArePacked, events_before, numbers_before}
 use Rattle.stab_history.specs.History.{IsLast}
 use Rattle.stab_history.proofs.Runs.{runs_more, count_more, expand_more, past_first}
@@ -70,7 +70,7 @@ all_numbers_before codes = ap (λ xs. numbers_in (all_parts xs)) (take_all (leng
 
 module _ (xs ys : List (List Part)) (numbers with_event marks starts : List ℕ) (count : ℕ) (run : Run)
     (packed : ArePacked xs numbers marks starts count) (are : with_event ≡ numbers ++ event_left run.event)
-    (found : event_of (kind_of run.event) (get_or with_event (length numbers) 0) ≡ run.event)
+    (found : event_of (kind_of run.event) (value_at with_event (length numbers) (kind_of run.event)) ≡ run.event)
     (some : 1 ≤ run.count) (added : all_parts ys ≡ all_parts xs ++ part_of run ∷ []) where
   -- all numbers after one more run
   abbrev pub after : List ℕ

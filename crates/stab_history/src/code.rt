@@ -8,7 +8,7 @@ use stab_core::Event;
 use std::marker::Model;
 
 /// How many kinds there are.
-const KINDS: u8 = 10;
+const KINDS: u8 = 11;
 
 /// The first byte of two runs.
 const PAIRS: u8 = KINDS * COUNTS;
@@ -36,7 +36,7 @@ impl Code {
     /// The code of one run.
     #[tactic(auto, using(crate::proofs::Bytes::single_is))]
     pub(crate) fn of(part: Part) -> Code
-        requires { part.count < 15 }
+        requires { part.count < 12 }
         ensures { result ≡ part ∷ [] }
     {
         Code {
@@ -92,7 +92,7 @@ impl Code {
     }
 
     /// How many events its runs have, whose numbers begin at this place.
-    pub(crate) fn events(&self, numbers: &[u32], first: usize) -> u64
+    pub(crate) fn events(&self, numbers: &[u16], first: usize) -> u64
         requires { first + numbers_in self.now ≤ length numbers.now }
         ensures { result ≡ length (expand (unpack numbers.now first self.now)) }
     {
@@ -103,7 +103,7 @@ impl Code {
     }
 
     /// The event at a place of these, 0 being the first.
-    pub(crate) fn event(&self, numbers: &[u32], first: usize, place: u64) -> Event
+    pub(crate) fn event(&self, numbers: &[u16], first: usize, place: u64) -> Event
         requires numbers { first + numbers_in self.now ≤ length numbers.now }
         requires place { place < length (expand (unpack numbers.now first self.now)) }
         ensures { slice_get (expand (unpack numbers.now first self.now)) place ≡ Some result }
@@ -117,22 +117,22 @@ impl Code {
 
 /// The byte of one run, of the kind of this number.
 fn byte_of_one(kind: u8, count: u8) -> u8
-    requires kind { kind < 10 }
-    requires count { count < 15 }
-    ensures one { result / 150 ≡ 0 }
-    ensures kind { result % 10 ≡ kind }
-    ensures count { result / 10 ≡ count }
+    requires kind { kind < 11 }
+    requires count { count < 12 }
+    ensures one { result / 132 ≡ 0 }
+    ensures kind { result % 11 ≡ kind }
+    ensures count { result / 11 ≡ count }
 {
     count * KINDS + kind
 }
 
 /// The byte of two runs of one event each, of the kinds of these numbers.
 fn byte_of_two(first: u8, second: u8) -> u8
-    requires first { first < 10 }
-    requires second { second < 10 }
-    ensures two { result / 150 ≡ 1 }
-    ensures first { (result - 150) / 10 ≡ first }
-    ensures second { (result - 150) % 10 ≡ second }
+    requires first { first < 11 }
+    requires second { second < 11 }
+    ensures two { result / 132 ≡ 1 }
+    ensures first { (result - 132) / 11 ≡ first }
+    ensures second { (result - 132) % 11 ≡ second }
 {
     PAIRS + first * KINDS + second
 }

@@ -13,8 +13,8 @@ use std::marker::Model;
 /// there is room.
 ///
 /// The last run is kept as it is, since it may still grow. The runs before it are packed: one byte
-/// for each, or for two neighbours of one event each, 4 more for an item or a place, and 8 more
-/// where its count is over 14.
+/// for each, or for two neighbours of one event each, 2 more for a place or an item below 65,536,
+/// 4 more for a larger item, and 8 more where its count is over 11.
 #[derive(Debug)]
 pub struct History {
     packed: PackedRuns,

@@ -1,9 +1,11 @@
-ghost use Rattle.std.specs.Prelude.{◌≡◌, ◌<◌, ◌%◌};
-ghost use Rattle.stab_history.specs.CodesInside.{kind_of, kind_at, event_of, has_value};
+ghost use Rattle.std.specs.Prelude.{◌≡◌, ◌<◌, ◌≤◌, ◌%◌};
+ghost use Rattle.stab_history.specs.CodesInside.{kind_of, kind_at, event_of, kind_numbers};
 
+use crate::numbers::NARROW;
 use stab_core::Event;
 
-/// The kind of an event: all of it but its item or its place.
+/// The kind of an event: all of it but its item or its place. The offer of an item that takes two
+/// numbers has a kind of its own.
 #[derive(Clone, Copy, Debug, PartialEq, Eq)]
 pub(crate) enum Kind {
     Offer,
@@ -16,6 +18,7 @@ pub(crate) enum Kind {
     LoseFrame,
     LoseAck,
     Close,
+    WideOffer,
 }
 
 impl Kind {
@@ -24,7 +27,8 @@ impl Kind {
         ensures { result ≡ kind_of event }
     {
         match event {
-            Event::Offer(_) => Kind::Offer,
+            Event::Offer(item) if item < NARROW => Kind::Offer,
+            Event::Offer(_) => Kind::WideOffer,
             Event::SendFrame => Kind::SendFrame,
             Event::RecvFrame { keep: false } => Kind::TakeFrame,
             Event::RecvFrame { keep: true } => Kind::KeepFrame,
@@ -39,7 +43,7 @@ impl Kind {
 
     /// The number of this kind.
     pub(crate) fn number(self) -> u8
-        ensures within { result < 10 }
+        ensures within { result < 11 }
         ensures kind { kind_at result ≡ self }
     {
         match self {
@@ -53,6 +57,7 @@ impl Kind {
             Kind::LoseFrame => 7,
             Kind::LoseAck => 8,
             Kind::Close => 9,
+            Kind::WideOffer => 10,
         }
     }
 
@@ -70,15 +75,21 @@ impl Kind {
             6 => Kind::KeepAck,
             7 => Kind::LoseFrame,
             8 => Kind::LoseAck,
-            _ => Kind::Close,
+            9 => Kind::Close,
+            _ => Kind::WideOffer,
         }
     }
 
-    /// Whether an event of this kind has an item or a place.
-    pub(crate) fn has_value(self) -> bool
-        ensures { result ≡ has_value self }
+    /// How many numbers an event of this kind has for its item or its place.
+    pub(crate) fn numbers(self) -> usize
+        ensures numbers { result ≡ kind_numbers self }
+        ensures within { result ≤ 2 }
     {
-        matches!(self, Kind::Offer | Kind::LoseFrame | Kind::LoseAck)
+        match self {
+            Kind::Offer | Kind::LoseFrame | Kind::LoseAck => 1,
+            Kind::WideOffer => 2,
+            _ => 0,
+        }
     }
 
     /// The event of this kind with this item or place, where it has one.
@@ -86,7 +97,7 @@ impl Kind {
         ensures { result ≡ event_of self value }
     {
         match self {
-            Kind::Offer => Event::Offer(value),
+            Kind::Offer | Kind::WideOffer => Event::Offer(value),
             Kind::SendFrame => Event::SendFrame,
             Kind::TakeFrame => Event::RecvFrame { keep: false },
             Kind::KeepFrame => Event::RecvFrame { keep: true },
@@ -104,5 +115,5 @@ impl Kind {
 fn place(value: u32) -> u16
     ensures { result ≡ value % 65536 }
 {
-    (value % 65_536) as u16
+    (value % NARROW) as u16
 }

@@ -5,7 +5,8 @@ ghost use Rattle.stab_history.specs.CodesInside.{expand, all_parts, numbers_in, 
 ghost use Rattle.stab_history.specs.History.{IsLast, most_events};
 
 use crate::code::Code;
-use crate::part::{Part, add_count, add_event};
+use crate::numbers::{add_count, add_event};
+use crate::part::Part;
 use crate::run::Run;
 use stab_core::Event;
 use std::alloc::{AllocError, Global};
@@ -15,7 +16,7 @@ use std::marker::Model;
 const BLOCK: usize = 256;
 
 /// How many numbers a run takes at most.
-const NUMBERS: usize = 3;
+const NUMBERS: usize = 6;
 
 /// The runs that are over, as codes of one byte and the numbers that they leave out, with two marks
 /// for every 256th code. Contracts see the runs, and for how many more there is room. A run that
@@ -23,7 +24,7 @@ const NUMBERS: usize = 3;
 #[derive(Debug, Drop)]
 pub(crate) struct PackedRuns {
     codes: Vec<Code>,
-    numbers: Vec<u32>,
+    numbers: Vec<u16>,
     /// How many events there are before the first code of each block.
     marks: Vec<u64>,
     /// How many numbers the codes before it take.
@@ -42,7 +43,7 @@ impl Model for PackedRuns {
       runs = unpack c.numbers.items 0 (all_parts c.codes.items);
       room = min
           (min (vec_capacity c.codes - vec_len c.codes)
-          ((vec_capacity c.numbers - vec_len c.numbers) / 3))
+          ((vec_capacity c.numbers - vec_len c.numbers) / 6))
           (min (vec_capacity c.marks - vec_len c.marks)
           (vec_capacity c.starts - vec_len c.starts));
     } };
@@ -172,7 +173,7 @@ fn block_of(marks: &[u64], place: u64) -> usize
 }
 
 /// The event at a place of these codes, 0 being the first; their numbers begin at `first`.
-fn event_in_codes(codes: &[Code], numbers: &[u32], first: usize, place: u64) -> Option<Event>
+fn event_in_codes(codes: &[Code], numbers: &[u16], first: usize, place: u64) -> Option<Event>
     requires { first + numbers_in (all_parts codes.now) ≤ length numbers.now }
     ensures { result ≡ slice_get (expand (unpack numbers.now first (all_parts codes.now))) place }
 {
