@@ -32,4 +32,4 @@ pub use text::{
     link_text, origins_text, push_closed_line, push_frame, push_items_line, push_link_text,
     push_number, push_number_line, push_origins_text,
 };
-pub use tracer::{run_traced, trace};
+pub use tracer::{Tracer, run_traced, trace};

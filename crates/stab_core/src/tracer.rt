@@ -60,9 +60,10 @@ pub fn run_traced(
     Ok(tracer.into_parts())
 }
 
-/// A link, with the origin of each queued frame and of each delivered item.
+/// A link, with the origin of each queued frame and of each delivered item. Contracts see its
+/// parameters, its state and the origins.
 #[derive(Drop)]
-struct Tracer {
+pub struct Tracer {
     link: Link,
     queued: FrameQueue<Origin>,
     origins: Vec<Origin>,
@@ -83,7 +84,7 @@ impl Model for Tracer {
 impl Tracer {
     /// The tracer at a start: each queued frame is a stray.
     #[tactic(auto, using(crate::proofs::Tracing::length_strays))]
-    fn new(alloc: Global, params: Params, start: &Start) -> Result<Tracer, StartFault>
+    pub fn new(alloc: Global, params: Params, start: &Start) -> Result<Tracer, StartFault>
         ensures initial { IfOk result (λ t. t ≡ tracer_at params (traced_initial start.now)) }
         ensures lawful { IfOk result (λ t. IsLawful params start.now) }
         ensures refused { IfErr result (IsReason params start.now) }
@@ -98,7 +99,7 @@ impl Tracer {
     }
 
     /// One step, with the origins of the frame that it puts, takes or loses.
-    fn apply(&mut self, event: Event) -> Result<(), AllocError>
+    pub fn apply(&mut self, event: Event) -> Result<(), AllocError>
         ensures { OnOk result (self.new ≡ tracer_at self.old.params
             (traced_step self.old.params self.old.traced event)) }
     {
@@ -173,7 +174,7 @@ impl Tracer {
     }
 
     /// The link, and the origins of what it delivered.
-    fn into_parts(self) -> (Link, Vec<Origin>)
+    pub fn into_parts(self) -> (Link, Vec<Origin>)
         ensures link { result.0 ≡ link_at self.params self.traced.state }
         ensures origins { result.1.items ≡ self.traced.origins }
     {

@@ -4,3 +4,4 @@ pub mod Entries
 pub mod Members
 pub mod Meaning
 pub mod Jobs
+pub mod Leads

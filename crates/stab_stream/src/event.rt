@@ -70,6 +70,7 @@ impl Entry for Event {
 
     ghost meaning = { event };
 
+    #[inline(always)]
     fn next(reader: &mut Reader<'_>) -> Option<Event> {
         match reader.next()? {
             Token::String(word) => word_event(word),

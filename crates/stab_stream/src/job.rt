@@ -19,11 +19,11 @@ use std::alloc::{AllocError, Global};
 
 /// What was read of a link job so far.
 #[derive(Drop)]
-struct JobParts {
-    capacity: Option<u16>,
-    labels: Option<u16>,
-    start: Option<Start>,
-    events: Option<Sequence<Event>>,
+pub(crate) struct JobParts {
+    pub(crate) capacity: Option<u16>,
+    pub(crate) labels: Option<u16>,
+    pub(crate) start: Option<Start>,
+    pub(crate) events: Option<Sequence<Event>>,
 }
 
 /// The link job that these bytes mean, or the first check that they fail; memory may be refused
@@ -110,7 +110,7 @@ fn read_members(alloc: Global, reader: &mut Reader<'_>) -> Result<Option<JobPart
 }
 
 /// Reads the member of that name, whose value comes next; false where it has not the plain form.
-fn read_member(
+pub(crate) fn read_member(
     alloc: Global,
     reader: &mut Reader<'_>,
     name: &str,

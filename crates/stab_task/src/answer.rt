@@ -1,8 +1,6 @@
 ghost use Rattle.std.specs.Prelude.{◌≡◌, ◌≢◌, ◌++◌, List, ℕ, true, string_bytes};
 ghost use Rattle.std.specs.Prelude.{All, Err, IfSome, IfOk, IfErr, IsErrAnd, MatchResult, OnOk};
 ghost use Rattle.std.specs.Io.KnownBytes.{Appends, Keeps};
-ghost use Rattle.stab_core.specs.Link.{IsReason, link_at};
-ghost use Rattle.stab_core.specs.Replay.{IsLawful, initial, replay};
 ghost use Rattle.stab_job.specs.JobValues.{network};
 ghost use Rattle.stab_job.specs.Jobs.{job};
 ghost use Rattle.stab_job.specs.Replays.{IsReplayReason};
@@ -10,22 +8,20 @@ ghost use Rattle.stab_job_stream.specs.Unscheduled.{IsUnscheduled};
 ghost use Rattle.stab_run.specs.Runs.{IsReport};
 ghost use Rattle.stab_treecore.specs.Network.{IsNetwork};
 ghost use Rattle.stab_treecore.specs.Refusals.{NamesLink};
-ghost use Rattle.stab_task.specs.Answers.{IsLinkAnswer, IsTreeAnswer, IsRunAnswer};
+ghost use Rattle.stab_task.specs.Answers.{IsTreeAnswer, IsRunAnswer};
 ghost use Rattle.stab_task.specs.Answers.{IsAnswer, IsFault, IsFreeRunReason, IsRunText};
 ghost use Rattle.stab_task.specs.Answers.{IsTaskAnswer, IsTaskFault};
-ghost use Rattle.stab_task.specs.Answers.{link_answer, tree_answer};
+ghost use Rattle.stab_task.specs.Answers.{tree_answer};
 ghost use Rattle.stab_task.specs.Refusals.{IsOfBytes, IsRefused};
 
 use crate::command::Task;
 use crate::fault::CliFault;
 use crate::file::load;
-use stab_core::{Link, StartFault, link_text, push_origins_text, run_link, run_traced};
+use crate::link::answer_link;
 use stab_job::JobFault;
 use stab_job_stream::{read_job, read_unscheduled_job};
 use stab_node::Free;
 use stab_run::{Job, Links, Report, RunFault, report_text, run_locked, run_mixed, run_words};
-use stab_script::LinkJob;
-use stab_stream::read_link_job;
 use stab_treecore::{TreeStartFault, schedule_text};
 use std::alloc::Global;
 use std::io::{self, Read, Write};
@@ -105,62 +101,6 @@ fn answer_bytes<T: Threads + Wait + Send + Sync>(
         Task::Tree => answer_tree(alloc, bytes),
         Task::Run { links } => answer_run(rt, alloc, links, bytes),
     }
-}
-
-/// The text of a link job, with the origins of what it delivers where they are asked for.
-fn answer_link(alloc: Global, with_trace: bool, bytes: &[u8]) -> Result<String, CliFault>
-    ensures answer { IfOk result (λ text. IsLinkAnswer with_trace bytes.now (string_bytes text)) }
-    ensures fault { IfErr result (IsFault (Task.Link with_trace) bytes.now) }
-{
-    match read_link_job(alloc, bytes) {
-        Ok(job) => job_answer(alloc, with_trace, &job),
-        Err(fault) => Err(CliFault::LinkJob(fault)),
-    }
-}
-
-/// The text of a link job that was read, or the fault of its start.
-fn job_answer(alloc: Global, with_trace: bool, job: &LinkJob) -> Result<String, CliFault>
-    ensures text { IfOk result (λ text. string_bytes text ≡ link_answer with_trace job.now) }
-    ensures lawful { OnOk result (IsLawful job.now.params job.now.start) }
-    ensures refused { IfErr result (λ fault. (why : StartFault) × (fault ≡ CliFault.Start why)
-        × IsReason job.now.params job.now.start why) }
-{
-    Ok(job_text(alloc, with_trace, job)?)
-}
-
-/// The text of a link job that was read.
-fn job_text(alloc: Global, with_trace: bool, job: &LinkJob) -> Result<String, StartFault>
-    ensures text { IfOk result (λ text. string_bytes text ≡ link_answer with_trace job.now) }
-    ensures lawful { OnOk result (IsLawful job.now.params job.now.start) }
-    ensures refused { IfErr result (IsReason job.now.params job.now.start) }
-{
-    if with_trace {
-        return traced_text(alloc, job);
-    }
-    let link = replay_link(alloc, job)?;
-    Ok(link_text(alloc, &link)?)
-}
-
-/// The text of a link job that was read, with the origins of what it delivers.
-fn traced_text(alloc: Global, job: &LinkJob) -> Result<String, StartFault>
-    ensures text { IfOk result (λ text. string_bytes text ≡ link_answer true job.now) }
-    ensures lawful { OnOk result (IsLawful job.now.params job.now.start) }
-    ensures refused { IfErr result (IsReason job.now.params job.now.start) }
-{
-    let (link, origins) = run_traced(alloc, job.params, &job.start, job.events.as_slice())?;
-    let mut text = link_text(alloc, &link)?;
-    push_origins_text(&mut text, &origins)?;
-    Ok(text)
-}
-
-/// The link of a job after its events.
-fn replay_link(alloc: Global, job: &LinkJob) -> Result<Link, StartFault>
-    ensures replay { IfOk result (λ link. link ≡ link_at job.now.params
-        (replay job.now.params (initial job.now.start) job.now.events)) }
-    ensures lawful { OnOk result (IsLawful job.now.params job.now.start) }
-    ensures refused { IfErr result (IsReason job.now.params job.now.start) }
-{
-    run_link(alloc, job.params, &job.start, job.events.as_slice())
 }
 
 /// The text of a whole tree after its schedule.

@@ -11,6 +11,7 @@ mod answer;
 mod command;
 mod fault;
 mod file;
+mod link;
 mod run;
 
 pub use answer::{act, write_text};

@@ -1,7 +1,6 @@
-use Rattle.std.proofs.Common.{◌≡◌, [], Some, IfSome, subst}
+use Rattle.std.proofs.Common.{[], Some, IfSome, subst}
 use Rattle.json.specs.Lex.{tokens}
 use Rattle.serde_json.specs.Data.{object}
-use Rattle.stab_json.specs.Values.{value_of}
 use Rattle.stab_stream.specs.Standing.{Stands}
 use Rattle.stab_stream.specs.Members.{in_job, HasJob, HasNoOthers}
 use Rattle.stab_stream.proofs.Jobs.{a_job, whole_text}

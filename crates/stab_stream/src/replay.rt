@@ -1,0 +1,181 @@
+ghost use Rattle.std.specs.Prelude.{◌≡◌, ◌≤◌, ◌<◌, [], ℕ, List, length, Some, None, IfSome, IfOk};
+ghost use Rattle.std.specs.Prelude.{IsTrue, OnErr, Ok};
+ghost use Rattle.json.specs.Lex.{tokens};
+ghost use Rattle.serde_json.specs.Data.{Members, no_members, object};
+ghost use Rattle.stab_core.specs.Replay.{IsLawful};
+ghost use Rattle.stab_core.specs.declared.event.Event.{Event};
+ghost use Rattle.stab_core.specs.declared.start.Start.{Start};
+ghost use Rattle.stab_json.specs.Values.{list_of};
+ghost use Rattle.stab_script.specs.Events.{event};
+ghost use Rattle.stab_script.specs.LinkJobs.{link_job, most_events};
+ghost use Rattle.stab_script.specs.declared.link_job.LinkJob.{LinkJob};
+ghost use Rattle.stab_frames.specs.Parameters.{Parameters, fault_of};
+ghost use Rattle.stab_stream.specs.Members.{in_job, in_member, HasJob};
+ghost use Rattle.stab_stream.specs.Standing.{Stands, MeansWithin, EntriesMean, MembersMake};
+ghost use Rattle.stab_stream.specs.Leads.{LeadsOn, LacksEvents};
+
+use crate::entry::Entry;
+use crate::job::{JobParts, read_member};
+use crate::stepped::Stepped;
+use json::{Reader, Scratch, Token};
+use stab_core::Event;
+use stab_frames::Params;
+use stab_script::MAX_EVENTS;
+use std::alloc::{AllocError, Global};
+
+/// Where the events of the link job lead that these bytes mean, if they have the plain form with
+/// the events as their last member; nothing is said of them where there is no answer.
+///
+/// Each event happens as it is read, so no list of them is kept.
+pub fn replay_plain_link_job<S: Stepped>(
+    alloc: Global,
+    bytes: &[u8],
+) -> Result<Option<S>, AllocError>
+    ensures replay { IfOk result (λ found. IfSome found (λ stepped. (job : LinkJob)
+        × (link_job bytes.now ≡ Ok job) × IsLawful job.params job.start
+        × S.StandsAfter stepped job.params job.start job.events)) }
+    ensures memory { OnErr result (0 < length bytes.now) }
+{
+    let Ok(text) = std::str::from_utf8(bytes) else {
+        return Ok(None);
+    };
+    let Some(stepped) = step_text::<S>(alloc, text)? else {
+        return Ok(None);
+    };
+    Ok(Some(stepped))
+}
+
+/// Where the events of the link job lead that a text is.
+fn step_text<S: Stepped>(alloc: Global, text: &str) -> Result<Option<S>, AllocError>
+    ensures value { IfOk result (λ found. IfSome found (λ stepped. (ms : Members)
+        × (Stands in_job (tokens text.now) (object ms) [])
+        × (job : LinkJob) × (fault_of job.params.capacity job.params.labels ≡ None)
+        × (HasJob (Some job.params.capacity) (Some job.params.labels) (Some job.start)
+        (Some job.events) ms) × (length job.events ≤ most_events) × IsLawful job.params job.start
+        × S.StandsAfter stepped job.params job.start job.events)) }
+    ensures memory { OnErr result (0 < length text.now) }
+{
+    let mut scratch = Scratch::new(alloc);
+    let mut reader = Reader::new(text, &mut scratch)?;
+    let Some(Token::BeginObject) = reader.next() else {
+        return Ok(None);
+    };
+    let Some(stepped) = step_members::<S>(alloc, &mut reader)? else {
+        return Ok(None);
+    };
+    match reader.next() {
+        Some(_) => Ok(None),
+        None => Ok(Some(stepped)),
+    }
+}
+
+/// Where the events lead that are the last of the members, whose opening brace was taken.
+fn step_members<S: Stepped>(alloc: Global, reader: &mut Reader<'_>) -> Result<Option<S>, AllocError>
+    ensures { IfOk result (λ found. IfSome found (λ stepped. (ms : Members)
+        × (MembersMake in_member no_members (length reader.old) reader.old ms reader.new)
+        × (job : LinkJob) × (fault_of job.params.capacity job.params.labels ≡ None)
+        × (HasJob (Some job.params.capacity) (Some job.params.labels) (Some job.start)
+        (Some job.events) ms) × (length job.events ≤ most_events) × IsLawful job.params job.start
+        × S.StandsAfter stepped job.params job.start job.events)) }
+{
+    let Some(parts) = read_head(alloc, reader)? else {
+        return Ok(None);
+    };
+    let Some(mut stepped) = begun::<S>(alloc, parts) else {
+        return Ok(None);
+    };
+    if !step_list(reader, &mut stepped)? {
+        return Ok(None);
+    }
+    match reader.next_key() {
+        Ok(None) => Ok(Some(stepped)),
+        _ => Ok(None),
+    }
+}
+
+/// The members before the events, whose name is taken.
+fn read_head(alloc: Global, reader: &mut Reader<'_>) -> Result<Option<JobParts>, AllocError>
+    ensures { IfOk result (λ found. IfSome found (λ parts. (ms : Members)
+        × (LacksEvents reader.old ms reader.new)
+        × HasJob parts.capacity parts.labels parts.start parts.events ms)) }
+{
+    let mut parts = JobParts {
+        capacity: None,
+        labels: None,
+        start: None,
+        events: None,
+    };
+    'members: loop {
+        let Ok(Some(name)) = reader.next_key() else {
+            return Ok(None);
+        };
+        match name {
+            "events" => return Ok(Some(parts)),
+            _ => {
+                if !read_member(alloc, reader, name, &mut parts)? {
+                    return Ok(None);
+                }
+            }
+        }
+    }
+}
+
+/// Where the start is that was read, if all is there and passes each check.
+fn begun<S: Stepped>(alloc: Global, parts: JobParts) -> Option<S>
+    ensures { IfSome result (λ stepped. (params : Parameters) × (start : Start)
+        × (parts.capacity ≡ Some params.capacity) × (parts.labels ≡ Some params.labels)
+        × (parts.start ≡ Some start) × (fault_of params.capacity params.labels ≡ None)
+        × IsLawful params start × S.StandsAfter stepped params start []) }
+{
+    let JobParts {
+        capacity,
+        labels,
+        start,
+        events: _events,
+    } = parts;
+    let Ok(params) = Params::new(capacity?, labels?) else {
+        return None;
+    };
+    let start = start?;
+    let Ok(stepped) = S::begin(alloc, params, &start) else {
+        return None;
+    };
+    Some(stepped)
+}
+
+/// The events of the list that comes next happen; false where it has not the plain form, or more
+/// entries than a job may have.
+fn step_list<S: Stepped>(reader: &mut Reader<'_>, stepped: &mut S) -> Result<bool, AllocError>
+    ensures value { IfOk result (λ done. IsTrue done → (events : List Event)
+        × (MeansWithin in_member (list_of event) reader.old events reader.new)
+        × (length events ≤ most_events) × LeadsOn S.StandsAfter stepped.old events stepped.new) }
+    ensures shorter { IfOk result (λ done. IsTrue done → length reader.new < length reader.old) }
+{
+    let Some(Token::BeginArray) = reader.next() else {
+        return Ok(false);
+    };
+    let done = step_entries(reader, stepped)?;
+    Ok(done)
+}
+
+/// The entries of a list happen, whose opening bracket was taken; false as for the list.
+fn step_entries<S: Stepped>(reader: &mut Reader<'_>, stepped: &mut S) -> Result<bool, AllocError>
+    ensures value { IfOk result (λ done. IsTrue done → (events : List Event)
+        × ((depth : ℕ) → 0 < depth
+        → EntriesMean depth event (length reader.old) reader.old events reader.new)
+        × (length events ≤ most_events) × LeadsOn S.StandsAfter stepped.old events stepped.new) }
+    ensures shorter { IfOk result (λ done. IsTrue done → length reader.new < length reader.old) }
+{
+    let mut count = 0;
+    'entries: while !reader.take_end_array() {
+        let Some(event) = Event::next(reader) else {
+            return Ok(false);
+        };
+        if count == MAX_EVENTS {
+            return Ok(false);
+        }
+        count += 1;
+        stepped.step(event)?;
+    }
+    Ok(true)
+}

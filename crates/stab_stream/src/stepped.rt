@@ -1,0 +1,58 @@
+ghost use Rattle.std.specs.Prelude.{◌≡◌, [], ◌∷◌, List, IfOk, OnOk};
+ghost use Rattle.stab_core.specs.Link.{link_at};
+ghost use Rattle.stab_core.specs.Replay.{initial, replay, IsLawful};
+ghost use Rattle.stab_core.specs.Trace.{traced_initial, traced_replay};
+ghost use Rattle.stab_core.specs.Tracer.{tracer_at};
+ghost use Rattle.stab_core.specs.declared.event.Event.{Event};
+ghost use Rattle.stab_core.specs.declared.start.Start.{Start};
+ghost use Rattle.stab_frames.specs.Parameters.{Parameters};
+ghost use Rattle.stab_stream.specs.Leads.{LeadsOn};
+
+use stab_core::{Event, Link, Start, StartFault, Tracer};
+use stab_frames::Params;
+use std::alloc::{AllocError, Global};
+
+/// What the events of a link job happen to, one after the other, as they are read.
+pub trait Stepped: Drop {
+    // It stands where these events lead from this start.
+    ghost StandsAfter: { Self → Parameters → Start → List Event → Type 0 };
+
+    /// Where a start is, unless it is refused.
+    fn begin(alloc: Global, params: Params, start: &Start) -> Result<Self, StartFault>
+        ensures begun { IfOk result (λ begun. StandsAfter begun params start.now []) }
+        ensures lawful { IfOk result (λ _. IsLawful params start.now) };
+
+    /// Where an event leads.
+    fn step(&mut self, event: Event) -> Result<(), AllocError>
+        ensures { OnOk result (LeadsOn StandsAfter self.old (event ∷ []) self.new) };
+}
+
+/// A link without the origins of what it delivers.
+impl Stepped for Link {
+    ghost StandsAfter = { λ link params start events.
+        link ≡ link_at params (replay params (initial start) events) };
+
+    fn begin(alloc: Global, params: Params, start: &Start) -> Result<Link, StartFault> {
+        Link::new(alloc, params, start)
+    }
+
+    fn step(&mut self, event: Event) -> Result<(), AllocError> {
+        self.apply(event)?;
+        Ok(())
+    }
+}
+
+/// A link with the origins of what it delivers.
+impl Stepped for Tracer {
+    ghost StandsAfter = { λ tracer params start events.
+        tracer ≡ tracer_at params (traced_replay params (traced_initial start) events) };
+
+    fn begin(alloc: Global, params: Params, start: &Start) -> Result<Tracer, StartFault> {
+        Tracer::new(alloc, params, start)
+    }
+
+    fn step(&mut self, event: Event) -> Result<(), AllocError> {
+        self.apply(event)?;
+        Ok(())
+    }
+}

@@ -1,0 +1,123 @@
+ghost use Rattle.std.specs.Prelude.{◌≡◌, ◌++◌, true, false, string_bytes, IfSome, IfOk, IfErr, OnOk};
+ghost use Rattle.stab_core.specs.Link.{IsReason, link_at};
+ghost use Rattle.stab_core.specs.Replay.{IsLawful, initial, replay};
+ghost use Rattle.stab_core.specs.Texts.{link_text, origins_text};
+ghost use Rattle.stab_task.specs.Answers.{IsLinkAnswer, IsFault, link_answer};
+
+use crate::command::Task;
+use crate::fault::CliFault;
+use stab_core::{
+    Link, Origin, StartFault, Tracer, link_text, push_origins_text, run_link, run_traced,
+};
+use stab_script::LinkJob;
+use stab_stream::{read_link_job, replay_plain_link_job};
+use std::alloc::{AllocError, Global};
+
+/// The text of a link job, with the origins of what it delivers where they are asked for.
+///
+/// The events of a job in the plain form happen as they are read, and no list of them is kept. Any
+/// other job is read first.
+pub(crate) fn answer_link(alloc: Global, with_trace: bool, bytes: &[u8]) -> Result<String, CliFault>
+    ensures answer { IfOk result (λ text. IsLinkAnswer with_trace bytes.now (string_bytes text)) }
+    ensures fault { IfErr result (IsFault (Task.Link with_trace) bytes.now) }
+{
+    let text = if with_trace {
+        traced_as_read(alloc, bytes)?
+    } else {
+        replayed_as_read(alloc, bytes)?
+    };
+    match text {
+        Some(text) => Ok(text),
+        None => answer_read(alloc, with_trace, bytes),
+    }
+}
+
+/// The text of a link job in the plain form.
+fn replayed_as_read(alloc: Global, bytes: &[u8]) -> Result<Option<String>, AllocError>
+    ensures { IfOk result (λ found. IfSome found (λ text.
+        IsLinkAnswer false bytes.now (string_bytes text))) }
+{
+    let Some(link) = replay_plain_link_job::<Link>(alloc, bytes)? else {
+        return Ok(None);
+    };
+    let text = link_text(alloc, &link)?;
+    Ok(Some(text))
+}
+
+/// The text of a link job in the plain form, with the origins of what it delivers.
+fn traced_as_read(alloc: Global, bytes: &[u8]) -> Result<Option<String>, AllocError>
+    ensures { IfOk result (λ found. IfSome found (λ text.
+        IsLinkAnswer true bytes.now (string_bytes text))) }
+{
+    let Some(tracer) = replay_plain_link_job::<Tracer>(alloc, bytes)? else {
+        return Ok(None);
+    };
+    let (link, origins) = tracer.into_parts();
+    let text = text_with_origins(alloc, &link, &origins)?;
+    stab_core::laws::every_replay_is_explained();
+    Ok(Some(text))
+}
+
+/// The text of a link, and of the origins of what it delivered.
+fn text_with_origins(alloc: Global, link: &Link, origins: &[Origin]) -> Result<String, AllocError>
+    ensures { IfOk result (λ text.
+        string_bytes text ≡ link_text link.now.state ++ origins_text origins.now) }
+{
+    let mut text = link_text(alloc, link)?;
+    push_origins_text(&mut text, origins)?;
+    Ok(text)
+}
+
+/// The text of a link job that is read first, with the origins where they are asked for.
+fn answer_read(alloc: Global, with_trace: bool, bytes: &[u8]) -> Result<String, CliFault>
+    ensures answer { IfOk result (λ text. IsLinkAnswer with_trace bytes.now (string_bytes text)) }
+    ensures fault { IfErr result (IsFault (Task.Link with_trace) bytes.now) }
+{
+    match read_link_job(alloc, bytes) {
+        Ok(job) => job_answer(alloc, with_trace, &job),
+        Err(fault) => Err(CliFault::LinkJob(fault)),
+    }
+}
+
+/// The text of a link job that was read, or the fault of its start.
+fn job_answer(alloc: Global, with_trace: bool, job: &LinkJob) -> Result<String, CliFault>
+    ensures text { IfOk result (λ text. string_bytes text ≡ link_answer with_trace job.now) }
+    ensures lawful { OnOk result (IsLawful job.now.params job.now.start) }
+    ensures refused { IfErr result (λ fault. (why : StartFault) × (fault ≡ CliFault.Start why)
+        × IsReason job.now.params job.now.start why) }
+{
+    Ok(job_text(alloc, with_trace, job)?)
+}
+
+/// The text of a link job that was read.
+fn job_text(alloc: Global, with_trace: bool, job: &LinkJob) -> Result<String, StartFault>
+    ensures text { IfOk result (λ text. string_bytes text ≡ link_answer with_trace job.now) }
+    ensures lawful { OnOk result (IsLawful job.now.params job.now.start) }
+    ensures refused { IfErr result (IsReason job.now.params job.now.start) }
+{
+    if with_trace {
+        return traced_text(alloc, job);
+    }
+    let link = replay_link(alloc, job)?;
+    Ok(link_text(alloc, &link)?)
+}
+
+/// The text of a link job that was read, with the origins of what it delivers.
+fn traced_text(alloc: Global, job: &LinkJob) -> Result<String, StartFault>
+    ensures text { IfOk result (λ text. string_bytes text ≡ link_answer true job.now) }
+    ensures lawful { OnOk result (IsLawful job.now.params job.now.start) }
+    ensures refused { IfErr result (IsReason job.now.params job.now.start) }
+{
+    let (link, origins) = run_traced(alloc, job.params, &job.start, job.events.as_slice())?;
+    Ok(text_with_origins(alloc, &link, &origins)?)
+}
+
+/// The link of a job after its events.
+fn replay_link(alloc: Global, job: &LinkJob) -> Result<Link, StartFault>
+    ensures replay { IfOk result (λ link. link ≡ link_at job.now.params
+        (replay job.now.params (initial job.now.start) job.now.events)) }
+    ensures lawful { OnOk result (IsLawful job.now.params job.now.start) }
+    ensures refused { IfErr result (IsReason job.now.params job.now.start) }
+{
+    run_link(alloc, job.params, &job.start, job.events.as_slice())
+}
