@@ -26,10 +26,13 @@ use std::alloc::{AllocError, Global};
 /// Where the events of the link job lead that these bytes mean, if they have the plain form with
 /// the events as their last member; nothing is said of them where there is no answer.
 ///
-/// Each event happens as it is read, so no list of them is kept.
+/// Each event happens as it is read, so no list of them is kept. `has_begun` becomes true where the
+/// list of events is reached: a text that is not answered then has not the plain form in any order
+/// of its members, so there is no use in reading it so again.
 pub fn replay_plain_link_job<S: Stepped>(
     alloc: Global,
     bytes: &[u8],
+    has_begun: &mut bool,
 ) -> Result<Option<S>, AllocError>
     ensures replay { IfOk result (λ found. IfSome found (λ stepped. (job : LinkJob)
         × (link_job bytes.now ≡ Ok job) × IsLawful job.params job.start
@@ -39,14 +42,18 @@ pub fn replay_plain_link_job<S: Stepped>(
     let Ok(text) = std::str::from_utf8(bytes) else {
         return Ok(None);
     };
-    let Some(stepped) = step_text::<S>(alloc, text)? else {
+    let Some(stepped) = step_text::<S>(alloc, text, has_begun)? else {
         return Ok(None);
     };
     Ok(Some(stepped))
 }
 
 /// Where the events of the link job lead that a text is.
-fn step_text<S: Stepped>(alloc: Global, text: &str) -> Result<Option<S>, AllocError>
+fn step_text<S: Stepped>(
+    alloc: Global,
+    text: &str,
+    has_begun: &mut bool,
+) -> Result<Option<S>, AllocError>
     ensures value { IfOk result (λ found. IfSome found (λ stepped. (ms : Members)
         × (Stands in_job (tokens text.now) (object ms) [])
         × (job : LinkJob) × (fault_of job.params.capacity job.params.labels ≡ None)
@@ -60,7 +67,7 @@ fn step_text<S: Stepped>(alloc: Global, text: &str) -> Result<Option<S>, AllocEr
     let Some(Token::BeginObject) = reader.next() else {
         return Ok(None);
     };
-    let Some(stepped) = step_members::<S>(alloc, &mut reader)? else {
+    let Some(stepped) = step_members::<S>(alloc, &mut reader, has_begun)? else {
         return Ok(None);
     };
     match reader.next() {
@@ -70,7 +77,11 @@ fn step_text<S: Stepped>(alloc: Global, text: &str) -> Result<Option<S>, AllocEr
 }
 
 /// Where the events lead that are the last of the members, whose opening brace was taken.
-fn step_members<S: Stepped>(alloc: Global, reader: &mut Reader<'_>) -> Result<Option<S>, AllocError>
+fn step_members<S: Stepped>(
+    alloc: Global,
+    reader: &mut Reader<'_>,
+    has_begun: &mut bool,
+) -> Result<Option<S>, AllocError>
     ensures { IfOk result (λ found. IfSome found (λ stepped. (ms : Members)
         × (MembersMake in_member no_members (length reader.old) reader.old ms reader.new)
         × (job : LinkJob) × (fault_of job.params.capacity job.params.labels ≡ None)
@@ -84,6 +95,7 @@ fn step_members<S: Stepped>(alloc: Global, reader: &mut Reader<'_>) -> Result<Op
     let Some(mut stepped) = begun::<S>(alloc, parts) else {
         return Ok(None);
     };
+    *has_begun = true;
     if !step_list(reader, &mut stepped)? {
         return Ok(None);
     }

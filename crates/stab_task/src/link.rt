@@ -1,4 +1,7 @@
-ghost use Rattle.std.specs.Prelude.{◌≡◌, ◌++◌, true, false, string_bytes, IfSome, IfOk, IfErr, OnOk};
+ghost use Rattle.std.specs.Prelude.{◌≡◌, ◌≢◌, ◌<◌, ◌++◌, true, false, string_bytes, length};
+ghost use Rattle.std.specs.Prelude.{IfSome, IfOk, IfErr, OnOk, MatchResult, Ok, Err, None};
+ghost use Rattle.stab_json.specs.Values.{value_of};
+ghost use Rattle.stab_script.specs.LinkJobs.{link_job};
 ghost use Rattle.stab_core.specs.Link.{IsReason, link_at};
 ghost use Rattle.stab_core.specs.Replay.{IsLawful, initial, replay};
 ghost use Rattle.stab_core.specs.Texts.{link_text, origins_text};
@@ -9,35 +12,40 @@ use crate::fault::CliFault;
 use stab_core::{
     Link, Origin, StartFault, Tracer, link_text, push_origins_text, run_link, run_traced,
 };
-use stab_script::LinkJob;
-use stab_stream::{read_link_job, replay_plain_link_job};
+use stab_script::{LinkJob, LinkJobFault};
+use stab_stream::replay_plain_link_job;
 use std::alloc::{AllocError, Global};
 
 /// The text of a link job, with the origins of what it delivers where they are asked for.
 ///
 /// The events of a job in the plain form happen as they are read, and no list of them is kept. Any
-/// other job is read first.
+/// other job is read first: by its value at once where its events had begun to happen.
 pub(crate) fn answer_link(alloc: Global, with_trace: bool, bytes: &[u8]) -> Result<String, CliFault>
     ensures answer { IfOk result (λ text. IsLinkAnswer with_trace bytes.now (string_bytes text)) }
     ensures fault { IfErr result (IsFault (Task.Link with_trace) bytes.now) }
 {
+    let mut has_begun = false;
     let text = if with_trace {
-        traced_as_read(alloc, bytes)?
+        traced_as_read(alloc, bytes, &mut has_begun)?
     } else {
-        replayed_as_read(alloc, bytes)?
+        replayed_as_read(alloc, bytes, &mut has_begun)?
     };
     match text {
         Some(text) => Ok(text),
-        None => answer_read(alloc, with_trace, bytes),
+        None => answer_read(alloc, with_trace, bytes, has_begun),
     }
 }
 
 /// The text of a link job in the plain form.
-fn replayed_as_read(alloc: Global, bytes: &[u8]) -> Result<Option<String>, AllocError>
+fn replayed_as_read(
+    alloc: Global,
+    bytes: &[u8],
+    has_begun: &mut bool,
+) -> Result<Option<String>, AllocError>
     ensures { IfOk result (λ found. IfSome found (λ text.
         IsLinkAnswer false bytes.now (string_bytes text))) }
 {
-    let Some(link) = replay_plain_link_job::<Link>(alloc, bytes)? else {
+    let Some(link) = replay_plain_link_job::<Link>(alloc, bytes, has_begun)? else {
         return Ok(None);
     };
     let text = link_text(alloc, &link)?;
@@ -45,11 +53,15 @@ fn replayed_as_read(alloc: Global, bytes: &[u8]) -> Result<Option<String>, Alloc
 }
 
 /// The text of a link job in the plain form, with the origins of what it delivers.
-fn traced_as_read(alloc: Global, bytes: &[u8]) -> Result<Option<String>, AllocError>
+fn traced_as_read(
+    alloc: Global,
+    bytes: &[u8],
+    has_begun: &mut bool,
+) -> Result<Option<String>, AllocError>
     ensures { IfOk result (λ found. IfSome found (λ text.
         IsLinkAnswer true bytes.now (string_bytes text))) }
 {
-    let Some(tracer) = replay_plain_link_job::<Tracer>(alloc, bytes)? else {
+    let Some(tracer) = replay_plain_link_job::<Tracer>(alloc, bytes, has_begun)? else {
         return Ok(None);
     };
     let (link, origins) = tracer.into_parts();
@@ -69,13 +81,34 @@ fn text_with_origins(alloc: Global, link: &Link, origins: &[Origin]) -> Result<S
 }
 
 /// The text of a link job that is read first, with the origins where they are asked for.
-fn answer_read(alloc: Global, with_trace: bool, bytes: &[u8]) -> Result<String, CliFault>
+fn answer_read(
+    alloc: Global,
+    with_trace: bool,
+    bytes: &[u8],
+    by_value: bool,
+) -> Result<String, CliFault>
     ensures answer { IfOk result (λ text. IsLinkAnswer with_trace bytes.now (string_bytes text)) }
     ensures fault { IfErr result (IsFault (Task.Link with_trace) bytes.now) }
 {
-    match read_link_job(alloc, bytes) {
+    match read_job(alloc, bytes, by_value) {
         Ok(job) => job_answer(alloc, with_trace, &job),
         Err(fault) => Err(CliFault::LinkJob(fault)),
+    }
+}
+
+/// The link job that these bytes mean, or its fault: read by its value, or off the text where that
+/// has the plain form. Both ways answer the same.
+fn read_job(alloc: Global, bytes: &[u8], by_value: bool) -> Result<LinkJob, LinkJobFault>
+    ensures job { MatchResult result
+        (λ job. link_job bytes.now ≡ Ok job)
+        (λ fault. fault ≢ LinkJobFault.Memory → link_job bytes.now ≡ Err fault) }
+    ensures json { result ≡ Err LinkJobFault.Json → value_of bytes.now ≡ None }
+    ensures memory { result ≡ Err LinkJobFault.Memory → 0 < length bytes.now }
+{
+    if by_value {
+        stab_script::read_link_job(alloc, bytes)
+    } else {
+        stab_stream::read_link_job(alloc, bytes)
     }
 }
 
