@@ -21,17 +21,17 @@ const ONE_OF_EACH: [(Event, u32); 10] = [
     (Event::Close, 1),
 ];
 
-/// Runs on both sides of the borders at which a count takes more bytes; two neighbours differ in
-/// their items alone.
+/// Runs on both sides of the borders at which a count or an item takes more bytes; two neighbours
+/// differ in their items alone.
 const COUNT_BORDERS: [(Event, u32); 12] = [
-    (Event::Close, 24),
-    (Event::Offer(3), 24),
-    (Event::Close, 25),
-    (Event::Offer(4), 25),
-    (Event::Offer(5), 255),
-    (Event::Offer(6), 256),
+    (Event::Close, 11),
+    (Event::Offer(3), 11),
+    (Event::Close, 12),
+    (Event::Offer(4), 12),
+    (Event::Offer(65_535), 255),
+    (Event::Offer(65_536), 256),
     (Event::Offer(7), 65_535),
-    (Event::Offer(8), 65_536),
+    (Event::Offer(4_294_967_295), 65_536),
     (Event::SendAck, 65_537),
     (Event::Close, 1),
     (Event::SendAck, 131_073),
