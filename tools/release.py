@@ -4,6 +4,9 @@
     tools/release.py            makes the files of release/ from the present sources. It takes what
                                 was proved and built of them here, and has the rest built now.
     tools/release.py --prove    the same, with all of it proved and built from nothing
+    tools/release.py --after-ci
+                                the same, of what rt ci has just proved and built here, as
+                                ./gate --release does. The last line is 'N passed, M failed'.
     tools/release.py --check    compares release/ with what rt ci has just built, as the gate does.
                                 The last line is 'N passed, M failed'.
     tools/release.py --archive  packs the release with the pages and the examples for users, as a
@@ -21,8 +24,9 @@ them is that they and their sources are those of their lines.
 
 A build is over what checks have kept, or by rt ci in a copy of the sources, which takes what it has
 passed before on this machine, if the kit keeps that. Where it begins from nothing, rt ci does not
-get the crates beside which nothing can be proved, since it would not use all processors for them. What was built is kept
-in out/, under names with its digest, that of its sources and the kit. It needs Python 3.8.
+get the crates beside which nothing can be proved, since it would not use all processors for them.
+What was built is kept in out/, under names with its digest, that of its sources and the kit. It
+needs Python 3.8.
 """
 import contextlib
 import fcntl
@@ -486,6 +490,21 @@ class Release(Commands):
             self.say("the daemon has this library inside: where that differs, run "
                      "tools/build_daemon --keep")
 
+    def make_over_ci(self):
+        """Makes the files of release/ of what rt ci has just proved and built here."""
+        self.is_kept_own()
+        LOG.write_text("")
+        cases = Cases()
+        for name in self.artefacts:
+            made = self.make_after_ci(TOP, name)
+            cases.holds(f"{name} is built", bool(made), f"see {LOG}")
+            if made:
+                self.keep(name, made)
+        if not cases.failed:
+            self.name_fresh()
+            self.make(False)
+        return cases.sum_up()
+
     def cases(self):
         """Compares the release with what was just proved and built of the present sources: each
         case with whether it holds, and what is wrong if it does not."""
@@ -615,9 +634,11 @@ class Release(Commands):
 def main(words):
     runs = words[:1] == ["--run"] and len(words) > 3
     does = {(): lambda it: it.make(False), ("--prove",): lambda it: it.make(True),
-            ("--check",): Release.check, ("--archive",): Release.archive}
+            ("--after-ci",): Release.make_over_ci, ("--check",): Release.check,
+            ("--archive",): Release.archive}
     if not runs and tuple(words) not in does:
-        sys.stderr.write("release: it takes one of --prove, --check and --archive, or nothing\n")
+        sys.stderr.write("release: it takes one of --prove, --after-ci, --check and --archive, or "
+                         "nothing\n")
         return 2
     release = Release(words[1], words[1]) if runs else Release("release")
     try:
