@@ -17,6 +17,11 @@ holds = house.holds
 # The scripts of tests that the gate runs. The first one counts five cases, and the others none.
 SCRIPTS = [it for it in re.findall(r"^(?:tests|tools)/\w+\.\w+", (TOP / "gate").read_text(), re.M)
            if it != "tools/pages.py"]
+# A crate and one over it, each with planted bugs; and what rt says of the first of them.
+house.write("crates.txt", "low:\nmid: low\n")
+for crate in "low", "mid":
+    (house.top / "tests/edits" / crate).mkdir(parents=True)
+FIRST = "echo rt: low proved"
 PARTS = "echo 300 passed, 0 failed", "echo 42 passed, 0 failed"
 
 
@@ -36,7 +41,7 @@ def run_gate(*words, **env):
 def run(first=PARTS[0], second=PARTS[1], *words, **env):
     """Runs the gate with these two parts. Further words are those of the gate."""
     house.command(house.bin / "rt", f'[ "$1" = ci ] || {{ echo "kit-1 ${{KEEPS-}}"; exit; }}\n'
-                  f'echo "$PWD: rt $*, ${{RT_JOBS-none}}"; {first}')
+                  f'echo "$PWD: rt $*, ${{RT_JOBS-none}}"; {FIRST}; {first}')
     house.command("tests/refused/check.py", f'echo "$PWD: check $*"; {second}')
     return run_gate(*words, **env)
 
@@ -54,7 +59,8 @@ def gave(status, last):
     return (ended(status, last) and house.ended.out.count(": a script of tests\n") == len(SCRIPTS)
             and any(re.fullmatch(rf"{house.top}: rt ci, [0-9]+", it) for it in lines())
             and {f"{house.top}: {it}" for it in (
-                "check ", "edits ", "release --check", "pages --check")} <= {*lines()})
+                "check ", "edits low", "edits mid", "release --check", "pages --check")}
+            <= {*lines()})
 
 
 for at in range(len(SCRIPTS)):
@@ -97,10 +103,12 @@ holds("and one at a time they count the same", gave(1, "356 passed, 1 failed"))
 script(1)
 said = run().out
 holds("what a part writes is shown", "\n300 passed, 0 failed\n" in said)
-holds("what each part took is said", re.search(
-    "^gate: rt ci took 0 min .* processor minutes, and .* at its peak$", said, re.M))
+holds("what the first part took is said", re.search(
+    "^gate: .*: rt ci has ended, after [0-9.]+ processor minutes$", said, re.M))
 page = house.top / "out/gate.md"
-holds("and in a table", "\n| `rt ci` | 0.0 | 0.0 | 0.0 GB |\n" in page.read_text())
+holds("and in a table", all(
+    re.search(fr"^\| `{it}` \| [0-9.]+ \| [0-9.]+ \|$", page.read_text(), re.M)
+    for it in ("rt ci", "tests/try_edits.py", "the others")))
 holds("it says how many tasks run at once, and why", re.search("^gate: [0-9]+ tasks at once: "
       "[0-9]+ processors, and .* for [0-9]+ tasks of 3.0 GB$", said, re.M))
 run(RT_JOBS="3")
@@ -132,54 +140,91 @@ for missing, last in ("release.sh", "349 passed, 1 failed"), (
 run()
 holds("another word is refused", run_gate("--other").status == 2)
 
-# What a whole run is said to take elsewhere: three crates, of which the first one is proved in a
-# minute, and all else begins then. On four processors that ends two minutes later. On two, the
-# longer crates come first: stab_cli for two minutes, by its side mid for one and then its tests for
-# two, and once stab_cli has ended the edits of low; so all ends three minutes later. The run took
-# twice as long as that, and a minute for its other parts.
+# While the first part goes on, others begin: at first none, then those that need nothing of it,
+# and the planted bugs of a crate over crates that are proved; after it what runs that it has built.
+BESIDE = """echo "$1 at nice $(nice)" >>"$WORK/begun"; echo 0 passed, 0 failed"""
+APART = next(it for it in SCRIPTS if it == "tests/check_stab.py")
+OVER = next(it for it in SCRIPTS if it == "tests/check_tables.py")
+house.command(APART, BESIDE.replace("$1", "apart"))
+house.command(OVER, BESIDE.replace("$1", "over"))
+house.command("tests/try_edits.py", BESIDE)
+STEPS = """
+has() { for _ in $(seq 200); do grep -q "$1" "$WORK/begun" && return; sleep 0.05; done; }
+sleep 0.3; cp "$WORK/begun" "$WORK/at_first"
+echo rt: low proved; has apart; has mid; cp "$WORK/begun" "$WORK/beside"
+echo 1 passed, 0 failed"""
+
+
+def begun(first, **env):
+    """What had begun at first, beside the first part, and at the end."""
+    for it in "begun", "at_first", "beside":
+        house.write(house.work / it)
+    house.command(house.bin / "rt", f'[ "$1" = ci ] || {{ echo kit-1; exit; }}\n{first}')
+    run_gate(**env)
+    return [sorted(house.read(it).split("\n")[:-1]) for it in ("at_first", "beside", "begun")]
+
+
+at_first, beside, after = begun(STEPS)
+holds("at first nothing runs beside the first part", at_first == [])
+holds("then what needs nothing of it, and planted bugs in the time that is left over",
+      beside == ["apart at nice 0", "low at nice 19", "mid at nice 19"])
+holds("and after it what runs what it has built", after == sorted([*beside, "over at nice 0"]))
+_, beside, after = begun(STEPS.replace("rt: low proved", "rt: low NOT PROVED")
+                         .replace("has apart; has mid", "sleep 0.3"))
+holds("over what is not proved nothing begins before it has ended", beside == [] and after == [
+    "apart at nice 0", "low at nice 0", "mid at nice 0", "over at nice 0"])
+script(SCRIPTS.index(APART))
+script(SCRIPTS.index(OVER))
+house.command("tests/try_edits.py", 'echo "$PWD: edits $*"; echo 0 passed, 0 failed')
+
+# A release is made of what the first part has built, where that has passed.
+house.command("release.sh", 'echo "release $*" >>"$WORK/begun"; echo 1 passed, 0 failed')
+for first, wanted, name in (
+        ("echo 300 passed, 0 failed", ["release --after-ci", "release --check"],
+         "with --release it is made, and then compared"),
+        ("echo 299 passed, 1 failed; exit 1", ["release --check"],
+         "but not where the first part fails")):
+    house.write(house.work / "begun")
+    run(first, PARTS[1], "--release")
+    holds(name, house.read("begun").split("\n")[:-1] == wanted)
+pages_and_release()
+
+# What a whole run is said to have cost: three crates, each of the last two over the first.
 house.write("crates.txt", "low:\nmid may_wait=1: low thiserror\nstab_cli: low\n")
-house.write("crates/low/src/lib.rt")
-house.write("crates/mid/src/lib.rt", "1\n2\n")
-house.write("crates/stab_cli/src/lib.rt", "1\n2\n3\n")
 NONE = dict.fromkeys(("proof", "tests", "edits", "programs"), 0)
-NOTES = {"part": "rt ci", "wall": 360, "processor": 420, "status": 0, "peak": 1, "own": 1,
-         "jobs": "4", "largest": [1, "it"], "crates": {
-             "low": {**NONE, "proof": 60, "edits": 60}, "mid": {**NONE, "proof": 60, "tests": 120},
+COSTS = {"peak": 1, "own": 1, "largest": [1, "it"], "share": "", "parts": {"rt ci": [360, 420]},
+         "crates": {
+             "low": {**NONE, "proof": 60, "edits": 90}, "mid": {**NONE, "proof": 60, "tests": 120},
              "stab_cli": {**NONE, "proof": 100, "programs": 20}}}
 
 
-def table(*notes):
-    """The table of the notes of parts, of a gate that took seven minutes."""
-    house.run("python3", "-B", "-c", "import json, sys; sys.path.insert(0, 'tools'); import costs\n"
-              f"costs.write_table(json.load(sys.stdin), '{house.work}/page', 420.0, 0.0)",
-              given=json.dumps(notes), cwd=house.top)
+def table(costs):
+    """The table of these costs, of a gate that took seven minutes."""
+    house.run("python3", "-B", "-c", "import json, sys, types; sys.path.insert(0, 'tools')\n"
+              "import costs; read = json.load(sys.stdin); crates = read.pop('crates')\n"
+              "it = types.SimpleNamespace(**read, by_crate=lambda: crates)\n"
+              f"costs.write_table(it, '{house.work}/page', 420.0, 480.0)",
+              given=json.dumps(costs), cwd=house.top)
     return house.read("page")
 
 
-APART = {**NOTES, "part": "edits", "wall": 60, "processor": 30, "jobs": "",
-         "crates": {"low": {**NONE, "edits": 30}}}
-holds("what a crate cost in two parts is added",
-      "| `low` | 1.0 | 0.0 | 1.5 | 0.0 | 2.5 |" in table(APART, NOTES).split("\n"))
-text = table(NOTES)
-holds("what each crate cost is in the table", {
-    "| `low` | 1.0 | 0.0 | 1.0 | 0.0 | 2.0 |", "| `mid` | 1.0 | 2.0 | 0.0 | 0.0 | 3.0 |",
-    "| all | 3.7 | 2.0 | 1.0 | 0.3 | 7.0 |"} <= {*text.split("\n")})
-for name, part in (
-        ("what two processors would take is computed",
-         "on two processors `./gate` would take 9.0 minutes, on four 7.0;"),
-        ("and so is the first proof, without tests and edits",
-         "`./stab --prove` would take at most 6.0 on four."),
-        ("and it is said how", "so what it computes is multiplied by 2.00.")):
-    holds(name, part in text)
-text = table({**NOTES, "share": "2 of the 9 proofs"})
-holds("nothing is computed of a run that took most from earlier ones",
-      "**This was not a run from nothing:** `rt ci` did 2 of the 9 proofs, and" in text
-      and "Computed" not in text)
+text = table(COSTS)
+holds("what it took is in the table", "**7.0 minutes, 8.0 processor minutes, " in text)
+holds("and what its parts took", "\n| `rt ci` | 6.0 | 7.0 |\n" in text)
+holds("and each crate", {
+    "| `low` | 1.0 | 0.0 | 1.5 | 0.0 | 2.5 |", "| `mid` | 1.0 | 2.0 | 0.0 | 0.0 | 3.0 |",
+    "| all | 3.7 | 2.0 | 1.5 | 0.3 | 7.5 |"} <= {*text.split("\n")})
+holds("and the longest chain of crates",
+      "The longest chain of crates, each proved over the one before, takes 3.0 minutes." in text)
+holds("a run that took most from earlier ones is said to be none from nothing",
+      "**This was not a run from nothing:** `rt ci` did 2 of the 9 proofs, and"
+      in table({**COSTS, "share": "2 of the 9 proofs"}))
 run("echo 'rt: ok; handles allowed: none; done in this run: 3 of the 9 proofs (of crates and of"
     " their tests); the others are kept from earlier runs of the same files on this machine'\n"
     "echo 9 passed, 0 failed")
 holds("and what rt says of that is kept", "`rt ci` did 3 of the 9 proofs (of crates and of their "
       "tests), and took" in page.read_text())
+remove(house.top / "tests/edits")
 
 # The loop of a developer, in a house of four crates: a program over mid, which has tests and is
 # over low; and a crate beside them. What rt does with a crate is in the file steps.
@@ -289,6 +334,10 @@ house.command(KIT / "bin/rattle", r"""words=$*
     status=0
     while read -r name says; do
         case $says in
+            *inside*) closure=$(sed -E 's/(\w+)$/fn::\1::map/' <<<"$name")
+                echo "note: src/lib.rt:1:1: it is not proved that it returns"
+                echo "fn low::$closure: no proof: expected answers in x"
+                echo "fn low::$name: no proof: it calls \`low::$closure\`, which is not proved" ;;
             *wrong*) echo "note: src/lib.rt:1:1: it is not proved that it returns"
                 echo "fn low::$name: no proof: expected answers in x; \`search\` did not prove \`y\`" ;;
             *gone*) echo "proofs/x/Answers.antt:1:1: error: \`x\` is not in scope"
@@ -328,6 +377,8 @@ for name, word in ("as the one that it is", "right"), (
     tried(name, 1, "1 passed, 1 failed", [TWO + ONE, TWO], [FIRST, ("second", word)])
 tried("so does one whose function only calls another one that is refused", 1, "0 passed, 1 failed",
       [ONE], [("first", "calls")])
+tried("but one that is refused in a closure of its function is refused", 0, "2 passed, 0 failed",
+      [TWO + ONE], [("first", "inside"), ("second", "inside")])
 tried("or whose proof names what is gone", 1, "0 passed, 1 failed", [ONE], [("first", "gone")])
 tried("and one that cannot be applied", 1, "1 passed, 1 failed", [TWO],
       [("{ second }", "{ second } // wrong"), ("no_such", "wrong")])

@@ -23,7 +23,7 @@ import tempfile
 
 sys.dont_write_bytecode = True
 from edits import TOP, edits_in, texts_with  # noqa: E402
-from crates import compiler, listed, read, tasks  # noqa: E402
+from crates import compiler, lines_of, listed, read, tasks  # noqa: E402
 
 # The line that begins a function, by what is before its name; and that of an impl: its trait, if
 # it has one, and its type.
@@ -33,6 +33,8 @@ IMPL = re.compile(r"impl(?:<.*?>)? (?:(\w.*?) for )?(\w+)")
 # that it calls another one.
 REFUSED = re.compile(r"^fn \w+::(\S+): (?:no proof|not proved)(.*)$", re.M)
 CALLS = re.compile(r"[:;] it calls [^;]*")
+# The name of a closure begins with that of its function, after a word.
+CLOSURE = re.compile(r"(^|::)fn::(\w+)::.*")
 # What a check says where a proof names what an edit took away.
 GONE = re.compile(r"proofs/.*(has no field|is not in scope|has no `|was not admitted)")
 
@@ -96,15 +98,16 @@ def checked(crate, texts, paths):
 
 def refusals(said, told):
     """The functions that a check refuses, each with why, without those of which it says only that
-    they call another one. It is an empty text where nothing is said against the function itself,
-    so that it may be refused for one that it calls."""
+    they call another one; a closure is of its function. It is an empty text where nothing is said
+    against the function itself, so that it may be refused for one that it calls."""
     found = {}
     for path, why in REFUSED.findall(said):
         folder = f"/{path.replace('::', '/')}/"
         errors = [it for it in told if folder in it and ": error" in it and not GONE.search(it)]
         left = CALLS.sub("", why).strip(":; ")
         if left or not why:
-            found[path] = left or "".join(errors[:1])
+            of = CLOSURE.sub(r"\1\2", path)
+            found[of] = found.get(of) or left or "".join(errors[:1])
     return found
 
 
@@ -137,13 +140,6 @@ def tried(crate, edits, names):
             # (its function calls another one, say, that is not proved)
             found += tried(crate, edits, {name: paths})
     return found
-
-
-def lines_of(crate):
-    """How many lines a crate has, which a check of it reads, whatever it proves of them."""
-    return sum(read(f"{at}/{name}").count("\n")
-               for at, _, names in os.walk(f"{TOP}/crates/{crate}") for name in names
-               if "/out" not in at and name.endswith((".rt", ".antt")))
 
 
 def main(words):

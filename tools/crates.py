@@ -95,6 +95,18 @@ def tasks():
                              f" {fit} tasks of {TASK_BYTES / 1e9:.1f} GB")
 
 
+def spare(lanes):
+    """How many tasks that prove fit into memory beside so many."""
+    return max(free() // TASK_BYTES - lanes, 0)
+
+
+def lines_of(crate, top=TOP):
+    """How many lines a crate has, which a check of it reads, whatever it proves of them."""
+    return sum(read(f"{at}/{name}").count("\n")
+               for at, _, names in os.walk(f"{top}/crates/{crate}") for name in names
+               if "/out" not in at and name.endswith((".rt", ".antt")))
+
+
 def anew():
     """The words that have rt ci prove all from nothing. Of some kits it takes what it has passed
     before on this machine, unless it is told this; of others it always begins from nothing, and

@@ -1,4 +1,5 @@
 """Starts the commands of the gate, and ends them with it."""
+import os
 import signal
 import subprocess
 
@@ -14,7 +15,9 @@ class Commands:
     """The commands that run."""
 
     def __init__(self):
-        self.running, self.starting, self.came = set(), False, None
+        # Those that run, and the processor seconds of each that has ended.
+        self.running, self.took = set(), {}
+        self.starting, self.came = False, None
         for it in SIGNALS:
             # (what whoever started the script wants to have ignored stays so)
             if signal.getsignal(it) != signal.SIG_IGN:
@@ -43,10 +46,23 @@ class Commands:
             raise Interrupted
         return process
 
+    def has_ended(self, process, how=os.WNOHANG):
+        """Whether a command has ended. Its processor seconds, and those of all that it has waited
+        for, are noted then."""
+        if process not in self.took:
+            pid, status, used = os.wait4(process.pid, how)
+            if not pid:
+                return False
+            process.returncode = (os.WEXITSTATUS(status) if os.WIFEXITED(status)
+                                  else -os.WTERMSIG(status))
+            self.took[process] = used.ru_utime + used.ru_stime
+        return True
+
     def end(self, process):
         """Waits for a command, and answers its status as a shell has it."""
-        status = process.wait()
+        self.has_ended(process, 0)
         self.running.discard(process)
+        status = process.returncode
         return status if status >= 0 else 128 - status
 
     def end_all(self):
