@@ -17,9 +17,9 @@ holds = house.holds
 # The scripts of tests that the gate runs. The first one counts five cases, and the others none.
 SCRIPTS = [it for it in re.findall(r"^(?:tests|tools)/\w+\.\w+", (TOP / "gate").read_text(), re.M)
            if it != "tools/pages.py"]
-# A crate and one over it, each with planted bugs; and what rt says of the first of them.
-house.write("crates.txt", "low:\nmid: low\n")
-for crate in "low", "mid":
+# Three crates, each over the one before, with planted bugs; and what rt says of the first of them.
+house.write("crates.txt", "low:\nmid: low\nhigh: mid\n")
+for crate in "low", "mid", "high":
     (house.top / "tests/edits" / crate).mkdir(parents=True)
 FIRST = "echo rt: low proved"
 PARTS = "echo 300 passed, 0 failed", "echo 42 passed, 0 failed"
@@ -59,8 +59,8 @@ def gave(status, last):
     return (ended(status, last) and house.ended.out.count(": a script of tests\n") == len(SCRIPTS)
             and any(re.fullmatch(rf"{house.top}: rt ci, [0-9]+", it) for it in lines())
             and {f"{house.top}: {it}" for it in (
-                "check ", "edits low", "edits mid", "release --check", "pages --check")}
-            <= {*lines()})
+                "check ", "edits low", "edits mid", "edits high", "release --check",
+                "pages --check")} <= {*lines()})
 
 
 for at in range(len(SCRIPTS)):
@@ -168,11 +168,12 @@ at_first, beside, after = begun(STEPS)
 holds("at first nothing runs beside the first part", at_first == [])
 holds("then what needs nothing of it, and planted bugs in the time that is left over",
       beside == ["apart at nice 0", "low at nice 19", "mid at nice 19"])
-holds("and after it what runs what it has built", after == sorted([*beside, "over at nice 0"]))
+holds("and after it what runs what it has built, and planted bugs over what it has not proved",
+      after == sorted([*beside, "high at nice 0", "over at nice 0"]))
 _, beside, after = begun(STEPS.replace("rt: low proved", "rt: low NOT PROVED")
                          .replace("has apart; has mid", "sleep 0.3"))
 holds("over what is not proved nothing begins before it has ended", beside == [] and after == [
-    "apart at nice 0", "low at nice 0", "mid at nice 0", "over at nice 0"])
+    "apart at nice 0", "high at nice 0", "low at nice 0", "mid at nice 0", "over at nice 0"])
 script(SCRIPTS.index(APART))
 script(SCRIPTS.index(OVER))
 house.command("tests/try_edits.py", 'echo "$PWD: edits $*"; echo 0 passed, 0 failed')
