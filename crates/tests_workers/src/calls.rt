@@ -1,6 +1,6 @@
 //! The calls that a worker makes of its gate and of its ends, one by one in their order, which no
-//! clause says; what it leaves; and that a call which is refused is its last one, but for the gate's
-//! `done`.
+//! clause says; what it leaves; and that a call which is refused is its last one, but for `done` of
+//! the gate.
 
 ghost use Rattle.std.specs.Prelude.{◌≡◌, ⊤};
 
