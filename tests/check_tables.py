@@ -23,7 +23,7 @@ from tables import rignolda_bounds, rignolda_check, rignolda_draw, rignolda_expl
 from tables import rignolda_files, rignolda_jobs, rignolda_lines, rignolda_moment
 from tables import rignolda_scenario
 from tables import stab_jobs, stab_limits, stab_lines, stab_links, stab_openings, stab_parts
-from tables import stab_plain, stab_steps, stab_trees
+from tables import stab_plain, stab_runs, stab_steps, stab_trees
 from tables.rows import Printed, Repeated
 
 TABLES = [
@@ -31,7 +31,7 @@ TABLES = [
     rignolda_files,
     rignolda_jobs, rignolda_moment, rignolda_scenario,
     stab_lines, stab_jobs, stab_trees, stab_parts, stab_plain, stab_steps, stab_links,
-    stab_openings, stab_limits,
+    stab_openings, stab_limits, stab_runs,
 ]
 PROGRAMS = sorted({table.PROGRAM for table in TABLES})
 # No run takes longer, in seconds.

@@ -1,11 +1,14 @@
-//! The calls of the two ends of a link as data, each beside its answer, and the helpers that make
-//! them on the ends of a link of either kind.
+//! Worked examples of a link as data: what it begins from, the calls of its two ends, each beside
+//! its answer, and the accounts that they leave; and the helpers that make the calls on the ends of
+//! a link of either kind.
 
 ghost use Rattle.std.specs.Prelude.{◌≡◌};
 
-use stab_core::Effect;
+use stab_acts::{InAct, OutAct, Script};
+use stab_core::{Effect, Start};
 use stab_ends::{FrameSeen, RecvSide, SendSide, Settled};
-use stab_frames::Item;
+use stab_frames::{Frame, Item, Label, Sequence};
+use std::alloc::Global;
 use std::process::Abort;
 
 /// A call of one of the two ends, beside the answer that it must give.
@@ -17,6 +20,56 @@ pub enum Ask {
     Close(Effect),
     PollFrame(FrameSeen),
     SendAck(Effect),
+}
+
+/// An example of a link of capacity 1 with 4 labels.
+pub struct Example {
+    pub name: &'static str,
+    pub frames: &'static [Frame],
+    pub acks: &'static [Label],
+    /// The sender's label and the one that the receiver remembers.
+    pub labels: (Label, Label),
+    pub frames_out: &'static [OutAct],
+    pub frames_in: &'static [InAct],
+    pub acks_out: &'static [OutAct],
+    pub asks: &'static [Ask],
+    /// The offered items, how many of them are acknowledged, and the delivered items.
+    pub offered: &'static [Item],
+    pub acked: u64,
+    pub delivered: &'static [Item],
+    /// Whether both ends are closed or both are open.
+    pub closed: bool,
+}
+
+/// A start with these frames, acknowledgements and labels.
+pub fn start_of<R: Abort>(
+    rt: &R,
+    alloc: Global,
+    frames: &[Frame],
+    acks: &[Label],
+    labels: (Label, Label),
+) -> Start {
+    let frames = Vec::from_slice(alloc, frames).expect(rt, "frames");
+    let acks = Vec::from_slice(alloc, acks).expect(rt, "acknowledgements");
+    Start {
+        frames: Sequence::from_vec(frames),
+        acks: Sequence::from_vec(acks),
+        send_label: labels.0,
+        recv_label: labels.1,
+    }
+}
+
+/// The start of an example.
+pub fn example_start<R: Abort>(rt: &R, alloc: Global, example: &Example) -> Start {
+    start_of(rt, alloc, example.frames, example.acks, example.labels)
+}
+
+/// The script of an example.
+pub fn example_script<R: Abort>(rt: &R, alloc: Global, example: &Example) -> Script {
+    let frames_out = Vec::from_slice(alloc, example.frames_out).expect(rt, "acts");
+    let frames_in = Vec::from_slice(alloc, example.frames_in).expect(rt, "acts");
+    let acks_out = Vec::from_slice(alloc, example.acks_out).expect(rt, "acts");
+    Script::new(frames_out, frames_in, acks_out, Vec::new(alloc)).expect(rt, "a script")
 }
 
 /// Makes a call, and compares the answer.
@@ -72,19 +125,15 @@ pub fn ask_and_finish<S: SendSide, T: RecvSide<Pass = S::Pass>, R: Abort>(
     (send.finish(), recv.finish())
 }
 
-/// Fails the test where the accounts are others: the offered items, how many of them are
-/// acknowledged, the delivered items, and whether both ends are closed or both are open.
-pub fn assert_settled<R: Abort>(
-    rt: &R,
-    settled: &Settled,
-    offered: &[Item],
-    acked: u64,
-    delivered: &[Item],
-    closed: bool,
-) {
-    assert!(rt; settled.send.offered.as_slice() == offered, "offered");
-    assert!(rt; settled.send.acked == acked, "acknowledged");
-    assert!(rt; settled.recv.delivered.as_slice() == delivered, "delivered");
-    assert!(rt; settled.send.closed == closed, "the sender's close");
-    assert!(rt; settled.recv.closed == closed, "the receiver's close");
+/// Fails the test where the accounts are others than an example's.
+pub fn assert_settled<R: Abort>(rt: &R, settled: &Settled, example: &Example) {
+    let (send, recv, name) = (&settled.send, &settled.recv, example.name);
+    assert!(rt;
+        send.offered.as_slice() == example.offered
+            && send.acked == example.acked
+            && recv.delivered.as_slice() == example.delivered
+            && send.closed == example.closed
+            && recv.closed == example.closed,
+        "{name}"
+    );
 }

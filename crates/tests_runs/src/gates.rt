@@ -4,7 +4,7 @@ ghost use Rattle.std.specs.Prelude.{⊤};
 
 use stab_node::Gate;
 use std::sync::atomic::{AtomicU64, Ordering};
-use std::{array, thread};
+use std::thread;
 
 /// No test has a tree of more nodes.
 const MOST_NODES: usize = 4;
@@ -19,12 +19,10 @@ const MOST_TRIES: u32 = 100_000_000;
 const MOST_AHEAD: u64 = 64;
 
 /// The order in which a gate lets turns begin.
-#[derive(Clone, Copy, Debug, PartialEq, Eq)]
+#[derive(Clone, Copy)]
 pub(crate) enum Order {
     /// No node is far ahead of another.
     Paced,
-    /// The first turn of each node begins once each other node asks for its first.
-    Together,
     /// A node begins once each node before it is done, the root first.
     RootFirst,
     /// Turn by turn, the root first: a node's turn begins once each node before it asks for its
@@ -37,7 +35,6 @@ impl Order {
     fn awaited(self, other: u16, node: u16, turn: u64) -> u64 {
         match self {
             Order::Paced => turn.saturating_sub(MOST_AHEAD),
-            Order::Together => { if turn == 1 { 1 } else { 0 } }
             Order::RootFirst => { if other < node { DONE } else { 0 } }
             Order::InTurns => {
                 if other < node {
@@ -50,108 +47,26 @@ impl Order {
     }
 }
 
-/// Which turns a gate refuses.
-#[derive(Clone, Copy, Debug, PartialEq, Eq)]
-pub(crate) enum Refused {
-    /// No turn.
-    Nothing,
-    /// The third turn of the middle node of a chain of three.
-    ThirdOfTheMiddle,
-    /// Each turn of each node.
-    Each,
-}
-
-impl Refused {
-    /// Whether this turn of this node is refused.
-    fn has(self, node: u16, turn: u32) -> bool {
-        match self {
-            Refused::Nothing => false,
-            Refused::ThirdOfTheMiddle => node == 1 && turn == 3,
-            Refused::Each => true,
-        }
-    }
-}
-
-/// A number for each node.
+/// What a gate saw of a node: how many turns it asked for, and how often it said that it is done.
 #[derive(Drop)]
-pub(crate) struct Counts {
-    counts: [AtomicU64; MOST_NODES],
+struct Seat {
+    asked: AtomicU64,
+    done: AtomicU64,
 }
 
-impl Counts {
-    /// Nothing is counted yet.
-    fn new() -> Counts {
-        Counts {
-            counts: array::from_fn(|_| AtomicU64::new(0)),
+impl Seat {
+    /// Nothing is seen yet.
+    fn new() -> Seat {
+        Seat {
+            asked: AtomicU64::new(0),
+            done: AtomicU64::new(0),
         }
     }
 
-    /// The number of a node.
-    pub(crate) fn of(&self, node: u16) -> u64 {
-        match self.counts.get(node as usize) {
-            Some(count) => count.load(Ordering::SeqCst),
-            None => 0,
-        }
-    }
-
-    /// The numbers of the first three nodes.
-    pub(crate) fn of_three(&self) -> [u64; 3] {
-        [self.of(0), self.of(1), self.of(2)]
-    }
-
-    /// Counts a node once more.
-    fn add(&self, node: u16) {
-        if let Some(count) = self.counts.get(node as usize) {
-            count.fetch_add(1, Ordering::SeqCst);
-        }
-    }
-
-    /// Gives a node this number.
-    fn set(&self, node: u16, number: u64) {
-        if let Some(count) = self.counts.get(node as usize) {
-            count.store(number, Ordering::SeqCst);
-        }
-    }
-}
-
-/// A gate that lets turns begin in an order, refuses some turns, and sees which are asked for.
-#[derive(Drop)]
-pub(crate) struct TestGate {
-    nodes: u16,
-    order: Order,
-    refused: Refused,
-    last_asked: Counts,
-    /// How many turns each node asked for.
-    pub(crate) asked: Counts,
-    /// How many turns each node began.
-    pub(crate) begun: Counts,
-    /// How often each node said that it is done.
-    pub(crate) done: Counts,
-}
-
-impl TestGate {
-    /// The gate of a run of `nodes` nodes, which refuses these turns.
-    pub(crate) fn refusing(order: Order, nodes: u16, refused: Refused) -> TestGate {
-        TestGate {
-            nodes,
-            order,
-            refused,
-            last_asked: Counts::new(),
-            asked: Counts::new(),
-            begun: Counts::new(),
-            done: Counts::new(),
-        }
-    }
-
-    /// The gate of a run of `nodes` nodes, which refuses no turn that may begin in this order.
-    pub(crate) fn for_nodes(order: Order, nodes: u16) -> TestGate {
-        TestGate::refusing(order, nodes, Refused::Nothing)
-    }
-
-    /// Waits until a node has asked for a turn; false where that is in vain.
-    fn has_asked(&self, node: u16, turn: u64) -> bool {
+    /// Waits until the node has asked for a turn or is done; false where that is in vain.
+    fn comes(&self, turn: u64) -> bool {
         for _ in 0..MOST_TRIES {
-            if self.last_asked.of(node) >= turn {
+            if self.asked.load(Ordering::SeqCst) >= turn || self.done.load(Ordering::SeqCst) > 0 {
                 return true;
             }
             thread::yield_now();
@@ -159,14 +74,43 @@ impl TestGate {
         false
     }
 
-    /// Waits for each other node, as its order has it; false where that is in vain.
-    fn others_have_asked(&self, node: u16, turn: u64) -> bool {
-        for other in 0..self.nodes {
-            if other != node && !self.has_asked(other, self.order.awaited(other, node, turn)) {
-                return false;
-            }
+    /// Both counts.
+    fn seen(&self) -> (u64, u64) {
+        let asked = self.asked.load(Ordering::SeqCst);
+        (asked, self.done.load(Ordering::SeqCst))
+    }
+}
+
+/// A gate that lets turns begin in an order, refuses some turns, and sees which are asked for. A
+/// turn that is not the node's next one is refused as well.
+#[derive(Drop)]
+pub(crate) struct TestGate {
+    order: Order,
+    nodes: u16,
+    /// Which turn of each node is refused; 0 is no turn.
+    refused: [u32; MOST_NODES],
+    seats: [Seat; MOST_NODES],
+}
+
+impl TestGate {
+    /// The gate of a run of `nodes` nodes, which refuses these turns.
+    pub(crate) fn new(order: Order, nodes: u16, refused: [u32; MOST_NODES]) -> TestGate {
+        TestGate {
+            order,
+            nodes,
+            refused,
+            seats: [Seat::new(), Seat::new(), Seat::new(), Seat::new()],
         }
-        true
+    }
+
+    /// How many turns each of the first three nodes asked for, and how often it said that it is
+    /// done.
+    pub(crate) fn seen(&self) -> [(u64, u64); 3] {
+        [
+            self.seats[0].seen(),
+            self.seats[1].seen(),
+            self.seats[2].seen(),
+        ]
     }
 }
 
@@ -178,17 +122,24 @@ impl Gate for TestGate {
     ghost is_done = { λ gate node. ⊤ };
 
     fn pass(&self, node: u16, turn: u32) -> bool {
-        self.asked.add(node);
-        self.last_asked.set(node, turn as u64);
-        if !self.others_have_asked(node, turn as u64) || self.refused.has(node, turn) {
+        let Some(own) = self.seats.get(node as usize) else {
+            return false;
+        };
+        let before = own.asked.fetch_add(1, Ordering::SeqCst);
+        if before.saturating_add(1) != turn as u64 {
             return false;
         }
-        self.begun.add(node);
-        true
+        for (seat, other) in self.seats.iter().zip(0..self.nodes) {
+            if other != node && !seat.comes(self.order.awaited(other, node, turn as u64)) {
+                return false;
+            }
+        }
+        self.refused.get(node as usize).copied() != Some(turn)
     }
 
     fn done(&self, node: u16) {
-        self.done.add(node);
-        self.last_asked.set(node, DONE);
+        if let Some(own) = self.seats.get(node as usize) {
+            own.done.fetch_add(1, Ordering::SeqCst);
+        }
     }
 }

@@ -3,9 +3,8 @@
 //! The nodes of a chain take turns, the root first: so each run ends in one way alone.
 
 use crate::gates::Order;
-use crate::outcomes::Links;
-use crate::runs::assert_joined;
-use std::test::Fail;
+use crate::runs::{Run, assert_all};
+use stab_run::Links;
 
 /// The parameters of jobs whose links all have the capacity one.
 const EACH_ONE: &str = r#"{"capacity":1,"labels":4,"#;
@@ -67,62 +66,100 @@ b depth 2 received 3 acked 2 ended upstream
 items: 98 99 7
 ";
 
-/// The runs, the parameters of their jobs, and what they print where each link has a stray.
-const RUNS: [(Links, &str, &str); 7] = [
-    (Links::Words, EACH_ONE, OVER_WORDS),
-    (Links::Mixed, EACH_ONE, OVER_WORDS),
-    (Links::Mixed, ONE_THEN_TWO, OVER_A_WORD_AND_A_LOCK),
-    (Links::Mixed, TWO_THEN_ONE, OVER_A_LOCK_AND_A_WORD),
-    (Links::Mixed, EACH_TWO, OVER_LOCKS),
-    (Links::Locked, EACH_ONE, OVER_LOCKS),
-    (Links::Locked, EACH_TWO, OVER_LOCKS),
+/// The runs over links of each kind.
+const EACH: [(Links, &str); 7] = [
+    (Links::Words, EACH_ONE),
+    (Links::Mixed, EACH_ONE),
+    (Links::Mixed, ONE_THEN_TWO),
+    (Links::Mixed, TWO_THEN_ONE),
+    (Links::Mixed, EACH_TWO),
+    (Links::Locked, EACH_ONE),
+    (Links::Locked, EACH_TWO),
 ];
 
-#[test]
-fn a_stray_shows_the_kind_of_its_link(rt: HostRuntime) -> Result<(), Fail> {
-    for &(links, parameters, expected) in &RUNS {
-        let job = [parameters, CHAIN, STRAYS];
-        assert_joined(&rt, links, &job, Order::InTurns, 3, expected)?;
-    }
-    Ok(())
-}
-
-/// Scripts of which one loses everything that one end of its link sends, for more acts than there
-/// are turns, and what a run prints over links of any kind.
-const LOSSES: [(&str, &str); 4] = [
-    (
-        r#""scripts":[{"frames_out":"DDDDDDDDDDDD"},null]}"#,
-        "r depth 0 received 1 acked - ended turns\nitems: 7\n\
+/// The runs. Where each link has a stray, that shows the kind of the link. Of two scripts one loses
+/// everything that one end of its link sends, for more acts than there are turns: then all kinds of
+/// links print the same.
+static RUNS: [Run; 8] = [
+    Run {
+        links: &[(Links::Words, EACH_ONE), (Links::Mixed, EACH_ONE)],
+        job: &[CHAIN, STRAYS],
+        order: Order::InTurns,
+        nodes: 3,
+        report: &[OVER_WORDS],
+    },
+    Run {
+        links: &[(Links::Mixed, ONE_THEN_TWO)],
+        job: &[CHAIN, STRAYS],
+        order: Order::InTurns,
+        nodes: 3,
+        report: &[OVER_A_WORD_AND_A_LOCK],
+    },
+    Run {
+        links: &[(Links::Mixed, TWO_THEN_ONE)],
+        job: &[CHAIN, STRAYS],
+        order: Order::InTurns,
+        nodes: 3,
+        report: &[OVER_A_LOCK_AND_A_WORD],
+    },
+    Run {
+        links: &[
+            (Links::Mixed, EACH_TWO),
+            (Links::Locked, EACH_ONE),
+            (Links::Locked, EACH_TWO),
+        ],
+        job: &[CHAIN, STRAYS],
+        order: Order::InTurns,
+        nodes: 3,
+        report: &[OVER_LOCKS],
+    },
+    Run {
+        links: &EACH,
+        job: &[CHAIN, r#""scripts":[{"frames_out":"DDDDDDDDDDDD"},null]}"#],
+        order: Order::InTurns,
+        nodes: 3,
+        report: &[
+            "r depth 0 received 1 acked - ended turns\nitems: 7\n\
         a depth 1 received 0 acked 0 ended upstream\nitems:\n\
         b depth 2 received 0 acked 0 ended upstream\nitems:\n",
-    ),
-    (
-        r#""scripts":[null,{"frames_out":"DDDDDDDDDDDD"}]}"#,
-        "r depth 0 received 1 acked - ended upstream\nitems: 7\n\
+        ],
+    },
+    Run {
+        links: &EACH,
+        job: &[CHAIN, r#""scripts":[null,{"frames_out":"DDDDDDDDDDDD"}]}"#],
+        order: Order::InTurns,
+        nodes: 3,
+        report: &[
+            "r depth 0 received 1 acked - ended upstream\nitems: 7\n\
         a depth 1 received 1 acked 1 ended turns\nitems: 7\n\
         b depth 2 received 0 acked 0 ended upstream\nitems:\n",
-    ),
-    (
-        r#""scripts":[{"acks_out":"DDDDDDDDDDDD"},null]}"#,
-        "r depth 0 received 1 acked - ended turns\nitems: 7\n\
+        ],
+    },
+    Run {
+        links: &EACH,
+        job: &[CHAIN, r#""scripts":[{"acks_out":"DDDDDDDDDDDD"},null]}"#],
+        order: Order::InTurns,
+        nodes: 3,
+        report: &[
+            "r depth 0 received 1 acked - ended turns\nitems: 7\n\
         a depth 1 received 1 acked 0 ended upstream\nitems: 7\n\
         b depth 2 received 1 acked 1 ended upstream\nitems: 7\n",
-    ),
-    (
-        r#""scripts":[null,{"acks_out":"DDDDDDDDDDDD"}]}"#,
-        "r depth 0 received 1 acked - ended upstream\nitems: 7\n\
+        ],
+    },
+    Run {
+        links: &EACH,
+        job: &[CHAIN, r#""scripts":[null,{"acks_out":"DDDDDDDDDDDD"}]}"#],
+        order: Order::InTurns,
+        nodes: 3,
+        report: &[
+            "r depth 0 received 1 acked - ended upstream\nitems: 7\n\
         a depth 1 received 1 acked 1 ended turns\nitems: 7\n\
         b depth 2 received 1 acked 0 ended upstream\nitems: 7\n",
-    ),
+        ],
+    },
 ];
 
 #[test]
-fn each_link_has_its_own_script(rt: HostRuntime) -> Result<(), Fail> {
-    for &(links, parameters, _) in &RUNS {
-        for (scripts, expected) in &LOSSES {
-            let job = [parameters, CHAIN, scripts];
-            assert_joined(&rt, links, &job, Order::InTurns, 3, expected)?;
-        }
-    }
-    Ok(())
+fn kinds_of_links_and_the_script_of_each(rt: HostRuntime) {
+    assert_all(&rt, rt.alloc(), &RUNS);
 }

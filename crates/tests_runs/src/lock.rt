@@ -1,34 +1,47 @@
-//! The worked examples of a locked link, each as a table of calls beside their answers. The same
-//! tables are walked by the ends of a locked link and by a book's own calls.
+//! The worked examples of a locked link. The ends of a locked link make their calls, as ends of
+//! either kind, and so do the calls of a book.
 
-use crate::asks::{Ask, ask_and_finish, assert_settled};
-use crate::threads::both;
-use stab_acts::{HalfScript, InAct, OutAct, Script};
-use stab_core::{Effect, Event, Start};
+use crate::asks::{Ask, Example, ask_and_finish, assert_settled, example_script, example_start};
+use stab_acts::{HalfScript, InAct, OutAct};
+use stab_core::{Effect, Event};
 use stab_ends::{FrameSeen, RecvAccount, SendAccount};
-use stab_frames::{Item, Params, Sequence};
+use stab_frames::{Item, Params};
 use stab_lock::{LinkBook, LockLink, SettleFault};
+use stab_run::{AnyRecv, AnyRecvDone, AnySend, AnySendDone};
 use std::alloc::Global;
 use std::process::Abort;
 use std::sync::Wait;
-use std::thread::Threads;
 
 /// A round with 7, and the close.
-static ROUND_AND_CLOSE: [Ask; 13] = [
-    Ask::Offer(7, true),
-    Ask::Offer(8, false),
-    Ask::Send(Effect::Sent),
-    Ask::PollFrame(FrameSeen::Fresh(7)),
-    Ask::PollFrame(FrameSeen::Nothing),
-    Ask::SendAck(Effect::Sent),
-    Ask::PollAck(Effect::Acked),
-    Ask::PollAck(Effect::Nothing),
-    Ask::Close(Effect::Closed),
-    Ask::PollFrame(FrameSeen::Closed),
-    Ask::SendAck(Effect::Nothing),
-    Ask::Offer(8, false),
-    Ask::Close(Effect::Nothing),
-];
+static ROUND_AND_CLOSE: Example = Example {
+    name: "a round and a close",
+    frames: &[],
+    acks: &[],
+    labels: (0, 3),
+    frames_out: &[],
+    frames_in: &[],
+    acks_out: &[],
+    asks: &[
+        Ask::Offer(7, true),
+        Ask::Offer(8, false),
+        Ask::Send(Effect::Sent),
+        Ask::PollFrame(FrameSeen::Fresh(7)),
+        Ask::PollFrame(FrameSeen::Nothing),
+        Ask::SendAck(Effect::Sent),
+        Ask::PollAck(Effect::Acked),
+        Ask::PollAck(Effect::Nothing),
+        Ask::Close(Effect::Closed),
+        Ask::PollFrame(FrameSeen::Closed),
+        Ask::SendAck(Effect::Nothing),
+        Ask::PollAck(Effect::Nothing),
+        Ask::Offer(8, false),
+        Ask::Close(Effect::Nothing),
+    ],
+    offered: &[7],
+    acked: 1,
+    delivered: &[7],
+    closed: true,
+};
 
 /// What the round and the close note.
 static ROUND_AND_CLOSE_HISTORY: [Event; 6] = [
@@ -42,16 +55,29 @@ static ROUND_AND_CLOSE_HISTORY: [Event; 6] = [
 
 /// Frames out under Drop, Pass and Evict, and then past the end; frames in under Keep, and then
 /// past the end.
-static SCRIPTED: [Ask; 8] = [
-    Ask::Offer(7, true),
-    Ask::Send(Effect::Lost),
-    Ask::Send(Effect::Sent),
-    Ask::Send(Effect::Sent),
-    Ask::Send(Effect::Lost),
-    Ask::PollFrame(FrameSeen::Fresh(7)),
-    Ask::PollFrame(FrameSeen::Old),
-    Ask::PollFrame(FrameSeen::Nothing),
-];
+static SCRIPTED: Example = Example {
+    name: "a script",
+    frames: &[],
+    acks: &[],
+    labels: (0, 3),
+    frames_out: &[OutAct::Drop, OutAct::Pass, OutAct::Evict],
+    frames_in: &[InAct::Keep],
+    acks_out: &[],
+    asks: &[
+        Ask::Offer(7, true),
+        Ask::Send(Effect::Lost),
+        Ask::Send(Effect::Sent),
+        Ask::Send(Effect::Sent),
+        Ask::Send(Effect::Lost),
+        Ask::PollFrame(FrameSeen::Fresh(7)),
+        Ask::PollFrame(FrameSeen::Old),
+        Ask::PollFrame(FrameSeen::Nothing),
+    ],
+    offered: &[7],
+    acked: 0,
+    delivered: &[7],
+    closed: false,
+};
 
 /// What the scripted calls note.
 static SCRIPTED_HISTORY: [Event; 7] = [
@@ -64,34 +90,29 @@ static SCRIPTED_HISTORY: [Event; 7] = [
     Event::RecvFrame { keep: false },
 ];
 
-/// A start with empty queues, the send label 0 and the receive label 3.
-fn start_at_three(alloc: Global) -> Start {
-    Start {
-        frames: Sequence::new(alloc),
-        acks: Sequence::new(alloc),
-        send_label: 0,
-        recv_label: 3,
+/// The accounts of both ends of a link after these calls.
+fn accounts<R: Wait + Abort>(rt: &R, link: &LockLink, asks: &[Ask]) -> (SendAccount, RecvAccount) {
+    let (send, recv) = link.split::<R>();
+    let (send, recv) = (AnySend::Lock(send), AnyRecv::Lock(recv));
+    let (sent, received) = ask_and_finish(rt, rt, send, recv, asks);
+    match (sent, received) {
+        (AnySendDone::Lock(sent), AnyRecvDone::Lock(received)) => (sent, received),
+        _ => unreachable!(),
     }
 }
 
-/// A locked link of capacity 1 with 4 labels at that start, with this script.
-fn link_at_three<R: Abort>(rt: &R, alloc: Global, script: Script) -> LockLink {
+/// The link of an example after its calls, and the accounts of both ends.
+fn link_after<R: Wait + Abort>(
+    rt: &R,
+    alloc: Global,
+    example: &Example,
+) -> (LockLink, SendAccount, RecvAccount) {
     let params = Params::new(1, 4).expect(rt, "parameters");
-    LockLink::new(alloc, params, start_at_three(alloc), script).expect(rt, "a link")
-}
-
-/// The book of such a link.
-fn book_at_three<R: Abort>(rt: &R, alloc: Global) -> LinkBook {
-    let params = Params::new(1, 4).expect(rt, "parameters");
-    LinkBook::new(alloc, params, start_at_three(alloc)).expect(rt, "a book")
-}
-
-/// Frames out Drop, Pass, Evict; frames in Keep.
-fn script_of_losses<R: Abort>(rt: &R, alloc: Global) -> Script {
-    let outs = [OutAct::Drop, OutAct::Pass, OutAct::Evict];
-    let outs = Vec::from_slice(alloc, &outs).expect(rt, "acts");
-    let ins = Vec::from_slice(alloc, &[InAct::Keep]).expect(rt, "acts");
-    Script::new(outs, ins, Vec::new(alloc), Vec::new(alloc)).expect(rt, "a script")
+    let start = example_start(rt, alloc, example);
+    let script = example_script(rt, alloc, example);
+    let link = LockLink::new(alloc, params, start, script).expect(rt, "a link");
+    let (sent, received) = accounts(rt, &link, example.asks);
+    (link, sent, received)
 }
 
 /// Makes a call of a book, and compares the answer.
@@ -113,11 +134,13 @@ fn ask_half<R: Abort>(
     assert!(rt; is_answered, "{ask:?}");
 }
 
-/// The book after these calls of its own, each end's with its own half of the script, whose answers
-/// are compared.
-fn book_after<R: Abort>(rt: &R, alloc: Global, script: Script, asks: &[Ask]) -> LinkBook {
-    let mut book = book_at_three(rt, alloc);
-    let (mut sender, mut receiver) = script.split();
+/// The book of an example after these calls of its own, each end's with its own half of the script,
+/// whose answers are compared.
+fn book_after<R: Abort>(rt: &R, alloc: Global, example: &Example, asks: &[Ask]) -> LinkBook {
+    let params = Params::new(1, 4).expect(rt, "parameters");
+    let start = example_start(rt, alloc, example);
+    let mut book = LinkBook::new(alloc, params, start).expect(rt, "a book");
+    let (mut sender, mut receiver) = example_script(rt, alloc, example).split();
     for ask in asks {
         ask_half(rt, &mut book, &mut sender, &mut receiver, *ask);
     }
@@ -126,13 +149,10 @@ fn book_after<R: Abort>(rt: &R, alloc: Global, script: Script, asks: &[Ask]) -> 
 
 /// Fails the test where the book has another history.
 fn assert_history<R: Abort>(rt: &R, book: &LinkBook, events: &[Event]) {
-    assert!(rt;
-        book.history_len() == events.len() as u64,
-        "the length of the history"
-    );
-    for place in 0..events.len() {
+    assert!(rt; book.history_len() == events.len() as u64, "the length");
+    for (place, event) in events.iter().enumerate() {
         assert!(rt;
-            book.event_at(place as u64) == Some(events[place]),
+            book.event_at(place as u64) == Some(*event),
             "event {place}"
         );
     }
@@ -142,231 +162,141 @@ fn assert_history<R: Abort>(rt: &R, book: &LinkBook, events: &[Event]) {
     );
 }
 
-/// The accounts of both ends of a link after these calls.
-fn accounts<R: Wait + Abort>(rt: &R, link: &LockLink, asks: &[Ask]) -> (SendAccount, RecvAccount) {
-    let (send, recv) = link.split::<R>();
-    ask_and_finish(rt, rt, send, recv, asks)
-}
-
-/// A locked link after these calls.
-fn link_after<R: Wait + Abort>(rt: &R, alloc: Global, script: Script, asks: &[Ask]) -> LockLink {
-    let link = link_at_three(rt, alloc, script);
-    accounts(rt, &link, asks);
-    link
-}
-
-#[test]
-fn a_round_and_a_close_locked(rt: HostRuntime) {
-    let script = Script::none(rt.alloc());
-    let book = link_after(&rt, rt.alloc(), script, &ROUND_AND_CLOSE).into_book();
-    assert_history(&rt, &book, &ROUND_AND_CLOSE_HISTORY);
+/// Fails the test where a locked link or a book answers another one of an example's calls
+/// otherwise, or leaves another history, or the link other accounts.
+fn assert_example<R: Wait + Abort>(rt: &R, alloc: Global, example: &Example, history: &[Event]) {
+    let (link, sent, received) = link_after(rt, alloc, example);
+    let settled = link
+        .settle(sent, received)
+        .expect(rt, "accounts that agree");
+    assert_settled(rt, &settled, example);
+    let (link, _, _) = link_after(rt, alloc, example);
+    assert_history(rt, &link.into_book(), history);
+    assert_history(rt, &book_after(rt, alloc, example, example.asks), history);
 }
 
 #[test]
-fn a_round_and_a_close_settled(rt: HostRuntime) {
-    let link = link_at_three(&rt, rt.alloc(), Script::none(rt.alloc()));
-    let (send, recv) = accounts(&rt, &link, &ROUND_AND_CLOSE);
-    let settled = link.settle(send, recv).expect(&rt, "accounts that agree");
-    assert_settled(&rt, &settled, &[7], 1, &[7], true);
+fn examples_over_a_lock(rt: HostRuntime) {
+    assert_example(&rt, rt.alloc(), &ROUND_AND_CLOSE, &ROUND_AND_CLOSE_HISTORY);
+    assert_example(&rt, rt.alloc(), &SCRIPTED, &SCRIPTED_HISTORY);
 }
 
-#[test]
-fn a_script_on_a_locked_link(rt: HostRuntime) {
-    let script = script_of_losses(&rt, rt.alloc());
-    let book = link_after(&rt, rt.alloc(), script, &SCRIPTED).into_book();
-    assert_history(&rt, &book, &SCRIPTED_HISTORY);
-}
+/// Events, the effect of each, how often it is noted, and the length of the history after it.
+type Notes = &'static [(Event, Effect, u32, u64)];
 
-#[test]
-fn a_round_and_a_close_by_the_book(rt: HostRuntime) {
-    let script = Script::none(rt.alloc());
-    let book = book_after(&rt, rt.alloc(), script, &ROUND_AND_CLOSE);
-    assert_history(&rt, &book, &ROUND_AND_CLOSE_HISTORY);
-}
-
-#[test]
-fn a_script_by_the_book(rt: HostRuntime) {
-    let script = script_of_losses(&rt, rt.alloc());
-    let book = book_after(&rt, rt.alloc(), script, &SCRIPTED);
-    assert_history(&rt, &book, &SCRIPTED_HISTORY);
-}
-
-/// Notes events, and compares their effects.
-fn note_all<R: Abort>(rt: &R, book: &mut LinkBook, notes: &[(Event, Effect)]) {
-    for (event, effect) in notes {
-        let given = book.note(*event).expect(rt, "memory");
-        assert!(rt; given == *effect, "{event:?}");
-    }
-}
-
-/// An offer that is taken, and one that is not.
-static TWO_OFFERS: [(Event, Effect); 2] = [
-    (Event::Offer(7), Effect::Held),
-    (Event::Offer(8), Effect::Nothing),
+/// Notes, and the event at some places of the history after them. Of two offers the second is not
+/// taken; a thousand events are equal.
+static NOTES: [(Notes, &[(u64, Option<Event>)]); 2] = [
+    (
+        &[
+            (Event::Offer(7), Effect::Held, 1, 1),
+            (Event::Offer(8), Effect::Nothing, 1, 2),
+        ],
+        &[
+            (0, Some(Event::Offer(7))),
+            (1, Some(Event::Offer(8))),
+            (2, None),
+        ],
+    ),
+    (
+        &[
+            (Event::SendAck, Effect::Sent, 1, 1),
+            (Event::SendAck, Effect::Lost, 999, 1000),
+            (Event::Offer(7), Effect::Held, 1, 1001),
+        ],
+        &[
+            (999, Some(Event::SendAck)),
+            (1000, Some(Event::Offer(7))),
+            (1001, None),
+        ],
+    ),
 ];
 
-#[test]
-fn a_noted_event_without_effect(rt: HostRuntime) {
-    let mut book = book_at_three(&rt, rt.alloc());
-    note_all(&rt, &mut book, &TWO_OFFERS);
-    assert_history(&rt, &book, &[Event::Offer(7), Event::Offer(8)]);
-    assert!(rt; book.link().offered() == [7].as_slice());
-}
-
-/// Notes an event `times` times, and compares the effect of each.
-fn note_repeated<R: Abort>(rt: &R, book: &mut LinkBook, event: Event, effect: Effect, times: u32) {
+/// Notes an event `times` times, and compares the effect of each and the length of the history
+/// after them.
+fn note_repeated<R: Abort>(
+    rt: &R,
+    book: &mut LinkBook,
+    event: Event,
+    effect: Effect,
+    times: u32,
+    len: u64,
+) {
     for _ in 0..times {
         let given = book.note(event).expect(rt, "memory");
         assert!(rt; given == effect, "{event:?}");
     }
+    assert!(rt; book.history_len() == len, "{event:?}");
 }
 
-/// Notes each event as many times as its row says, and compares its effect and the length of the
-/// history after it.
-fn note_rows<R: Abort>(rt: &R, book: &mut LinkBook, rows: &[(Event, Effect, u32, u64)]) {
-    for (event, effect, times, len) in rows {
-        note_repeated(rt, book, *event, *effect, *times);
-        assert!(rt; book.history_len() == *len, "{event:?}");
+/// Fails the test where a book with these notes has another event at one of the places, or not the
+/// item 7 alone.
+fn assert_noted<R: Abort>(rt: &R, alloc: Global, notes: Notes, places: &[(u64, Option<Event>)]) {
+    let mut book = book_after(rt, alloc, &ROUND_AND_CLOSE, &[]);
+    for (event, effect, times, len) in notes {
+        note_repeated(rt, &mut book, *event, *effect, *times, *len);
     }
+    for (place, event) in places {
+        assert!(rt; book.event_at(*place) == *event, "event {place}");
+    }
+    assert!(rt; book.link().offered() == [7].as_slice());
 }
-
-/// Fails the test where the event at a place is another one.
-fn assert_event<R: Abort>(rt: &R, book: &LinkBook, place: u64, event: Option<Event>) {
-    assert!(rt; book.event_at(place) == event, "event {place}");
-}
-
-/// Events, the effect of each, how often it is noted, and the length of the history after it.
-static REPEATED: [(Event, Effect, u32, u64); 3] = [
-    (Event::SendAck, Effect::Sent, 1, 1),
-    (Event::SendAck, Effect::Lost, 999, 1000),
-    (Event::Offer(7), Effect::Held, 1, 1001),
-];
 
 #[test]
-fn a_thousand_equal_events(rt: HostRuntime) {
-    let mut book = book_at_three(&rt, rt.alloc());
-    note_rows(&rt, &mut book, &REPEATED);
-    assert_event(&rt, &book, 999, Some(Event::SendAck));
-    assert_event(&rt, &book, 1000, Some(Event::Offer(7)));
-    assert_event(&rt, &book, 1001, None);
+fn a_book_keeps_what_is_noted(rt: HostRuntime) {
+    for (notes, places) in &NOTES {
+        assert_noted(&rt, rt.alloc(), notes, places);
+    }
 }
 
-/// Accounts of a round with 7 that is closed, changed as the flags say.
-fn changed_accounts<R: Abort>(
-    rt: &R,
-    alloc: Global,
-    offered: bool,
-    acked: bool,
-    delivered: bool,
-    closed: bool,
-) -> (SendAccount, RecvAccount) {
-    let mut send = SendAccount::new(alloc);
-    if !offered {
-        send.offered.push(7).expect(rt, "memory");
-    }
-    send.acked = if acked { 0 } else { 1 };
-    send.closed = !closed;
-    let mut recv = RecvAccount::new(alloc);
-    if !delivered {
-        recv.delivered.push(7).expect(rt, "memory");
-    }
-    recv.closed = true;
+/// Accounts of a closed receiver and its sender: the offered items, how many are acknowledged, the
+/// delivered items, and whether the sender closed the link.
+type Accounts = (&'static [Item], u64, &'static [Item], bool);
+
+/// Accounts, beside the first thing in which they differ from those of the round with 7 and its
+/// close.
+static DIFFERENCES: [(Accounts, Option<SettleFault>); 6] = [
+    ((&[7], 1, &[7], true), None),
+    ((&[], 1, &[7], true), Some(SettleFault::OfferedDiffer)),
+    ((&[7], 0, &[7], true), Some(SettleFault::AckedDiffer)),
+    ((&[7], 1, &[], true), Some(SettleFault::DeliveredDiffer)),
+    ((&[7], 1, &[7], false), Some(SettleFault::ClosedDiffer)),
+    ((&[], 0, &[], false), Some(SettleFault::OfferedDiffer)),
+];
+
+/// The accounts themselves.
+fn accounts_of<R: Abort>(rt: &R, alloc: Global, of: Accounts) -> (SendAccount, RecvAccount) {
+    let (offered, acked, delivered, closed) = of;
+    let send = SendAccount {
+        offered: Vec::from_slice(alloc, offered).expect(rt, "memory"),
+        acked,
+        closed,
+    };
+    let recv = RecvAccount {
+        delivered: Vec::from_slice(alloc, delivered).expect(rt, "memory"),
+        closed: true,
+    };
     (send, recv)
 }
 
-/// What is changed in the accounts, beside the answer of the comparison.
-static DIFFERENCES: [(bool, bool, bool, bool, Result<(), SettleFault>); 6] = [
-    (false, false, false, false, Ok(())),
-    (true, false, false, false, Err(SettleFault::OfferedDiffer)),
-    (false, true, false, false, Err(SettleFault::AckedDiffer)),
-    (false, false, true, false, Err(SettleFault::DeliveredDiffer)),
-    (false, false, false, true, Err(SettleFault::ClosedDiffer)),
-    (true, true, true, true, Err(SettleFault::OfferedDiffer)),
-];
-
-/// What a locked link says of accounts of that round that are changed as the flags say.
-fn settle_changed<R: Wait + Abort>(
+/// Fails the test where a book or a locked link after the round and the close says something else
+/// of these accounts.
+fn assert_compared<R: Wait + Abort>(
     rt: &R,
     alloc: Global,
-    offered: bool,
-    acked: bool,
-    delivered: bool,
-    closed: bool,
-) -> Result<(), SettleFault> {
-    let link = link_after(rt, alloc, Script::none(alloc), &ROUND_AND_CLOSE);
-    let (send, recv) = changed_accounts(rt, alloc, offered, acked, delivered, closed);
-    link.settle(send, recv).map(|_| ())
+    of: Accounts,
+    answer: Option<SettleFault>,
+) {
+    let (send, recv) = accounts_of(rt, alloc, of);
+    let book = book_after(rt, alloc, &ROUND_AND_CLOSE, ROUND_AND_CLOSE.asks);
+    assert!(rt; book.check(&send, &recv).err() == answer, "{answer:?}");
+    let (link, _, _) = link_after(rt, alloc, &ROUND_AND_CLOSE);
+    assert!(rt; link.settle(send, recv).err() == answer, "{answer:?}");
 }
 
 #[test]
 fn accounts_that_differ(rt: HostRuntime) {
-    for (offered, acked, delivered, closed, answer) in &DIFFERENCES {
-        let settled = settle_changed(&rt, rt.alloc(), *offered, *acked, *delivered, *closed);
-        assert!(rt; settled == *answer, "{answer:?}");
+    for (of, answer) in &DIFFERENCES {
+        assert_compared(&rt, rt.alloc(), *of, *answer);
     }
-}
-
-/// What a book says of accounts of that round that are changed as the flags say.
-fn check_changed<R: Abort>(
-    rt: &R,
-    alloc: Global,
-    book: &LinkBook,
-    offered: bool,
-    acked: bool,
-    delivered: bool,
-    closed: bool,
-) -> Result<(), SettleFault> {
-    let (send, recv) = changed_accounts(rt, alloc, offered, acked, delivered, closed);
-    book.check(&send, &recv)
-}
-
-#[test]
-fn accounts_that_differ_from_a_book(rt: HostRuntime) {
-    let script = Script::none(rt.alloc());
-    let book = book_after(&rt, rt.alloc(), script, &ROUND_AND_CLOSE);
-    for (offered, acked, delivered, closed, answer) in &DIFFERENCES {
-        let checked = check_changed(
-            &rt,
-            rt.alloc(),
-            &book,
-            *offered,
-            *acked,
-            *delivered,
-            *closed,
-        );
-        assert!(rt; checked == *answer, "{answer:?}");
-    }
-}
-
-/// How many items the two threads exchange.
-const ITEMS: u32 = 1000;
-
-/// Fails the test where the items are not 1, 2, 3 and so on.
-fn assert_counted<R: Abort>(rt: &R, items: &[Item]) {
-    for place in 0..items.len() {
-        assert!(rt; items[place] as usize == place + 1, "place {place}");
-    }
-}
-
-/// The accounts of both ends of a link, after each has worked in a thread of its own.
-fn both_ends<R: Threads + Wait + Abort + Send + Sync>(
-    rt: &R,
-    link: &LockLink,
-) -> (SendAccount, RecvAccount) {
-    let (send, recv) = link.split();
-    both(rt, rt, send, recv, ITEMS)
-}
-
-#[test]
-fn two_threads_settle(rt: HostRuntime) {
-    let params = Params::new(1, 4).expect(&rt, "parameters");
-    let start = Start::clean(rt.alloc());
-    let script = Script::from_seed(rt.alloc(), 42, 54, 200, 300, 300).expect(&rt, "a script");
-    let link = LockLink::new(rt.alloc(), params, start, script).expect(&rt, "a link");
-    let (sent, received) = both_ends(&rt, &link);
-    let settled = link
-        .settle(sent, received)
-        .expect(&rt, "accounts that agree");
-    assert_counted(&rt, settled.recv.delivered.as_slice());
-    assert!(rt; settled.recv.delivered.len() as u64 >= settled.send.acked);
 }

@@ -1,82 +1,41 @@
-//! Whole runs over links behind locks, over links of two words, and over both.
+//! Whole runs over links behind locks, over links of two words, and over both, and what they print.
+
+ghost use Rattle.std.specs.Prelude.{IfOk};
+ghost use Rattle.stab_run.specs.Reports.{OnePerNode};
 
 use crate::gates::{Order, TestGate};
-use crate::outcomes::{ALL, Links, assert_printed, assert_refused_by, refusal_of_run};
-use stab_core::StartFault;
-use stab_run::{JobFault, RunFault};
-use stab_tree::NodeId;
-use std::alloc::{AllocError, Global};
+use stab_run::{
+    Job, Links, Report, RunFault, read_job, report_text, run_locked, run_mixed, run_words,
+};
+use std::alloc::Global;
 use std::process::Abort;
 use std::sync::Wait;
-use std::test::Fail;
 use std::thread::Threads;
 
-/// Fails the test where the run of the job of this text does not print what is expected, where
-/// `nodes` nodes begin their turns in this order.
-pub(crate) fn assert_in_order<T: Threads + Wait + Send + Sync + Abort + Alloc<A = Global>>(
-    rt: &T,
-    links: &[Links],
-    text: &str,
-    order: Order,
-    nodes: u16,
-    expected: &str,
-) -> Result<(), JobFault> {
-    for &its_links in links {
-        let gate = TestGate::for_nodes(order, nodes);
-        assert_printed(rt, its_links, text, &gate, expected)?;
-    }
-    Ok(())
+/// A job whose turns a gate orders, so that it prints one text over each of some kinds of links.
+pub(crate) struct Run {
+    /// The kinds of links, and beside each the beginning of the job.
+    pub(crate) links: &'static [(Links, &'static str)],
+    /// The rest of the job, in pieces.
+    pub(crate) job: &'static [&'static str],
+    pub(crate) order: Order,
+    pub(crate) nodes: u16,
+    /// The report, in pieces.
+    pub(crate) report: &'static [&'static str],
 }
 
-/// Fails the test where a run of the job of this text, which has two nodes, is not refused so, or
-/// its gate is asked or hears of the end of a node.
-fn assert_refused<T: Threads + Wait + Send + Sync + Abort + Alloc<A = Global>>(
-    rt: &T,
-    links: Links,
-    text: &str,
-    want: RunFault,
-) -> Result<(), JobFault> {
-    let gate = TestGate::for_nodes(Order::Paced, 2);
-    assert_refused_by(rt, links, text, &gate, (want, [0, 0, 0], [0, 0, 0]))
-}
+/// Each kind of links, where the whole job is in the pieces.
+pub(crate) const ALL: [(Links, &str); 3] = [
+    (Links::Locked, ""),
+    (Links::Words, ""),
+    (Links::Mixed, ""),
+];
 
-#[test]
-fn an_unlawful_start_is_refused_before_any_turn(rt: HostRuntime) -> Result<(), Fail> {
-    let text = r#"{"capacity":1,"labels":4,"tree":[{"name":"r"},{"name":"a","parent":"r"}],
-        "items":[7],"starts":[{"frames":[[2,99],[3,98]],"acks":[],"send":0,"recv":1}]}"#;
-    for &links in &ALL {
-        let want = RunFault::Start(NodeId::new(1), StartFault::TooManyFrames);
-        assert_refused(&rt, links, text, want)?;
-    }
-    Ok(())
-}
+/// Links behind locks alone, where the whole job is in the pieces.
+pub(crate) const LOCKED: [(Links, &str); 1] = [(Links::Locked, "")];
 
-#[test]
-fn words_need_capacity_one(rt: HostRuntime) -> Result<(), Fail> {
-    let lawful = r#"{"capacity":2,"labels":6,"tree":[{"name":"r"},{"name":"a","parent":"r"}],
-        "items":[7]}"#;
-    let unlawful = r#"{"capacity":2,"labels":6,"tree":[{"name":"r"},{"name":"a","parent":"r"}],
-        "items":[7],"starts":[{"frames":[[2,99],[3,98],[1,97]],"send":0,"recv":1}]}"#;
-    for &text in &[lawful, unlawful] {
-        assert_refused(&rt, Links::Words, text, RunFault::CapacityNotOne)?;
-    }
-    Ok(())
-}
-
-/// Over locked links alone: a sender's first frame would take the place of a stray in a word.
-#[test]
-fn a_stray_of_the_start_comes_first(rt: HostRuntime) -> Result<(), Fail> {
-    let text = r#"{"capacity":1,"labels":4,"tree":[{"name":"r"},{"name":"a","parent":"r"}],
-        "items":[7,8,9],"turns":1000000,
-        "starts":[{"frames":[[2,99]],"acks":[],"send":0,"recv":65535}]}"#;
-    let expected = "r depth 0 received 3 acked - ended upstream\nitems: 7 8 9\n\
-        a depth 1 received 4 acked 3 ended upstream\nitems: 99 7 8 9\n";
-    assert_in_order(&rt, &[Links::Locked], text, Order::Paced, 2, expected)?;
-    Ok(())
-}
-
-/// The links of paced runs, and the beginnings of their jobs: the parameters.
-const RUNS: [(Links, &str); 5] = [
+/// The links of paced runs, and the parameters of their jobs.
+const OF_STARS: [(Links, &str); 5] = [
     (Links::Locked, CAPACITY_ONE),
     (Links::Locked, CAPACITY_THREE),
     (Links::Words, CAPACITY_ONE),
@@ -84,16 +43,26 @@ const RUNS: [(Links, &str); 5] = [
     (Links::Mixed, CAPACITY_THREE),
 ];
 
+/// The same of chains; in the last two the second link has the lock, and the first.
+const OF_CHAINS: [(Links, &str); 7] = [
+    (Links::Locked, CAPACITY_ONE),
+    (Links::Locked, CAPACITY_THREE),
+    (Links::Words, CAPACITY_ONE),
+    (Links::Mixed, CAPACITY_ONE),
+    (Links::Mixed, CAPACITY_THREE),
+    (
+        Links::Mixed,
+        r#"{"capacity":1,"labels":4,"turns":1000000,"links":[null,{"capacity":3,"labels":8}],"#,
+    ),
+    (
+        Links::Mixed,
+        r#"{"capacity":1,"labels":4,"turns":1000000,"links":[{"capacity":3,"labels":8},null],"#,
+    ),
+];
+
 const CAPACITY_ONE: &str = r#"{"capacity":1,"labels":4,"turns":1000000,"#;
 
 const CAPACITY_THREE: &str = r#"{"capacity":3,"labels":8,"turns":1000000,"#;
-
-/// The same of mixed runs with two links, one of each kind: the second link has the lock, and the
-/// first.
-const OF_BOTH_KINDS: [&str; 2] = [
-    r#"{"capacity":1,"labels":4,"turns":1000000,"links":[null,{"capacity":3,"labels":8}],"#,
-    r#"{"capacity":1,"labels":4,"turns":1000000,"links":[{"capacity":3,"labels":8},null],"#,
-];
 
 /// The items 1 to 100.
 const HUNDRED_ITEMS: &str = r#""items":[1,2,3,4,5,6,7,8,9,10,11,12,13,14,15,16,17,18,19,20,
@@ -129,153 +98,228 @@ const STAR: [&str; 8] = [
     HUNDRED_RECEIVED,
 ];
 
-/// The ends of jobs of a chain of three: without scripts, and with a drawn script for each link.
-const CHAINS: [&str; 2] = [
-    r#""tree":[{"name":"r"},{"name":"a","parent":"r"},{"name":"b","parent":"a"}]}"#,
-    r#""tree":[{"name":"r"},{"name":"a","parent":"r"},{"name":"b","parent":"a"}],
-        "scripts":[{"seed":[42,54],"length":50,"loss":300,"repeat":300},
-        {"seed":[42,54],"length":50,"loss":300,"repeat":300}]}"#,
-];
+/// The end of a job of a chain of three, and the same with a drawn script for each link.
+const OF_CHAIN: &str =
+    r#""tree":[{"name":"r"},{"name":"a","parent":"r"},{"name":"b","parent":"a"}]}"#;
+
+const OF_CHAIN_WITH_SCRIPTS: &str = r#""tree":[{"name":"r"},{"name":"a","parent":"r"},
+    {"name":"b","parent":"a"}],
+    "scripts":[{"seed":[42,54],"length":50,"loss":300,"repeat":300},
+    {"seed":[42,54],"length":50,"loss":300,"repeat":300}]}"#;
 
 /// The same of a star of four.
-const STARS: [&str; 2] = [
-    r#""tree":[{"name":"r"},{"name":"a","parent":"r"},{"name":"b","parent":"r"},
-        {"name":"c","parent":"r"}]}"#,
-    r#""tree":[{"name":"r"},{"name":"a","parent":"r"},{"name":"b","parent":"r"},
-        {"name":"c","parent":"r"}],
-        "scripts":[{"seed":[42,54],"length":50,"loss":300,"repeat":300},
-        {"seed":[42,54],"length":50,"loss":300,"repeat":300},
-        {"seed":[42,54],"length":50,"loss":300,"repeat":300}]}"#,
+const OF_STAR: &str = r#""tree":[{"name":"r"},{"name":"a","parent":"r"},
+    {"name":"b","parent":"r"},{"name":"c","parent":"r"}]}"#;
+
+const OF_STAR_WITH_SCRIPTS: &str = r#""tree":[{"name":"r"},{"name":"a","parent":"r"},
+    {"name":"b","parent":"r"},{"name":"c","parent":"r"}],
+    "scripts":[{"seed":[42,54],"length":50,"loss":300,"repeat":300},
+    {"seed":[42,54],"length":50,"loss":300,"repeat":300},
+    {"seed":[42,54],"length":50,"loss":300,"repeat":300}]}"#;
+
+/// The links of jobs of two turns.
+const OF_TWO_TURNS: [(Links, &str); 4] = [
+    (Links::Locked, r#"{"capacity":1,"labels":4,"turns":2,"#),
+    (Links::Words, r#"{"capacity":1,"labels":4,"turns":2,"#),
+    (Links::Mixed, r#"{"capacity":1,"labels":4,"turns":2,"#),
+    // (this link is behind a lock also in a mixed run)
+    (Links::Mixed, r#"{"capacity":3,"labels":8,"turns":2,"#),
+];
+
+/// A root and its child with one item.
+const ONE_ITEM: &str = r#""items":[7],"tree":[{"name":"r"},{"name":"a","parent":"r"}]}"#;
+
+/// What the child of a root is told that closed the link before it began.
+const NOTHING_ARRIVED: &str = "r depth 0 received 1 acked - ended turns\nitems: 7\n\
+    a depth 1 received 0 acked 0 ended upstream\nitems:\n";
+
+/// The runs.
+static RUNS: [Run; 10] = [
+    // each node receives everything, and each link has all of it acknowledged
+    Run {
+        links: &OF_CHAINS,
+        job: &[HUNDRED_ITEMS, OF_CHAIN],
+        order: Order::Paced,
+        nodes: 3,
+        report: &CHAIN,
+    },
+    Run {
+        links: &OF_CHAINS,
+        job: &[HUNDRED_ITEMS, OF_CHAIN_WITH_SCRIPTS],
+        order: Order::Paced,
+        nodes: 3,
+        report: &CHAIN,
+    },
+    Run {
+        links: &OF_STARS,
+        job: &[HUNDRED_ITEMS, OF_STAR],
+        order: Order::Paced,
+        nodes: 4,
+        report: &STAR,
+    },
+    Run {
+        links: &OF_STARS,
+        job: &[HUNDRED_ITEMS, OF_STAR_WITH_SCRIPTS],
+        order: Order::Paced,
+        nodes: 4,
+        report: &STAR,
+    },
+    Run {
+        links: &LOCKED,
+        job: &[
+            r#"{"capacity":1,"labels":4,"items":[1,2,3],"turns":1000000,
+            "tree":[{"name":"r"},{"name":"a","parent":"r"}]}"#,
+        ],
+        order: Order::Paced,
+        nodes: 2,
+        report: &[
+            "r depth 0 received 3 acked - ended upstream\nitems: 1 2 3\n\
+            a depth 1 received 3 acked 3 ended upstream\nitems: 1 2 3\n",
+        ],
+    },
+    // a stray of the start comes first; a sender's first frame would take its place in a word
+    Run {
+        links: &LOCKED,
+        job: &[
+            r#"{"capacity":1,"labels":4,"items":[7,8,9],"turns":1000000,
+            "tree":[{"name":"r"},{"name":"a","parent":"r"}],
+            "starts":[{"frames":[[2,99]],"acks":[],"send":0,"recv":65535}]}"#,
+        ],
+        order: Order::Paced,
+        nodes: 2,
+        report: &[
+            "r depth 0 received 3 acked - ended upstream\nitems: 7 8 9\n\
+            a depth 1 received 4 acked 3 ended upstream\nitems: 99 7 8 9\n",
+        ],
+    },
+    // an opening, which nobody published, is handed on before what was published
+    Run {
+        links: &ALL,
+        job: &[
+            r#"{"version":2,"h":2,"openings":[[],[50,51],[]],"capacity":1,"labels":4,
+            "items":[7,8],"turns":1000000,
+            "tree":[{"name":"r"},{"name":"a","parent":"r"},{"name":"b","parent":"a"}]}"#,
+        ],
+        order: Order::Paced,
+        nodes: 3,
+        report: &[
+            "r depth 0 received 2 acked - ended upstream\nitems: 7 8\n\
+            a depth 1 received 4 acked 2 ended upstream\nitems: 50 51 7 8\n\
+            b depth 2 received 4 acked 4 ended upstream\nitems: 50 51 7 8\n",
+        ],
+    },
+    // the order of turns decides what arrives, in two turns and in one; to take turns the workers
+    // have to run together
+    Run {
+        links: &OF_TWO_TURNS,
+        job: &[ONE_ITEM],
+        order: Order::RootFirst,
+        nodes: 2,
+        report: &[NOTHING_ARRIVED],
+    },
+    Run {
+        links: &LOCKED,
+        job: &[r#"{"capacity":1,"labels":4,"turns":1,"#, ONE_ITEM],
+        order: Order::RootFirst,
+        nodes: 2,
+        report: &[NOTHING_ARRIVED],
+    },
+    Run {
+        links: &OF_TWO_TURNS,
+        job: &[ONE_ITEM],
+        order: Order::InTurns,
+        nodes: 2,
+        report: &[
+            "r depth 0 received 1 acked - ended upstream\nitems: 7\n\
+            a depth 1 received 1 acked 1 ended upstream\nitems: 7\n",
+        ],
+    },
 ];
 
 /// These pieces of a text, put together.
-fn joined(alloc: Global, pieces: &[&str]) -> Result<String, AllocError> {
+fn joined(rt: &impl Abort, alloc: Global, first: &str, pieces: &[&str]) -> String {
     let mut text = String::new(alloc);
+    text.push_str(first).expect(rt, "memory");
     for piece in pieces {
-        text.push_str(piece)?;
+        text.push_str(piece).expect(rt, "memory");
     }
-    Ok(text)
+    text
 }
 
-/// Fails the test where the run of the job of these pieces of a text does not print what is
-/// expected, where `nodes` nodes begin their turns in this order.
-pub(crate) fn assert_joined<T: Threads + Wait + Send + Sync + Abort + Alloc<A = Global>>(
+/// The report of a job over such links, under a gate.
+fn report_of<T: Threads + Wait + Send + Sync>(
     rt: &T,
+    alloc: Global,
     links: Links,
-    pieces: &[&str],
-    order: Order,
-    nodes: u16,
-    expected: &str,
-) -> Result<(), JobFault> {
-    let text = joined(rt.alloc(), pieces)?;
-    assert_in_order(rt, &[links], text.as_str(), order, nodes, expected)
+    job: &Job,
+    gate: &TestGate,
+) -> Result<Report, RunFault>
+    ensures { IfOk result (λ report. OnePerNode job.now.tree.parents report) }
+{
+    match links {
+        Links::Locked => run_locked(rt, alloc, job, gate),
+        Links::Words => run_words(rt, alloc, job, gate),
+        Links::Mixed => run_mixed(rt, alloc, job, gate),
+    }
 }
 
-/// Runs a job of a hundred items, where `nodes` nodes keep pace: this is what it prints, in pieces.
-fn assert_paced<T: Threads + Wait + Send + Sync + Abort + Alloc<A = Global>>(
+/// What the run of a job over such links prints, under a gate, or how it is refused.
+fn printed<T: Threads + Wait + Send + Sync + Abort>(
     rt: &T,
+    alloc: Global,
     links: Links,
-    parameters: &str,
-    tree: &str,
-    nodes: u16,
-    expected: &[&str],
-) -> Result<(), JobFault> {
-    let expected = joined(rt.alloc(), expected)?;
-    assert_joined(
-        rt,
-        links,
-        &[parameters, HUNDRED_ITEMS, tree],
-        Order::Paced,
-        nodes,
-        expected.as_str(),
-    )
+    job: &Job,
+    gate: &TestGate,
+) -> Result<String, RunFault> {
+    match report_of(rt, alloc, links, job, gate) {
+        Ok(report) => Ok(report_text(alloc, job.tree(), &report).expect(rt, "memory")),
+        Err(fault) => Err(fault),
+    }
 }
 
-/// Runs jobs of chains so: each node receives everything, and each link has all of it acknowledged.
-fn assert_paced_chains<T: Threads + Wait + Send + Sync + Abort + Alloc<A = Global>>(
+/// What the run of the job of this text prints over such links, under a gate, or how it is refused.
+pub(crate) fn outcome<T: Threads + Wait + Send + Sync + Abort>(
     rt: &T,
-    links: Links,
-    parameters: &str,
-) -> Result<(), JobFault> {
-    for tree in CHAINS {
-        assert_paced(rt, links, parameters, tree, 3, &CHAIN)?;
-    }
-    Ok(())
-}
-
-/// The same of chains and of stars.
-fn assert_paced_trees<T: Threads + Wait + Send + Sync + Abort + Alloc<A = Global>>(
-    rt: &T,
-    links: Links,
-    parameters: &str,
-) -> Result<(), JobFault> {
-    for tree in STARS {
-        assert_paced(rt, links, parameters, tree, 4, &STAR)?;
-    }
-    assert_paced_chains(rt, links, parameters)
-}
-
-#[test]
-fn paced_runs_deliver_everything(rt: HostRuntime) -> Result<(), Fail> {
-    for &(links, parameters) in &RUNS {
-        assert_paced_trees(&rt, links, parameters)?;
-    }
-    for parameters in OF_BOTH_KINDS {
-        assert_paced_chains(&rt, Links::Mixed, parameters)?;
-    }
-    Ok(())
-}
-
-/// A root and its child, one item and two turns.
-const TWO_TURNS: &str = r#"{"capacity":1,"labels":4,"turns":2,"items":[7],
-    "tree":[{"name":"r"},{"name":"a","parent":"r"}]}"#;
-
-/// The same, where their link is behind a lock also in a mixed run.
-const TWO_TURNS_WITH_A_LOCK: &str = r#"{"capacity":3,"labels":8,"turns":2,"items":[7],
-    "tree":[{"name":"r"},{"name":"a","parent":"r"}]}"#;
-
-/// Fails the test where a run of two nodes gives no report, of which each begins its first turn
-/// once the other asks for its own.
-fn assert_together<T: Threads + Wait + Send + Sync + Abort + Alloc<A = Global>>(
-    rt: &T,
+    alloc: Global,
     links: Links,
     text: &str,
-) -> Result<(), JobFault> {
-    let gate = TestGate::for_nodes(Order::Together, 2);
-    let refused = refusal_of_run(rt, rt.alloc(), links, text, &gate)?;
-    let seen = (refused, gate.begun.of(0) > 0, gate.begun.of(1) > 0);
-    assert!(rt; seen == (None, true, true), "{links:?}: {seen:?}");
-    Ok(())
+    gate: &TestGate,
+) -> Result<String, RunFault> {
+    let job = read_job(alloc, text.as_bytes()).expect(rt, "a job");
+    printed(rt, alloc, links, &job, gate)
 }
 
-#[test]
-fn workers_run_together(rt: HostRuntime) -> Result<(), Fail> {
-    for &links in &ALL {
-        assert_together(&rt, links, TWO_TURNS)?;
-    }
-    assert_together(&rt, Links::Mixed, TWO_TURNS_WITH_A_LOCK)?;
-    Ok(())
-}
-
-/// Fails the test where the order of turns does not decide what arrives of the job of this text,
-/// which has two nodes, an item and two turns: the other node begins once the root is done, or they
-/// take turns.
-fn assert_decided<T: Threads + Wait + Send + Sync + Abort + Alloc<A = Global>>(
+/// Fails the test where a run over such links does not print what is expected.
+fn assert_printed<T: Threads + Wait + Send + Sync + Abort>(
     rt: &T,
-    links: &[Links],
-    text: &str,
-) -> Result<(), JobFault> {
-    let root_first = "r depth 0 received 1 acked - ended turns\nitems: 7\n\
-        a depth 1 received 0 acked 0 ended upstream\nitems:\n";
-    assert_in_order(rt, links, text, Order::RootFirst, 2, root_first)?;
-    let in_turns = "r depth 0 received 1 acked - ended upstream\nitems: 7\n\
-        a depth 1 received 1 acked 1 ended upstream\nitems: 7\n";
-    assert_in_order(rt, links, text, Order::InTurns, 2, in_turns)
+    alloc: Global,
+    links: Links,
+    begins: &str,
+    run: &Run,
+) {
+    let text = joined(rt, alloc, begins, run.job);
+    let gate = TestGate::new(run.order, run.nodes, [0; 4]);
+    let report = joined(rt, alloc, "", run.report);
+    match outcome(rt, alloc, links, text.as_str(), &gate) {
+        Ok(printed) => assert!(rt; printed.as_str() == report.as_str(), "{links:?}: {printed}"),
+        Err(fault) => panic!(rt; "{links:?}: {fault:?}"),
+    }
+}
+
+/// Fails the test where one of these runs does not print what is expected.
+pub(crate) fn assert_all<T: Threads + Wait + Send + Sync + Abort>(
+    rt: &T,
+    alloc: Global,
+    runs: &[Run],
+) {
+    for run in runs {
+        for (links, begins) in run.links {
+            assert_printed(rt, alloc, *links, begins, run);
+        }
+    }
 }
 
 #[test]
-fn the_order_of_turns_decides_what_arrives(rt: HostRuntime) -> Result<(), Fail> {
-    assert_decided(&rt, &ALL, TWO_TURNS)?;
-    assert_decided(&rt, &[Links::Mixed], TWO_TURNS_WITH_A_LOCK)?;
-    Ok(())
+fn runs_whose_outcome_is_worked_out(rt: HostRuntime) {
+    assert_all(&rt, rt.alloc(), &RUNS);
 }

@@ -1,17 +1,13 @@
-//! Runs of one worker per node: over ends without a link, whose answers depend on no schedule, and
-//! over a locked link under a gate that keeps the workers near to each other.
+//! Runs of one worker per node, over ends without a link, whose answers depend on no schedule.
 
 ghost use Rattle.std.specs.Prelude.{◌≡◌, ⊤, [], ◌∷◌, All};
 ghost use Rattle.stab_ends.specs.Accounts.{new_sender, new_receiver};
 ghost use Rattle.stab_tree.specs.NodeOpenings.{FitTree};
 
 use serde_json::Value;
-use stab_acts::Script;
-use stab_core::Start;
 use stab_ends::plain::{PlainRecv, PlainSend};
 use stab_ends::{FrameSeen, RecvAccount, RecvSide, SendAccount, SendSide};
-use stab_frames::{Item, Params, Sequence};
-use stab_lock::LockLink;
+use stab_frames::{Item, Sequence};
 use stab_node::{Ended, Gate, Gathered, NodeFault, WorkersFault, run_workers};
 use stab_tree::{Tree, read_tree};
 use stab_treecore::Openings;
@@ -19,8 +15,6 @@ use std::alloc::Global;
 use std::collections::VecDeque;
 use std::process::Abort;
 use std::sync::Wait;
-use std::sync::atomic::{AtomicU64, Ordering};
-use std::thread;
 use std::thread::Threads;
 
 /// The root r is second. Its children are a and c, and b is a child of a. So the links are those
@@ -32,12 +26,73 @@ const TREE: &str = r#"[{"name":"a","parent":"r"},{"name":"r"},
 const PUBLISHED: [Item; 3] = [1, 2, 3];
 
 /// The most turns of a worker in every run.
-const TURNS: u32 = 1_000_000;
+const TURNS: u32 = 1000;
 
-/// The tree that this text describes.
-fn tree(rt: &impl Abort, alloc: Global, text: &str) -> Tree {
-    let value = Value::from_str(alloc, text).expect(rt, "JSON");
+/// A run of that tree, and what it has to leave: of the nodes in file order, and of the links.
+struct Run {
+    /// The items that a begins with.
+    opening: &'static [Item],
+    /// The item that the upper end of each link sees before the close, and delivers.
+    seen: [Item; 3],
+    /// Whether the lower end of each link acknowledges at once, or never.
+    acknowledge: [bool; 3],
+    received: &'static [&'static [Item]],
+    ended: [Ended; 4],
+    /// What each link was offered, and how many of these items are acknowledged. It is closed.
+    offered: &'static [(&'static [Item], u64)],
+}
+
+/// The runs. Each node hands on what it received, and its opening before that; the ends of each
+/// link go to its child and to its parent, and what was dealt out so is gathered again.
+static RUNS: [Run; 3] = [
+    Run {
+        opening: &[],
+        seen: [10, 20, 30],
+        acknowledge: [true, true, true],
+        received: &[&[10], &PUBLISHED, &[20], &[30]],
+        ended: [Ended::Upstream; 4],
+        offered: &[(&PUBLISHED, 3), (&[10], 1), (&PUBLISHED, 3)],
+    },
+    Run {
+        opening: &[],
+        seen: [11, 21, 31],
+        acknowledge: [true, false, true],
+        received: &[&[11], &PUBLISHED, &[21], &[31]],
+        ended: [
+            Ended::Turns,
+            Ended::Upstream,
+            Ended::Upstream,
+            Ended::Upstream,
+        ],
+        offered: &[(&PUBLISHED, 3), (&[11], 0), (&PUBLISHED, 3)],
+    },
+    Run {
+        opening: &[50, 51],
+        seen: [10, 20, 30],
+        acknowledge: [true, true, true],
+        received: &[&[50, 51, 10], &PUBLISHED, &[20], &[30]],
+        ended: [Ended::Upstream; 4],
+        offered: &[(&PUBLISHED, 3), (&[50, 51, 10], 3), (&PUBLISHED, 3)],
+    },
+];
+
+/// The tree.
+fn tree(rt: &impl Abort, alloc: Global) -> Tree {
+    let value = Value::from_str(alloc, TREE).expect(rt, "JSON");
     read_tree(alloc, &value).expect(rt, "a tree")
+}
+
+/// The openings of the tree where a, which is first, begins with these items.
+fn openings(rt: &impl Abort, alloc: Global, tree: &Tree, first: &[Item]) -> Openings
+    ensures { FitTree tree.now.parents result }
+{
+    let mut lists = Vec::with_capacity(alloc, 4).expect(rt, "memory");
+    let first = Vec::from_slice(alloc, first).expect(rt, "memory");
+    lists.push(Sequence::from_vec(first)).expect(rt, "memory");
+    for _ in 0..3 {
+        lists.push(Sequence::new(alloc)).expect(rt, "memory");
+    }
+    Openings::new(tree, 2, lists).expect(rt, "openings")
 }
 
 /// A gate that refuses each turn of the nodes from this one on.
@@ -104,345 +159,70 @@ fn plain_recvs(rt: &impl Abort, alloc: Global, seen: [Item; 3]) -> Vec<PlainRecv
 /// What a run leaves.
 type Left = Gathered<RecvAccount, SendAccount>;
 
-/// A run of a tree over ends without a link, one of each kind for each link, from these openings.
-fn run_plain_from<R: Threads + Wait + Sync + Abort>(
+/// A run over ends without a link, one of each kind for each link.
+fn left_by<R: Threads + Wait + Sync + Abort>(
     rt: &R,
     alloc: Global,
-    tree: &Tree,
-    openings: &Openings,
-    sends: Vec<PlainSend>,
-    recvs: Vec<PlainRecv>,
+    run: &Run,
     gate: &RefusesFrom,
-) -> Result<Left, WorkersFault>
-    requires fits { FitTree tree.now.parents openings.now }
-    requires lowers { All (λ d. ⟦<PlainSend as SendSide>⟧.sent d ≡ new_sender) sends.items }
-    requires uppers { All (λ u. ⟦<PlainRecv as RecvSide>⟧.received u ≡ new_receiver) recvs.items }
-{
+) -> Result<Left, WorkersFault> {
+    let tree = tree(rt, alloc);
+    let openings = openings(rt, alloc, &tree, run.opening);
+    let sends = plain_sends(rt, alloc, run.acknowledge);
+    let recvs = plain_recvs(rt, alloc, run.seen);
     let links = tree.link_count() as usize;
     assert!(rt; links == sends.len() && links == recvs.len());
     run_workers(
         rt,
         &(),
         alloc,
-        tree,
+        &tree,
         sends,
         recvs,
         &PUBLISHED,
-        openings,
+        &openings,
         TURNS,
         gate,
     )
 }
 
-/// The same from empty openings.
-fn run_plain<R: Threads + Wait + Sync + Abort>(
-    rt: &R,
-    alloc: Global,
-    tree: &Tree,
-    sends: Vec<PlainSend>,
-    recvs: Vec<PlainRecv>,
-    gate: &RefusesFrom,
-) -> Result<Left, WorkersFault>
-    requires lowers { All (λ d. ⟦<PlainSend as SendSide>⟧.sent d ≡ new_sender) sends.items }
-    requires uppers { All (λ u. ⟦<PlainRecv as RecvSide>⟧.received u ≡ new_receiver) recvs.items }
-{
-    let openings = Openings::none(alloc, tree).expect(rt, "memory");
-    run_plain_from(rt, alloc, tree, &openings, sends, recvs, gate)
-}
-
-/// A run of the tree of three links: their upper ends see these items, and their lower ends
-/// acknowledge at once or never.
-fn run_links<R: Threads + Wait + Sync + Abort>(
-    rt: &R,
-    alloc: Global,
-    seen: [Item; 3],
-    acknowledge: [bool; 3],
-    gate: &RefusesFrom,
-) -> Result<Left, WorkersFault> {
-    let tree = tree(rt, alloc, TREE);
-    let sends = plain_sends(rt, alloc, acknowledge);
-    let recvs = plain_recvs(rt, alloc, seen);
-    run_plain(rt, alloc, &tree, sends, recvs, gate)
-}
-
-/// What such a run leaves where no turn is refused.
-fn left_by<R: Threads + Wait + Sync + Abort>(
-    rt: &R,
-    alloc: Global,
-    seen: [Item; 3],
-    acknowledge: [bool; 3],
-) -> Left {
-    run_links(rt, alloc, seen, acknowledge, &RefusesFrom(4)).expect(rt, "a run")
-}
-
-/// The items that a node received.
-fn received(left: &Left, node: usize) -> Option<&[Item]> {
-    match left.received.get(node) {
-        Some(items) => Some(items.as_slice()),
-        None => None,
-    }
-}
-
-/// The items that a link delivered.
-fn delivered(left: &Left, link: usize) -> Option<&[Item]> {
-    match left.recvs.get(link) {
-        Some(recv) => Some(recv.delivered.as_slice()),
-        None => None,
-    }
-}
-
-/// Fails the test where the nodes received other items, in file order.
-fn assert_received(rt: &impl Abort, left: &Left, want: &[&[Item]]) {
-    assert!(rt; left.received.len() == want.len(), "received");
-    for (items, want) in left.received.iter().zip(want) {
+/// Fails the test where a run left something else of its nodes.
+fn assert_nodes(rt: &impl Abort, left: &Left, run: &Run) {
+    assert!(rt; left.ended.as_slice() == run.ended.as_slice(), "ended");
+    assert!(rt; left.received.len() == run.received.len(), "received");
+    for (items, want) in left.received.iter().zip(run.received) {
         assert!(rt; items.as_slice() == *want, "received");
     }
 }
 
-/// Fails the test where a worker of that many did not end with its upper end.
-fn assert_ended(rt: &impl Abort, left: &Left, count: usize) {
-    assert!(rt; left.ended.len() == count, "ended");
-    for ended in &left.ended {
-        assert!(rt; *ended == Ended::Upstream, "ended");
-    }
-}
-
-/// Whether a link was offered these items, and then closed.
-fn was_offered(send: &SendAccount, want: &[Item]) -> bool {
-    send.offered.as_slice() == want && send.closed
-}
-
-/// Fails the test where other items were offered on the links, or one of them was not acknowledged.
-fn assert_offered(rt: &impl Abort, left: &Left, want: &[&[Item]]) {
-    assert!(rt; left.sends.len() == want.len(), "offered");
-    for (send, want) in left.sends.iter().zip(want) {
-        assert!(rt; was_offered(send, want), "offered");
-        assert!(rt; send.acked == want.len() as u64, "acknowledged");
-    }
-}
-
-/// Whether a link delivered these items, and then the close.
-fn has_delivered(recv: &RecvAccount, want: &[Item]) -> bool {
-    recv.delivered.as_slice() == want && recv.closed
-}
-
-/// Fails the test where the links delivered other items.
-fn assert_delivered(rt: &impl Abort, left: &Left, want: &[&[Item]]) {
-    assert!(rt; left.recvs.len() == want.len(), "delivered");
-    for (recv, want) in left.recvs.iter().zip(want) {
-        assert!(rt; has_delivered(recv, want), "delivered");
-    }
-}
-
-#[test]
-fn each_node_hands_on_what_it_received(rt: HostRuntime) {
-    let left = left_by(&rt, rt.alloc(), [10, 20, 30], [true; 3]);
-    assert_received(&rt, &left, &[&[10], &PUBLISHED, &[20], &[30]]);
-    assert_ended(&rt, &left, 4);
-    assert_offered(&rt, &left, &[&PUBLISHED, &[10], &PUBLISHED]);
-    assert_delivered(&rt, &left, &[&[10], &[20], &[30]]);
-}
-
-/// Whether the child of this link received what the upper end of the link sees, and its parent
-/// offered what it received.
-fn is_link(left: &Left, link: usize, seen: Item, child: usize, parent: usize) -> bool {
-    let Some(send) = left.sends.get(link) else {
-        return false;
-    };
-    received(left, child) == Some([seen].as_slice())
-        && received(left, parent) == Some(send.offered.as_slice())
-}
-
-#[test]
-fn the_ends_of_each_link_go_to_its_child_and_to_its_parent(rt: HostRuntime) {
-    let left = left_by(&rt, rt.alloc(), [11, 21, 31], [true; 3]);
-    assert!(rt; left.received.len() == 4);
-    for (link, seen, child, parent) in &[(0, 11, 0, 1), (1, 21, 2, 0), (2, 31, 3, 1)] {
+/// Fails the test where a run left something else of its links.
+fn assert_links(rt: &impl Abort, left: &Left, run: &Run) {
+    assert!(rt; left.sends.len() == run.offered.len() && left.recvs.len() == run.seen.len());
+    for (send, (items, acked)) in left.sends.iter().zip(run.offered) {
         assert!(rt;
-            is_link(&left, *link, *seen, *child, *parent),
-            "link {link}"
+            send.offered.as_slice() == *items && send.acked == *acked && send.closed,
+            "offered"
+        );
+    }
+    for (recv, item) in left.recvs.iter().zip(&run.seen) {
+        assert!(rt;
+            recv.delivered.as_slice() == [*item].as_slice() && recv.closed,
+            "delivered"
         );
     }
 }
 
-/// Whether the ends of a link are those that see this item and have that many of their items
-/// acknowledged.
-fn are_ends(left: &Left, link: usize, seen: Item, acked: u64) -> bool {
-    let Some(send) = left.sends.get(link) else {
-        return false;
-    };
-    delivered(left, link) == Some([seen].as_slice()) && send.acked == acked
-}
-
 #[test]
-fn what_is_dealt_out_is_gathered_again(rt: HostRuntime) {
-    let left = left_by(&rt, rt.alloc(), [11, 21, 31], [true, false, true]);
-    assert!(rt; left.sends.len() == 3 && left.recvs.len() == 3);
-    for (link, seen, acked) in &[(0, 11, 3), (1, 21, 0), (2, 31, 3)] {
-        assert!(rt; are_ends(&left, *link, *seen, *acked), "link {link}");
+fn each_node_hands_on_what_it_has(rt: HostRuntime) {
+    for run in &RUNS {
+        let left = left_by(&rt, rt.alloc(), run, &RefusesFrom(4)).expect(&rt, "a run");
+        assert_nodes(&rt, &left, run);
+        assert_links(&rt, &left, run);
     }
-}
-
-/// The openings of the tree: a, which is first, begins with 50 and 51.
-fn openings_at_a(rt: &impl Abort, alloc: Global, tree: &Tree) -> Openings
-    ensures { FitTree tree.now.parents result }
-{
-    let mut lists = Vec::with_capacity(alloc, 4).expect(rt, "memory");
-    let first = Vec::from_slice(alloc, &[50, 51]).expect(rt, "memory");
-    lists.push(Sequence::from_vec(first)).expect(rt, "memory");
-    for _ in 0..3 {
-        lists.push(Sequence::new(alloc)).expect(rt, "memory");
-    }
-    Openings::new(tree, 2, lists).expect(rt, "openings")
-}
-
-/// What a run of the tree of three links from those openings leaves.
-fn left_from_an_opening<R: Threads + Wait + Sync + Abort>(rt: &R, alloc: Global) -> Left {
-    let tree = tree(rt, alloc, TREE);
-    let openings = openings_at_a(rt, alloc, &tree);
-    let sends = plain_sends(rt, alloc, [true; 3]);
-    let recvs = plain_recvs(rt, alloc, [10, 20, 30]);
-    let gate = RefusesFrom(4);
-    let left = run_plain_from(rt, alloc, &tree, &openings, sends, recvs, &gate);
-    left.expect(rt, "a run")
-}
-
-#[test]
-fn a_node_hands_on_its_opening_first(rt: HostRuntime) {
-    let left = left_from_an_opening(&rt, rt.alloc());
-    assert_received(&rt, &left, &[&[50, 51, 10], &PUBLISHED, &[20], &[30]]);
-    assert_ended(&rt, &left, 4);
-    assert_offered(&rt, &left, &[&PUBLISHED, &[50, 51, 10], &PUBLISHED]);
 }
 
 #[test]
 fn the_first_node_in_file_order_is_reported(rt: HostRuntime) {
-    let refused = run_links(&rt, rt.alloc(), [10, 20, 30], [true; 3], &RefusesFrom(2)).err();
+    let refused = left_by(&rt, rt.alloc(), &RUNS[0], &RefusesFrom(2)).err();
     assert!(rt; matches!(refused, Some(WorkersFault::Node(2, NodeFault::Gate))));
-}
-
-/// What a run of a root alone leaves.
-fn left_by_a_root<R: Threads + Wait + Sync + Abort>(rt: &R, alloc: Global) -> Left {
-    let tree = tree(rt, alloc, r#"[{"name":"r"}]"#);
-    let sends: Vec<PlainSend> = Vec::new(alloc);
-    let recvs: Vec<PlainRecv> = Vec::new(alloc);
-    run_plain(rt, alloc, &tree, sends, recvs, &RefusesFrom(1)).expect(rt, "a run")
-}
-
-#[test]
-fn a_root_alone_has_what_is_published(rt: HostRuntime) {
-    let left = left_by_a_root(&rt, rt.alloc());
-    assert_received(&rt, &left, &[&PUBLISHED]);
-    assert!(rt; left.sends.is_empty() && left.recvs.is_empty());
-}
-
-#[test]
-fn a_node_alone_has_no_end(rt: HostRuntime) {
-    let left = left_by_a_root(&rt, rt.alloc());
-    assert_ended(&rt, &left, 1);
-    assert_offered(&rt, &left, &[]);
-    assert_delivered(&rt, &left, &[]);
-}
-
-/// The number of a node's last turn, once it is done.
-const DONE: u64 = 0xffff_ffff_ffff_ffff;
-
-/// How many turns a worker may be ahead of another.
-const MOST_AHEAD: u64 = 64;
-
-/// How often a worker looks before it gives up.
-const MOST_LOOKS: u32 = 100_000_000;
-
-/// A gate for two nodes: it holds a turn until the other node is done or is near to that turn.
-#[derive(Drop)]
-struct Pace {
-    turns: [AtomicU64; 2],
-}
-
-impl Gate for Pace {
-    ghost may_refuse = { λ gate node turn. ⊤ };
-
-    ghost has_passed = { λ gate node turn. ⊤ };
-
-    ghost is_done = { λ gate node. ⊤ };
-
-    fn pass(&self, node: u16, turn: u32) -> bool {
-        if let Some(own) = self.turns.get(node as usize) {
-            own.store(turn as u64, Ordering::SeqCst);
-        }
-        for other in &self.turns {
-            if !comes_near(other, turn as u64) {
-                return false;
-            }
-        }
-        true
-    }
-
-    fn done(&self, node: u16) {
-        if let Some(own) = self.turns.get(node as usize) {
-            own.store(DONE, Ordering::SeqCst);
-        }
-    }
-}
-
-/// Whether a node comes near to this turn.
-fn comes_near(other: &AtomicU64, turn: u64) -> bool {
-    for _ in 0..MOST_LOOKS {
-        if other.load(Ordering::SeqCst).saturating_add(MOST_AHEAD) >= turn {
-            return true;
-        }
-        thread::yield_now();
-    }
-    false
-}
-
-/// A list of one end.
-fn one<T: Drop>(rt: &impl Abort, alloc: Global, end: T) -> Vec<T>
-    ensures { result.items ≡ end ∷ [] }
-{
-    let mut ends = Vec::with_capacity(alloc, 1).expect(rt, "memory");
-    ends.push_reserved(end);
-    ends
-}
-
-/// A run of a parent and its child over this link.
-#[tactic(auto, using(crate::proofs::Three::one_holds))]
-fn run_pair<R: Threads + Wait + Send + Sync + Abort>(
-    rt: &R,
-    alloc: Global,
-    tree: &Tree,
-    openings: &Openings,
-    link: &LockLink,
-) -> Result<Left, WorkersFault>
-    requires { FitTree tree.now.parents openings.now }
-{
-    let (send, recv) = link.split::<R>();
-    let sends = one(rt, alloc, send);
-    let recvs = one(rt, alloc, recv);
-    let links = tree.link_count() as usize;
-    assert!(rt; links == sends.len() && links == recvs.len());
-    let gate = Pace {
-        turns: [AtomicU64::new(0), AtomicU64::new(0)],
-    };
-    run_workers(
-        rt, rt, alloc, tree, sends, recvs, &PUBLISHED, openings, TURNS, &gate,
-    )
-}
-
-/// What a run of a root and its child over a new locked link leaves.
-fn left_by_a_pair<R: Threads + Wait + Send + Sync + Abort>(rt: &R, alloc: Global) -> Left {
-    let tree = tree(rt, alloc, r#"[{"name":"r"},{"name":"a","parent":"r"}]"#);
-    let openings = Openings::none(alloc, &tree).expect(rt, "memory");
-    let params = Params::new(1, 4).expect(rt, "parameters");
-    let link = LockLink::new(alloc, params, Start::clean(alloc), Script::none(alloc)).expect(
-        rt, "a link",
-    );
-    run_pair(rt, alloc, &tree, &openings, &link).expect(rt, "a run")
-}
-
-#[test]
-fn a_parent_and_its_child_over_a_locked_link(rt: HostRuntime) {
-    let left = left_by_a_pair(&rt, rt.alloc());
-    assert_received(&rt, &left, &[&PUBLISHED, &PUBLISHED]);
-    assert_ended(&rt, &left, 2);
 }

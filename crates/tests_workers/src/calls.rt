@@ -1,5 +1,6 @@
 //! The calls that a worker makes of its gate and of its ends, one by one in their order, which no
-//! clause says; and that a call which is refused is its last one, but for the gate's `done`.
+//! clause says; what it leaves; and that a call which is refused is its last one, but for `done` of
+//! the gate.
 
 ghost use Rattle.std.specs.Prelude.{◌≡◌, ⊤};
 
@@ -7,7 +8,7 @@ use stab_core::Effect;
 use stab_ends::plain::{PlainRecv, PlainSend};
 use stab_ends::{FrameSeen, RecvAccount, RecvSide, SendAccount, SendSide};
 use stab_frames::Item;
-use stab_node::{Gate, NodeFault, work};
+use stab_node::{Ended, Gate, NodeAccount, NodeFault, work};
 use std::alloc::{AllocError, Global};
 use std::cell::Cell;
 use std::collections::VecDeque;
@@ -16,7 +17,7 @@ use std::process::Abort;
 /// The node that works.
 const NODE: u16 = 3;
 
-/// A run of a worker, and the calls that it has to make, a letter each.
+/// A run of a worker, the calls that it has to make, a letter each, and what it has to leave.
 ///
 /// At the gate `|` asks for the next turn, and `.` says that the node is done. At the upper end `f`
 /// looks for a frame, `k` acknowledges, and `u` finishes. At a lower end `a` looks for an
@@ -30,16 +31,34 @@ struct Run {
     first: &'static [Item],
     turns: u32,
     calls: &'static str,
+    received: &'static [Item],
+    ended: Ended,
+    /// What the upper end delivered, and whether it saw the close.
+    up: Option<(&'static [Item], bool)>,
+    /// What each lower end offered, and how many of these items are acknowledged. It is closed.
+    downs: &'static [(&'static [Item], u64)],
 }
 
+/// What the upper end of the last runs sees.
+const SEEN: [FrameSeen; 4] = [
+    FrameSeen::Fresh(7),
+    FrameSeen::Fresh(7),
+    FrameSeen::Fresh(8),
+    FrameSeen::Closed,
+];
+
 /// The runs, by what the documentation of `work` says of a turn and of the end.
-static RUNS: [Run; 7] = [
+static RUNS: [Run; 13] = [
     Run {
         seen: Some(&[FrameSeen::Fresh(7), FrameSeen::Fresh(8), FrameSeen::Closed]),
         acknowledge: &[true],
         first: &[],
         turns: 10,
         calls: "|fkaos|fkaos|fasc.ue",
+        received: &[7, 8],
+        ended: Ended::Upstream,
+        up: Some((&[7, 8], true)),
+        downs: &[(&[7, 8], 2)],
     },
     Run {
         seen: Some(&[FrameSeen::Fresh(7), FrameSeen::Fresh(8), FrameSeen::Closed]),
@@ -47,6 +66,10 @@ static RUNS: [Run; 7] = [
         first: &[],
         turns: 4,
         calls: "|fkaosAOS|fkaosAS|fasAS|asAScC.ueE",
+        received: &[7, 8],
+        ended: Ended::Turns,
+        up: Some((&[7, 8], true)),
+        downs: &[(&[7, 8], 2), (&[7], 0)],
     },
     Run {
         seen: Some(&[FrameSeen::Old, FrameSeen::Fresh(7), FrameSeen::Closed]),
@@ -54,6 +77,10 @@ static RUNS: [Run; 7] = [
         first: &[],
         turns: 2,
         calls: "|fkas|fkaosc.ue",
+        received: &[7],
+        ended: Ended::Turns,
+        up: Some((&[7], false)),
+        downs: &[(&[7], 0)],
     },
     Run {
         seen: Some(&[FrameSeen::Old, FrameSeen::Closed]),
@@ -61,6 +88,10 @@ static RUNS: [Run; 7] = [
         first: &[50],
         turns: 10,
         calls: "|fkaosAOS|fasAScC.ueE",
+        received: &[50],
+        ended: Ended::Upstream,
+        up: Some((&[], true)),
+        downs: &[(&[50], 1), (&[50], 1)],
     },
     Run {
         seen: Some(&[FrameSeen::Old, FrameSeen::Fresh(7), FrameSeen::Closed]),
@@ -68,6 +99,10 @@ static RUNS: [Run; 7] = [
         first: &[],
         turns: 10,
         calls: "|fk|fk|f.u",
+        received: &[7],
+        ended: Ended::Upstream,
+        up: Some((&[7], true)),
+        downs: &[],
     },
     Run {
         seen: None,
@@ -75,6 +110,10 @@ static RUNS: [Run; 7] = [
         first: &[4, 5],
         turns: 10,
         calls: "|aos|aos|asc.e",
+        received: &[4, 5],
+        ended: Ended::Upstream,
+        up: None,
+        downs: &[(&[4, 5], 2)],
     },
     Run {
         seen: None,
@@ -82,6 +121,76 @@ static RUNS: [Run; 7] = [
         first: &[5],
         turns: 3,
         calls: "|.",
+        received: &[5],
+        ended: Ended::Upstream,
+        up: None,
+        downs: &[],
+    },
+    Run {
+        seen: Some(&SEEN),
+        acknowledge: &[true],
+        first: &[],
+        turns: 10,
+        calls: "|fkaos|fkaos|fkaos|fasc.ue",
+        received: &[7, 7, 8],
+        ended: Ended::Upstream,
+        up: Some((&[7, 7, 8], true)),
+        downs: &[(&[7, 7, 8], 3)],
+    },
+    Run {
+        seen: Some(&SEEN),
+        acknowledge: &[true],
+        first: &[],
+        turns: 3,
+        calls: "|fkaos|fkaos|fkaosc.ue",
+        received: &[7, 7, 8],
+        ended: Ended::Turns,
+        up: Some((&[7, 7, 8], false)),
+        downs: &[(&[7, 7, 8], 2)],
+    },
+    Run {
+        seen: Some(&SEEN),
+        acknowledge: &[true, false],
+        first: &[],
+        turns: 10,
+        calls: "|fkaosAOS|fkaosAS|fkaosAS|fasAS|asAS|asAS|asAS|asAS|asAS|asAScC.ueE",
+        received: &[7, 7, 8],
+        ended: Ended::Turns,
+        up: Some((&[7, 7, 8], true)),
+        downs: &[(&[7, 7, 8], 3), (&[7], 0)],
+    },
+    Run {
+        seen: Some(&SEEN),
+        acknowledge: &[true, false],
+        first: &[50, 51],
+        turns: 10,
+        calls: "|fkaosAOS|fkaosAS|fkaosAS|faosAS|aosAS|asAS|asAS|asAS|asAS|asAScC.ueE",
+        received: &[50, 51, 7, 7, 8],
+        ended: Ended::Turns,
+        up: Some((&[7, 7, 8], true)),
+        downs: &[(&[50, 51, 7, 7, 8], 5), (&[50], 0)],
+    },
+    Run {
+        seen: Some(&SEEN),
+        acknowledge: &[true],
+        first: &[50, 51],
+        turns: 10,
+        calls: "|fkaos|fkaos|fkaos|faos|aos|asc.ue",
+        received: &[50, 51, 7, 7, 8],
+        ended: Ended::Upstream,
+        up: Some((&[7, 7, 8], true)),
+        downs: &[(&[50, 51, 7, 7, 8], 5)],
+    },
+    Run {
+        seen: Some(&SEEN),
+        acknowledge: &[true],
+        first: &[50, 51],
+        turns: 1,
+        calls: "|fkaosc.ue",
+        received: &[50, 51, 7],
+        ended: Ended::Turns,
+        up: Some((&[7], false)),
+        downs: &[(&[50], 0)],
     },
 ];
 
@@ -100,16 +209,6 @@ struct Calls {
 }
 
 impl Calls {
-    fn refusing(wanted: &'static str, refused: usize) -> Calls {
-        Calls {
-            wanted,
-            refused,
-            made: Cell::new(0),
-            turns: Cell::new(0),
-            wrong: Cell::new(0),
-        }
-    }
-
     /// The call that has to come next; after one that was refused, that is `done` alone.
     fn next(&self) -> Option<u8> {
         let made = self.made.get();
@@ -170,18 +269,9 @@ impl Gate for Calls {
 #[derive(Drop)]
 struct NotedSend<'a> {
     calls: &'a Calls,
-    is_second: bool,
+    /// The letters of its calls `offer`, `send`, `poll_ack`, `close` and `finish`.
+    letters: [u8; 5],
     end: PlainSend,
-}
-
-impl<'a> NotedSend<'a> {
-    fn note(&self, call: u8) -> Result<(), AllocError> {
-        self.calls.note(if self.is_second {
-            call.to_ascii_uppercase()
-        } else {
-            call
-        })
-    }
 }
 
 impl<'a> SendSide for NotedSend<'a> {
@@ -202,22 +292,22 @@ impl<'a> SendSide for NotedSend<'a> {
     ghost done_sent = { λ done. ⟦<PlainSend as SendSide>⟧.done_sent done };
 
     fn offer(&mut self, pass: &(), item: Item) -> Result<bool, AllocError> {
-        self.note(b'o')?;
+        self.calls.note(self.letters[0])?;
         self.end.offer(pass, item)
     }
 
     fn send(&mut self, pass: &()) -> Result<Effect, AllocError> {
-        self.note(b's')?;
+        self.calls.note(self.letters[1])?;
         self.end.send(pass)
     }
 
     fn poll_ack(&mut self, pass: &()) -> Result<Effect, AllocError> {
-        self.note(b'a')?;
+        self.calls.note(self.letters[2])?;
         self.end.poll_ack(pass)
     }
 
     fn close(&mut self, pass: &()) -> Result<Effect, AllocError> {
-        self.note(b'c')?;
+        self.calls.note(self.letters[3])?;
         self.end.close(pass)
     }
 
@@ -226,7 +316,7 @@ impl<'a> SendSide for NotedSend<'a> {
     }
 
     fn finish(self) -> SendAccount {
-        let _noted = self.note(b'e');
+        let _noted = self.calls.note(self.letters[4]);
         self.end.finish()
     }
 
@@ -300,6 +390,9 @@ fn upper<'a>(
     NotedRecv { calls, end }
 }
 
+/// The letters of the first lower end and of the second.
+const LETTERS: [[u8; 5]; 2] = [*b"osace", *b"OSACE"];
+
 /// The lower ends of a run.
 fn lower<'a>(
     rt: &impl Abort,
@@ -308,76 +401,100 @@ fn lower<'a>(
     acknowledge: &[bool],
 ) -> Vec<NotedSend<'a>> {
     let mut downs = Vec::with_capacity(alloc, acknowledge.len()).expect(rt, "memory");
-    for acknowledges in acknowledge {
-        let is_second = !downs.is_empty();
-        let end = PlainSend::new(alloc, *acknowledges);
-        downs
-            .push(NotedSend {
-                calls,
-                is_second,
-                end,
-            })
-            .expect(rt, "memory");
+    for (letters, acknowledges) in LETTERS.iter().zip(acknowledge) {
+        let (letters, end) = (*letters, PlainSend::new(alloc, *acknowledges));
+        let down = NotedSend {
+            calls,
+            letters,
+            end,
+        };
+        downs.push(down).expect(rt, "memory");
     }
     downs
 }
 
-/// Lets the worker of a run work, and answers how it gave up, if it did.
-fn fault_of(rt: &impl Abort, alloc: Global, run: &Run, calls: &Calls) -> Option<NodeFault> {
+/// What a worker leaves.
+type Account = NodeAccount<RecvAccount, SendAccount>;
+
+/// Lets the worker of a run work.
+fn work_of(rt: &impl Abort, alloc: Global, run: &Run, calls: &Calls) -> Result<Account, NodeFault> {
     assert!(rt; run.turns >= 1);
     let up = match run.seen {
         None => None,
         Some(entries) => Some(upper(rt, alloc, calls, entries)),
     };
     let downs = lower(rt, alloc, calls, run.acknowledge);
-    work(&(), alloc, NODE, up, downs, run.first, run.turns, calls).err()
+    work(&(), alloc, NODE, up, downs, run.first, run.turns, calls)
 }
 
-/// Fails the test where a run of which this call is refused, or none where that is 0, makes other
-/// calls than it has to, or gives up for another reason.
-fn assert_calls(
-    rt: &impl Abort,
-    alloc: Global,
-    run: &Run,
-    refused: usize,
-    want: Option<NodeFault>,
-) {
-    let calls = Calls::refusing(run.calls, refused);
-    let fault = fault_of(rt, alloc, run, &calls);
-    let (text, wrong) = (run.calls, calls.wrong.get());
-    assert!(rt;
-        calls.are_right(),
-        "{text}, call {refused} refused: wrong from call {wrong}"
-    );
-    assert!(rt;
-        fault == want,
-        "{text}, call {refused} refused: another fault"
-    );
-}
-
-#[test]
-fn a_worker_makes_its_calls_in_their_order(rt: HostRuntime) {
-    for run in &RUNS {
-        assert_calls(&rt, rt.alloc(), run, 0, None);
+/// Whether an upper end delivered these items and saw the close or not, or there is none.
+fn is_up(up: &Option<RecvAccount>, want: Option<(&[Item], bool)>) -> bool {
+    match (up, want) {
+        (Some(up), Some((items, closed))) => {
+            up.delivered.as_slice() == items && up.closed == closed
+        }
+        (None, None) => true,
+        _ => false,
     }
 }
 
-/// Fails the test where a worker of which one call is refused, each in turn, goes on, or gives up
-/// for another reason than that call. What the gate hears at the end cannot be refused.
-fn assert_gives_up(rt: &impl Abort, alloc: Global, run: &Run) {
+/// Whether the lower ends are closed, and offered these items with that many acknowledged.
+fn are_downs(downs: &[SendAccount], want: &[(&[Item], u64)]) -> bool {
+    for (down, (items, acked)) in downs.iter().zip(want) {
+        if down.offered.as_slice() != *items || down.acked != *acked || !down.closed {
+            return false;
+        }
+    }
+    downs.len() == want.len()
+}
+
+/// Whether a worker left what its run says.
+fn is_left(account: &Account, run: &Run) -> bool {
+    account.received.as_slice() == run.received
+        && account.ended == run.ended
+        && is_up(&account.up, run.up)
+        && are_downs(account.downs.as_slice(), run.downs)
+}
+
+/// Fails the test where a run of which this call is refused, or none where that is 0, makes other
+/// calls than it has to, gives up for another reason, or leaves something else.
+fn assert_run(rt: &impl Abort, alloc: Global, run: &Run, refused: usize, want: Option<NodeFault>) {
+    let calls = Calls {
+        wanted: run.calls,
+        refused,
+        made: Cell::new(0),
+        turns: Cell::new(0),
+        wrong: Cell::new(0),
+    };
+    let is_right = match work_of(rt, alloc, run, &calls) {
+        Ok(account) => want.is_none() && is_left(&account, run),
+        Err(fault) => want == Some(fault),
+    };
+    let (text, wrong) = (run.calls, calls.wrong.get());
+    assert!(rt;
+        is_right && calls.are_right(),
+        "{text}, call {refused} refused: {is_right}, wrong from call {wrong}"
+    );
+}
+
+/// Fails the test where a worker makes other calls than it has to or leaves something else, or
+/// where, one call refused, each in turn, it goes on, or gives up for another reason than that
+/// call. What the gate hears at the end cannot be refused.
+fn assert_runs(rt: &impl Abort, alloc: Global, run: &Run) {
+    assert_run(rt, alloc, run, 0, None);
     for (place, call) in run.calls.as_bytes().iter().enumerate() {
         let number = place.saturating_add(1);
         match *call {
             b'.' => return,
-            b'|' => assert_calls(rt, alloc, run, number, Some(NodeFault::Gate)),
-            _ => assert_calls(rt, alloc, run, number, Some(NodeFault::Memory)),
+            b'|' => assert_run(rt, alloc, run, number, Some(NodeFault::Gate)),
+            _ => assert_run(rt, alloc, run, number, Some(NodeFault::Memory)),
         }
     }
 }
 
 #[test]
-fn a_call_that_is_refused_is_a_workers_last(rt: HostRuntime) {
+fn a_worker_makes_its_calls_and_none_after_a_refused_one(rt: HostRuntime) {
     for run in &RUNS {
-        assert_gives_up(&rt, rt.alloc(), run);
+        assert_runs(&rt, rt.alloc(), run);
     }
 }
