@@ -1,8 +1,8 @@
 """What the runs that `rignolda draw` draws, and the bounds, show a job to be read as.
 
 A drawn run has a line for the start of each link and for each event, a picture the parameters of
-each link, and the bounds what a node may begin with. Each job is read in two ways: off its text,
-and by a tree of values where a member comes that no reader looks at, or the schedule comes again."""
+each link, and the bounds what a node may begin with. Jobs are read in two ways: off their text, and
+by a tree of values where a member comes that no reader looks at, or the schedule comes again."""
 
 import json
 import re
@@ -141,7 +141,7 @@ ROOT_BETWEEN = """\
 AROUND_IT = [("b", "-", "-", "5", "6"), ("a", "2=99", "0", "0", "1")]
 
 # A root with one child, and steps with each act; there is no item to offer.
-PAIR = '"capacity":1,"labels":4,"tree":[{"name":"r"},{"name":"a","parent":"r"}],"items":[],"turns":1'
+PAIR = '"capacity":1,"labels":4,"tree":[{"name":"r"},{"name":"a","parent":"r"}],"items":[]'
 STEPS = [
     ["a", "offer"], ["a", "send_frame"], ["a", "recv_frame"], ["a", "recv_frame_keep"],
     ["a", "send_ack"], ["a", "recv_ack"], ["a", "recv_ack_keep"], ["a", "lose_frame", 5],
@@ -214,7 +214,8 @@ ROWS += [
     for job in [before + members + "}"]
 ]
 ROWS += [
-    Row("gives each link the job's parameters", ["draw", "--svg"], PLAIN, out=Links((3, 8), (3, 8))),
+    Row("gives each link the job's parameters", ["draw", "--svg"], PLAIN,
+        out=Links((3, 8), (3, 8))),
     Row("a lone root has no parameters", ["draw", "--svg"],
         '{"capacity":1,"labels":4,"tree":[{"name":"r"}],"items":[7],"links":[]}', out=Links()),
 ]

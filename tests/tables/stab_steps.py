@@ -228,8 +228,9 @@ TEXTS = [
              STARTS + ',"starts":[]', '"starts":7,' + STARTS),
     # a root between its children, so that the order of the links is not that of their depths
     *(PLAIN.replace(TREE, ROOT_BETWEEN).replace(*change) for change in [
-        ("", ""), ('["b","recv_ack"]', '["c","recv_ack"]'), ('["b","recv_ack"]', '["r","recv_ack"]'),
-        ("[7,8]", "[]"), (STARTS + ",", ""), ('"schedule"', '"schedule":null,"schedule"'),
+        ("", ""), ('["b","recv_ack"]', '["c","recv_ack"]'),
+        ('["b","recv_ack"]', '["r","recv_ack"]'), ("[7,8]", "[]"), (STARTS + ",", ""),
+        ('"schedule"', '"schedule":null,"schedule"'),
     ]),
     # steps of other shapes, and two checks that fail
     *swapped('["a","close"]', '"a"', '["a"]', '["a","close",0]', '["a",["close"]]', '["close","a"]',
