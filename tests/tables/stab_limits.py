@@ -69,11 +69,20 @@ def spaces(count):
     return Repeated("", " ", count, "")
 
 
+# The lists of a script, and a letter of each.
+LISTS = {"frames_out": "E", "frames_in": "K", "acks_out": "D", "acks_in": "T"}
+
+
 def letters(last):
-    """A job of two nodes, whose script has 100,000 letters in each list, and then this."""
-    outs, ins = "E" * 100_000, "K" * 100_000
-    return SCRIPTED + (f'{{"frames_out":"{outs}","frames_in":"{ins}",'
-                       f'"acks_out":"{outs}","acks_in":"{ins}{last}"}}]}}')
+    """A job of two nodes, whose script has 100,000 letters in each list, and in the last one then
+    this."""
+    lists = ",".join(f'"{name}":"{letter * 100_000}"' for name, letter in LISTS.items())
+    return SCRIPTED + "{" + lists[:-1] + last + '"}]}'
+
+
+def one_list(name, count):
+    """A job of two nodes, whose script has as many letters in one list as counted."""
+    return Repeated(SCRIPTED + f'{{"{name}":"', LISTS[name], count, '"}]}')
 
 
 def events(count, last):
@@ -113,6 +122,9 @@ ROWS += refusals("refuses 1000001 events", schedule("0", 1_000_001), TOO_MANY_EV
 ROWS += [
     Row("makes 1000000 steps", ["tree"], LAST_STEP, out=DELIVERED),
     Row("reads a script of 100000 acts", ["tree"], evicting(100_000), out=NO_ITEMS),
+    Row("reads 100000 letters in each list", ["tree"], letters(""), out=NO_ITEMS),
+    Row("reads 100000 acts drawn at the highest rates", ["tree"],
+        SCRIPTED + '{"seed":[42,54],"length":100000,"loss":1000,"repeat":1000}]}', out=NO_ITEMS),
     Row("reads a link job of 1000000 events", ["link"], events(1_000_000, '"close"'), out=CLOSED),
 ]
 ROWS += refusals("refuses a bad event after 999999 others", events(1_000_000, '"jump"'), EVENT,
@@ -121,6 +133,11 @@ ROWS += refusals("refuses 1000001 events before a bad one", events(1_000_001, '"
                  TOO_MANY_EVENTS, [["link"]])
 ROWS += refusals("refuses a script of 100001 acts", evicting(100_001), TOO_LONG_SCRIPT, OF_TREES)
 ROWS += refusals("refuses 100001 letters", letters("T"), TOO_LONG_SCRIPT)
+ROWS += [
+    row for name in LISTS
+    for row in refusals(f"refuses 100001 letters of {name}", one_list(name, 100_001),
+                        TOO_LONG_SCRIPT)
+]
 ROWS += refusals("refuses 100001 letters and a wrong one among them", letters("X"), SHAPE)
 ROWS += refused("scripts at their limits", SCRIPTED, SCRIPTS, "]}", OF_TREES)
 ROWS += refusals("reads 16777216 bytes", spaces(16_777_216), NOT_JSON, [["link"], ["tree"]])

@@ -1,10 +1,12 @@
-"""How `stab` refuses the members of the second version of a job.
+"""What `stab` reads the members of the second version of a job as, and how it refuses them.
 
 Cases that are an example of crates/gate_checks/data, in the folder refused_trees, are not here."""
 
 from tables.refusals import (
     HOLD, LINK_COUNT, OPENING_COUNT, SHAPE, TOO_FEW_LABELS, TURNS, UNKNOWN_NODE, each, refused,
 )
+from tables.rignolda_read import CHAIN_WITH as ANY_CHAIN_WITH, HELD
+from tables.rows import Row
 
 PROGRAM = "stab"
 
@@ -47,3 +49,12 @@ ORDER = [
 ROWS = refused("refused openings", CHAIN_WITH, OPENINGS)
 ROWS += refused("refuses openings of a wrong shape", CHAIN_WITH, MISSHAPEN)
 ROWS += refused("checks the openings last", TOO_MUCH_HELD_WITH, ORDER)
+# (what a node may begin with is in the table of `rignolda bounds`)
+ROWS += [
+    Row(f"reads the openings: {members}", ["tree"], ANY_CHAIN_WITH + members + "}",
+        out="r depth 0 received 2 acked -\nitems: 7 8\n"
+            + ("a depth 1 received 2 acked 0\nitems: 50 51\n" if place == 0 else
+               "a depth 1 received 0 acked 0\nitems:\n")
+            + "b depth 2 received 0 acked 0\nitems:\n")
+    for place, members in enumerate(HELD)
+]

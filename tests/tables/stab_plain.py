@@ -189,10 +189,19 @@ def text_of(job):
 # ---- the texts
 
 
+# A start with something in each queue, and room for more: each side expects what comes first.
+EACH_HALF_FULL = '{"frames":[[2,99],[3,98]],"acks":[0,5],"send":0,"recv":1}'
+
+
 def swapped(old, *news):
     """The plain text, with each of these in place of a part of it."""
     assert PLAIN.count(old) == 1, old
     return [PLAIN.replace(old, new) for new in news]
+
+
+def by_value(text):
+    """The same job with a member that no reader looks at, which is read by way of a tree."""
+    return text.replace("{", '{"more":null,', 1)
 
 
 def nested(levels):
@@ -200,9 +209,10 @@ def nested(levels):
     return "[" * levels + "]" * levels
 
 
-WHOLE = ["-0", "-1", "1.0", "1e0", "0.1e1", "01", "+1", '"1"', "null", "[1]", "{}", "65535",
-         "65536", "4294967296", "18446744073709551605", "18446744073709551606",
-         "18446744073709551615", "18446744073709551616", "1e999", "0", "", "NaN"]
+WHOLE = ["-0", "-1", "1.0", "1e0", "1e2", "0.1e1", "01", "+1", '"1"', "null", "true", "[1]", "{}",
+         "65535", "65536", "4294967295", "4294967296", "18446744073709551605",
+         "18446744073709551606", "18446744073709551615", "18446744073709551616", "1e999", "0", "",
+         "NaN"]
 FURTHER = ["0", "-1.5e3", '"x"', "true", "null", "[]", "{}", '[1,{"events":[]}]', '{"capacity":2}',
            "1e999", '"\\ud800"', "01", "[1", '"', "tru", nested(126), nested(127)]
 
@@ -219,7 +229,15 @@ TEXTS = [
         (",99]", ",%s]"), ("[0]", "[%s]"), ('"send":0', '"send":%s'), ('"recv":1', '"recv":%s'),
         ('["offer",10]', '["lose_frame",%s]'), ('["offer",11]', '["lose_ack",%s]'),
         ('["offer",12]', '["offer",%s]'),
-    ] for number_text in WHOLE for text in swapped(old, new % number_text)),
+    ] for number_text in WHOLE for plain in swapped(old, new % number_text)
+      for text in [plain, by_value(plain)]),
+    # each event after an offer, to a link with room and with something in each queue
+    *(text for of in [*WORDS, ["offer", 4294967295], ["lose_frame", 0], ["lose_frame", 1],
+                      ["lose_frame", 5], ["lose_ack", 0], ["lose_ack", 1], ["lose_ack", 65535]]
+      for plain in [f'{{"capacity":3,"labels":8,"start":{EACH_HALF_FULL},'
+                    f'"events":{json.dumps(events)}}}'
+                    for events in [[of], [["offer", 10], of]]]
+      for text in [plain, by_value(plain)]),
     # further members, and members that come again
     *(text for further in FURTHER for old in ("{" + CAPACITY_AND_LABELS, '"recv":1')
       for text in swapped(old, old + ',"note":' + further)),
@@ -233,7 +251,7 @@ TEXTS = [
     *swapped('"capacity":1,'), *swapped('"capacity":1,', ""), *swapped('"labels":4,', ""),
     *swapped(START + ",", ""), *swapped("," + EVENTS, ""), *swapped('"send":0,', ""),
     *swapped(',"recv":1', ""), *swapped(START, '"start":[]', '"start":null', '"start":7'),
-    *swapped("[[2,99]]", "[[]]", "[[2]]", "[[2,99,0]]", "[2,99]", "[null]", "null", "{}",
+    *swapped("[[2,99]]", "[[]]", "[{}]", "[[2]]", "[[2,99,0]]", "[2,99]", "[null]", "null", "{}",
              '[["2",99]]', "[[2,99],[3,98]]", "[[2,99],[]]", "[[[2,99]]]"),
     *swapped('"acks":[0]', '"acks":0', '"acks":[[0]]', '"acks":null', '"acks":{}'),
     *swapped('["offer",13]', '"offer"', '["offer"]', '["offer",13,0]', '["offer",[13]]',

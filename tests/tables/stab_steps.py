@@ -18,6 +18,7 @@ from tables.stab_plain import (
 PROGRAM = "stab"
 
 TREE = '"tree":[{"name":"r"},{"name":"a","parent":"r"},{"name":"b","parent":"a"}]'
+ROOT_BETWEEN = '"tree":[{"name":"b","parent":"a"},{"name":"r"},{"name":"a","parent":"r"}]'
 NUMBERS = '"capacity":1,"labels":4,"items":[7,8]'
 STARTS = '"starts":[{"send":0,"recv":1},{"frames":[[2,99]],"acks":[0],"send":0,"recv":1}]'
 STEPS = """\
@@ -225,6 +226,12 @@ TEXTS = [
              '"tree":[1]', TREE + ',"tree":7'),
     *swapped(STARTS, '"starts":[]', '"starts":null', '"starts":[{"send":0,"recv":1}]',
              STARTS + ',"starts":[]', '"starts":7,' + STARTS),
+    # a root between its children, so that the order of the links is not that of their depths
+    *(PLAIN.replace(TREE, ROOT_BETWEEN).replace(*change) for change in [
+        ("", ""), ('["b","recv_ack"]', '["c","recv_ack"]'),
+        ('["b","recv_ack"]', '["r","recv_ack"]'), ("[7,8]", "[]"), (STARTS + ",", ""),
+        ('"schedule"', '"schedule":null,"schedule"'),
+    ]),
     # steps of other shapes, and two checks that fail
     *swapped('["a","close"]', '"a"', '["a"]', '["a","close",0]', '["a",["close"]]', '["close","a"]',
              '[1,"close"]', '["a",1]', "[]", "{}", "null", "7", '"close"', '["a","jump"]',

@@ -1,12 +1,11 @@
-//! What the tests of tasks share: jobs, the text that each task writes for them, and how a task
-//! ends.
+//! What the tests of tasks share: jobs, the text that each task writes for them, how a task ends,
+//! and readers that give what they are told to.
 
 use stab_job::JobFault;
 use stab_script::LinkJobFault;
 use stab_task::{CliFault, Links, Task, act};
-use std::alloc::{AllocError, Global};
-use std::io::Read;
-use std::process::Abort;
+use std::alloc::Global;
+use std::io::{self, ErrorKind, Read};
 use std::sync::Wait;
 use std::thread::Threads;
 
@@ -41,11 +40,8 @@ const WORST_TEXT: &str = "\
 
 const LONE_ROOT: &str = r#"{"capacity":1,"labels":4,"tree":[{"name":"r"}],"items":[7,8]}"#;
 
-/// The tasks that read a job of a tree.
-pub(crate) const OF_TREES: &[Task] = &[Task::Tree, LOCKED, WORDS, MIXED];
-
-/// The tasks that run the workers of a job.
-pub(crate) const RUNS: &[Task] = &[LOCKED, WORDS, MIXED];
+/// The tasks that read a job of a tree: those that run its workers, and one more.
+pub(crate) const OF_TREES: &[Task] = &[LOCKED, WORDS, MIXED, Task::Tree];
 
 const LONE_TEXT: &str = "r depth 0 received 2 acked -\nitems: 7 8\n";
 
@@ -84,17 +80,52 @@ pub(crate) const WORKS: &[Work] = &[
     },
 ];
 
-/// What a task writes for the bytes of a reader, and how it ends.
-pub(crate) fn outcome<T: Threads + Wait + Send + Sync, R: Read + Copy>(
-    rt: &T,
-    alloc: Global,
-    task: Task,
-    reader: R,
-) -> (Result<(), CliFault>, Vec<u8>) {
-    let mut reader = reader;
-    let mut written = Vec::new(alloc);
-    let ended = act(rt, alloc, task, &mut reader, &mut written);
-    (ended, written)
+/// A reader that gives its bytes in pieces of at most `most`: those before a place, and then those
+/// after it. Between them it fails `times` times; where it names no kind of failure, it says as
+/// often that it is at its end. Where it overstates, its first read answers one byte more than it
+/// gave.
+#[derive(Clone, Copy)]
+pub(crate) struct Pieces<'a> {
+    pub(crate) before: &'a [u8],
+    pub(crate) after: &'a [u8],
+    pub(crate) most: usize,
+    pub(crate) kind: Option<ErrorKind>,
+    pub(crate) times: usize,
+    pub(crate) overstates: bool,
+}
+
+impl Read for Pieces<'_> {
+    fn read(&mut self, buf: &mut [u8]) -> io::Result<usize> {
+        let most = self.most.min(buf.len());
+        if self.overstates {
+            self.overstates = false;
+            let given = self.before.read(&mut buf[..most])?;
+            return Ok(given.saturating_add(1).min(buf.len()));
+        }
+        if !self.before.is_empty() {
+            return self.before.read(&mut buf[..most]);
+        }
+        if self.times == 0 {
+            return self.after.read(&mut buf[..most]);
+        }
+        self.times -= 1;
+        match self.kind {
+            Some(kind) => Err(io::Error::from(kind)),
+            None => Ok(0),
+        }
+    }
+}
+
+/// A reader of these bytes, and then of those.
+pub(crate) fn giving<'a>(before: &'a [u8], after: &'a [u8]) -> Pieces<'a> {
+    Pieces {
+        before,
+        after,
+        most: usize::MAX,
+        kind: None,
+        times: 0,
+        overstates: false,
+    }
 }
 
 /// The fault of bytes that are no JSON.
@@ -105,34 +136,17 @@ pub(crate) fn not_json(task: Task) -> CliFault {
     }
 }
 
-/// Fails the test where one of these tasks does not refuse the bytes with this fault, or writes
-/// anything.
-pub(crate) fn assert_refused<T: Threads + Wait + Send + Sync + Abort + Alloc<A = Global>>(
+/// Whether a task ends so over a reader: where it ends well this text was written, and else
+/// nothing.
+pub(crate) fn ends<T: Threads + Wait + Send + Sync + Alloc<A = Global>>(
     rt: &T,
-    tasks: &[Task],
-    job: &[u8],
-    fault: &CliFault,
-) {
-    for &task in tasks {
-        let (ended, written) = outcome(rt, rt.alloc(), task, job);
-        assert!(rt;
-            ended == Err(*fault) && written.is_empty(),
-            "{task:?}: {ended:?}"
-        );
-    }
-}
-
-/// Fails the test where the fault has another status or another text.
-pub(crate) fn assert_fault<T: Abort + Alloc<A = Global>>(
-    rt: &T,
-    fault: &CliFault,
-    status: u8,
-    text: &str,
-) -> Result<(), AllocError> {
-    let its_text = fault.to_string(rt.alloc())?;
-    assert!(rt;
-        fault.status() == status && its_text.as_str() == text,
-        "{its_text}"
-    );
-    Ok(())
+    work: Work,
+    reader: Pieces<'_>,
+    want: Result<(), CliFault>,
+) -> bool {
+    let mut reader = reader;
+    let mut written = Vec::new(rt.alloc());
+    let ended = act(rt, rt.alloc(), work.task, &mut reader, &mut written);
+    let text = if want.is_ok() { work.text } else { "" };
+    ended == want && written.as_slice() == text.as_bytes()
 }

@@ -1,7 +1,0 @@
--- The steps of the generator are its stream's.
-use Rattle.std.proofs.Common.{rules}
-use Rattle.rand_core.proofs.StepsLemmas.{meets_fill_bytes}
-use Rattle.tests_readers.proofs.script.scripts.FewWordsRng.fill_bytes.Goals as goal
-
-pub returns : goal.returns
-returns c = meets_fill_bytes _ _ _ _ _ (search rules)

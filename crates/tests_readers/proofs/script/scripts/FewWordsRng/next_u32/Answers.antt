@@ -1,7 +1,0 @@
--- The step of the generator is its stream's.
-use Rattle.std.proofs.Common.{rules}
-use Rattle.rand_core.proofs.StepsLemmas.{meets_next_u32}
-use Rattle.tests_readers.proofs.script.scripts.FewWordsRng.next_u32.Goals as goal
-
-pub returns : goal.returns
-returns c = meets_next_u32 _ _ _ _ (search rules)
