@@ -3,10 +3,9 @@
 
 It builds refuse.c, an object for LD_PRELOAD, by the kit's own clang, and runs under it
 
-  (a) gate_checks with the word `calls`, once for every N with its Nth allocation refused: it must
-      print the first part of its file `stdout`, before the examples, end with status 0, and name on
-      standard error only calls of the file `calls`; each of these must have been refused at least
-      once;
+  (a) gate_checks, once for every N with its Nth allocation refused: it must print its file
+      `stdout`, end with status 0, and name on standard error only calls of the file `calls`; each
+      of these must have been refused at least once;
   (b) stab on some examples and two runs, once for every N with the Nth allocation refused, and once
       with every allocation from the Nth on: it must give the whole text with status 0, or the line
       `stab: out of memory` with status 3 and nothing else;
@@ -248,8 +247,8 @@ class Check(Cases):
         if self.only not in "gate_checks":
             return
         with open(f"{os.path.dirname(os.path.dirname(program))}/stdout", "rb") as it:
-            right = (0, b"".join(itertools.takewhile(is_of_calls, it)))
-        command = [self.room.copy(program), "calls"]
+            right = (0, it.read())
+        command = [self.room.copy(program)]
         with open(calls) as it:
             wanted = {line.strip() for line in it if line.strip() and not line.startswith("#")}
         is_right = lambda ended: (ended.status, ended.out) == right
@@ -299,11 +298,6 @@ class Check(Cases):
         if must_refuse and refused == 0:
             faults.append("under no limit a worker could not be started")
         self.tell(name, faults, f": {refused} of {len(limits)} limits refuse a worker")
-
-
-def is_of_calls(line):
-    """Whether a line of the expected text is of the calls: no example is compared before it."""
-    return not line.startswith(b"same   ")
 
 
 def first_difference(right, ended):
