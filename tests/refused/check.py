@@ -67,12 +67,17 @@ JOBS = """
     refused/no_such_file
     refused/bad_event
     refused/flag_twice
+    refused/help
+    refused/unknown_flag
+    refused/two_files
+    refused/too_many_acknowledgements
     refused_trees/unknown_node
     refused_trees/too_few_labels_of_a_link
     refused_trees/opening_too_long
     runs/two_frames_for_one_place
     runs/words_two_frames_for_one_place
     runs/mixed_two_frames_for_one_place
+    runs/words_and_mixed
 """.split()
 
 NO_MEMORY = (3, b"", b"rignolda: out of memory\n")
@@ -99,6 +104,13 @@ LINES = [
 
 # The logs of a chain of three nodes, which obey, and which do not: the last one got a third stray.
 LOGS = [(0, [[1, 2, 3], [9, 2, 3], [8, 9, 3]]), (1, [[1, 2, 3], [9, 2, 3], [7, 8, 9]])]
+
+# A member behind which no text has the plain form, and so many spaces that a file takes many reads.
+NOTE, SPACES = '{"note":1e308,', 200_000
+
+# The scripts of a chain of three nodes: of letters, and drawn.
+SCRIPTS = [{"frames_out": "D", "acks_in": "K"},
+           {"seed": [42, 54], "length": 6, "loss": 300, "repeat": 400}]
 
 RUNS = [("run", ["run"]), ("run --words", ["run", "--words"]), ("run --mixed", ["run", "--mixed"])]
 
@@ -157,9 +169,12 @@ class Room:
         return to
 
     def write(self, name, job):
+        return self.write_text(name, json.dumps(job))
+
+    def write_text(self, name, text):
         path = f"{self.folder}/{name}.json"
         with open(path, "w") as it:
-            json.dump(job, it)
+            it.write(text)
         return path
 
     def run(self, command, input=os.devnull, refuse=None, limit=None):
@@ -388,8 +403,14 @@ def check_stab(check, room, program, all_examples):
         # (the C library allocates for a thread, so that refused memory may be a refused thread)
         refusals = [OUT_OF_MEMORY] + [NOT_STARTED] * ("run" in words)
         check.each(name, [program, *words], input, is_right, refusals)
+    words, input, right = of_example("worst_start")
+    with open(input) as it:
+        text = it.read().replace("{", NOTE, 1) + SPACES * " "
+    name, is_right = "a long file in another form", lambda ended: ended.seen == right
+    input = room.write_text(name, text)
+    check.each(name, [program, *words], input, is_right, [OUT_OF_MEMORY])
     for name, words in RUNS:
-        job = chain(3, items=5, turns=50, words=words, held=2)
+        job = {**chain(3, items=5, turns=50, words=words, held=2), "scripts": SCRIPTS}
         input = room.write(f"{name} of a chain of 3", job)
         refusals = [OUT_OF_MEMORY, NOT_STARTED]
         check.each(f"{name} of a chain of 3", [program, *words], input, is_report_of(job), refusals)
