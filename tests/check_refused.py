@@ -13,7 +13,7 @@ from crates import clang
 
 house = House()
 planted = house.write("out/planted")
-house.write("stdout", "List::push: 2 entries\nsame   an_example.out\n")
+house.write("stdout", "List::push: 2 entries\n")
 calls = house.write("calls", "# calls\nList::new\nList::push\n")
 ROOT, THREAD, WORST = "runs/a_lone_root", "run of a chain of 1", "rignolda worst --capacity=1"
 CALLS = "gate_checks"

@@ -6,8 +6,9 @@ it reads, and the status and the texts that it has to end with. There rows.py sa
 
 A program is the one that ./rignolda or ./stab starts. Where none was released or built of these
 sources, it is the one that the gate has left in crates/rignolda/out or crates/stab_cli/out;
-PROGRAM_RIGNOLDA and PROGRAM_STAB in the environment name others. Some rows run at the same time.
-The last line is 'N passed, M failed'.
+PROGRAM_RIGNOLDA and PROGRAM_STAB in the environment name others. The examples run by the build of
+LLVM as well, where the gate has left it beside this program. Some rows run at the same time. The
+last line is 'N passed, M failed'.
 """
 
 import subprocess
@@ -18,20 +19,20 @@ from pathlib import Path
 
 sys.path.insert(0, str(Path(__file__).resolve().parent.parent / "tools"))
 
-from programs import counted, run_with
+from programs import BUILT, TOP, counted, run_with
 from tables import rignolda_bounds, rignolda_check, rignolda_draw, rignolda_explain
 from tables import rignolda_files, rignolda_jobs, rignolda_lines, rignolda_moment
 from tables import rignolda_read, rignolda_scenario
-from tables import stab_jobs, stab_limits, stab_lines, stab_links, stab_openings, stab_parts
-from tables import stab_plain, stab_runs, stab_steps, stab_trees
+from tables import stab_examples, stab_jobs, stab_limits, stab_lines, stab_links, stab_openings
+from tables import stab_parts, stab_plain, stab_runs, stab_steps, stab_trees
 from tables.rows import Printed, Repeated
 
 TABLES = [
     rignolda_lines, rignolda_explain, rignolda_bounds, rignolda_check, rignolda_draw,
     rignolda_files,
     rignolda_jobs, rignolda_moment, rignolda_read, rignolda_scenario,
-    stab_lines, stab_jobs, stab_trees, stab_parts, stab_plain, stab_steps, stab_links,
-    stab_openings, stab_limits, stab_runs,
+    stab_examples, stab_lines, stab_jobs, stab_trees, stab_parts, stab_plain, stab_steps,
+    stab_links, stab_openings, stab_limits, stab_runs,
 ]
 PROGRAMS = sorted({table.PROGRAM for table in TABLES})
 # No run takes longer, in seconds.
@@ -65,7 +66,9 @@ def fault_of(called, file, row, folder):
         return out.decode()
 
     for beside, text in row.files.items():
-        (Path(folder) / beside).write_bytes(text.encode())
+        path = Path(folder) / beside
+        path.parent.mkdir(exist_ok=True)
+        path.write_bytes(text.encode())
     given = row.given
     if isinstance(given, Printed):
         given = printed(given.words)
@@ -95,14 +98,25 @@ def tried(called, file, row):
             return f"{type(fault).__name__}: {fault}"
 
 
+def by_llvm(called, file):
+    """The same program, built by LLVM: a list of it, if both builds are there."""
+    twin = TOP / BUILT[called]
+    other = twin.with_suffix("")
+    are_there = twin.is_file() and other.is_file()
+    return [other] if are_there and twin.read_bytes() == Path(file).read_bytes() else []
+
+
 def main(*files):
     """Tries all rows with these programs."""
     files = dict(zip(PROGRAMS, files))
-    runs = [(table.PROGRAM, row) for table in TABLES for row in table.ROWS]
+    runs = [(table.PROGRAM, files[table.PROGRAM], row) for table in TABLES for row in table.ROWS]
+    runs += [("stab", file, row) for file in by_llvm("stab", files["stab"])
+             for row in stab_examples.ROWS]
     with ThreadPoolExecutor(THREADS) as threads:
-        faults = threads.map(lambda of: tried(of[0], files[of[0]], of[1]), runs)
-        names = (f"{called}: {row.name}" for called, row in runs)
-        return counted(zip(names, faults), quiet=True)
+        faults = threads.map(lambda of: tried(*of), runs)
+        names = (f"{called}: {row.name}, by {Path(file).name}" for called, file, row in runs)
+        lists = [("the list of the examples", stab_examples.listed_otherwise())]
+        return counted([*lists, *zip(names, faults)], quiet=True)
 
 
 if sys.argv[1:]:

@@ -3,10 +3,9 @@
 
 It builds refuse.c, an object for LD_PRELOAD, by the kit's own clang, and runs under it
 
-  (a) gate_checks with the word `calls`, once for every N with its Nth allocation refused: it must
-      print the first part of its file `stdout`, before the examples, end with status 0, and name on
-      standard error only calls of the file `calls`; each of these must have been refused at least
-      once;
+  (a) gate_checks, once for every N with its Nth allocation refused: it must print its file
+      `stdout`, end with status 0, and name on standard error only calls of the file `calls`; each
+      of these must have been refused at least once;
   (b) stab on some examples and two runs, once for every N with the Nth allocation refused, and once
       with every allocation from the Nth on: it must give the whole text with status 0, or the line
       `stab: out of memory` with status 3 and nothing else;
@@ -68,12 +67,17 @@ JOBS = """
     refused/no_such_file
     refused/bad_event
     refused/flag_twice
+    refused/help
+    refused/unknown_flag
+    refused/two_files
+    refused/too_many_acknowledgements
     refused_trees/unknown_node
     refused_trees/too_few_labels_of_a_link
     refused_trees/opening_too_long
     runs/two_frames_for_one_place
     runs/words_two_frames_for_one_place
     runs/mixed_two_frames_for_one_place
+    runs/words_and_mixed
 """.split()
 
 NO_MEMORY = (3, b"", b"rignolda: out of memory\n")
@@ -100,6 +104,13 @@ LINES = [
 
 # The logs of a chain of three nodes, which obey, and which do not: the last one got a third stray.
 LOGS = [(0, [[1, 2, 3], [9, 2, 3], [8, 9, 3]]), (1, [[1, 2, 3], [9, 2, 3], [7, 8, 9]])]
+
+# A member behind which no text has the plain form, and so many spaces that a file takes many reads.
+NOTE, SPACES = '{"note":1e308,', 200_000
+
+# The scripts of a chain of three nodes: of letters, and drawn.
+SCRIPTS = [{"frames_out": "D", "acks_in": "K"},
+           {"seed": [42, 54], "length": 6, "loss": 300, "repeat": 400}]
 
 RUNS = [("run", ["run"]), ("run --words", ["run", "--words"]), ("run --mixed", ["run", "--mixed"])]
 
@@ -158,9 +169,12 @@ class Room:
         return to
 
     def write(self, name, job):
+        return self.write_text(name, json.dumps(job))
+
+    def write_text(self, name, text):
         path = f"{self.folder}/{name}.json"
         with open(path, "w") as it:
-            json.dump(job, it)
+            it.write(text)
         return path
 
     def run(self, command, input=os.devnull, refuse=None, limit=None):
@@ -248,8 +262,8 @@ class Check(Cases):
         if self.only not in "gate_checks":
             return
         with open(f"{os.path.dirname(os.path.dirname(program))}/stdout", "rb") as it:
-            right = (0, b"".join(itertools.takewhile(is_of_calls, it)))
-        command = [self.room.copy(program), "calls"]
+            right = (0, it.read())
+        command = [self.room.copy(program)]
         with open(calls) as it:
             wanted = {line.strip() for line in it if line.strip() and not line.startswith("#")}
         is_right = lambda ended: (ended.status, ended.out) == right
@@ -299,11 +313,6 @@ class Check(Cases):
         if must_refuse and refused == 0:
             faults.append("under no limit a worker could not be started")
         self.tell(name, faults, f": {refused} of {len(limits)} limits refuse a worker")
-
-
-def is_of_calls(line):
-    """Whether a line of the expected text is of the calls: no example is compared before it."""
-    return not line.startswith(b"same   ")
 
 
 def first_difference(right, ended):
@@ -394,8 +403,14 @@ def check_stab(check, room, program, all_examples):
         # (the C library allocates for a thread, so that refused memory may be a refused thread)
         refusals = [OUT_OF_MEMORY] + [NOT_STARTED] * ("run" in words)
         check.each(name, [program, *words], input, is_right, refusals)
+    words, input, right = of_example("worst_start")
+    with open(input) as it:
+        text = it.read().replace("{", NOTE, 1) + SPACES * " "
+    name, is_right = "a long file in another form", lambda ended: ended.seen == right
+    input = room.write_text(name, text)
+    check.each(name, [program, *words], input, is_right, [OUT_OF_MEMORY])
     for name, words in RUNS:
-        job = chain(3, items=5, turns=50, words=words, held=2)
+        job = {**chain(3, items=5, turns=50, words=words, held=2), "scripts": SCRIPTS}
         input = room.write(f"{name} of a chain of 3", job)
         refusals = [OUT_OF_MEMORY, NOT_STARTED]
         check.each(f"{name} of a chain of 3", [program, *words], input, is_report_of(job), refusals)

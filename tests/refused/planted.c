@@ -3,7 +3,7 @@
  *
  * As `stab` it prints the report of a lone root: BUG says what it does wrong where memory, or its
  * thread, is refused. With the word `worst` it is `rignolda`, and prints the same without a thread.
- * As gate_checks with the word `calls`, it makes two calls, again where one is refused. With BUG 0 it
+ * Without a word it is gate_checks, and makes two calls, again where one is refused. With BUG 0 it
  * does all of it right.
  */
 
@@ -139,5 +139,5 @@ static int calls(void) {
 
 int main(int count, char **words) {
     is_rignolda = count > 1 && strstr(words[1], "worst");
-    return count > 1 && strstr(words[1], "calls") ? calls() : stab();
+    return count > 1 ? stab() : calls();
 }

@@ -9,8 +9,8 @@
 #   NAME.err   the line that must be written to the standard error, and the status, with an empty
 #              standard output
 #
-# A file NAME.run is compared by the gate alone. STAB may name another program to compare in place
-# of ./stab.
+# A file NAME.run is compared by tests/check_drawn.py. STAB may name another program to compare in
+# place of ./stab.
 set -u
 unset CDPATH
 here=$(dirname -- "$(readlink -f -- "${BASH_SOURCE[0]}")")
@@ -46,7 +46,7 @@ run() {
     printf 'status %s\n' "$?" >>"$work/err"
 }
 
-# The files that say what is expected, in the order in which the gate reads them.
+# The files that say what is expected, in the order of the list.
 expected_files() {
     find . \( -name '*.out' -o -name '*.err' -o -name '*.run' \) | sed 's/^\.\///' | LC_ALL=C sort
 }
@@ -74,10 +74,10 @@ while IFS= read -r file; do
     fi
 done < <(expected_files | grep -v '\.run$')
 
-# The gate compares the files that a list names.
-if ! expected_files | cmp -s - ../stdin; then
-    printf 'OTHER  the list of the gate\n'
-    expected_files | diff ../stdin -
+# The list names them all.
+if ! expected_files | cmp -s - list; then
+    printf 'OTHER  the list\n'
+    expected_files | diff list -
     other=$((other + 1))
 fi
 

@@ -1,39 +1,46 @@
-//! Two checks of the gate: calls that are refused memory, and the examples.
+//! Calls that are refused memory: a check of the gate.
 //!
-//! With the word `calls` it makes the calls of every layer that may be refused memory, and tries
-//! again each one that was. Undisturbed, nothing is refused, and the program prints what each call
-//! answers. Run again with some allocation refused, it prints the same text: a refused call leaves
-//! its object as it was and answers the next time as if nothing had happened. Where it does not, a
-//! line of the text says so. The standard error names each call that was refused.
+//! The program makes calls of every layer that may be refused memory, and tries again each one that
+//! was. Undisturbed, nothing is refused, and the program prints what each call answers. Run again
+//! with some allocation refused, it prints the same text: a refused call leaves its object as it
+//! was and answers the next time as if nothing had happened. Where it does not, a line of the text
+//! says so. The standard error names each call that was refused.
 //!
-//! With the word `examples` it compares every example with what the library of the program `stab`
-//! gives for it. Without a word it does both.
+//! What `stab` calls is also refused memory in that program, by `tests/refused/check.py`. Here are
+//! the calls that change an object or a generator, or start workers, and those that `stab` does not
+//! make.
 #![tactic(auto)]
 
-mod answer;
-mod commands;
-mod examples;
+mod again;
+mod books;
+mod end_calls;
+mod ends;
 mod gate;
-mod listing;
-mod record;
+mod jobs;
+mod links;
+mod readers;
 mod runs;
-mod table;
+mod scripts;
+mod texts;
+mod trees;
+mod works;
 
-use crate::examples::compare_all;
-use gate_calls::again::Texts;
-use gate_calls::make_calls;
-use stab_task::words;
+use crate::again::make_rows;
+use crate::links::Links;
+use crate::scripts::Scripts;
+use crate::texts::Texts;
+use crate::trees::Chain;
+use crate::works::Works;
+use std::alloc::{AllocError, Global};
+use std::io;
 use std::process::ExitCode;
-use std::rt::{Env, Files};
 use std::sync::Wait;
 use std::thread::Threads;
 
-/// Makes the calls and compares the examples. The status is 0 unless the program cannot print, is
-/// refused twice, or an example is other than expected.
+/// Makes the calls. The status is 0 unless the program cannot print, or is refused twice.
 fn main(rt: HostRuntime) -> ExitCode {
     match run(&rt) {
-        Ok(true) => ExitCode::SUCCESS,
-        Ok(false) => ExitCode::FAILURE,
+        Ok(()) => ExitCode::SUCCESS,
         Err(error) => {
             let _ = eprintln!(rt; "gate_checks: {error}");
             ExitCode::FAILURE
@@ -41,52 +48,30 @@ fn main(rt: HostRuntime) -> ExitCode {
     }
 }
 
-/// Does what the command line says; says whether all is as expected.
-fn run<
-    R: Env
-        + Files
-        + Input
-        + Print
-        + Eprint
-        + Threads
-        + Wait
-        + Send
-        + Sync
-        + AllocGlobal
-        + Clone
-        + Drop,
->(rt: &R) -> anyhow::Result<bool> {
-    let line = match words(rt, rt.alloc()) {
-        Ok(line) => line,
-        Err(_) => words(rt, rt.alloc())?,
-    };
-    let word = match line.get(1) {
-        Some(word) => word.as_str(),
-        None => "",
-    };
-    if word != "examples" {
-        make_all(rt)?;
-    }
-    Ok(word == "calls" || compare_all(rt)?)
-}
-
-/// Makes the calls, those of the lowest layer first.
-fn make_all<R: Print + Eprint + Threads + Wait + Send + Sync + AllocGlobal>(
-    rt: &R,
-) -> anyhow::Result<()> {
+/// Makes the calls, and prints what is told of them.
+fn run<R: Print + Eprint + Threads + Wait + Send + Sync + AllocGlobal>(rt: &R) -> io::Result<()> {
     let mut texts = match Texts::new(rt.alloc()) {
         Ok(texts) => texts,
         Err(_) => Texts::new(rt.alloc())?,
     };
-    make_with(rt, &mut texts)
+    let made = make_all(rt, rt.alloc(), &mut texts);
+    print!(rt; "{}", texts.told.answers)?;
+    eprint!(rt; "{}", texts.told.refused)?;
+    Ok(made?)
 }
 
-/// Makes the calls, with these texts.
-fn make_with<R: Print + Eprint + Threads + Wait + Send + Sync + AllocGlobal>(
+/// Makes the calls, those of the lowest layer first.
+fn make_all<R: Threads + Wait + Send + Sync>(
     rt: &R,
+    alloc: Global,
     texts: &mut Texts,
-) -> anyhow::Result<()> {
-    make_calls(rt, texts)?;
-    commands::make_all(rt, texts)?;
-    runs::make_all(rt, texts)
+) -> Result<(), AllocError> {
+    make_rows::<Links>(alloc, texts, "Link::new", (), &links::ROWS)?;
+    readers::make_all(alloc, texts)?;
+    make_rows::<Scripts>(alloc, texts, "scripts", (), &[scripts::ROW])?;
+    make_rows::<Chain>(alloc, texts, "TreeState::new", (), &trees::ROWS)?;
+    books::make_all(alloc, texts)?;
+    ends::make_all(rt, alloc, texts)?;
+    make_rows::<Works>(alloc, texts, "ends without a link", (), &[works::ROW])?;
+    runs::make_all(rt, alloc, texts)
 }

@@ -38,7 +38,7 @@ pub struct Works {
 impl Made for Works {
     type Given = ();
 
-    fn new(alloc: Global, _given: ()) -> anyhow::Result<Works> {
+    fn new(alloc: Global, _given: ()) -> Result<Works, AllocError> {
         let mut works = Works {
             alloc,
             ups: Vec::new(alloc),

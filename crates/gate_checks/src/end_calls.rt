@@ -2,13 +2,13 @@
 
 use crate::again::Row;
 use crate::readers;
-use stab_core::Start;
-use stab_frames::{Item, Params, ParamsFault};
+use stab_core::{Event, Start};
+use stab_frames::{Item, Params};
 use stab_script::Script;
-use std::alloc::Global;
+use std::alloc::{AllocError, Global};
 
-/// A call of one of the two ends of a link, or the call of that name of a book; or what the object
-/// of the calls holds.
+/// A call of one of the two ends of a link, or the call of that name of a book; an event that a book
+/// notes; or what the object of the calls holds.
 #[derive(Clone, Copy)]
 pub enum EndCall {
     Offer,
@@ -17,6 +17,7 @@ pub enum EndCall {
     Close,
     PollFrame,
     SendAck,
+    Note(Event),
     Hold,
 }
 
@@ -62,8 +63,8 @@ const SCRIPT: &str = r#"{"frames_out":"E","frames_in":"K","acks_out":"E","acks_i
 const MOST_ITEMS: usize = 100;
 
 /// The parameters of a link of capacity one.
-pub fn params() -> Result<Params, ParamsFault> {
-    Params::new(1, 4)
+pub fn params() -> Result<Params, AllocError> {
+    Params::new(1, 4).ok().ok_or(AllocError)
 }
 
 /// The item that is offered after these.
@@ -72,7 +73,7 @@ pub fn item_after(offered: &[Item]) -> Item {
 }
 
 /// The start of the link of a row that is made so often.
-pub fn start_of(alloc: Global, times: u32) -> anyhow::Result<Start> {
+pub fn start_of(alloc: Global, times: u32) -> Result<Start, AllocError> {
     if times == 1 {
         readers::start_of(alloc, FULL_START)
     } else {
@@ -81,7 +82,7 @@ pub fn start_of(alloc: Global, times: u32) -> anyhow::Result<Start> {
 }
 
 /// The script of the link of such a row.
-pub fn script_of(alloc: Global, times: u32) -> anyhow::Result<Script> {
+pub fn script_of(alloc: Global, times: u32) -> Result<Script, AllocError> {
     if times == 1 {
         readers::script_of(alloc, SCRIPT)
     } else {

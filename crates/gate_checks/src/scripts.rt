@@ -10,9 +10,9 @@ use std::alloc::{AllocError, Global};
 /// A script with acts in each of its lists.
 const SCRIPT: &str = r#"{"frames_out":"DPE","frames_in":"K","acks_out":"ED","acks_in":"TK"}"#;
 
-/// A copy of a script, a script that is shared, and draws of one generator, one after the other: the length of each list,
-/// the loss, and the repetition. The last draw but one is refused for its rate, and one draws
-/// nothing. Then the generator gave no word but those of the draws.
+/// A copy of a script, a script that is shared, and draws of one generator, one after the other: the
+/// length of each list, the loss, and the repetition. The last draw but one is refused for its rate,
+/// and one draws nothing. Then the generator gave no word but those of the draws.
 pub const ROW: Row<'static, ScriptCall> = (
     1,
     &[
@@ -54,7 +54,7 @@ pub enum ScriptCall {
 }
 
 /// A script for a call, and one for when it is made again.
-fn scripts_of(alloc: Global) -> anyhow::Result<Vec<Script>> {
+fn scripts_of(alloc: Global) -> Result<Vec<Script>, AllocError> {
     let mut scripts = Vec::with_capacity(alloc, 2)?;
     for _ in 0..2u32 {
         scripts.push(script_of(alloc, SCRIPT)?)?;
@@ -65,11 +65,13 @@ fn scripts_of(alloc: Global) -> anyhow::Result<Vec<Script>> {
 impl Made for Scripts {
     type Given = ();
 
-    fn new(alloc: Global, _given: ()) -> anyhow::Result<Scripts> {
+    fn new(alloc: Global, _given: ()) -> Result<Scripts, AllocError> {
+        let script = script_of(alloc, SCRIPT)?;
+        let others = scripts_of(alloc)?;
         Ok(Scripts {
             alloc,
-            script: script_of(alloc, SCRIPT)?,
-            others: scripts_of(alloc)?,
+            script,
+            others,
             generator: Pcg32::new(42, 54),
         })
     }
