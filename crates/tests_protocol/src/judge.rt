@@ -15,7 +15,7 @@ fn refuses_a_report_of_two_nodes(rt: HostRuntime) {
     let opened = chain(&rt);
     let params = narrow(&rt);
     let starts = worst_starts(&rt);
-    assert!(rt; opened.tree.link_count() == 2);
+    assert!(rt; opened.tree.link_count() == 2 && starts.len() == 2);
     let judge = Judge::new(
         rt.alloc(),
         &opened.tree,
@@ -75,8 +75,8 @@ fn one_node_obeys_up_to_its_bounds(rt: HostRuntime) {
         !obeys_complete_law(2, 6, &STRAYS, &PUBLISHED, &[98, 15]),
     ];
     assert!(rt; obeyed == [true; 4], "{obeyed:?}");
-    for (missing, want) in [(5, true), (4, false)] {
-        let obeyed = obeys_tree_law(rt.alloc(), 2, missing, &STRAYS, &PUBLISHED, &RECEIVED);
-        assert!(rt; obeyed.expect(&rt, "memory") == want, "{missing}");
-    }
+    let reached = obeys_tree_law(rt.alloc(), 2, 5, &STRAYS, &PUBLISHED, &RECEIVED);
+    assert!(rt; reached.expect(&rt, "memory"));
+    let too_few = obeys_tree_law(rt.alloc(), 2, 4, &STRAYS, &PUBLISHED, &RECEIVED);
+    assert!(rt; !too_few.expect(&rt, "memory"));
 }

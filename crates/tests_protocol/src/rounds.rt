@@ -1,6 +1,6 @@
 //! Rounds: how many a list of events has, and what they bring to a link and to a chain by calls
-//! that no program makes. The values are worked out by hand, and by `tests/check_laws.py`, which has
-//! rules of its own.
+//! that no program makes. The values are worked out by hand, and by `tests/check_laws.py`, which
+//! has rules of its own.
 
 use crate::chain::{After, STRAY, chain, is_as, narrow, start, worst_starts};
 use stab_core::{Event, Link, link_text};

@@ -14,9 +14,10 @@ fn refuses_a_wrong_number_of_parameters_or_starts(rt: HostRuntime) {
     let opened = chain(&rt);
     let params = [Params::new(1, 4).expect(&rt, "parameters"); 3];
     let starts = worst_starts(&rt);
+    assert!(rt; starts.len() == 2);
     let rows = [
-        (&params[..1], starts.as_slice()),
-        (&params[..3], starts.as_slice()),
+        (&params[..1], &starts[..]),
+        (&params[..3], &starts[..]),
         (&params[..2], &starts[..1]),
     ];
     for (params, starts) in &rows {
@@ -36,6 +37,9 @@ fn refuses_a_wrong_number_of_parameters_or_starts(rt: HostRuntime) {
     assert!(rt; text.expect(&rt, "a text").as_str() == "start: wrong number of starts");
 }
 
+/// Acts on the link into the root, and into no node.
+static UNKNOWN: [(u16, LinkAct); 2] = [(0, LinkAct::Offer), (3, LinkAct::Close)];
+
 /// The programs name no stranger, and see no link into the root.
 #[test]
 fn no_link_leads_into_the_root_or_a_stranger(rt: HostRuntime) {
@@ -50,9 +54,9 @@ fn no_link_leads_into_the_root_or_a_stranger(rt: HostRuntime) {
         &opened.openings,
     )
     .expect(&rt, "a state");
-    for (place, act) in [(0, LinkAct::Offer), (3, LinkAct::Close)] {
-        let child = NodeId::new(place);
-        let effect = state.apply(TreeEvent { child, act });
+    for (place, act) in &UNKNOWN {
+        let child = NodeId::new(*place);
+        let effect = state.apply(TreeEvent { child, act: *act });
         assert!(rt; effect == Err(TreeStepFault::NoSuchLink), "{place}");
         assert!(rt; state.link(child).is_none(), "{place}");
     }
