@@ -65,9 +65,7 @@ pub(crate) fn start(
 pub(crate) fn worst_starts(rt: &(impl Abort + Alloc<A = Global>)) -> Vec<Start> {
     let mut starts = Vec::new(rt.alloc());
     for stray in [STRAY, OTHER_STRAY].as_slice() {
-        starts
-            .push(start(rt, &[*stray], &[0]))
-            .expect(rt, "memory");
+        starts.push(start(rt, &[*stray], &[0])).expect(rt, "memory");
     }
     starts
 }

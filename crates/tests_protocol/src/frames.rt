@@ -83,9 +83,7 @@ fn go_alike(
     for step in 0..STEPS {
         let call = CALLS[digits % CALLS.len()];
         digits /= CALLS.len();
-        if !look_alike(ring, plain, places)
-            || !answers_alike(rt, ring, plain, places, call, step)
-        {
+        if !look_alike(ring, plain, places) || !answers_alike(rt, ring, plain, places, call, step) {
             return false;
         }
     }

@@ -237,5 +237,8 @@ fn reading_rounds_bring_everything_down_a_chain(rt: HostRuntime) {
         assert!(rt; is_as(&state, row), "after {} reading rounds", row.rounds);
     }
     let round = reading_round_of_all(rt.alloc(), &opened.tree, 1).expect(&rt, "memory");
-    assert!(rt; round.len() == 14, "five events and two more for each of two links");
+    assert!(rt;
+        round.len() == 14,
+        "five events and two more for each of two links"
+    );
 }

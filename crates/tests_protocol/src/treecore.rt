@@ -4,9 +4,7 @@
 use crate::chain::{chain, narrow, worst_starts};
 use stab_frames::Params;
 use stab_tree::NodeId;
-use stab_treecore::{
-    LinkAct, TreeEvent, TreeStartFault, TreeState, TreeStepFault, run_schedule,
-};
+use stab_treecore::{LinkAct, TreeEvent, TreeStartFault, TreeState, TreeStepFault, run_schedule};
 
 /// No program reports it, since the reader of a job counts its links and starts.
 #[test]
