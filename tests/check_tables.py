@@ -22,7 +22,7 @@ sys.path.insert(0, str(Path(__file__).resolve().parent.parent / "tools"))
 from programs import BUILT, TOP, counted, run_with
 from tables import rignolda_bounds, rignolda_check, rignolda_draw, rignolda_explain
 from tables import rignolda_files, rignolda_jobs, rignolda_lines, rignolda_moment
-from tables import rignolda_read, rignolda_scenario
+from tables import rignolda_read, rignolda_runs, rignolda_scenario
 from tables import stab_examples, stab_jobs, stab_limits, stab_lines, stab_links, stab_openings
 from tables import stab_parts, stab_plain, stab_runs, stab_steps, stab_trees
 from tables.rows import Printed, Repeated
@@ -30,7 +30,7 @@ from tables.rows import Printed, Repeated
 TABLES = [
     rignolda_lines, rignolda_explain, rignolda_bounds, rignolda_check, rignolda_draw,
     rignolda_files,
-    rignolda_jobs, rignolda_moment, rignolda_read, rignolda_scenario,
+    rignolda_jobs, rignolda_moment, rignolda_read, rignolda_runs, rignolda_scenario,
     stab_examples, stab_lines, stab_jobs, stab_trees, stab_parts, stab_plain, stab_steps,
     stab_links, stab_openings, stab_limits, stab_runs,
 ]

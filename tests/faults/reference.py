@@ -1,5 +1,6 @@
 """A tree of links with faults in plain Python, from the rules in docs/PROTOCOL.md: the expected
-values of the tests of `stab_faults` are its values, and nothing of it is made from the crates."""
+values of tests of `stab_faults`, and of rows of tests/tables, are its values, and nothing of it is
+made from the crates."""
 
 class Link:
     def __init__(s, capacity, labels, frames=(), acks=(), send=0, recv=65535):

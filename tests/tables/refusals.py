@@ -29,8 +29,10 @@ UNKNOWN_NODE = "job: unknown node"
 LINK_COUNT = "job: wrong number of links"
 HOLD = "job: h out of range"
 OPENING_COUNT = "job: wrong number of openings"
+OPENING_PLACE = "job: opening at the root or a leaf"
 
 TOO_MANY_FRAMES = "start: too many frames"
+TOO_MANY_ACKS = "start: too many acknowledgements"
 NO_SUCH_LINK = "step: no such link"
 NOT_ONE = "run: capacity is not one"
 

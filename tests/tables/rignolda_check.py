@@ -86,6 +86,30 @@ items of r: 10 11 12 13 14 15 16
 opening: 50
 items of a: 50 99 14 13 15 16
 """),
+    ("received 6 acked 7 ended upstream\nitems: 50 99",
+     "received 5 acked 7 ended upstream\nitems: 99", 1, """\
+a: its items do not begin with its opening
+opening: 50
+items of a: 99 13 14 15 16
+"""),
+    ("received 6 acked 7 ended upstream\nitems: 50 99 13",
+     "received 5 acked 7 ended upstream\nitems: 50 99", 1, """\
+a: what it has after its opening is not what the link law allows
+the link from r has capacity 1 and 7 acknowledged items
+frames: 99
+items of r: 10 11 12 13 14 15 16
+opening: 50
+items of a: 50 99 14 15 16
+"""),
+    ("received 4 acked 6 ended upstream\nitems: 98 14 15",
+     "received 3 acked 6 ended upstream\nitems: 98 14", 1, """\
+b: what it has after its opening is not what the link law allows
+the link from a has capacity 1 and 6 acknowledged items
+frames: 98
+items of a: 50 99 13 14 15 16
+opening:
+items of b: 98 14 16
+"""),
     ("acked 6", "acked 5", 1, "b: a ended upstream with 6 items, and 5 of them are acknowledged\n"),
     ("a depth 1", "c depth 1", 1, "not a report: line 3 is not as a report of this tree has it"),
     ("items: 98 14", "items: 98 014", 1,
@@ -202,6 +226,41 @@ items of a: 50 99 14 13 15 16
     (REPORT.replace("acked 7", "acked 6").replace("acked 6 ended upstream\nitems: 98",
                                                   "acked - ended upstream\nitems: 98"),
      "a: r ended upstream with 7 items, and 6 of them are acknowledged\n"),
+]
+
+# Reports of nodes that made all their turns: then not all that a node has need be acknowledged.
+TURNS = REPORT.replace("ended upstream", "ended turns")
+OF_TURNS = [TURNS, TURNS.replace("acked 6", "acked 5")]
+
+# A tree of two nodes, and texts of it: two that obey, and what is said of others, each of which
+# differs from the first one in a line.
+PAIR_JOB = """\
+{"capacity":1,"labels":4,"tree":[{"name":"r"},{"name":"a","parent":"r"}],"items":[7,8],
+"starts":[{"frames":[[2,99]],"send":0,"recv":1}]}"""
+
+PAIR = """\
+r depth 0 received 2 acked - ended upstream
+items: 7 8
+a depth 1 received 2 acked 2 ended turns
+items: 99 8
+"""
+
+PAIR_TREE = """\
+r depth 0 received 2 acked -
+items: 7 8
+a depth 1 received 2 acked 2
+items: 99 8
+"""
+
+PAIRS = [
+    (PAIR, 0, "obeys\n"),
+    (PAIR_TREE, 0, "obeys\n"),
+    ("", 1, NO_TREE),
+    (replaced(PAIR, "7 8", "7 08"), 1,
+     "not a report: line 2 is not as a report of this tree has it"),
+    (replaced(PAIR, "a depth 1 received 2", "a depth 1 received 3"), 1,
+     "not a report: line 3 is not as a report of this tree has it"),
+    (PAIR + "\n", 1, "not a report: line 5 is not as a report of this tree has it"),
 ]
 
 # A tree of one node, and reports of it.
@@ -326,6 +385,14 @@ ROWS += [
     checked(f"reads a report of a lone root: {report.splitlines()[0]}", LONE_JOB, report, status,
             said)
     for report, status, said in LONE_REPORTS
+]
+ROWS += [
+    checked(f"obeys where all made their turns, {place}", JOB, report, 0, "obeys\n")
+    for place, report in enumerate(OF_TURNS)
+]
+ROWS += [
+    checked(f"names the first line that differs: {said}, {place}", PAIR_JOB, report, status, said)
+    for place, (report, status, said) in enumerate(PAIRS)
 ]
 ROWS += [
     checked("reads a long report", LONG_JOB, LONG_REPORT, 0, "obeys\n"),

@@ -69,6 +69,7 @@ REFUSED = [
     (["strike", "b", {"frames": [[0, 1], [0, 2]], "acks": [1, 1], "send": 0, "recv": 0}],
      "too many frames"),
     (["strike", "b", {"acks": [1, 1], "send": 0, "recv": 0}], "too many acknowledgements"),
+    (["strike", "b", {"frames": [[0, 1], [1, 2]], "send": 0, "recv": 1}], "too many frames"),
 ]
 
 ROWS = [

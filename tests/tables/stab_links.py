@@ -4,8 +4,8 @@ Cases that are an example of crates/gate_checks/data, in the folder refused_tree
 text of a fault does not say which link is refused: that is tested in crates/tests_task."""
 
 from tables.refusals import (
-    CAPACITY, EVENT, LINK_COUNT, OF_TREES, RUNS, SHAPE, TOO_FEW_LABELS, TOO_MANY_FRAMES,
-    TOO_MANY_LABELS, TURNS, each, refused,
+    CAPACITY, EVENT, LINK_COUNT, NO_SUCH_LINK, OF_TREES, RUNS, SHAPE, TOO_FEW_LABELS,
+    TOO_MANY_ACKS, TOO_MANY_FRAMES, TOO_MANY_LABELS, TURNS, each, refused,
 )
 from tables.rows import Like, Row
 
@@ -40,6 +40,49 @@ TWO_FRAMES_WITH = """\
 ["b","recv_frame"],["b","recv_frame"],
 ["b","offer"],["b","send_frame"],["b","recv_frame"],["b","send_ack"],["b","recv_ack"],
 ["b","offer"],["b","send_frame"],["b","recv_frame"],["b","send_ack"],["b","recv_ack"]],"""
+
+# A chain whose second link begins with two frames, where nothing happens, up to its links; and what
+# is printed of it.
+STILL_WITH = TWO_FRAMES_WITH[:TWO_FRAMES_WITH.index('"schedule"')]
+STILL_TEXT = """\
+r depth 0 received 2 acked -
+items: 7 8
+a depth 1 received 0 acked 0
+items:
+b depth 2 received 0 acked 0
+items:
+"""
+
+# A chain up to the starts of its links.
+SEVEN_WITH = """\
+{"capacity":1,"labels":4,"tree":[{"name":"r"},{"name":"a","parent":"r"},
+{"name":"b","parent":"a"}],"items":[10,11,12,13,14,15,16],"""
+
+# Its worst starts; a second one with a frame too many, after a lawful start and after one with an
+# acknowledgement too many.
+WORST = '{"frames":[[2,99]],"acks":[0],"send":0,"recv":1}'
+OTHER_WORST = '{"frames":[[2,98]],"acks":[0],"send":0,"recv":1}'
+WORST_STARTS = f'"starts":[{WORST},{OTHER_WORST}]'
+TOO_FULL = '{"frames":[[2,98],[2,99]],"acks":[0],"send":0,"recv":1}'
+UNLAWFUL = [
+    (f'"starts":[{WORST},{TOO_FULL}]', TOO_MANY_FRAMES),
+    (f'"starts":[{WORST.replace("[0]", "[0,0]")},{TOO_FULL}]', TOO_MANY_ACKS),
+]
+
+# Steps of which the second one names no link.
+NO_LINK = [
+    (WORST_STARTS + ',"schedule":[["a","offer"],["r","offer"],["a","offer"]]', NO_SUCH_LINK),
+]
+
+# What is printed of the chain at its worst starts.
+WORST_TEXT = """\
+r depth 0 received 7 acked -
+items: 10 11 12 13 14 15 16
+a depth 1 received 0 acked 0
+items:
+b depth 2 received 0 acked 0
+items:
+"""
 
 # In the tables of cases: the links of a job, and the text of the fault.
 
@@ -126,6 +169,17 @@ ROWS += refused("refuses link parameters in each task", TWO_FRAMES_WITH, BY_EACH
                 tasks=OF_TREES)
 ROWS += refused("refuses two frames for a narrow link", TWO_FRAMES_WITH,
                 [('"links":[null,null]', TOO_MANY_FRAMES)], tasks=RUNS, status=3)
+ROWS += refused("holds each link to its own capacity", STILL_WITH, [
+    ('"links":[null,null]', TOO_MANY_FRAMES),
+    ('"links":[{"capacity":2,"labels":6},{"capacity":1,"labels":4}]', TOO_MANY_FRAMES),
+], status=3)
+ROWS += refused("refuses the first unlawful start in file order", SEVEN_WITH, UNLAWFUL, status=3)
+ROWS += refused("refuses the first step that names no link", SEVEN_WITH, NO_LINK, status=3)
+ROWS += [
+    Row("a wider second link has room for two frames", ["tree"],
+        STILL_WITH + '"links":[null,{"capacity":2,"labels":6}]}', out=STILL_TEXT),
+    Row("reads the worst starts", ["tree"], SEVEN_WITH + WORST_STARTS + "}", out=WORST_TEXT),
+]
 ROWS += [
     Row(f"runs over mixed links: {links}, by {' '.join(words)}", words,
         TWO_FRAMES_WITH + links + "}", out=REPORT)

@@ -3,7 +3,8 @@
 Cases that are an example of crates/gate_checks/data, in the folder refused_trees, are not here."""
 
 from tables.refusals import (
-    HOLD, LINK_COUNT, OPENING_COUNT, SHAPE, TOO_FEW_LABELS, TURNS, UNKNOWN_NODE, each, refused,
+    HOLD, LINK_COUNT, OPENING_COUNT, OPENING_PLACE, SHAPE, TOO_FEW_LABELS, TURNS, UNKNOWN_NODE,
+    each, refused,
 )
 from tables.rignolda_read import CHAIN_WITH as ANY_CHAIN_WITH, HELD
 from tables.rows import Row
@@ -21,8 +22,23 @@ TOO_MUCH_HELD_WITH = CHAIN_WITH + '"h":65,'
 OPENINGS = [
     ('"h":65', HOLD),
     ('"h":70000,"openings":[]', HOLD),
+    ('"h":65,"openings":[[],[50,51]]', HOLD),
     ('"h":2,"openings":[[1],[],[],[]]', OPENING_COUNT),
+    ('"h":2,"openings":[[1,2,3],[],[]]', OPENING_PLACE),
 ]
+
+# As many items as an opening may have anywhere.
+MOST_HELD = '"h":64,"openings":[[],[50,51],[]]}'
+
+# What is printed of the chain where a begins with 50 and 51, and nothing happens.
+OPENED = """\
+r depth 0 received 2 acked -
+items: 7 8
+a depth 1 received 2 acked 0
+items: 50 51
+b depth 2 received 0 acked 0
+items:
+"""
 
 MISSHAPEN = each([
     '"h":null',
@@ -47,6 +63,7 @@ ORDER = [
 ]
 
 ROWS = refused("refused openings", CHAIN_WITH, OPENINGS)
+ROWS += [Row("reads openings", ["tree"], CHAIN_WITH + MOST_HELD, out=OPENED)]
 ROWS += refused("refuses openings of a wrong shape", CHAIN_WITH, MISSHAPEN)
 ROWS += refused("checks the openings last", TOO_MUCH_HELD_WITH, ORDER)
 # (what a node may begin with is in the table of `rignolda bounds`)

@@ -3,9 +3,10 @@
 Cases that are an example of crates/gate_checks/data, in the folder refused, are not here."""
 
 from tables.refusals import (
-    CAPACITY, EVENT, NOT_JSON, RATE, SHAPE, TOO_LONG_SCRIPT, TOO_MANY_LABELS, each, refused,
+    CAPACITY, EVENT, NOT_JSON, RATE, SHAPE, TOO_FEW_LABELS, TOO_LONG_SCRIPT, TOO_MANY_ACKS,
+    TOO_MANY_FRAMES, TOO_MANY_LABELS, each, refused,
 )
-from tables.rows import Row
+from tables.rows import Row, replaced
 from tables.stab_limits import NO_ITEMS, SCRIPTED
 
 PROGRAM = "stab"
@@ -48,6 +49,31 @@ MEMBERS = [
 READ_MEMBERS = [
     '"capacity":1,"labels":4,"events":[]',
     '"capacity":1,"labels":4,"events":[],"version":"x"',
+]
+
+# Numbers on both sides of their limits.
+NUMBERS = [
+    ('"capacity":0,"labels":4', CAPACITY),
+    ('"capacity":65,"labels":200', CAPACITY),
+    ('"capacity":1,"labels":3', TOO_FEW_LABELS),
+    ('"capacity":1,"labels":1001', TOO_MANY_LABELS),
+    ('"capacity":64,"labels":129', TOO_FEW_LABELS),
+]
+
+READ_NUMBERS = [
+    '"capacity":64,"labels":130',
+    '"capacity":1,"labels":4',
+    '"capacity":1,"labels":1000',
+]
+
+# Labels of four, each beside the one after it.
+NEXT_LABELS = [(0, 1), (3, 0), (65535, 0)]
+
+# Starts that hold more than the capacity 1.
+OVERFULL = [
+    ('{"frames":[[0,1],[1,2]],"send":0,"recv":1}', TOO_MANY_FRAMES),
+    ('{"frames":[[0,1],[1,2]],"acks":[0,1],"send":0,"recv":1}', TOO_MANY_FRAMES),
+    ('{"acks":[0,1],"send":0,"recv":1}', TOO_MANY_ACKS),
 ]
 
 STARTS = each([
@@ -105,6 +131,22 @@ ROWS += [
     Row(f"reads a link job: {case!r}", ["link"], STARTED_WITH + case + "}", out=IDLE_TEXT)
     for case in READ_MEMBERS
 ]
+ROWS += refused("refuses unlawful parameters", STARTED_WITH, NUMBERS, ',"events":[]}', LINK)
+ROWS += [
+    Row(f"reads parameters at their limits: {case!r}", ["link"],
+        STARTED_WITH + case + ',"events":[]}', out=IDLE_TEXT)
+    for case in READ_NUMBERS
+]
+ROWS += [
+    Row(f"goes on from the label {label}", ["link"],
+        f'{{"capacity":1,"labels":4,"start":{{"acks":[{label}],"send":{label},"recv":3}},'
+        '"events":[["offer",7],"recv_ack"]}',
+        out=replaced(replaced(replaced(IDLE_TEXT, "offered:", "offered: 7"), "acked: 0",
+                              "acked: 1"), "send label: 0", f"send label: {after}"))
+    for label, after in NEXT_LABELS
+]
+ROWS += refused("refuses overfull starts", OF_START, OVERFULL,
+                tasks=[["link"], ["link", "--trace"]], status=3)
 ROWS += refused("refuses starts of another shape", OF_START, STARTS, tasks=LINK)
 ROWS += refused("each word is its event", OF_EVENT, EVENTS, "]}", LINK)
 ROWS += refused("refuses a script entry by its first failed check", SCRIPTED, SCRIPTS, "]}")

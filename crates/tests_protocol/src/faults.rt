@@ -1,13 +1,13 @@
-//! Faults in the middle of a run, and what reading rounds make of them. The values are those of
-//! `tests/faults/reference.py`, which has rules of its own.
+//! Faults in the middle of a run, and what reading rounds make of them, by calls that no program
+//! makes. The values are those of `tests/faults/reference.py`, which has rules of its own.
 
-use crate::rounds::{chain, has, worst_start};
+use crate::chain::{After, STRAY, chain, is_as, narrow, start};
 use stab_convergence::run_and_settle;
 use stab_core::{LinkAct, Start};
 use stab_faults::{Change, ChangeFault, run_changes};
-use stab_frames::{Item, Params, Sequence};
+use stab_frames::{Item, Sequence};
 use stab_tree::NodeId;
-use stab_treecore::{RestartFault, StrikeFault, TreeEvent, TreeState, TreeStepFault};
+use stab_treecore::{RestartFault, StrikeFault, TreeEvent, TreeStepFault};
 use std::alloc::Global;
 use std::process::Abort;
 
@@ -38,30 +38,13 @@ fn changes(rt: &(impl Abort + Alloc<A = Global>)) -> Vec<Change> {
         };
         all.push(Change::Act(event)).expect(rt, "memory");
     }
-    all.push(Change::Strike(NodeId::new(2), worst_start(rt, 99)))
+    all.push(Change::Strike(NodeId::new(2), start(rt, &[STRAY], &[0])))
         .expect(rt, "memory");
     all.push(Change::Publish(items(rt, &[20, 21])))
         .expect(rt, "memory");
     all.push(Change::Restart(NodeId::new(1), items(rt, &[50])))
         .expect(rt, "memory");
     all
-}
-
-/// Two clean starts.
-fn starts(rt: &(impl Abort + Alloc<A = Global>)) -> Vec<Start> {
-    let mut starts = Vec::new(rt.alloc());
-    starts.push(Start::clean(rt.alloc())).expect(rt, "memory");
-    starts.push(Start::clean(rt.alloc())).expect(rt, "memory");
-    starts
-}
-
-/// What the links into a and b delivered and have acknowledged after `rounds` reading rounds.
-struct After {
-    rounds: u32,
-    a: &'static [Item],
-    a_acked: u64,
-    b: &'static [Item],
-    b_acked: u64,
 }
 
 /// Seven are said to be enough for b: r has 8, 20 and 21 for a, a has 50 for b, and the link into a
@@ -97,110 +80,77 @@ static AFTER: [After; 4] = [
     },
 ];
 
-/// Whether the links have this.
-fn is_as(state: &TreeState, row: &After) -> bool {
-    has(state.link(NodeId::new(1)), row.a, row.a_acked)
-        && has(state.link(NodeId::new(2)), row.b, row.b_acked)
-}
-
-/// Whether it is so after the changes and then the reading rounds of the row.
-fn settles_as(rt: &(impl Abort + Alloc<A = Global>), row: &After) -> bool {
-    let params = Params::new(1, 4).expect(rt, "parameters");
-    let opened = chain(rt);
-    let state = run_and_settle(
-        rt.alloc(),
-        &[params, params],
-        &opened.tree,
-        &[7, 8],
-        &starts(rt),
-        &opened.openings,
-        &changes(rt),
-        1,
-        row.rounds,
-    )
-    .expect(rt, "a state");
-    is_as(&state, row)
+/// Two clean starts.
+fn clean_starts(rt: &(impl Abort + Alloc<A = Global>)) -> Vec<Start> {
+    let mut starts = Vec::new(rt.alloc());
+    for _ in 0..2 {
+        starts.push(Start::clean(rt.alloc())).expect(rt, "memory");
+    }
+    starts
 }
 
 #[test]
 fn a_chain_comes_back_after_faults(rt: HostRuntime) {
+    let opened = chain(&rt);
+    let starts = clean_starts(&rt);
+    let changes = changes(&rt);
     for row in &AFTER {
-        assert!(&rt; settles_as(&rt, row), "after {} reading rounds", row.rounds);
+        let state = run_and_settle(
+            rt.alloc(),
+            &narrow(&rt),
+            &opened.tree,
+            &[7, 8],
+            &starts,
+            &opened.openings,
+            &changes,
+            1,
+            row.rounds,
+        )
+        .expect(&rt, "a state");
+        assert!(rt; is_as(&state, row), "after {} reading rounds", row.rounds);
     }
 }
 
-/// Whether it is so after the changes alone.
-fn changes_as(rt: &(impl Abort + Alloc<A = Global>), row: &After) -> bool {
-    let params = Params::new(1, 4).expect(rt, "parameters");
-    let opened = chain(rt);
-    let state = run_changes(
-        rt.alloc(),
-        &[params, params],
-        &opened.tree,
-        &[7, 8],
-        &starts(rt),
-        &opened.openings,
-        &changes(rt),
-    )
-    .expect(rt, "a state");
-    is_as(&state, row)
-}
-
-#[test]
-fn changes_are_made_in_order(rt: HostRuntime) {
-    assert!(&rt; changes_as(&rt, &AFTER[0]), "the changes alone");
-}
-
-/// Why this change of the chain is refused, if it is.
-fn refusal(rt: &(impl Abort + Alloc<A = Global>), change: Change) -> Option<ChangeFault> {
-    let params = Params::new(1, 4).expect(rt, "parameters");
-    let opened = chain(rt);
+/// Changes of a node or link that does not exist.
+fn unknown_changes(rt: &(impl Abort + Alloc<A = Global>)) -> Vec<Change> {
     let mut all = Vec::new(rt.alloc());
-    all.push(change).expect(rt, "memory");
-    let result = run_changes(
-        rt.alloc(),
-        &[params, params],
-        &opened.tree,
-        &[7, 8],
-        &starts(rt),
-        &opened.openings,
-        &all,
-    );
-    match result {
-        Ok(_) => None,
-        Err(fault) => Some(fault),
-    }
-}
-
-#[test]
-fn refuses_a_restart_of_no_node(rt: HostRuntime) {
-    let change = Change::Restart(NodeId::new(3), items(&rt, &[]));
-    let fault = refusal(&rt, change);
-    assert!(&rt;
-        fault == Some(ChangeFault::Restart(RestartFault::NoSuchNode)),
-        "node 3"
-    );
-}
-
-#[test]
-fn refuses_a_strike_at_the_root(rt: HostRuntime) {
-    let change = Change::Strike(NodeId::new(0), worst_start(&rt, 99));
-    let fault = refusal(&rt, change);
-    assert!(&rt;
-        fault == Some(ChangeFault::Strike(StrikeFault::NoSuchLink)),
-        "the root"
-    );
-}
-
-#[test]
-fn refuses_an_act_on_no_link(rt: HostRuntime) {
-    let event = TreeEvent {
+    all.push(Change::Restart(NodeId::new(3), items(rt, &[])))
+        .expect(rt, "memory");
+    all.push(Change::Strike(NodeId::new(0), start(rt, &[STRAY], &[0])))
+        .expect(rt, "memory");
+    all.push(Change::Act(TreeEvent {
         child: NodeId::new(0),
         act: LinkAct::Offer,
-    };
-    let fault = refusal(&rt, Change::Act(event));
-    assert!(&rt;
-        fault == Some(ChangeFault::Act(TreeStepFault::NoSuchLink)),
-        "the root"
-    );
+    }))
+    .expect(rt, "memory");
+    all
+}
+
+/// Why each of them is refused.
+static REFUSED: [ChangeFault; 3] = [
+    ChangeFault::Restart(RestartFault::NoSuchNode),
+    ChangeFault::Strike(StrikeFault::NoSuchLink),
+    ChangeFault::Act(TreeStepFault::NoSuchLink),
+];
+
+/// The programs name no other node, and no link into the root.
+#[test]
+fn refuses_changes_of_no_node_or_link(rt: HostRuntime) {
+    let opened = chain(&rt);
+    let starts = clean_starts(&rt);
+    let changes = unknown_changes(&rt);
+    assert!(rt; changes.len() == REFUSED.len());
+    for place in 0..changes.len() {
+        let fault = run_changes(
+            rt.alloc(),
+            &narrow(&rt),
+            &opened.tree,
+            &[7, 8],
+            &starts,
+            &opened.openings,
+            &changes[place..=place],
+        )
+        .err();
+        assert!(rt; fault == Some(REFUSED[place]), "change {place}");
+    }
 }

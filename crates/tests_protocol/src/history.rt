@@ -4,8 +4,6 @@
 use stab_core::Event;
 use stab_history::History;
 use std::alloc::{AllocError, Global};
-use std::process::Abort;
-use std::test::Fail;
 
 /// One of each kind, with the largest item and the largest place.
 const ONE_OF_EACH: [(Event, u32); 10] = [
@@ -47,6 +45,16 @@ const IN_PARTS: [(Event, u32); 5] = [
     (Event::SendAck, 1),
 ];
 
+/// Runs, and how often they come one after the other: with ten runs in each of 100 rounds, their
+/// codes fill many blocks.
+static PUSHED: [(&[(Event, u32)], u32); 5] = [
+    (&[], 1),
+    (&ONE_OF_EACH, 1),
+    (&ONE_OF_EACH, 100),
+    (&COUNT_BORDERS, 1),
+    (&IN_PARTS, 1),
+];
+
 /// Adds an event to both.
 fn push(history: &mut History, plain: &mut Vec<Event>, event: Event) -> Result<(), AllocError> {
     plain.push(event)?;
@@ -69,52 +77,40 @@ fn push_runs(
     Ok(())
 }
 
-/// Fails the test where the two differ, at a place or just past the end.
-fn assert_same<R: Abort>(rt: &R, history: &History, plain: &[Event]) {
-    assert!(rt; history.len() == plain.len() as u64, "the length");
+/// Whether both have the same events, and nothing just past the end or far past it.
+fn is_same(history: &History, plain: &[Event]) -> bool {
     for place in 0..plain.len() {
-        assert!(rt;
-            history.get(place as u64) == Some(plain[place]),
-            "place {place}"
-        );
+        if history.get(place as u64) != Some(plain[place]) {
+            return false;
+        }
     }
-    assert!(rt; history.get(plain.len() as u64).is_none(), "past the end");
-    assert!(rt; history.get(u64::MAX).is_none(), "far past the end");
+    let len = plain.len() as u64;
+    history.len() == len && history.get(len).is_none() && history.get(u64::MAX).is_none()
 }
 
-/// Compares both after these runs, which come so often one after the other.
-fn compare<R: Abort>(
-    rt: &R,
-    alloc: Global,
-    runs: &[(Event, u32)],
-    rounds: u32,
-) -> Result<(), AllocError> {
+/// Whether both are the same after these runs, which come so often one after the other.
+fn stays_same(alloc: Global, runs: &[(Event, u32)], rounds: u32) -> Result<bool, AllocError> {
     let mut history = History::new(alloc);
     let mut plain = Vec::new(alloc);
     for _ in 0..rounds {
         push_runs(&mut history, &mut plain, runs)?;
     }
-    assert_same(rt, &history, plain.as_slice());
-    Ok(())
-}
-
-// With ten runs in each of the rounds, their codes fill many blocks.
-#[test]
-fn keeps_what_is_pushed(rt: HostRuntime) -> Result<(), Fail> {
-    compare(&rt, rt.alloc(), &[], 1)?;
-    compare(&rt, rt.alloc(), &ONE_OF_EACH, 1)?;
-    compare(&rt, rt.alloc(), &ONE_OF_EACH, 100)?;
-    compare(&rt, rt.alloc(), &COUNT_BORDERS, 1)?;
-    compare(&rt, rt.alloc(), &IN_PARTS, 1)?;
-    Ok(())
+    Ok(is_same(&history, plain.as_slice()))
 }
 
 #[test]
-fn keeps_two_events_in_room_for_two(rt: HostRuntime) -> Result<(), Fail> {
+fn keeps_what_is_pushed(rt: HostRuntime) {
+    for (runs, rounds) in &PUSHED {
+        let same = stays_same(rt.alloc(), *runs, *rounds).expect(&rt, "memory");
+        assert!(rt; same, "{rounds} rounds of {} runs", runs.len());
+    }
+}
+
+#[test]
+fn keeps_two_events_in_room_for_two(rt: HostRuntime) {
     let mut history = History::new(rt.alloc());
-    history.reserve(2)?;
+    history.reserve(2).expect(&rt, "memory");
     history.push_reserved(Event::LoseFrame(0));
     history.push_reserved(Event::SendFrame);
-    assert_same(&rt, &history, &[Event::LoseFrame(0), Event::SendFrame]);
-    Ok(())
+    assert!(rt; is_same(&history, &[Event::LoseFrame(0), Event::SendFrame]));
 }

@@ -1,11 +1,15 @@
-//! The tests of the protocol's layers without a thread: frames and queues, one link and the history
-//! of one, all links of a tree under one schedule and with faults, and the judge of reports and
-//! their reader, by public calls alone.
+//! The tests of the protocol's layers without a thread, by public calls alone: of calls that no
+//! program makes, and of what no command line shows. What one shows of frames and queues, one link,
+//! all links of a tree, faults, rounds, reports and their judge is a row of `tests/tables`, or an
+//! example.
 //!
-//! There is one module for each crate below. Tests are crates of their own because a crate that has
-//! tests is proved twice, without them and with them: here nothing is proved again.
+//! There is one module for each crate below, and one for what several of them begin with. Tests are
+//! crates of their own because a crate that has tests is proved twice, without them and with them:
+//! here nothing is proved again.
 #![tactic(auto)]
 
+#[cfg(test)]
+mod chain;
 #[cfg(test)]
 mod faults;
 #[cfg(test)]
