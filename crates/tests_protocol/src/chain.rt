@@ -62,12 +62,8 @@ pub(crate) fn start(
 }
 
 /// The worst starts of the chain's links.
-pub(crate) fn worst_starts(rt: &(impl Abort + Alloc<A = Global>)) -> Vec<Start> {
-    let mut starts = Vec::new(rt.alloc());
-    for stray in [STRAY, OTHER_STRAY].as_slice() {
-        starts.push(start(rt, &[*stray], &[0])).expect(rt, "memory");
-    }
-    starts
+pub(crate) fn worst_starts(rt: &(impl Abort + Alloc<A = Global>)) -> [Start; 2] {
+    [start(rt, &[STRAY], &[0]), start(rt, &[OTHER_STRAY], &[0])]
 }
 
 /// What the links into a and b delivered and have acknowledged after `rounds` rounds.

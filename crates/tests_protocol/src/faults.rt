@@ -81,12 +81,8 @@ static AFTER: [After; 4] = [
 ];
 
 /// Two clean starts.
-fn clean_starts(rt: &(impl Abort + Alloc<A = Global>)) -> Vec<Start> {
-    let mut starts = Vec::new(rt.alloc());
-    for _ in 0..2 {
-        starts.push(Start::clean(rt.alloc())).expect(rt, "memory");
-    }
-    starts
+fn clean_starts(rt: &(impl Alloc<A = Global>)) -> [Start; 2] {
+    [Start::clean(rt.alloc()), Start::clean(rt.alloc())]
 }
 
 #[test]
@@ -111,36 +107,30 @@ fn a_chain_comes_back_after_faults(rt: HostRuntime) {
     }
 }
 
-/// Changes of a node or link that does not exist.
-fn unknown_changes(rt: &(impl Abort + Alloc<A = Global>)) -> Vec<Change> {
-    let mut all = Vec::new(rt.alloc());
-    all.push(Change::Restart(NodeId::new(3), items(rt, &[])))
-        .expect(rt, "memory");
-    all.push(Change::Strike(NodeId::new(0), start(rt, &[STRAY], &[0])))
-        .expect(rt, "memory");
-    all.push(Change::Act(TreeEvent {
-        child: NodeId::new(0),
-        act: LinkAct::Offer,
-    }))
-    .expect(rt, "memory");
-    all
-}
-
-/// Why each of them is refused.
-static REFUSED: [ChangeFault; 3] = [
-    ChangeFault::Restart(RestartFault::NoSuchNode),
-    ChangeFault::Strike(StrikeFault::NoSuchLink),
-    ChangeFault::Act(TreeStepFault::NoSuchLink),
-];
-
 /// The programs name no other node, and no link into the root.
 #[test]
 fn refuses_changes_of_no_node_or_link(rt: HostRuntime) {
     let opened = chain(&rt);
     let starts = clean_starts(&rt);
-    let changes = unknown_changes(&rt);
-    assert!(rt; changes.len() == REFUSED.len());
-    for place in 0..changes.len() {
+    let event = TreeEvent {
+        child: NodeId::new(0),
+        act: LinkAct::Offer,
+    };
+    let rows = [
+        (
+            Change::Restart(NodeId::new(3), items(&rt, &[])),
+            ChangeFault::Restart(RestartFault::NoSuchNode),
+        ),
+        (
+            Change::Strike(NodeId::new(0), start(&rt, &[STRAY], &[0])),
+            ChangeFault::Strike(StrikeFault::NoSuchLink),
+        ),
+        (
+            Change::Act(event),
+            ChangeFault::Act(TreeStepFault::NoSuchLink),
+        ),
+    ];
+    for (change, want) in rows {
         let fault = run_changes(
             rt.alloc(),
             &narrow(&rt),
@@ -148,9 +138,9 @@ fn refuses_changes_of_no_node_or_link(rt: HostRuntime) {
             &[7, 8],
             &starts,
             &opened.openings,
-            &changes[place..=place],
+            &[change],
         )
         .err();
-        assert!(rt; fault == Some(REFUSED[place]), "change {place}");
+        assert!(rt; fault == Some(want), "{want:?}");
     }
 }
