@@ -239,8 +239,9 @@ RIGNOLDA_CALL void rignolda_receiver_close(rignolda_receiver *receiver);
 /*
  * In each call of one node, list and size are the same buffer; size counts its items (of 4 bytes
  * each), which nothing else changes. As many places as the longest backlog that you allow are
- * enough for ever, if you forget (rignolda_node_forget) what each child was offered. Frames, offers
- * and acknowledgements of a node go by the calls below alone. Ask for the label to acknowledge by
+ * enough for ever, if you forget (rignolda_node_forget) what each child was offered. Calls are
+ * fastest where size is a power of two: then they need no division. Frames, offers and
+ * acknowledgements of a node go by the calls below alone. Ask for the label to acknowledge by
  * rignolda_receiver_ack(&node.above, ..), and close the ends by rignolda_receiver_close and
  * rignolda_sender_close. The receiver of the root is not used.
  */

@@ -167,44 +167,64 @@ static inline bool rignolda_node_publish(rignolda_node *node, uint32_t *list, si
                                          uint32_t item)
 {
     const uint64_t length = node->length;
-    if (size == 0) {
-        return false;
-    }
     const uint64_t forgotten = node->forgotten;
-    if ((size > UINT64_MAX - forgotten ? UINT64_MAX : size + forgotten) <= length) {
-        return false;
+    if (size > (length - forgotten)) {
+        if (length == UINT64_MAX) {
+            return false;
+        }
+    } else {
+        if ((size == 0) || (forgotten <= length)) {
+            return false;
+        }
     }
+    uint64_t value;
     node->length = length + 1;
-    list[length % size] = item;
+    if ((size & (size - 1)) == 0) {
+        value = length & ((uint64_t)size - 1);
+    } else {
+        value = length % size;
+    }
+    list[value] = item;
     return true;
 }
 
 static inline bool rignolda_node_on_frame(rignolda_node *node, uint32_t *list, size_t size,
                                           const rignolda_frame *frame)
 {
-    const uint16_t label = frame->label;
-    const bool holds = node->above.closed == 0;
-    if ((label != node->above.label) && holds) {
-        const uint32_t item = frame->item;
-        const uint64_t length = node->length;
-        if (size == 0) {
-            return false;
-        }
-        const uint64_t forgotten = node->forgotten;
-        if ((size > UINT64_MAX - forgotten ? UINT64_MAX : size + forgotten) <= length) {
-            return false;
-        }
-        node->length = length + 1;
-        list[length % size] = item;
-        node->above.label = label;
-        return true;
-    }
-    if (!holds) {
+    if (node->above.closed != 0) {
         return false;
     }
-    const uint64_t old_frames = node->old_frames;
-    node->old_frames = old_frames > UINT64_MAX - 1 ? UINT64_MAX : old_frames + 1;
-    return false;
+    const uint16_t label = frame->label;
+    if (label == node->above.label) {
+        const uint64_t value = node->old_frames + 1;
+        if (value == 0) {
+            return false;
+        }
+        node->old_frames = value;
+        return false;
+    }
+    const uint32_t item = frame->item;
+    const uint64_t length = node->length;
+    const uint64_t forgotten = node->forgotten;
+    if (size > (length - forgotten)) {
+        if (length == UINT64_MAX) {
+            return false;
+        }
+    } else {
+        if ((size == 0) || (forgotten <= length)) {
+            return false;
+        }
+    }
+    uint64_t value_2;
+    node->length = length + 1;
+    if ((size & (size - 1)) == 0) {
+        value_2 = length & ((uint64_t)size - 1);
+    } else {
+        value_2 = length % size;
+    }
+    list[value_2] = item;
+    node->above.label = label;
+    return true;
 }
 
 static inline bool rignolda_node_poll(const rignolda_node *node, rignolda_child *child,
@@ -216,14 +236,20 @@ static inline bool rignolda_node_poll(const rignolda_node *node, rignolda_child 
     uint32_t value;
     if (child->sender.holding == 0) {
         const uint64_t offered = child->offered;
+        if (offered < node->forgotten) {
+            return false;
+        }
         const uint64_t length = node->length;
-        if (length <= offered) {
+        if ((length <= offered) || (size < (length - offered))) {
             return false;
         }
-        if ((size < (length - offered)) || (offered < node->forgotten)) {
-            return false;
+        uint64_t value_2;
+        if ((size & (size - 1)) == 0) {
+            value_2 = offered & ((uint64_t)size - 1);
+        } else {
+            value_2 = offered % size;
         }
-        const uint32_t item = list[offered % size];
+        const uint32_t item = list[value_2];
         child->sender.item = item;
         child->sender.holding = 1;
         child->offered = offered + 1;
@@ -251,14 +277,20 @@ static inline bool rignolda_child_on_ack(rignolda_child *child, const rignolda_p
                 child->sender.label = (uint16_t)((label < (uint16_t)(labels - 1))
                     ? (uint16_t)(label + 1) : 0);
                 child->sender.holding = 0;
-                const uint64_t acknowledged = child->acknowledged;
-                child->acknowledged = acknowledged > UINT64_MAX - 1 ? UINT64_MAX : acknowledged + 1;
+                const uint64_t value = child->acknowledged + 1;
+                if (value == 0) {
+                    return true;
+                }
+                child->acknowledged = value;
                 return true;
             }
         }
     }
-    const uint64_t ignored = child->ignored;
-    child->ignored = ignored > UINT64_MAX - 1 ? UINT64_MAX : ignored + 1;
+    const uint64_t value_2 = child->ignored + 1;
+    if (value_2 == 0) {
+        return false;
+    }
+    child->ignored = value_2;
     return false;
 }
 
@@ -464,14 +496,20 @@ static inline bool rignolda_session_poll(const rignolda_node *node, rignolda_chi
     uint32_t value;
     if (child->sender.holding == 0) {
         const uint64_t offered = child->offered;
+        if (offered < node->forgotten) {
+            return false;
+        }
         const uint64_t length = node->length;
-        if (length <= offered) {
+        if ((length <= offered) || (size < (length - offered))) {
             return false;
         }
-        if ((size < (length - offered)) || (offered < node->forgotten)) {
-            return false;
+        uint64_t value_2;
+        if ((size & (size - 1)) == 0) {
+            value_2 = offered & ((uint64_t)size - 1);
+        } else {
+            value_2 = offered % size;
         }
-        const uint32_t item = list[offered % size];
+        const uint32_t item = list[value_2];
         child->sender.item = item;
         child->sender.holding = 1;
         child->offered = offered + 1;
@@ -508,14 +546,20 @@ static inline bool rignolda_session_child_on_ack(rignolda_child *child, rignolda
                 child->sender.label = (uint16_t)((label < (uint16_t)(labels - 1))
                     ? (uint16_t)(label + 1) : 0);
                 child->sender.holding = 0;
-                const uint64_t acknowledged = child->acknowledged;
-                child->acknowledged = acknowledged > UINT64_MAX - 1 ? UINT64_MAX : acknowledged + 1;
+                const uint64_t value = child->acknowledged + 1;
+                if (value == 0) {
+                    return true;
+                }
+                child->acknowledged = value;
                 return true;
             }
         }
     }
-    const uint64_t ignored = child->ignored;
-    child->ignored = ignored > UINT64_MAX - 1 ? UINT64_MAX : ignored + 1;
+    const uint64_t value_2 = child->ignored + 1;
+    if (value_2 == 0) {
+        return false;
+    }
+    child->ignored = value_2;
     return false;
 }
 
@@ -529,30 +573,50 @@ static inline bool rignolda_session_node_on_frame(rignolda_node *node, rignolda_
     if (number != session->number) {
         return false;
     }
-    const uint16_t label = frame->label;
-    const bool holds = node->above.closed == 0;
-    const bool holds_2 = (label != node->above.label) && holds;
-    if (holds_2) {
-        const uint32_t item = frame->item;
-        const uint64_t length = node->length;
-        if (size == 0) {
-            return false;
+    bool holds;
+    const uint16_t label = node->above.label;
+    if (node->above.closed == 0) {
+        const uint16_t label_2 = frame->label;
+        if (label_2 == label) {
+            const uint64_t value = node->old_frames + 1;
+            if (value == 0) {
+                holds = false;
+            } else {
+                node->old_frames = value;
+                if (frame->label != label) {
+                    return false;
+                }
+                holds = false;
+            }
+        } else {
+            const uint32_t item = frame->item;
+            const uint64_t length = node->length;
+            const uint64_t forgotten = node->forgotten;
+            if (size > (length - forgotten)) {
+                if (length == UINT64_MAX) {
+                    return false;
+                }
+            } else {
+                if ((size == 0) || (forgotten <= length)) {
+                    return false;
+                }
+            }
+            uint64_t value_2;
+            node->length = length + 1;
+            if ((size & (size - 1)) == 0) {
+                value_2 = length & ((uint64_t)size - 1);
+            } else {
+                value_2 = length % size;
+            }
+            list[value_2] = item;
+            node->above.label = label_2;
+            holds = true;
         }
-        const uint64_t forgotten = node->forgotten;
-        if ((size > UINT64_MAX - forgotten ? UINT64_MAX : size + forgotten) <= length) {
-            return false;
-        }
-        node->length = length + 1;
-        list[length % size] = item;
-        node->above.label = label;
     } else {
-        if (holds) {
-            const uint64_t old_frames = node->old_frames;
-            node->old_frames = old_frames > UINT64_MAX - 1 ? UINT64_MAX : old_frames + 1;
-        }
+        holds = false;
     }
     session->turn = 1;
-    return holds_2;
+    return holds;
 }
 
 static inline uint64_t rignolda_word_of_frame(const rignolda_frame *frame)

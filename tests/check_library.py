@@ -87,11 +87,15 @@ class Library(Cases):
                        status == 1 and said.startswith("broken: "), said)
 
     def in_both(self, name, rounds, words, under=()):
-        """Compares each call of the archive with the inline one."""
-        both = self.room / "both"
+        """Compares each call of the archive with the inline one, and those that speed.c measures
+        with the plain ones."""
+        both, plain = self.room / "both", self.room / "plain"
         self.works(f"{name}: both forms build", words[0], "tests/library/both.c",
                    "tests/library/inline.c", *words[1:], "-o", both)
         self.works(f"{name}: each call in both forms", *under, both, rounds, "1")
+        self.works(f"{name}: plain calls build", words[0], "tests/library/both.c",
+                   "tests/library/plain.c", *words[1:], "-o", plain)
+        self.works(f"{name}: each plain call does the same", *under, plain, rounds, "1")
 
     def has_all_calls(self):
         """Whether these two are compared in every call of the header."""

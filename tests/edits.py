@@ -45,7 +45,7 @@ from programs import counted  # noqa: E402
 # The folders of a crate's edits: those of the gate, by `rt ci` and apart, those that are tried by
 # hand, and controls.
 FOLDERS = ("crates/{}/must-fail", "tests/edits/{}", "tests/more_edits/{}", "tests/controls/{}")
-FUNCTION = re.compile(r"\s*(?:pub(?:\(\w+\))? )?(?:const )?fn (\w+)")
+FUNCTION = re.compile(r'\s*(?:pub(?:\(\w+\))? )?(?:const )?(?:extern "C" )?fn (\w+)')
 
 
 def edits_in(folder):

@@ -140,6 +140,8 @@ def step_of(line):
         (rf"call (i\d+) @llvm\.(umax|umin|uadd\.sat|usub\.sat)\.i\d+"
          rf"\(i\d+ {number}, i\d+ {number}\)",
          lambda kind, how, a, b: Step(name, kind, "minmax", a, b, more=how)),
+        (rf"call (i\d+) @llvm\.ctpop\.i\d+\(i\d+ {number}\)",
+         lambda kind, a: Step(name, kind, "ctpop", a)),
         (rf"call void @llvm\.memset\.p0\.i64\(ptr {number}, i8 0, i64 (\d+), i1 false\)(?: #\d+)?",
          lambda to, size: Step("", "", "clear", to, more=int(size))),
         (rf"phi (i\d+) (.*)",
@@ -233,7 +235,7 @@ class Function:
                 if len(uses.get(step.name, [])) != 1 or step.act == "phi":
                     continue
                 at, then, user = uses[step.name][0]
-                if user.act == "minmax":
+                if user.act in ("minmax", "ctpop"):
                     continue
                 if user.name in self.inlined and user.act != "phi":
                     at, then = when[user.name]
@@ -560,6 +562,13 @@ class Function:
         sign = RELATIONS.get(how)
         if sign is None or kind == "ptr":
             raise Unknown(f"icmp {how} {kind} in {self.name}")
+        asked = self.steps.get(a)
+        if asked and asked.act == "ctpop":
+            # (C has no count of bits, but this is how one asks whether there is at most one)
+            if (sign, b) not in (("<", "2"), (">", "1")):
+                raise Unknown(f"a count of bits in {self.name}")
+            it = self.value(asked.operands[0], kind)
+            return f"({it} & ({it} - 1)) {'==' if (sign == '<') != negated else '!='} 0"
         sign = OPPOSITE[sign] if negated else sign
         return f"{self.value(a, kind)} {sign} {self.value(b, kind)}"
 

@@ -5,7 +5,7 @@
  * It is linked with inline.c and the archive. In a round all that a call may look at is drawn, and
  * each call is made twice, by the archive and as an inline function: what it returns has to be the
  * same, and so has each byte that lies there then. At the end each call that can refuse has to have
- * done both.
+ * done both. With plain.c in place of inline.c, those calls are the plain ones that have one.
  */
 #include "calls.h"
 

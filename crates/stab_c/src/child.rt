@@ -8,7 +8,7 @@ ghost use Rattle.stab_c.specs.NodeList.{IsList, counted, is_left_behind, item_ke
 ghost use Rattle.stab_c.specs.NodeList.{takes_next};
 
 use crate::line::{LineFrame, LinkParams};
-use crate::node::Node;
+use crate::node::{Node, count_one, slot};
 use crate::sender::{
     SenderHalf, hold, rignolda_sender_frame, rignolda_sender_init, rignolda_sender_on_ack,
     would_take,
@@ -74,10 +74,10 @@ fn item_at(node: &Node, place: u64, list: &[u32]) -> Option<u32>
 {
     let size = list.len() as u64;
     // (as `first_kept`, without a maximum to work out)
-    if place >= node.length || place < node.forgotten || node.length - place > size {
+    if place < node.forgotten || place >= node.length || node.length - place > size {
         return None;
     }
-    list.get((place % size) as usize).copied()
+    Some(list[slot(place, list.len())])
 }
 
 /// Offers the child its next item, where there is one and its sender is open and idle. Then it
@@ -131,9 +131,9 @@ pub extern "C" fn rignolda_child_on_ack(child: &mut Child, params: &LinkParams, 
 {
     let acknowledged = rignolda_sender_on_ack(&mut child.sender, params, label);
     if acknowledged {
-        child.acknowledged = child.acknowledged.saturating_add(1);
+        count_one(&mut child.acknowledged);
     } else {
-        child.ignored = child.ignored.saturating_add(1);
+        count_one(&mut child.ignored);
     }
     acknowledged
 }

@@ -1,5 +1,5 @@
 ghost use Rattle.std.specs.Prelude.{◌≡◌, ◌+◌, ◌%◌, ◌&&◌, List, false, length, set, if◌then◌else◌};
-ghost use Rattle.std.specs.Prelude.{ℕ};
+ghost use Rattle.std.specs.Prelude.{ℕ, ◌<◌, true};
 ghost use Rattle.stab_line.specs.Acts.{IsFrameReceived};
 ghost use Rattle.stab_line.specs.Ends.{after_frame, delivers, new_receiver};
 ghost use Rattle.stab_line.specs.Line.{with_taken};
@@ -40,6 +40,45 @@ pub extern "C" fn rignolda_node_init(node: &mut Node, label: u16, opening: u64)
     node.old_frames = 0;
 }
 
+/// Counts one more, up to the highest count.
+pub(crate) fn count_one(count: &mut u64)
+    ensures { count.new ≡ counted true count.old }
+{
+    let more = count.wrapping_add(1);
+    if more != 0 {
+        *count = more;
+    }
+}
+
+/// Whether the list has a place for one more item.
+fn has_room(node: &Node, list: &[u32]) -> bool
+    ensures { result ≡ has_place node.now list.now }
+{
+    let size = list.len() as u64;
+    // (it wraps where more is forgotten than the list has, and then nothing is kept)
+    let kept = node.length.wrapping_sub(node.forgotten);
+    if kept >= size && (size == 0 || node.length >= node.forgotten) {
+        return false;
+    }
+    node.length != u64::MAX
+}
+
+/// Where in a buffer of this size the item at a place of the list lies: at this place modulo the
+/// size. Where the size is a power of two, that takes no division.
+pub(crate) fn slot(place: u64, size: usize) -> usize
+    requires { 0 < size }
+    ensures value { result ≡ place % size }
+    ensures bound { result < size }
+{
+    let size = size as u64;
+    let mask = size - 1;
+    if size & mask == 0 {
+        (place & mask) as usize
+    } else {
+        (place % size) as usize
+    }
+}
+
 /// Puts an item at the end of the list, and returns true, if there is a place.
 #[unsafe(no_mangle)]
 pub extern "C" fn rignolda_node_publish(node: &mut Node, list: &mut [u32], item: u32) -> bool
@@ -55,14 +94,12 @@ pub extern "C" fn rignolda_node_publish(node: &mut Node, list: &mut [u32], item:
     ensures count { node.new.old_frames ≡ node.old.old_frames }
     ensures refused { result ≡ false → node.new ≡ node.old }
 {
-    let size = list.len() as u64;
-    let place = node.length;
-    // (the sum stops at the highest count, at which no list grows)
-    if size == 0 || place >= node.forgotten.saturating_add(size) {
+    if !has_room(node, list) {
         return false;
     }
+    let place = node.length;
     node.length = place + 1;
-    list[(place % size) as usize] = item;
+    list[slot(place, list.len())] = item;
     true
 }
 
@@ -93,10 +130,11 @@ pub extern "C" fn rignolda_node_on_frame(
         IsFrameReceived (receiver_end node.old.above) (frame_of frame.now) result
         (receiver_end node.new.above) }
 {
+    if node.above.closed != 0 {
+        return false;
+    }
     if !rignolda_receiver_is_fresh(&node.above, frame) {
-        if node.above.closed == 0 {
-            node.old_frames = node.old_frames.saturating_add(1);
-        }
+        count_one(&mut node.old_frames);
         return false;
     }
     let label = frame.label;

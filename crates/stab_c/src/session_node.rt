@@ -128,9 +128,9 @@ pub extern "C" fn rignolda_session_node_on_frame(
     if !rignolda_session_has(session, number) {
         return false;
     }
-    let fresh = rignolda_receiver_is_fresh(&node.above, frame);
     let taken = rignolda_node_on_frame(node, list, frame);
-    if taken || !fresh {
+    // (a frame that is not taken leaves the receiver as it was)
+    if taken || !rignolda_receiver_is_fresh(&node.above, frame) {
         session.turn = 1;
     }
     taken
