@@ -110,6 +110,18 @@ impl History {
         self.reserve(1)
     }
 
+    /// Makes room for what the exchange of this many items usually takes, as far as memory is there.
+    ///
+    /// Whoever knows how many items there will be spares the history growing step by step. Where
+    /// memory is refused, or an exchange takes more, it grows in its steps as without this call, so
+    /// there is nothing to report.
+    pub fn reserve_for_items(&mut self, items: usize)
+        ensures events { self.new.events ≡ self.old.events }
+        ensures room { self.old.room ≤ self.new.room }
+    {
+        self.packed.reserve_for_items(items);
+    }
+
     /// Adds an event at the end, in the room that was made for it.
     pub fn push_reserved(&mut self, event: Event)
         requires room { HasRoom self.old event }

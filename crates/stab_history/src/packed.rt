@@ -18,6 +18,10 @@ const BLOCK: usize = 256;
 /// How many numbers a run takes at most.
 const NUMBERS: usize = 6;
 
+/// For how many codes an offered item gets room: in a run of workers most items take three, and
+/// what is not used takes no memory of the machine.
+const CODES_FOR_ITEM: usize = 4;
+
 /// The runs that are over, as codes of one byte and the numbers that they leave out, with two marks
 /// for every 256th code. Contracts see the runs, and for how many more there is room. A run that
 /// joins the last code leaves the marks as they are, since they count what is before a code.
@@ -84,6 +88,17 @@ impl PackedRuns {
         self.numbers.reserve(additional * NUMBERS)?;
         self.marks.reserve(additional)?;
         self.starts.reserve(additional)
+    }
+
+    /// Makes room for what the offers of this many items usually take, as far as memory is there.
+    pub(crate) fn reserve_for_items(&mut self, items: usize)
+        ensures runs { self.new.runs ≡ self.old.runs }
+        ensures room { self.old.room ≤ self.new.room }
+    {
+        let _codes = self
+            .codes
+            .reserve_exact(items.saturating_mul(CODES_FOR_ITEM));
+        let _numbers = self.numbers.reserve_exact(items.saturating_add(NUMBERS));
     }
 
     /// Adds a run, in the room that was made.

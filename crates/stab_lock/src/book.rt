@@ -73,11 +73,13 @@ impl LinkBook {
         })
     }
 
-    /// Makes room for this many more items in the lists of the link, as far as memory is there.
+    /// Makes room for this many more items in the lists of the link, and for what the history
+    /// usually takes for them, as far as memory is there.
     pub fn reserve(&mut self, additional: usize)
         ensures { self.new ≡ self.old }
     {
         self.link.reserve(additional);
+        self.history.reserve_for_items(additional);
     }
 
     /// Lets an event happen to the link and notes it, also where its effect is Nothing. Where
