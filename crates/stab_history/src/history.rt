@@ -110,11 +110,11 @@ impl History {
         self.reserve(1)
     }
 
-    /// Makes room for what the exchange of this many items usually takes, as far as memory is there.
+    /// Makes room for what this many items usually take, as far as memory is there.
     ///
     /// Whoever knows how many items there will be spares the history growing step by step. Where
-    /// memory is refused, or an exchange takes more, it grows in its steps as without this call, so
-    /// there is nothing to report.
+    /// memory is refused, or they take more, it grows in its steps as without this call, so nothing
+    /// is reported.
     pub fn reserve_for_items(&mut self, items: usize)
         ensures events { self.new.events ≡ self.old.events }
         ensures room { self.old.room ≤ self.new.room }
