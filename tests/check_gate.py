@@ -166,8 +166,8 @@ def begun(first, **env):
 
 at_first, beside, after = begun(STEPS)
 holds("at first nothing runs beside the first part", at_first == [])
-holds("then what needs nothing of it, and planted bugs in the time that is left over",
-      beside == ["apart at nice 0", "low at nice 19", "mid at nice 19"])
+holds("then what needs nothing of it, and planted bugs, in the time that is left over",
+      beside == ["apart at nice 10", "low at nice 10", "mid at nice 10"])
 holds("and after it what runs what it has built, and planted bugs over what it has not proved",
       after == sorted([*beside, "high at nice 0", "over at nice 0"]))
 _, beside, after = begun(STEPS.replace("rt: low proved", "rt: low NOT PROVED")
