@@ -6,6 +6,7 @@ Nothing is proved, and nothing of this repository is touched. The test takes som
 line is 'N passed, M failed'.
 """
 import json
+import os
 import re
 import sys
 
@@ -142,7 +143,8 @@ holds("another word is refused", run_gate("--other").status == 2)
 
 # While the first part goes on, others begin: at first none, then those that need nothing of it,
 # and the planted bugs of a crate over crates that are proved; after it what runs that it has built.
-BESIDE = """echo "$1 at nice $(nice)" >>"$WORK/begun"; echo 0 passed, 0 failed"""
+BESIDE = f"""how=late; [ "$(nice)" -le {os.nice(0)} ] || how=beside
+    echo "$1 $how" >>"$WORK/begun"; echo 0 passed, 0 failed"""
 APART = next(it for it in SCRIPTS if it == "tests/check_stab.py")
 OVER = next(it for it in SCRIPTS if it == "tests/check_tables.py")
 house.command(APART, BESIDE.replace("$1", "apart"))
@@ -167,13 +169,13 @@ def begun(first, **env):
 at_first, beside, after = begun(STEPS)
 holds("at first nothing runs beside the first part", at_first == [])
 holds("then what needs nothing of it, and planted bugs, in the time that is left over",
-      beside == ["apart at nice 10", "low at nice 10", "mid at nice 10"])
+      beside == ["apart beside", "low beside", "mid beside"])
 holds("and after it what runs what it has built, and planted bugs over what it has not proved",
-      after == sorted([*beside, "high at nice 0", "over at nice 0"]))
+      after == sorted([*beside, "high late", "over late"]))
 _, beside, after = begun(STEPS.replace("rt: low proved", "rt: low NOT PROVED")
                          .replace("has apart; has mid", "sleep 0.3"))
 holds("over what is not proved nothing begins before it has ended", beside == [] and after == [
-    "apart at nice 0", "high at nice 0", "low at nice 0", "mid at nice 0", "over at nice 0"])
+    "apart late", "high late", "low late", "mid late", "over late"])
 script(SCRIPTS.index(APART))
 script(SCRIPTS.index(OVER))
 house.command("tests/try_edits.py", 'echo "$PWD: edits $*"; echo 0 passed, 0 failed')
