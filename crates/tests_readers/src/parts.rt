@@ -49,9 +49,19 @@ fn a_draw_takes_a_word_for_each_act_and_none_where_it_is_refused(rt: HostRuntime
         ((1, 0, 1001), RATE, FIRST, SECOND),
         ((0, 0, 0), None, FIRST, SECOND),
         ((1, 800, 100), None, THIRD, 0x812fff6d_bfc6a3ad),
-        ((2, 1000, 1000), None, 0xf9384b90_e61f305a, 0x1dc035f9_32db86fe),
+        (
+            (2, 1000, 1000),
+            None,
+            0xf9384b90_e61f305a,
+            0x1dc035f9_32db86fe,
+        ),
         ((6, 100, 0), None, 0xc261e845_b1e882bb, 0x7964e884_1a9b90f6),
-        ((100000, 1000, 1000), None, 0xe9c07484_0c267bed, 0x0e06bbfa_ffb878d3),
+        (
+            (100000, 1000, 1000),
+            None,
+            0xe9c07484_0c267bed,
+            0x0e06bbfa_ffb878d3,
+        ),
     ];
     const FIRST: u64 = 0x7b47f409_a15c02b7;
     const SECOND: u64 = 0x83d2f293_ba1d3330;

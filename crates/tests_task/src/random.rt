@@ -61,7 +61,13 @@ const MISTAKEN: &[(DrawOptions, OptionsFault)] = &[
         },
         TURNS,
     ),
-    (DrawOptions { loss: 1001, ..SMALL }, RATE),
+    (
+        DrawOptions {
+            loss: 1001,
+            ..SMALL
+        },
+        RATE,
+    ),
     (
         DrawOptions {
             repeat: 1001,
