@@ -3,9 +3,7 @@ use Rattle.std.proofs.Common.{◌≡◌, ℕ, ◌-◌, ◌<◌, ◌≤◌, List,
 use Rattle.json.specs.Token.{Token}
 use Rattle.json.specs.Json.{after_end_array}
 use Rattle.serde_json.specs.Data.{unsigned, number, string, array, no_items, item}
-use Rattle.stab_core.specs.declared.event.Event.{Event}
 use Rattle.stab_json.specs.Values.{whole_to, capped}
-use Rattle.stab_script.specs.Events.{event, numbered_event}
 use Rattle.stab_script.specs.Starts.{frame}
 use Rattle.stab_stream.specs.Standing.{Stands, MeansWithin, Means}
 use Rattle.stab_stream.proofs.Standing.{a_text, a_pair}
@@ -33,13 +31,8 @@ a_frame l i ts us vs rest first few_l second few_i end less lesser depth some =
     let numbers = item (number (unsigned l)) (item (number (unsigned i)) no_items) in
     (array numbers, a_pair depth ts us vs rest (number (unsigned l)) (number (unsigned i)) some (first (depth - 1)) (second (depth - 1)) end less lesser, frame_of l i few_l few_i)
 
--- a word
-pub a_word : (word : List ℕ) (rest : List Token) (e : Event) → event (string word) ≡ Some e → Means event (Token.string word ∷ rest) e rest
-a_word word rest e is depth some = (string word, a_text depth word rest, is)
-
 -- a list of a word and a number
-pub a_numbered_word : (depth : ℕ) (word : List ℕ) (n : ℕ) (ts us rest : List Token) (e : Event) → 0 < depth → ((within : ℕ) → Stands within ts (number (unsigned n)) us) → length us < length ts
-    → after_end_array us ≡ Some rest → numbered_event word (number (unsigned n)) ≡ Some e → MeansWithin depth event (Token.begin_array ∷ Token.string word ∷ ts) e rest
-a_numbered_word depth word n ts us rest e some second less end is =
-    let both = item (string word) (item (number (unsigned n)) no_items) in
-    (array both, a_pair depth (Token.string word ∷ ts) ts us rest (string word) (number (unsigned n)) some (a_text (depth - 1) word ts) (second (depth - 1)) end (omega arith) less, is)
+pub a_numbered_word : (depth : ℕ) (word : List ℕ) (n : ℕ) (ts us rest : List Token) → 0 < depth → ((within : ℕ) → Stands within ts (number (unsigned n)) us) → length us < length ts
+    → after_end_array us ≡ Some rest → Stands depth (Token.begin_array ∷ Token.string word ∷ ts) (array (item (string word) (item (number (unsigned n)) no_items))) rest
+a_numbered_word depth word n ts us rest some second less end =
+    a_pair depth (Token.string word ∷ ts) ts us rest (string word) (number (unsigned n)) some (a_text (depth - 1) word ts) (second (depth - 1)) end (omega arith) less

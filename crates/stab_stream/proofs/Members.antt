@@ -1,15 +1,16 @@
 -- A member that was read is put among the others, which stay as they are.
-use Rattle.std.proofs.Common.{◌≡◌, ◌≢◌, ℕ, List, get_or, Option, Some, None, codes, ap, ◌∙◌, arith}
-use Rattle.serde_json.specs.Data.{Data, Members, object, put}
-use Rattle.serde_json.specs.Find.{get_member}
+use Rattle.std.proofs.Common.{◌≡◌, ◌≢◌, ◌≤◌, ℕ, List, get_or, Option, Some, None, codes, ap, ◌∙◌, arith}
+use Rattle.serde_json.specs.Data.{Data, Items, Members, array, object, put}
+use Rattle.serde_json.specs.Find.{get_member, as_array}
 use Rattle.serde_json.proofs.Views.{get_member-put, get_member-put_other}
 use Rattle.stab_core.specs.declared.event.Event.{Event}
 use Rattle.stab_core.specs.declared.start.Start.{Start}
 use Rattle.stab_frames.specs.declared.frame.Frame.{Frame}
-use Rattle.stab_json.specs.Values.{◌>>=◌, most_u16, capped, label, list_of, list_or_absent}
+use Rattle.stab_json.specs.Values.{◌>>=◌, most_u16, capped, label, list_of, list_or_absent, count, entries}
 use Rattle.stab_script.specs.Events.{event}
+use Rattle.stab_script.specs.LinkJobs.{most_events}
 use Rattle.stab_script.specs.Starts.{frame, start}
-use Rattle.stab_stream.specs.Members.{Holds, HasStart, HasJob, HasNoOthers, IsOther}
+use Rattle.stab_stream.specs.Members.{Holds, HoldsEvents, HasStart, HasJob, HasNoOthers, IsOther}
 
 -- the names of an object's members begin with different letters
 abbrev Apart : List ℕ → List ℕ → Type 0
@@ -21,6 +22,11 @@ stays q k d ms apart = get_member-put_other q k d ms (λ same. apart (ap (λ s. 
 -- a member of a link job that is put among such members leaves no others
 still_no_others : (k : List ℕ) (d : Data) (ms : Members) → ((name : List ℕ) → IsOther name → name ≢ k) → HasNoOthers (object ms) → HasNoOthers (object (put k d ms))
 still_no_others k d ms apart none = λ name other. get_member-put_other name k d ms (apart name other) ∙ none name other
+
+-- what was read of the events stays as well
+events_hold_on : (k : List ℕ) (d : Data) (ms : Members) (read : Option (Option (List Event))) → Apart (codes "events") k → HoldsEvents ms read → HoldsEvents (put k d ms) read
+events_hold_on k d ms None apart h = h
+events_hold_on k d ms (Some events) apart h = (h.0, ap (λ o. o >>= as_array) (stays (codes "events") k d ms apart) ∙ h.1, h.2, h.3)
 
 module _ {X : Type 0} (meaning : Data → Option X) where
   put_there : (k : List ℕ) (d : Data) (ms : Members) (x : X) → meaning d ≡ Some x → Holds meaning k (put k d ms) (Some x)
@@ -71,13 +77,13 @@ module _ (frames : List Frame) (acks : List ℕ) (send recv : Option ℕ) (d : D
   )
 
 -- the members of a link job
-module _ (capacity labels : Option ℕ) (its_start : Option Start) (events : Option (List Event)) (d : Data) (ms : Members) (has : HasJob capacity labels its_start events ms) where
+module _ (capacity labels : Option ℕ) (its_start : Option Start) (events : Option (Option (List Event))) (d : Data) (ms : Members) (has : HasJob capacity labels its_start events ms) where
   pub has_capacity : (x : ℕ) → capped most_u16 d ≡ Some x → HasJob (Some x) labels its_start events (put (codes "capacity") d ms)
   has_capacity x is = (
     put_there (capped most_u16) (codes "capacity") d ms x is,
     holds_on (capped most_u16) (codes "labels") (codes "capacity") d ms labels (λ e. omega (arith, e)) has.1,
     holds_on start (codes "start") (codes "capacity") d ms its_start (λ e. omega (arith, e)) has.2,
-    holds_on (list_of event) (codes "events") (codes "capacity") d ms events (λ e. omega (arith, e)) has.3,
+    events_hold_on (codes "capacity") d ms events (λ e. omega (arith, e)) has.3,
     still_no_others (codes "capacity") d ms (λ name other. other.0) has.4,
   )
 
@@ -86,7 +92,7 @@ module _ (capacity labels : Option ℕ) (its_start : Option Start) (events : Opt
     holds_on (capped most_u16) (codes "capacity") (codes "labels") d ms capacity (λ e. omega (arith, e)) has.0,
     put_there (capped most_u16) (codes "labels") d ms x is,
     holds_on start (codes "start") (codes "labels") d ms its_start (λ e. omega (arith, e)) has.2,
-    holds_on (list_of event) (codes "events") (codes "labels") d ms events (λ e. omega (arith, e)) has.3,
+    events_hold_on (codes "labels") d ms events (λ e. omega (arith, e)) has.3,
     still_no_others (codes "labels") d ms (λ name other. other.1) has.4,
   )
 
@@ -95,15 +101,15 @@ module _ (capacity labels : Option ℕ) (its_start : Option Start) (events : Opt
     holds_on (capped most_u16) (codes "capacity") (codes "start") d ms capacity (λ e. omega (arith, e)) has.0,
     holds_on (capped most_u16) (codes "labels") (codes "start") d ms labels (λ e. omega (arith, e)) has.1,
     put_there start (codes "start") d ms x is,
-    holds_on (list_of event) (codes "events") (codes "start") d ms events (λ e. omega (arith, e)) has.3,
+    events_hold_on (codes "start") d ms events (λ e. omega (arith, e)) has.3,
     still_no_others (codes "start") d ms (λ name other. other.2) has.4,
   )
 
-  pub has_events : (xs : List Event) → list_of event d ≡ Some xs → HasJob capacity labels its_start (Some xs) (put (codes "events") d ms)
-  has_events xs is = (
+  pub has_events : (ds : Items) (xs : Option (List Event)) → d ≡ array ds → count ds ≤ most_events → entries event ds ≡ xs → HasJob capacity labels its_start (Some xs) (put (codes "events") d ms)
+  has_events ds xs list few is = (
     holds_on (capped most_u16) (codes "capacity") (codes "events") d ms capacity (λ e. omega (arith, e)) has.0,
     holds_on (capped most_u16) (codes "labels") (codes "events") d ms labels (λ e. omega (arith, e)) has.1,
     holds_on start (codes "start") (codes "events") d ms its_start (λ e. omega (arith, e)) has.2,
-    put_there (list_of event) (codes "events") d ms xs is,
+    (ds, ap (λ o. o >>= as_array) (get_member-put (codes "events") d ms) ∙ ap as_array list, few, is),
     still_no_others (codes "events") d ms (λ name other. other.3) has.4,
   )

@@ -1,14 +1,14 @@
 -- What stands first among tokens, one piece after another.
-use Rattle.std.proofs.Common.{◌≡◌, ℕ, ◌-◌, ◌<◌, ◌≤◌, List, [], ◌∷◌, length, Option, Some, None, refl, ap, ◌∙◌, arith}
+use Rattle.std.proofs.Common.{◌≡◌, ℕ, ◌-◌, ◌<◌, ◌≤◌, List, [], ◌∷◌, length, Bool, Option, Some, None, refl, ap, ◌∙◌, arith}
 use Rattle.json.specs.Token.{Token}
 use Rattle.json.specs.Json as json
 use Rattle.json.specs.Json.{value, items, members, parse_map, after_end_array, read_key}
 use Rattle.json.proofs.Grammar.{value_is, value-begin_array, value-begin_object, items_end, items_more, members_end, members_more, closed_array}
 use Rattle.serde_json.specs.Data as values
-use Rattle.serde_json.specs.Data.{Data, unsigned, number, string, array, object, no_items, item, put}
+use Rattle.serde_json.specs.Data.{Data, null, boolean, unsigned, number, string, array, object, Items, no_items, item, put}
 use Rattle.serde_json.specs.Read.{number_of}
 use Rattle.stab_json.specs.Values.{list_of}
-use Rattle.stab_stream.specs.Standing.{Stands, MeansWithin, EntriesMean, MembersMake}
+use Rattle.stab_stream.specs.Standing.{Stands, MeansWithin, EntriesMean, EntriesStand, MembersMake}
 
 -- a text
 pub a_text : (depth : ℕ) (s : List ℕ) (rest : List Token) → Stands depth (Token.string s ∷ rest) (string s) rest
@@ -17,6 +17,14 @@ a_text depth s rest = (json.string s, value_is depth (Token.string s ∷ rest), 
 -- a whole number
 pub a_number : (depth : ℕ) (s : List ℕ) (n : ℕ) (rest : List Token) → number_of s ≡ Some (unsigned n) → Stands depth (Token.number s ∷ rest) (number (unsigned n)) rest
 a_number depth s n rest is = (json.number s, value_is depth (Token.number s ∷ rest), rw is refl)
+
+-- a truth value
+pub a_truth : (depth : ℕ) (truth : Bool) (rest : List Token) → Stands depth (Token.boolean truth ∷ rest) (boolean truth) rest
+a_truth depth truth rest = (json.boolean truth, value_is depth (Token.boolean truth ∷ rest), refl)
+
+-- null
+pub a_null : (depth : ℕ) (rest : List Token) → Stands depth (Token.null ∷ rest) null rest
+a_null depth rest = (json.null, value_is depth (Token.null ∷ rest), refl)
 
 -- where a value stands, no list ends
 goes_on_at : (depth : ℕ) (ts rest : List Token) (j : json.Json) (o : Option (List Token)) → value depth ts ≡ Some (j, rest) → after_end_array ts ≡ o → after_end_array ts ≡ None
@@ -44,6 +52,20 @@ one_more_entry depth meaning n ts r rest x xs some first later =
       rw j.2 (rw later.3 refl),
       rw first.2 (rw later.4 refl),
     )
+
+-- the end of a list's entries, taken as values
+pub no_values : (depth n : ℕ) (ts rest : List Token) → length ts ≤ n → after_end_array ts ≡ Some rest → EntriesStand depth n ts no_items rest
+no_values depth n ts rest enough end = (json.no_items, items_end (value depth) n ts rest enough end, refl)
+
+-- a value, and those after it
+pub one_more_value : (depth n : ℕ) (ts r rest : List Token) (d : Data) (ds : Items) → 0 < n → Stands depth ts d r → EntriesStand depth (n - 1) r ds rest → EntriesStand depth n ts (item d ds) rest
+one_more_value depth n ts r rest d ds some first later =
+    (json.item first.0 later.0, items_more (value depth) n ts r first.0 some (goes_on depth ts r d first) first.1 ∙ ap (parse_map (json.item first.0)) later.1, rw first.2 (rw later.2 refl))
+
+-- a list of values
+pub a_list_of_values : (depth : ℕ) (ts rest : List Token) (ds : Items) → 0 < depth → EntriesStand (depth - 1) (length ts) ts ds rest → Stands depth (Token.begin_array ∷ ts) (array ds) rest
+a_list_of_values depth ts rest ds some inside =
+    (json.array inside.0, value-begin_array depth ts some ∙ ap (parse_map json.array) inside.1, rw inside.2 refl)
 
 -- a list, by its entries
 pub a_list : {X : Type 0} (depth : ℕ) (meaning : Data → Option X) (ts rest : List Token) (xs : List X) → 0 < depth → EntriesMean (depth - 1) meaning (length ts) ts xs rest

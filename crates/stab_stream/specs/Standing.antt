@@ -31,6 +31,15 @@ EntriesMean depth meaning turns ts xs rest =
     (js : json.Items) × (items (value depth) turns ts ≡ Some (js, rest))
     × (ds : values.Items) × (of_items js ≡ Some ds) × (entries meaning ds ≡ Some xs)
 
+-- these values as entries, and the bracket that closes their list; `turns` bounds their number
+abbrev pub EntriesStand : ℕ → ℕ → List Token → values.Items → List Token → Type 0
+EntriesStand depth turns ts ds rest =
+    (js : json.Items) × (items (value depth) turns ts ≡ Some (js, rest)) × (of_items js ≡ Some ds)
+
+-- the value d stands first, wherever a list may stand
+abbrev pub StandsInLists : List Token → Data → List Token → Type 0
+StandsInLists ts d rest = (depth : ℕ) → 0 < depth → Stands depth ts d rest
+
 -- members that make `ms` of `found`, and the brace that closes their object
 abbrev pub MembersMake : ℕ → values.Members → ℕ → List Token → values.Members → List Token → Type 0
 MembersMake depth found turns ts ms rest =

@@ -1,20 +1,24 @@
-ghost use Rattle.std.specs.Prelude.{◌≡◌, ◌≢◌, ◌≤◌, ◌<◌, [], length, Some, None, Ok, Err};
-ghost use Rattle.std.specs.Prelude.{MatchResult, IfSome, IfOk, OnErr, IsTrue};
+ghost use Rattle.std.specs.Prelude.{◌≡◌, ◌≢◌, ◌≤◌, ◌<◌, [], List, Option, length, Some, None};
+ghost use Rattle.std.specs.Prelude.{Ok, Err, MatchResult, MatchOption, IfSome, IfOk, OnErr, IsTrue};
+ghost use Rattle.std.specs.Prelude.{option_map};
 ghost use Rattle.json.specs.Lex.{tokens};
-ghost use Rattle.serde_json.specs.Data.{Data, Members, no_members, put, object};
-ghost use Rattle.stab_frames.specs.Parameters.{fault_of};
-ghost use Rattle.stab_json.specs.Values.{value_of};
+ghost use Rattle.serde_json.specs.Data.{Data, Items, Members, no_members, put, array, object};
+ghost use Rattle.stab_core.specs.declared.event.Event.{Event};
+ghost use Rattle.stab_core.specs.declared.start.Start.{Start};
+ghost use Rattle.stab_frames.specs.Parameters.{Parameters, fault_of};
+ghost use Rattle.stab_json.specs.Values.{value_of, count, entries};
+ghost use Rattle.stab_script.specs.Events.{event};
 ghost use Rattle.stab_script.specs.LinkJobs.{link_job, most_events};
 ghost use Rattle.stab_stream.specs.Standing.{Stands, MembersMake};
-ghost use Rattle.stab_stream.specs.Members.{in_job, in_member, HasJob, HasNoOthers};
+ghost use Rattle.stab_stream.specs.Members.{in_job, in_member, HasJob, HasNoOthers, job_with};
 
-use crate::list::read_list;
+use crate::events::take_list;
 use crate::number::next_u16;
 use crate::start::read_start;
 use json::{Reader, Scratch, Token};
 use stab_core::{Event, Start};
 use stab_frames::{Params, Sequence};
-use stab_script::{LinkJob, LinkJobFault, MAX_EVENTS};
+use stab_script::{LinkJob, LinkJobFault};
 use std::alloc::{AllocError, Global};
 
 /// What was read of a link job so far.
@@ -23,7 +27,8 @@ pub(crate) struct JobParts {
     pub(crate) capacity: Option<u16>,
     pub(crate) labels: Option<u16>,
     pub(crate) start: Option<Start>,
-    pub(crate) events: Option<Sequence<Event>>,
+    /// `Some(None)` is a list of which an entry is no event.
+    pub(crate) events: Option<Option<Sequence<Event>>>,
 }
 
 /// The link job that these bytes mean, or the first check that they fail; memory may be refused
@@ -36,8 +41,9 @@ pub fn read_link_job(alloc: Global, bytes: &[u8]) -> Result<LinkJob, LinkJobFaul
     ensures json { result ≡ Err LinkJobFault.Json → value_of bytes.now ≡ None }
     ensures memory { result ≡ Err LinkJobFault.Memory → 0 < length bytes.now }
 {
-    match read_plain_link_job(alloc, bytes) {
-        Ok(Some(job)) => Ok(job),
+    match read_plain(alloc, bytes) {
+        Ok(Some(Some(job))) => Ok(job),
+        Ok(Some(None)) => Err(LinkJobFault::Event),
         Ok(None) => stab_script::read_link_job(alloc, bytes),
         Err(_) => Err(LinkJobFault::Memory),
     }
@@ -47,6 +53,21 @@ pub fn read_link_job(alloc: Global, bytes: &[u8]) -> Result<LinkJob, LinkJobFaul
 /// where there is none. The value of a text in this form has no members but those of a link job.
 pub fn read_plain_link_job(alloc: Global, bytes: &[u8]) -> Result<Option<LinkJob>, AllocError>
     ensures job { IfOk result (λ found. IfSome found (λ job. link_job bytes.now ≡ Ok job)) }
+    ensures others { IfOk result (λ found. IfSome found (λ _.
+        IfSome (value_of bytes.now) HasNoOthers)) }
+    ensures memory { OnErr result (0 < length bytes.now) }
+{
+    match read_plain(alloc, bytes)? {
+        Some(job) => Ok(job),
+        None => Ok(None),
+    }
+}
+
+/// The link job that these bytes mean, where they have the plain form: `Some(None)` where it has
+/// one fault alone, an entry that is no event.
+fn read_plain(alloc: Global, bytes: &[u8]) -> Result<Option<Option<LinkJob>>, AllocError>
+    ensures job { IfOk result (λ found. IfSome found (λ job. MatchOption job
+        (link_job bytes.now ≡ Err LinkJobFault.Event) (λ job. link_job bytes.now ≡ Ok job))) }
     ensures others { IfOk result (λ found. IfSome found (λ _.
         IfSome (value_of bytes.now) HasNoOthers)) }
     ensures memory { OnErr result (0 < length bytes.now) }
@@ -144,24 +165,48 @@ pub(crate) fn read_member(
             parts.start = Some(start);
         }
         "events" => {
-            let Some(events) = read_list::<Event>(alloc, reader)? else {
+            let Some(events) = read_events(alloc, reader)? else {
                 return Ok(false);
             };
-            parts.events = Some(Sequence::from_vec(events));
+            parts.events = Some(events);
         }
         _ => return Ok(false),
     }
     Ok(true)
 }
 
-/// The link job of these parts, where all are there and pass each check.
-fn whole_job(parts: JobParts) -> Option<LinkJob>
-    ensures { IfSome result (λ job. (parts.capacity ≡ Some job.params.capacity)
-        × (parts.labels ≡ Some job.params.labels)
-        × (fault_of job.params.capacity job.params.labels ≡ None)
-        × (parts.start ≡ Some job.start)
-        × (parts.events ≡ Some job.events)
-        × (length job.events ≤ most_events)) }
+/// The events of the list that comes next, where it has the plain form, or `Some(None)` where an
+/// entry of it is no event.
+fn read_events(
+    alloc: Global,
+    reader: &mut Reader<'_>,
+) -> Result<Option<Option<Sequence<Event>>>, AllocError>
+    ensures value { IfOk result (λ found. IfSome found (λ events. (ds : Items)
+        × (Stands in_member reader.old (array ds) reader.new)
+        × (count ds ≤ most_events) × (entries event ds ≡ events))) }
+    ensures shorter { IfOk result (λ found. IfSome found (λ _.
+        length reader.new < length reader.old)) }
+{
+    let mut events = Sequence::new(alloc);
+    let Some(are_events) = take_list(reader, &mut events)? else {
+        return Ok(None);
+    };
+    if are_events {
+        Ok(Some(Some(events)))
+    } else {
+        Ok(Some(None))
+    }
+}
+
+/// The link job of these parts, where all are there and pass each check: `Some(None)` where an
+/// entry of the events alone fails.
+fn whole_job(parts: JobParts) -> Option<Option<LinkJob>>
+    ensures { IfSome result (λ job. (params : Parameters) × (start : Start)
+        × (events : Option (List Event))
+        × (parts.capacity ≡ Some params.capacity) × (parts.labels ≡ Some params.labels)
+        × (fault_of params.capacity params.labels ≡ None)
+        × (parts.start ≡ Some start) × (parts.events ≡ Some events)
+        × (job ≡ option_map (job_with params start) events)) }
 {
     let JobParts {
         capacity,
@@ -169,16 +214,16 @@ fn whole_job(parts: JobParts) -> Option<LinkJob>
         start,
         events,
     } = parts;
-    let events = events?;
-    if events.len() > MAX_EVENTS {
-        return None;
-    }
     let Ok(params) = Params::new(capacity?, labels?) else {
         return None;
     };
-    Some(LinkJob {
-        params,
-        start: start?,
-        events,
-    })
+    let start = start?;
+    match events? {
+        Some(events) => Some(Some(LinkJob {
+            params,
+            start,
+            events,
+        })),
+        None => Some(None),
+    }
 }

@@ -1,30 +1,28 @@
-ghost use Rattle.std.specs.Prelude.{◌≡◌, ◌≤◌, ◌<◌, [], ℕ, List, length, Some, None, IfSome, IfOk};
-ghost use Rattle.std.specs.Prelude.{IsTrue, OnErr, Ok};
+ghost use Rattle.std.specs.Prelude.{◌≡◌, ◌≢◌, ◌<◌, [], List, length, Option, Some, None, Ok, Err};
+ghost use Rattle.std.specs.Prelude.{IfSome, IfOk, IfErr, OnErr};
 ghost use Rattle.json.specs.Lex.{tokens};
 ghost use Rattle.serde_json.specs.Data.{Members, no_members, object};
 ghost use Rattle.stab_core.specs.Replay.{IsLawful};
 ghost use Rattle.stab_core.specs.declared.event.Event.{Event};
 ghost use Rattle.stab_core.specs.declared.start.Start.{Start};
-ghost use Rattle.stab_json.specs.Values.{list_of};
-ghost use Rattle.stab_script.specs.Events.{event};
-ghost use Rattle.stab_script.specs.LinkJobs.{link_job, most_events};
+ghost use Rattle.stab_script.specs.LinkJobs.{link_job};
 ghost use Rattle.stab_script.specs.declared.link_job.LinkJob.{LinkJob};
 ghost use Rattle.stab_frames.specs.Parameters.{Parameters, fault_of};
 ghost use Rattle.stab_stream.specs.Members.{in_job, in_member, HasJob};
-ghost use Rattle.stab_stream.specs.Standing.{Stands, MeansWithin, EntriesMean, MembersMake};
-ghost use Rattle.stab_stream.specs.Leads.{LeadsOn, LacksEvents};
+ghost use Rattle.stab_stream.specs.Standing.{Stands, MembersMake};
+ghost use Rattle.stab_stream.specs.Leads.{StandsWhere, LacksEvents};
 
-use crate::entry::Entry;
+use crate::events::take_list;
 use crate::job::{JobParts, read_member};
 use crate::stepped::Stepped;
 use json::{Reader, Scratch, Token};
-use stab_core::Event;
 use stab_frames::Params;
-use stab_script::MAX_EVENTS;
+use stab_script::LinkJobFault;
 use std::alloc::{AllocError, Global};
 
 /// Where the events of the link job lead that these bytes mean, if they have the plain form with
-/// the events as their last member; nothing is said of them where there is no answer.
+/// the events as their last member; nothing is said of them where there is no answer. A text whose
+/// one fault is that an entry is no event is refused for it.
 ///
 /// Each event happens as it is read, so no list of them is kept. `has_begun` becomes true where the
 /// list of events is reached: a text that is not answered then has not the plain form in any order
@@ -33,33 +31,39 @@ pub fn replay_plain_link_job<S: Stepped>(
     alloc: Global,
     bytes: &[u8],
     has_begun: &mut bool,
-) -> Result<Option<S>, AllocError>
+) -> Result<Option<S>, LinkJobFault>
     ensures replay { IfOk result (λ found. IfSome found (λ stepped. (job : LinkJob)
         × (link_job bytes.now ≡ Ok job) × IsLawful job.params job.start
         × S.StandsAfter stepped job.params job.start job.events)) }
-    ensures memory { OnErr result (0 < length bytes.now) }
+    ensures fault { IfErr result (λ fault. fault ≢ LinkJobFault.Memory
+        → link_job bytes.now ≡ Err fault) }
+    // `Json` never comes, and `Memory` only where there is a byte.
+    ensures json { result ≢ Err LinkJobFault.Json }
+    ensures memory { result ≡ Err LinkJobFault.Memory → 0 < length bytes.now }
 {
     let Ok(text) = std::str::from_utf8(bytes) else {
         return Ok(None);
     };
-    let Some(stepped) = step_text::<S>(alloc, text, has_begun)? else {
-        return Ok(None);
-    };
-    Ok(Some(stepped))
+    match step_text::<S>(alloc, text, has_begun)? {
+        Some(Some(stepped)) => Ok(Some(stepped)),
+        Some(None) => Err(LinkJobFault::Event),
+        None => Ok(None),
+    }
 }
 
-/// Where the events of the link job lead that a text is.
+/// Where the events of the link job lead that a text is, or `Some(None)` where an entry of them is
+/// no event.
 fn step_text<S: Stepped>(
     alloc: Global,
     text: &str,
     has_begun: &mut bool,
-) -> Result<Option<S>, AllocError>
+) -> Result<Option<Option<S>>, AllocError>
     ensures value { IfOk result (λ found. IfSome found (λ stepped. (ms : Members)
         × (Stands in_job (tokens text.now) (object ms) [])
-        × (job : LinkJob) × (fault_of job.params.capacity job.params.labels ≡ None)
-        × (HasJob (Some job.params.capacity) (Some job.params.labels) (Some job.start)
-        (Some job.events) ms) × (length job.events ≤ most_events) × IsLawful job.params job.start
-        × S.StandsAfter stepped job.params job.start job.events)) }
+        × (params : Parameters) × (start : Start) × (events : Option (List Event))
+        × (fault_of params.capacity params.labels ≡ None)
+        × (HasJob (Some params.capacity) (Some params.labels) (Some start) (Some events) ms)
+        × IsLawful params start × StandsWhere S.StandsAfter stepped params start events)) }
     ensures memory { OnErr result (0 < length text.now) }
 {
     let mut scratch = Scratch::new(alloc);
@@ -76,18 +80,19 @@ fn step_text<S: Stepped>(
     }
 }
 
-/// Where the events lead that are the last of the members, whose opening brace was taken.
+/// Where the events lead that are the last of the members, whose opening brace was taken, or
+/// `Some(None)` where an entry of them is no event.
 fn step_members<S: Stepped>(
     alloc: Global,
     reader: &mut Reader<'_>,
     has_begun: &mut bool,
-) -> Result<Option<S>, AllocError>
+) -> Result<Option<Option<S>>, AllocError>
     ensures { IfOk result (λ found. IfSome found (λ stepped. (ms : Members)
         × (MembersMake in_member no_members (length reader.old) reader.old ms reader.new)
-        × (job : LinkJob) × (fault_of job.params.capacity job.params.labels ≡ None)
-        × (HasJob (Some job.params.capacity) (Some job.params.labels) (Some job.start)
-        (Some job.events) ms) × (length job.events ≤ most_events) × IsLawful job.params job.start
-        × S.StandsAfter stepped job.params job.start job.events)) }
+        × (params : Parameters) × (start : Start) × (events : Option (List Event))
+        × (fault_of params.capacity params.labels ≡ None)
+        × (HasJob (Some params.capacity) (Some params.labels) (Some start) (Some events) ms)
+        × IsLawful params start × StandsWhere S.StandsAfter stepped params start events)) }
 {
     let Some(parts) = read_head(alloc, reader)? else {
         return Ok(None);
@@ -96,12 +101,16 @@ fn step_members<S: Stepped>(
         return Ok(None);
     };
     *has_begun = true;
-    if !step_list(reader, &mut stepped)? {
+    let Some(are_events) = take_list(reader, &mut stepped)? else {
         return Ok(None);
-    }
-    match reader.next_key() {
-        Ok(None) => Ok(Some(stepped)),
-        _ => Ok(None),
+    };
+    let Ok(None) = reader.next_key() else {
+        return Ok(None);
+    };
+    if are_events {
+        Ok(Some(Some(stepped)))
+    } else {
+        Ok(Some(None))
     }
 }
 
@@ -153,41 +162,4 @@ fn begun<S: Stepped>(alloc: Global, parts: JobParts) -> Option<S>
         return None;
     };
     Some(stepped)
-}
-
-/// The events of the list that comes next happen; false where it has not the plain form, or more
-/// entries than a job may have.
-fn step_list<S: Stepped>(reader: &mut Reader<'_>, stepped: &mut S) -> Result<bool, AllocError>
-    ensures value { IfOk result (λ done. IsTrue done → (events : List Event)
-        × (MeansWithin in_member (list_of event) reader.old events reader.new)
-        × (length events ≤ most_events) × LeadsOn S.StandsAfter stepped.old events stepped.new) }
-    ensures shorter { IfOk result (λ done. IsTrue done → length reader.new < length reader.old) }
-{
-    let Some(Token::BeginArray) = reader.next() else {
-        return Ok(false);
-    };
-    let done = step_entries(reader, stepped)?;
-    Ok(done)
-}
-
-/// The entries of a list happen, whose opening bracket was taken; false as for the list.
-fn step_entries<S: Stepped>(reader: &mut Reader<'_>, stepped: &mut S) -> Result<bool, AllocError>
-    ensures value { IfOk result (λ done. IsTrue done → (events : List Event)
-        × ((depth : ℕ) → 0 < depth
-        → EntriesMean depth event (length reader.old) reader.old events reader.new)
-        × (length events ≤ most_events) × LeadsOn S.StandsAfter stepped.old events stepped.new) }
-    ensures shorter { IfOk result (λ done. IsTrue done → length reader.new < length reader.old) }
-{
-    let mut count = 0;
-    'entries: while !reader.take_end_array() {
-        let Some(event) = Event::next(reader) else {
-            return Ok(false);
-        };
-        if count == MAX_EVENTS {
-            return Ok(false);
-        }
-        count += 1;
-        stepped.step(event)?;
-    }
-    Ok(true)
 }

@@ -9,50 +9,66 @@ ghost use Rattle.stab_frames.specs.Parameters.{Parameters};
 ghost use Rattle.stab_stream.specs.Leads.{LeadsOn};
 
 use stab_core::{Event, Link, Start, StartFault, Tracer};
-use stab_frames::Params;
+use stab_frames::{Params, Sequence};
 use std::alloc::{AllocError, Global};
 
-/// What the events of a link job happen to, one after the other, as they are read.
-pub trait Stepped: Drop {
+/// What takes the events of a link job, one after the other, as they are read.
+pub trait TakesEvents: Drop {
     // It stands where these events lead from this start.
     ghost StandsAfter: { Self → Parameters → Start → List Event → Type 0 };
 
-    /// Where a start is, unless it is refused.
-    fn begin(alloc: Global, params: Params, start: &Start) -> Result<Self, StartFault>
-        ensures begun { IfOk result (λ begun. StandsAfter begun params start.now []) }
-        ensures lawful { IfOk result (λ _. IsLawful params start.now) };
-
-    /// Where an event leads.
-    fn step(&mut self, event: Event) -> Result<(), AllocError>
+    /// Takes the next event.
+    fn take(&mut self, event: Event) -> Result<(), AllocError>
         ensures { OnOk result (LeadsOn StandsAfter self.old (event ∷ []) self.new) };
 }
 
+/// What takes events from a start on: they happen to it.
+pub trait Stepped: TakesEvents {
+    /// Where a start is, unless it is refused.
+    fn begin(alloc: Global, params: Params, start: &Start) -> Result<Self, StartFault>
+        ensures begun { IfOk result (λ begun. Self.StandsAfter begun params start.now []) }
+        ensures lawful { IfOk result (λ _. IsLawful params start.now) };
+}
+
+/// A list keeps the events as they are, whatever they are to happen to.
+impl TakesEvents for Sequence<Event> {
+    ghost StandsAfter = { λ list _ _ events. list ≡ events };
+
+    fn take(&mut self, event: Event) -> Result<(), AllocError> {
+        self.push(event)
+    }
+}
+
 /// A link without the origins of what it delivers.
-impl Stepped for Link {
+impl TakesEvents for Link {
     ghost StandsAfter = { λ link params start events.
         link ≡ link_at params (replay params (initial start) events) };
 
-    fn begin(alloc: Global, params: Params, start: &Start) -> Result<Link, StartFault> {
-        Link::new(alloc, params, start)
-    }
-
-    fn step(&mut self, event: Event) -> Result<(), AllocError> {
+    fn take(&mut self, event: Event) -> Result<(), AllocError> {
         self.apply(event)?;
         Ok(())
+    }
+}
+
+impl Stepped for Link {
+    fn begin(alloc: Global, params: Params, start: &Start) -> Result<Link, StartFault> {
+        Link::new(alloc, params, start)
     }
 }
 
 /// A link with the origins of what it delivers.
-impl Stepped for Tracer {
+impl TakesEvents for Tracer {
     ghost StandsAfter = { λ tracer params start events.
         tracer ≡ tracer_at params (traced_replay params (traced_initial start) events) };
 
-    fn begin(alloc: Global, params: Params, start: &Start) -> Result<Tracer, StartFault> {
-        Tracer::new(alloc, params, start)
-    }
-
-    fn step(&mut self, event: Event) -> Result<(), AllocError> {
+    fn take(&mut self, event: Event) -> Result<(), AllocError> {
         self.apply(event)?;
         Ok(())
+    }
+}
+
+impl Stepped for Tracer {
+    fn begin(alloc: Global, params: Params, start: &Start) -> Result<Tracer, StartFault> {
+        Tracer::new(alloc, params, start)
     }
 }

@@ -18,8 +18,9 @@ use std::alloc::{AllocError, Global};
 
 /// The text of a link job, with the origins of what it delivers where they are asked for.
 ///
-/// The events of a job in the plain form happen as they are read, and no list of them is kept. Any
-/// other job is read first: by its value at once where its events had begun to happen.
+/// The events of a job in the plain form happen as they are read, and no list of them is kept; if
+/// one of its entries is no event, that is its fault. Any other job is read first: by its value at
+/// once where its events had begun to happen.
 pub(crate) fn answer_link(alloc: Global, with_trace: bool, bytes: &[u8]) -> Result<String, CliFault>
     ensures answer { IfOk result (λ text. IsLinkAnswer with_trace bytes.now (string_bytes text)) }
     ensures fault { IfErr result (IsFault (Task.Link with_trace) bytes.now) }
@@ -41,9 +42,10 @@ fn replayed_as_read(
     alloc: Global,
     bytes: &[u8],
     has_begun: &mut bool,
-) -> Result<Option<String>, AllocError>
-    ensures { IfOk result (λ found. IfSome found (λ text.
+) -> Result<Option<String>, CliFault>
+    ensures answer { IfOk result (λ found. IfSome found (λ text.
         IsLinkAnswer false bytes.now (string_bytes text))) }
+    ensures fault { IfErr result (IsFault (Task.Link false) bytes.now) }
 {
     let Some(link) = replay_plain_link_job::<Link>(alloc, bytes, has_begun)? else {
         return Ok(None);
@@ -57,9 +59,10 @@ fn traced_as_read(
     alloc: Global,
     bytes: &[u8],
     has_begun: &mut bool,
-) -> Result<Option<String>, AllocError>
-    ensures { IfOk result (λ found. IfSome found (λ text.
+) -> Result<Option<String>, CliFault>
+    ensures answer { IfOk result (λ found. IfSome found (λ text.
         IsLinkAnswer true bytes.now (string_bytes text))) }
+    ensures fault { IfErr result (IsFault (Task.Link true) bytes.now) }
 {
     let Some(tracer) = replay_plain_link_job::<Tracer>(alloc, bytes, has_begun)? else {
         return Ok(None);

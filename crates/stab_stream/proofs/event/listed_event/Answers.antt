@@ -1,6 +1,7 @@
-use Rattle.std.proofs.Common.{◌≡◌, ◌∷◌, ap, ◌∙◌}
+use Rattle.std.proofs.Common.{◌≡◌, ◌∷◌, refl, sym, ap, ◌∙◌}
 use Rattle.json.specs.Token.{Token}
 use Rattle.json.specs.Reads.{token_of}
+use Rattle.serde_json.specs.Data.{unsigned, number, string, array, no_items, item}
 use Rattle.stab_stream.proofs.Meaning.{a_numbered_word}
 use Rattle.stab_stream.proofs.event.listed_event.Goals as goal
 
@@ -8,6 +9,9 @@ pub returns-then-take_end_array-clause-value : goal.returns-then-take_end_array-
 returns-then-take_end_array-clause-value c =
     let ts = c.next.new.self in
     let word = c.in-String.word.now in
-    let is : c.args.reader.now ≡ Token.string word ∷ ts = c.in_ok-word.ensures.value ∙ ap (λ k. token_of k ∷ ts) c.in-String.is in
-    λ depth some. rw is (a_numbered_word depth word c.in_ok-number.number ts c.next_whole.new.reader c.take_end_array.new.self c.in_ok-event.event some
-    c.in_ok-number.ensures.value c.in_ok-number.ensures.shorter c.if-take_end_array.ensures c.in_ok-event.ensures)
+    let n = c.in_ok-number.number in
+    let is : c.args.reader.now ≡ Token.string word ∷ ts = c.in_ok-word.ensures.value ∙ ap (λ k. token_of k ∷ ts) c.in-String.is in (
+      array (item (string word) (item (number (unsigned n)) no_items)),
+      λ depth some. rw is (a_numbered_word depth word n ts c.next_whole.new.reader c.take_end_array.new.self some c.in_ok-number.ensures.value c.in_ok-number.ensures.shorter c.if-take_end_array.ensures),
+      sym c.numbered_event.ensures,
+    )

@@ -1,4 +1,5 @@
-use Rattle.std.proofs.Common.{arith}
+use Rattle.std.proofs.Common.{refl, arith}
+use Rattle.serde_json.specs.Data.{array}
 use Rattle.stab_stream.specs.Members.{in_member}
 use Rattle.stab_stream.proofs.Meaning.{not_capped}
 use Rattle.stab_stream.proofs.Members.{has_capacity, has_labels, has_start, has_events}
@@ -27,5 +28,5 @@ returns-in-Some-2-clause-value c =
 pub returns-in-Some-3-clause-value : goal.returns-in-Some-3-clause-value
 returns-in-Some-3-clause-value c =
     let old = c.args.parts.now in
-    let first = (rw c.in-Some-3.is at c.in_ok-events-in-events.ensures.value) in_member (omega arith) in
-    λ yes. rw c.from_vec.ensures (first.0, first.1, λ ms has. rw c.in-events.is (has_events old.capacity old.labels old.start old.events first.0 ms has c.in-Some-3.events.items first.2))
+    let list = rw c.in-Some-3.is at c.in_ok-events-in-events.ensures.value in
+    λ yes. (array list.0, list.1, λ ms has. rw c.in-events.is (has_events old.capacity old.labels old.start old.events (array list.0) ms has list.0 c.in-Some-3.events refl list.2 list.3))

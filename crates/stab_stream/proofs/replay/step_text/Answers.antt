@@ -23,4 +23,4 @@ returns-clause-value g c =
     let over : c.step_members.new.reader ≡ [] = c.in-None.ensures.value.0 in
     let first : Stands in_job (Token.begin_object ∷ ts) (object found.0) [] =
     subst (λ rest. Stands in_job (Token.begin_object ∷ ts) (object found.0) rest) over (an_object in_job ts c.step_members.new.reader found.0 (omega arith) found.1) in
-    (found.0, rw is first, found.2, found.3, found.4, found.5, found.6, found.7)
+    (found.0, rw is first, found.2, found.3, found.4, found.5, found.6, found.7, found.8)

@@ -4,8 +4,8 @@ use Rattle.stab_core.specs.Texts.{link_text, origins_text}
 use Rattle.stab_core.specs.Trace.{traced_initial, traced_replay}
 use Rattle.stab_task.proofs.link.traced_as_read.Goals as goal
 
-pub returns : goal.returns
-returns c =
+pub returns-clause-answer : goal.returns-clause-answer
+returns-clause-answer c =
     let found = rw c.in-Some.is at c.in_ok-tracer.ensures.replay in
     let job = found.0 in
     let parts = c.into_parts-link in

@@ -1,21 +1,25 @@
-use Rattle.std.proofs.Common.{[], Some, IfSome, subst}
+use Rattle.std.proofs.Common.{◌≡◌, [], Some, IfSome, MatchOption, Ok, Err, sym, subst}
 use Rattle.json.specs.Lex.{tokens}
 use Rattle.serde_json.specs.Data.{object}
+use Rattle.stab_script.specs.LinkJobs.{link_job}
+use Rattle.stab_script.specs.declared.link_job.LinkJobFault.TheVariants as LinkJobFault
 use Rattle.stab_stream.specs.Standing.{Stands}
 use Rattle.stab_stream.specs.Members.{in_job, HasJob, HasNoOthers}
-use Rattle.stab_stream.proofs.Jobs.{a_job, whole_text}
-use Rattle.stab_stream.proofs.job.read_plain_link_job.Goals as goal
+use Rattle.stab_stream.proofs.Jobs.{a_plain_job, whole_text}
+use Rattle.stab_stream.proofs.job.read_plain.Goals as goal
 
 pub returns-clause-job : goal.returns-clause-job
 returns-clause-job c =
     let bytes = c.args.bytes.now in
-    let job = c.in-Some-whole_job.job in
     let is = c.in-Some-whole_job.ensures in
+    let params = is.0 in
+    let start = is.1 in
     let text = c.in-Ok.ensures.cases in
     let found = rw c.in-Some.is at c.in_ok-parts.ensures.value in
     let first : Stands in_job (tokens bytes) (object found.0) [] = subst (λ t. Stands in_job (tokens t) (object found.0) []) text.0 found.1 in
-    let has : HasJob (Some job.params.capacity) (Some job.params.labels) (Some job.start) (Some job.events) found.0 = rw (is.0, is.1, is.3, is.4) at found.2 in
-    a_job bytes found.0 job.params job.start job.events text.1 first has is.2 is.5
+    let has : HasJob (Some params.capacity) (Some params.labels) (Some start) (Some is.2) found.0 = rw (is.3, is.4, is.6, is.7) at found.2 in
+    subst (λ o. MatchOption o (link_job bytes ≡ Err LinkJobFault.Event) (λ job. link_job bytes ≡ Ok job)) (sym is.8)
+    (a_plain_job bytes found.0 params start text.1 first is.2 has is.5)
 
 pub returns-clause-others : goal.returns-clause-others
 returns-clause-others c =

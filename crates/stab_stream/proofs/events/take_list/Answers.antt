@@ -1,16 +1,14 @@
 use Rattle.std.proofs.Common.{◌≡◌, ◌-◌, ◌∷◌, ap, ◌∙◌, arith}
 use Rattle.json.specs.Token.{Token}
 use Rattle.json.specs.Reads.{token_of}
-use Rattle.stab_script.specs.Events.{event}
 use Rattle.stab_stream.specs.Members.{in_member}
-use Rattle.stab_stream.proofs.Standing.{a_list}
-use Rattle.stab_stream.proofs.replay.step_list.Goals as goal
+use Rattle.stab_stream.proofs.Standing.{a_list_of_values}
+use Rattle.stab_stream.proofs.events.take_list.Goals as goal
 
 pub returns-clause-value : goal.returns-clause-value
 returns-clause-value g c =
     let ts = c.next.new.self in
-    let r = c.step_entries.new.reader in
+    let r = c.take_entries.new.reader in
     let is : c.args.reader.now ≡ Token.begin_array ∷ ts = c.in-Some-BeginArray.ensures.value ∙ ap (λ k. token_of k ∷ ts) c.in-Some-BeginArray.field-0-is in
-    λ yes.
-    let inside = c.in_ok-done.ensures.value yes in
-    (inside.0, rw is (a_list in_member event ts r inside.0 (omega arith) (inside.1 (in_member - 1) (omega arith))), inside.2, inside.3)
+    let inside = rw c.in-Some.is at c.in_ok-are_events.ensures.value in
+    (inside.0, rw is (a_list_of_values in_member ts r inside.0 (omega arith) (inside.1 (in_member - 1) (omega arith))), inside.2, inside.3)
