@@ -85,10 +85,10 @@ def one_list(name, count):
     return Repeated(SCRIPTED + f'{{"{name}":"', LISTS[name], count, '"}]}')
 
 
-def events(count, last):
-    """A link job with `count` events, the last of which is this."""
-    before = '{"capacity":1,"labels":4,"start":{"send":0,"recv":3},"events":['
-    return Repeated(before, '"send_ack",', count - 1, last + "]}")
+def events(count, last, first='"send_ack"'):
+    """A link job with `count` events, of which the last and the first are these."""
+    before = '{"capacity":1,"labels":4,"start":{"send":0,"recv":3},"events":[' + first + ","
+    return Repeated(before, '"send_ack",', count - 2, last + "]}")
 
 
 # What is printed of a link that has room for the first of its acknowledgements, and is closed.
@@ -129,8 +129,12 @@ ROWS += [
 ]
 ROWS += refusals("refuses a bad event after 999999 others", events(1_000_000, '"jump"'), EVENT,
                  [["link"]])
+ROWS += refusals("refuses a bad event before 999999 others",
+                 events(1_000_000, '"close"', '["jump",0]'), EVENT, [["link"]])
 ROWS += refusals("refuses 1000001 events before a bad one", events(1_000_001, '"jump"'),
                  TOO_MANY_EVENTS, [["link"]])
+ROWS += refusals("refuses 1000001 events before a bad one that is the first of them",
+                 events(1_000_001, '"close"', '"jump"'), TOO_MANY_EVENTS, [["link"]])
 ROWS += refusals("refuses a script of 100001 acts", evicting(100_001), TOO_LONG_SCRIPT, OF_TREES)
 ROWS += refusals("refuses 100001 letters", letters("T"), TOO_LONG_SCRIPT)
 ROWS += [

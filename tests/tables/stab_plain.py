@@ -265,6 +265,29 @@ TEXTS = [
     PLAIN.replace(",", ",,", 1), PLAIN.replace(":", " ", 1), PLAIN.replace("[0]", "[0 0]"),
     PLAIN.replace('"start":{', '"start":['), PLAIN.replace('"recv":1}', '"recv":1]'),
 ]
+
+
+def refused_too(bad):
+    """Texts with this entry among the events, and of them some with something else that is wrong,
+    or not, before or after it."""
+    text, other = swapped('["offer",10]', bad)[0], "{" + ",".join([EVENTS, START, "%s"]) + "}"
+    yield text
+    for old, news in [
+        ('"labels":4', ['"labels":3', '"labels":null', '"labels":1001', '"version":1,"labels":4']),
+        ('"capacity":1', ['"capacity":0', '"capacity":"1"']),
+        ("[[2,99]]", ["[[2,99],[3,98]]", "[[2]]"]),
+        ('["offer",13]', [bad, "1e999", '"\\ud800"', "01", "[1", "1.5", nested(125), nested(126)]),
+        ("]}", ["]", '],"events":[]}', '],"events":0}', '],"note":1}', '],"labels":3}', "]}}",
+                "]} 7", "],}", ",]}"]),
+    ]:
+        yield from (new.join(text.rsplit(old, 1)) for new in news)
+    for more in CAPACITY_AND_LABELS, '"capacity":1,"labels":3', '"capacity":1', '"events":["close"]':
+        yield (other % more).replace('["offer",10]', bad)
+
+
+TEXTS += [text for bad in ['"jump"', '"offer"', '["jump",0]', '["offer",4294967296]', "[]", "{}",
+                           '["lose_ack",65536]', "7", "1.5", "true", "null", '["offer"]']
+          for text in refused_too(bad)]
 BYTES = [text.encode() for text in TEXTS if text is not None]
 BYTES += [PLAIN.encode() + b"\xff", PLAIN.replace("frames", "fr\u00e4mes").encode("latin-1"),
           PLAIN.encode("utf-16"), PLAIN.replace("close", "\0").encode() + b"\0"]
