@@ -22,6 +22,8 @@ DAEMON = "-p", "rignoldad", "-p", "rignolda_redis"
 # settings of cargo name those of Debian.
 LIBRARY = "--manifest-path", "rust/rignolda/Cargo.toml"
 APART = "--target-dir", "rust/target/library"
+# Tests that are built once, and not looked into, need nothing for a next build or a debugger.
+ONCE = {"CARGO_INCREMENTAL": "0", "CARGO_PROFILE_DEV_DEBUG": "0"}
 SOURCES = "rignoldad/src", "rignoldad/src/bin", "rignoldad/tests", "rignolda_redis/src"
 
 
@@ -52,6 +54,7 @@ def main():
             os.environ["RIGNOLDAD_BIN"] = room
         else:
             cases.holds("the kept programs are those of the sources", status == 0)
+            os.environ.update(ONCE)
             of_sources(cases)
         if shutil.which("cargo"):
             cases.works("the tests of the library for Rust", "cargo", "test", *OFFLINE, *LIBRARY,

@@ -25,10 +25,12 @@ sys.dont_write_bytecode = True
 from edits import TOP, edits_in, texts_with  # noqa: E402
 from crates import compiler, lines_of, listed, read, tasks  # noqa: E402
 
-# The line that begins a function, by what is before its name; and that of an impl: its trait, if
-# it has one, and its type.
+# The line that begins a function, by what is before its name; and that of an impl: its own
+# parameters, its trait, if it has one, its type, and the arguments of that.
 FUNCTION = re.compile(r'( *)(?:pub(?:\(\w+\))? )?(?:const )?(?:unsafe )?(?:extern "C" )?fn (\w+)')
-IMPL = re.compile(r"impl(?:<.*?>)? (?:(\w.*?) for )?(\w+)")
+IMPL = re.compile(r"impl(<.*?>)? (?:(\w.*?) for )?(\w+)(<.*>)?")
+# The words in such a part, but for lifetimes.
+WORD = re.compile(r"(?<!['\w])\w+")
 # What a check says of a function that is not proved, and of that what says nothing against it but
 # that it calls another one.
 REFUSED = re.compile(r"^fn \w+::(\S+): (?:no proof|not proved)(.*)$", re.M)
@@ -50,8 +52,9 @@ def path_of(crate, file, old):
         if name:
             began = IMPL.match(line)
             if began:
-                trait = "".join(re.findall(r"(?<!['\w])\w+", began[1] or ""))
-                return f"{began[2]}{trait}::{name}"
+                own, trait, args = (WORD.findall(began[it] or "") for it in (1, 2, 4))
+                args = [it for it in args if it not in own]
+                return f"{began[3]}{''.join(args + trait)}::{name}"
         elif line == "}":
             # (what comes after a function is in none)
             return ""
