@@ -1,10 +1,11 @@
-//! Tests of the two kinds of link, behind a lock and of two words, and of whole runs by worker
-//! threads, by public calls alone.
+//! Tests of the two kinds of link, behind a lock and of two words, of workers, and of whole runs by
+//! worker threads, by public calls alone.
 //!
 //! The modules `lock` and `word` are those of the crates of links, whose calls are the data of
-//! `asks`. The other modules are of `stab_run`: `runs`, `links` and `scripts` have jobs and what
-//! they print, and `stopped` those that are refused. What no schedule changes in the texts of a
-//! program is in `tests/tables` instead.
+//! `asks`. `workers` is that of one worker, and of one worker per node, over ends without a link,
+//! whose calls are the data of `calls`. The other modules are of `stab_run`: `runs`, `links` and
+//! `scripts` have jobs and what they print, and `stopped` those that are refused. What no schedule
+//! changes in the texts of a program is in `tests/tables` instead.
 //!
 //! No test rests on how the threads are scheduled: where the outcome depends on the order of turns,
 //! a gate makes that order. The tests stand apart from the crates that they test, so that those are
@@ -13,6 +14,8 @@
 
 #[cfg(test)]
 mod asks;
+#[cfg(test)]
+mod calls;
 #[cfg(test)]
 mod gates;
 #[cfg(test)]
@@ -27,3 +30,5 @@ mod scripts;
 mod stopped;
 #[cfg(test)]
 mod word;
+#[cfg(test)]
+mod workers;
