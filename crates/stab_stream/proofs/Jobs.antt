@@ -17,7 +17,6 @@ use Rattle.stab_script.specs.LinkJobs.{link_job, most_events}
 use Rattle.stab_script.specs.LinkMembers.{LinkMembers}
 use Rattle.stab_script.specs.LinkMembers as link
 use Rattle.stab_script.specs.declared.link_job.LinkJobFault.{LinkJobFault}
-use Rattle.stab_script.specs.declared.link_job.LinkJobFault.TheVariants as LinkJobFault
 use Rattle.stab_script.proofs.LinkChecks.{all_pass}
 use Rattle.stab_stream.specs.Standing.{Stands, MeansWithin, MembersMake}
 use Rattle.stab_stream.specs.Members.{in_job, in_member, in_start, HasStart, HasJob, job_with}

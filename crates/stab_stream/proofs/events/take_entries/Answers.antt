@@ -1,4 +1,4 @@
-use Rattle.std.proofs.Common.{◌≡◌, ◌-◌, ◌<◌, ◌≤◌, ◌+◌, [], length, refl, sym, subst, arith, append-nil}
+use Rattle.std.proofs.Common.{◌≡◌, ◌-◌, ◌<◌, ◌≤◌, ◌+◌, [], length, sym, subst, arith, append-nil}
 use Rattle.serde_json.specs.Data.{no_items, item}
 use Rattle.stab_script.specs.LinkJobs.{most_events}
 use Rattle.stab_stream.specs.Standing.{Stands}

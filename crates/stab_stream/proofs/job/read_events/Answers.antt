@@ -1,7 +1,6 @@
-use Rattle.std.proofs.Common.{◌≡◌, [], Some, true, sym, subst, ap, ◌∙◌}
+use Rattle.std.proofs.Common.{[], Some, sym, ap, ◌∙◌}
 use Rattle.stab_core.specs.declared.start.Start.{Start}
 use Rattle.stab_frames.specs.Parameters.{Parameters}
-use Rattle.stab_stream.specs.Leads.{EntriesTaken}
 use Rattle.stab_stream.proofs.job.read_events.Goals as goal
 
 pub returns-then-are_events-clause-value : goal.returns-then-are_events-clause-value

@@ -1,4 +1,4 @@
-use Rattle.std.proofs.Common.{refl, arith}
+use Rattle.std.proofs.Common.{refl}
 use Rattle.serde_json.specs.Data.{array}
 use Rattle.stab_stream.specs.Members.{in_member}
 use Rattle.stab_stream.proofs.Meaning.{not_capped}
