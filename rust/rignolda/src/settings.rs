@@ -43,6 +43,8 @@ pub use waiting::{Change, Value, Waiting};
 pub const KEY_BYTES: usize = 128;
 /// The longest value of a setting, in bytes.
 pub const VALUE_BYTES: usize = 1 << 20;
+/// How many settings there are at most.
+pub const SETTINGS: usize = 1 << 16;
 /// The most changes in one body.
 const CHANGES: usize = 4_096;
 /// After this many items a new table is published, if it is not longer than they were.
@@ -159,8 +161,9 @@ impl<'a> Rest<'a> {
 
     fn entries(&mut self) -> Option<Vec<Entry<'a>>> {
         let count = self.number(4)? as usize;
-        // (an entry has 3 bytes at least)
-        let mut entries: Vec<Entry<'a>> = Vec::with_capacity(count.min(self.0.len() / 3));
+        // (an entry has 3 bytes at least; and a list of many takes several times their bytes)
+        let count = Some(count).filter(|it| *it <= SETTINGS.min(self.0.len() / 3))?;
+        let mut entries: Vec<Entry<'a>> = Vec::with_capacity(count);
         for _ in 0..count {
             let kind = self.number(1)? as u8;
             let key = self.key()?;
@@ -184,7 +187,8 @@ impl<'a> Rest<'a> {
     }
 }
 
-/// Which bodies an agent applies: each one that is newer than the last, by its sequence number.
+/// Which bodies an agent applies: each one that is newer than the last, by its sequence number,
+/// unless there would be more settings, or more bytes of them, than a root may have.
 ///
 /// Nothing of it has to be right: a spoiled one is right after a whole round.
 #[derive(Debug, Default)]
@@ -195,8 +199,13 @@ pub struct Table {
     pub round: u64,
     /// Whether a whole table came, and no gap since.
     pub whole: bool,
-    /// The keys of all settings.
-    pub keys: BTreeSet<String>,
+    /// The keys of all settings, and how many bytes of a whole table each takes.
+    pub keys: BTreeMap<String, usize>,
+    /// Whether what a body said was left out, since there was no room. A whole table ends it.
+    pub full: bool,
+    /// Whether the last whole table made up for something: the first one, or a number was left out
+    /// before it. It may bring changes that are older than itself.
+    pub fills: bool,
     /// Bodies that were older than the last, and not applied.
     pub strays: u64,
     /// How often a number was left out before a body that is no whole table.
@@ -208,6 +217,8 @@ pub struct Table {
     old_round: bool,
     /// Whether harmless items came since the last whole table.
     in_a_round: bool,
+    /// How many bytes all settings take.
+    bytes: usize,
 }
 
 impl Table {
@@ -237,16 +248,47 @@ impl Table {
             Meaning::Table(entries) => {
                 self.round = sequence;
                 self.looks = std::mem::take(&mut self.in_a_round) || !self.whole;
+                self.fills = !follows || !self.whole;
                 self.whole = true;
-                self.keys = entries.iter().map(|(key, _)| (*key).to_owned()).collect();
+                self.full = false;
+                let keys = entries.iter().map(|it| (it.0.to_owned(), entry_bytes(it)));
+                self.keys = keys.collect();
+                self.bytes = self.keys.values().sum();
             }
-            Meaning::Changes(entries) => entries.iter().for_each(|(key, value)| match value {
-                Some(_) => drop(self.keys.insert((*key).to_owned())),
-                None => drop(self.keys.remove(*key)),
+            Meaning::Changes(entries) if !self.has_room(entries) => {
+                self.misses();
+                return false;
+            }
+            Meaning::Changes(entries) => entries.iter().for_each(|it| {
+                let old = match it.1 {
+                    Some(_) => self.keys.insert(it.0.to_owned(), entry_bytes(it)),
+                    None => self.keys.remove(it.0),
+                };
+                self.bytes += it.1.map_or(0, |_| entry_bytes(it));
+                self.bytes = self.bytes.saturating_sub(old.unwrap_or(0));
             }),
             Meaning::Harmless => (),
         }
         true
+    }
+
+    /// What a body says is left out, for want of room: a whole table is waited for.
+    pub fn misses(&mut self) {
+        self.whole = false;
+        self.full = true;
+    }
+
+    /// Whether there is room for these changes.
+    fn has_room(&self, entries: &[Entry<'_>]) -> bool {
+        let (mut count, mut bytes) = (self.keys.len(), self.bytes + HEAD);
+        for it in entries {
+            let old = self.keys.get(it.0);
+            count =
+                (count + usize::from(it.1.is_some())).saturating_sub(usize::from(old.is_some()));
+            bytes += it.1.map_or(0, |_| entry_bytes(it));
+            bytes = bytes.saturating_sub(old.copied().unwrap_or(0));
+        }
+        count <= SETTINGS && bytes <= BODY_BYTES
     }
 }
 
@@ -314,7 +356,8 @@ impl Publisher {
     /// Whether there is room for this setting beside all others.
     pub fn has_room(&self, key: &str, value: &[u8]) -> bool {
         let all = self.bytes - self.bytes_at(key) + entry_bytes(&(key, Some(value)));
-        value.len() <= VALUE_BYTES && all <= BODY_BYTES
+        let is_few = self.settings.len() < SETTINGS || self.settings.contains_key(key);
+        value.len() <= VALUE_BYTES && all <= BODY_BYTES && is_few
     }
 
     /// How many bytes of them are this setting's.

@@ -1,7 +1,7 @@
 //! What the root publishes: here, whether there is room for a setting.
 #![cfg(feature = "net")]
 use rignolda::net::BODY_BYTES;
-use rignolda::settings::{Publisher, VALUE_BYTES};
+use rignolda::settings::{Publisher, SETTINGS, VALUE_BYTES};
 use std::collections::BTreeMap;
 use std::time::{Duration, Instant};
 
@@ -76,4 +76,14 @@ fn whether_there_is_room_is_known_at_once() {
         asked,
         whole
     );
+}
+
+#[test]
+fn there_are_no_more_settings_than_an_agent_takes() {
+    let mut publisher = Publisher::new(1);
+    let all = (0..SETTINGS - 1).map(|at| (format!("{:06}", at), Vec::new()));
+    publisher.replace(all.collect());
+    assert!(publisher.has_room("last", b""));
+    publisher.set("last", Vec::new());
+    assert!(!publisher.has_room("another", b"") && publisher.has_room("last", b"changed"));
 }

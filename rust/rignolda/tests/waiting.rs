@@ -122,3 +122,22 @@ fn what_is_no_key_is_left_out() {
     );
     are_left(waiting, &[("b", Some(b"3"), 2, 2)]);
 }
+
+#[test]
+fn a_table_from_before_keeps_all_back_until_it_is_applied() {
+    let mut waiting = Waiting::default();
+    waiting.take(
+        7,
+        &Meaning::Table(vec![("a", Some(b"1")), ("b", Some(b"2"))]),
+    );
+    waiting.is_from_before();
+    waiting.unset_others(["c".into()]);
+    waiting.take(8, &Meaning::Changes(vec![("b", None), ("d", Some(b"4"))]));
+    assert_eq!((waiting.first(), waiting.count()), (Some(1), 4));
+    let firsts: Vec<_> = std::iter::from_fn(|| waiting.pop())
+        .map(|(key, change)| (key, change.first, change.last))
+        .collect();
+    let of = |key: &str, first, last| (key.to_string(), first, last);
+    let expected = [of("a", 1, 7), of("b", 1, 8), of("c", 1, 7), of("d", 8, 8)];
+    assert_eq!(firsts, expected);
+}

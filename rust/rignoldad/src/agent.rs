@@ -9,7 +9,7 @@ use crate::line::{Line, Listener, Maker};
 use crate::metrics;
 use crate::root::Root;
 use crate::serve::Ticket;
-use crate::tree::Below;
+use crate::tree::{Below, EACH};
 use mio::unix::SourceFd;
 use mio::{Events, Interest, Poll, Registry, Token, Waker};
 use rignolda::net::{Body, Call, Handler, Peers};
@@ -27,8 +27,8 @@ use std::time::{Duration, Instant};
 
 /// How many connections are accepted in one turn.
 const ACCEPTS: usize = 64;
-/// How often an agent says upwards what there is to watch, where it changed, with a millisecond for
-/// each agent below it at least; and in any case.
+/// How often an agent says upwards what there is to watch, where it changed, if there are not very
+/// many agents below it; and in any case.
 const REPORTS: Duration = Duration::from_millis(100);
 const SAYS_AGAIN: Duration = Duration::from_secs(10);
 
@@ -85,6 +85,8 @@ struct State {
     received: u64,
     garbage: u64,
     round_at: Option<Instant>,
+    /// The number of the last body that changed something.
+    last_change: u64,
     /// Whether there is something new to say upwards.
     changed: bool,
     /// Whether files are being applied.
@@ -184,23 +186,38 @@ impl Handler for State {
             fact!("garbage", "item {:08x} with {} bytes", body.item, body.bytes.len());
             return false;
         };
-        let takes = self.table.takes(sequence, &meaning);
+        let (was_full, strays) = (self.table.full, self.table.strays);
+        let mut takes = self.table.takes(sequence, &meaning);
         let is_table = matches!(meaning, Meaning::Table(_));
         // (before a line is written, so that the files wait for nothing)
         if let (true, Some(applier)) = (takes, &mut self.applier) {
-            applier.take(&meaning, sequence, is_table && self.table.looks);
-            self.applying = true;
+            if is_table || applier.has_room() {
+                let (looks, fills) = (self.table.looks, self.table.fills);
+                applier.take(&meaning, sequence, is_table && looks, is_table && fills);
+                self.applying = true;
+            } else {
+                self.table.misses();
+                takes = false;
+            }
+        }
+        if self.table.full && !was_full {
+            fact!("full", "{sequence} would be too much: a whole table is waited for");
         }
         if self.traces {
             let fact = if self.is_root { "published" } else { "received" };
             journal::lines(fact, [sequence.to_string()]);
         }
-        if !takes {
+        if self.table.strays > strays {
             fact!("stray", "{sequence}");
+        }
+        if !takes {
             return false;
         }
         if is_table {
             self.round_at = Some(now);
+        }
+        if matches!(meaning, Meaning::Changes(_)) || is_table && self.table.fills {
+            self.last_change = sequence;
         }
         is_table
     }
@@ -434,6 +451,9 @@ impl Agent {
             let next = self.root.as_mut().and_then(|root| root.next(self.config.backlog / 2));
             let Some(published) = next else { return };
             self.peers.publish(&published.body, now, &mut self.state);
+            if !published.keys.is_empty() {
+                self.state.last_change = self.state.table.sequence;
+            }
             let response = Response::Published(self.state.table.sequence);
             self.answer(|key| published.keys.contains(key), &response);
         }
@@ -454,7 +474,7 @@ impl Agent {
     // ---- Watching and control
 
     fn reports_at(&self) -> Instant {
-        let often = REPORTS.max(Duration::from_millis(self.state.below.agents()));
+        let often = REPORTS.max(EACH * self.state.below.agents());
         self.reported + if self.state.changed { often.min(SAYS_AGAIN) } else { SAYS_AGAIN }
     }
 
@@ -464,7 +484,8 @@ impl Agent {
         if self.reported >= since && now < self.reports_at() {
             return;
         }
-        let bytes = self.state.below.report(&self.status(now), now);
+        let status = self.status(now);
+        let bytes = self.state.below.report(&status, now);
         self.state.changed &= !self.peers.report(&bytes);
         self.reported = now;
     }
@@ -476,6 +497,7 @@ impl Agent {
         let children = relay.children().map(|(name, link)| ChildStatus {
             name: name.clone(),
             connected: link.is_connected(),
+            since: millis(link.since),
             backlog: relay.backlog(link),
             oldest: link.sent.map_or(0, millis),
             left_behind: relay.is_left_behind(name),
@@ -491,7 +513,13 @@ impl Agent {
             parent: parent.map(|(parent, _)| parent.to_string()),
             connected_since: parent.map_or(0, |(_, since)| millis(since) / 1_000),
             sequence: table.sequence,
-            applied: applier.as_ref().map_or(table.sequence, |it| it.applied(table.sequence)),
+            // (the table that is lacking may bring changes of any number)
+            applied: match (table.whole, applier) {
+                (false, _) => 0,
+                (true, Some(it)) => it.applied(table.sequence),
+                (true, None) => table.sequence,
+            },
+            changed: self.state.last_change,
             round: table.round,
             round_age: self.state.round_at.map_or(0, millis),
             whole: table.whole,
@@ -539,7 +567,8 @@ impl Agent {
                 return Ok(Some(Response::Status(Box::new(self.status(now)))));
             }
             (Request::Tree, _) => {
-                return Ok(Some(Response::Tree(self.state.below.tree(&self.status(now), now))));
+                let status = self.status(now);
+                return Ok(Some(Response::Tree(self.state.below.tree(&status, now))));
             }
             (Request::ChildAdd { .. }, _) if self.listeners.is_empty() => {
                 return Err("nobody can connect: there is no `listen`".into());

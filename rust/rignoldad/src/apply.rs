@@ -6,7 +6,7 @@
 //! at the next round, and after a crash. Nothing in the folder has to be right: what is wrong or
 //! lacking is made anew by the next round.
 use crate::config::{is_key, Apply};
-use rignolda::settings::{remove, Change, Folder, Meaning, Waiting};
+use rignolda::settings::{remove, Change, Folder, Meaning, Waiting, SETTINGS};
 use std::collections::BTreeSet;
 use std::fs::{self, File, OpenOptions};
 use std::io::{self, Seek, Write};
@@ -102,10 +102,14 @@ impl Applier {
         self.shared.lock().config = config.clone();
     }
 
-    /// Makes the files what this body says; where it `looks`, whatever was done to them.
-    pub fn take(&mut self, meaning: &Meaning<'_>, sequence: u64, looks: bool) {
+    /// Makes the files what this body says; where it `looks`, whatever was done to them. One that
+    /// `fills` a gap may bring older changes, so nothing counts as applied until it is.
+    pub fn take(&mut self, meaning: &Meaning<'_>, sequence: u64, looks: bool, fills: bool) {
         let mut state = self.shared.lock();
         state.files.take(sequence, meaning);
+        if fills {
+            state.files.is_from_before();
+        }
         state.looks |= looks;
         self.shared.files.notify_one();
     }
@@ -113,6 +117,12 @@ impl Applier {
     /// What was done since it was asked last: changes, and what failed.
     pub fn done(&mut self) -> Vec<Applied> {
         std::mem::take(&mut self.shared.lock().done)
+    }
+
+    /// Whether there is room for changes: what waits has at most twice as many keys as there may be.
+    pub fn has_room(&self) -> bool {
+        let state = self.shared.lock();
+        state.files.count().max(state.hooks.count()) <= 2 * SETTINGS
     }
 
     /// Whether files wait or are written, or something was done: then ask again soon.

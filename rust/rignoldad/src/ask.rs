@@ -86,7 +86,7 @@ pub fn bounds(list: &[Seen]) -> Vec<Bounds> {
         .enumerate()
         .map(|(at, (seen, depth))| {
             let own = if at > 0 && seen.inner { seen.limit } else { 0 };
-            let e = above.get(seen.parent.as_str()).copied().unwrap_or(0) + own;
+            let e = above.get(seen.parent.as_str()).copied().unwrap_or(0).saturating_add(own);
             above.insert(&seen.name, e);
             let depth = depth as u64;
             let n = if depth == 0 { 0 } else { 2 * depth + 1 };
@@ -104,10 +104,11 @@ pub fn harmless_needed(list: &[Seen]) -> u64 {
 /// What is wrong with the number of harmless items that the root is set up with, if something is.
 pub fn too_few_harmless(list: &[Seen]) -> Option<String> {
     let (has, needs) = (list.first()?.harmless, harmless_needed(list));
+    let deepest = bounds(list).into_iter().max_by_key(|bounds| bounds.depth)?.name;
     (has < needs).then(|| {
         format!(
-            "root.harmless is {has}, and a tree so deep needs {needs}: an agent that restarts \
-                 can need more than one round"
+            "root.harmless is {has}, and a tree so deep as at {deepest} needs {needs}: an agent \
+             that restarts can need more than one round"
         )
     })
 }
@@ -141,7 +142,8 @@ fn words(line: &[&str]) -> Vec<String> {
 
 /// The tree, an agent a line, each under its parent.
 pub fn tree_text(list: &[Seen]) -> String {
-    let newest = list.first().map_or(0, |root| root.sequence);
+    // (what is harmless, or a table that changes nothing, is no lag)
+    let newest = list.first().map_or(0, |root| root.changed);
     let mut rows = vec![words(&["agent", "lag", "backlog", "strays", "garbage", "gaps", "state"])];
     for (seen, depth) in list.iter().zip(depths(list)) {
         let state = match () {
@@ -154,7 +156,10 @@ pub fn tree_text(list: &[Seen]) -> String {
         };
         rows.push(vec![
             format!("{}{}", "  ".repeat(depth), seen.name),
-            newest.saturating_sub(seen.applied).to_string(),
+            match seen.applied {
+                0 => "-".into(),
+                applied => newest.saturating_sub(applied).to_string(),
+            },
             format!("{}/{}", seen.backlog, seen.limit),
             seen.strays.to_string(),
             seen.garbage.to_string(),

@@ -71,7 +71,10 @@ pub struct Status {
     /// The sequence number of the last body that came, or was published.
     pub sequence: u64,
     /// That of the last body which was applied, its hooks included.
+    /// While a table that may bring older changes is lacking, or is not applied, it is 0.
     pub applied: u64,
+    /// That of the last body which changed something.
+    pub changed: u64,
     /// That of the last whole table which was applied.
     pub round: u64,
     /// How many milliseconds ago that was.
@@ -107,6 +110,8 @@ pub struct Status {
 pub struct ChildStatus {
     pub name: String,
     pub connected: bool,
+    /// For how many milliseconds it has been connected, or away.
+    pub since: u64,
     pub backlog: u64,
     /// For how many milliseconds its sender has had its item; 0 where it has none.
     pub oldest: u64,
@@ -127,6 +132,7 @@ impl Status {
             connected: true,
             sequence: self.sequence,
             applied: self.applied,
+            changed: self.changed,
             round: self.round,
             whole: self.whole,
             draining: self.draining,

@@ -2,13 +2,20 @@
 //!
 //! Each agent sends its list up now and then, itself first and each agent after its parent, and its
 //! parent puts it behind its own.
+use crate::control::{ChildStatus, Status};
 pub use rignolda::net::wire::REPORT_BYTES;
 use serde::{Deserialize, Serialize};
-use std::collections::{BTreeMap, BTreeSet};
-use std::time::Instant;
+use std::cmp::Reverse;
+use std::collections::BTreeMap;
+use std::time::{Duration, Instant};
 
-/// The most agents in one.
+/// The most agents in a report, and how deep they are below who sends it.
 const AGENTS: usize = 10_000;
+const DEPTH: usize = 64;
+/// The most agents that are known at a time.
+const KNOWN: usize = 1 << 16;
+/// How often a list is made or read at most: with this much time for each agent in it.
+pub const EACH: Duration = Duration::from_micros(250);
 
 /// An agent, as an agent above it knows it.
 #[derive(Clone, Debug, Default, Deserialize, PartialEq, Serialize)]
@@ -19,7 +26,10 @@ pub struct Seen {
     /// Whether its parent has a connection with it. Where not, the rest is as it was last.
     pub connected: bool,
     pub sequence: u64,
+    /// The last number up to which all is applied; 0 where it is not known that anything is.
     pub applied: u64,
+    /// The number of the last body that changed something.
+    pub changed: u64,
     pub round: u64,
     pub whole: bool,
     pub draining: bool,
@@ -41,31 +51,66 @@ pub struct Seen {
 
 /// The last list of each child.
 #[derive(Debug, Default)]
-pub struct Below(BTreeMap<String, (Instant, Vec<Seen>)>);
+pub struct Below(BTreeMap<String, Heard>);
+
+#[derive(Debug)]
+struct Heard {
+    at: Instant,
+    list: Vec<Seen>,
+    /// What came too soon after it to be read at once.
+    later: Option<(Instant, Vec<u8>)>,
+}
+
+impl Heard {
+    /// Whether another list may be read now.
+    fn may_read(&self, now: Instant) -> bool {
+        now >= self.at + EACH * self.list.len() as u32
+    }
+}
+
+/// The list that this child sent, if it is one, with the child first. Of the others it is what
+/// agents further below say, so what cannot be of a tree is left out, and the child is not blamed
+/// for it: a name that is none or is there before, an agent whose parent is not, and what is too
+/// deep.
+fn read(child: &str, bytes: &[u8]) -> Option<Vec<Seen>> {
+    // (a list of very many would take much more memory than its bytes)
+    let many = bytes.iter().filter(|byte| **byte == b'{').count();
+    if bytes.len() > REPORT_BYTES || many > AGENTS {
+        return None;
+    }
+    let mut list: Vec<Seen> = serde_json::from_slice(bytes).ok()?;
+    list.first_mut().filter(|first| first.name == child)?.parent.clear();
+    let (mut depths, mut is_deeper) = (BTreeMap::new(), false);
+    list.retain(|seen| {
+        let depth = depths.get(&seen.parent).map_or(0, |above| above + 1);
+        let placed = depths.is_empty() || depth > 0;
+        let good = placed && crate::config::is_name(&seen.name) && !depths.contains_key(&seen.name);
+        is_deeper |= good && depth > DEPTH;
+        good && depth <= DEPTH && depths.insert(seen.name.clone(), depth).is_none()
+    });
+    list.first_mut()?.cut |= is_deeper;
+    Some(list)
+}
 
 impl Below {
-    /// Takes a list that this child sent. Whether it is one, with the child first. Of the others it
-    /// is what agents further below say, so what cannot be of a tree is left out, and the child is
-    /// not blamed for it: a name that is none or is there before, and an agent whose parent is not.
+    /// Takes a list that this child sent. Whether it is one, as far as it is read now.
     pub fn heard(&mut self, child: &str, bytes: &[u8], now: Instant) -> bool {
-        let list = (bytes.len() <= REPORT_BYTES).then(|| serde_json::from_slice(bytes));
-        let Some(Ok::<Vec<Seen>, _>(mut list)) = list else { return false };
-        if list.len() > AGENTS || list.first().map(|first| &*first.name) != Some(child) {
-            return false;
+        match self.0.get_mut(child) {
+            Some(heard) if !heard.may_read(now) => {
+                heard.later = Some((now, bytes.into()));
+                bytes.len() <= REPORT_BYTES
+            }
+            _ => {
+                let list = read(child, bytes);
+                let heard = list.map(|list| Heard { at: now, list, later: None });
+                heard.map(|heard| self.0.insert(child.into(), heard)).is_some()
+            }
         }
-        list[0].parent.clear();
-        let mut names = BTreeSet::new();
-        list.retain(|seen| {
-            let placed = names.is_empty() || names.contains(&seen.parent);
-            placed && crate::config::is_name(&seen.name) && names.insert(seen.name.clone())
-        });
-        self.0.insert(child.into(), (now, list));
-        true
     }
 
     /// How many agents they have.
-    pub fn agents(&self) -> u64 {
-        self.0.values().map(|(_, list)| list.len() as u64).sum()
+    pub fn agents(&self) -> u32 {
+        self.0.values().map(|heard| heard.list.len() as u32).sum()
     }
 
     /// Forgets a child that was removed.
@@ -73,52 +118,108 @@ impl Below {
         self.0.remove(child);
     }
 
-    /// The list of an agent with this status, itself first. What a child says of a name that is
-    /// this agent's own, a child's, or one that a child before it has reported, is left out.
-    pub fn tree(&self, status: &crate::control::Status, now: Instant) -> Vec<Seen> {
-        let mut list = vec![status.seen()];
-        let mut taken: BTreeSet<&str> = status.children.iter().map(|it| &*it.name).collect();
-        taken.insert(&status.name);
-        for child in &status.children {
-            let at = list.len();
-            match self.0.get(&child.name) {
-                Some((heard, below)) => {
-                    let age = now.saturating_duration_since(*heard).as_millis() as u64;
-                    let mut kept = BTreeSet::new();
-                    for (place, seen) in below.iter().enumerate() {
-                        let placed = kept.contains(seen.parent.as_str());
-                        if place > 0 && !(placed && taken.insert(&seen.name)) {
-                            continue;
-                        }
-                        kept.insert(seen.name.as_str());
-                        list.push(Seen {
-                            age: seen.age.saturating_add(age),
-                            // (of who is below an agent that is away, nothing newer is known)
-                            connected: seen.connected && child.connected,
-                            ..seen.clone()
-                        });
+    /// The list of an agent with this status, itself first.
+    ///
+    /// An agent that may have several parents is where it is connected: at this agent, where that
+    /// has a connection with it; else where somebody says that it is connected; and where it was
+    /// heard of last. What others say of it is left out.
+    pub fn tree(&mut self, status: &Status, now: Instant) -> Vec<Seen> {
+        for (child, heard) in self.0.iter_mut().filter(|(_, heard)| heard.may_read(now)) {
+            if let Some((at, bytes)) = heard.later.take() {
+                // (where it is none, what was heard before stays)
+                let list = read(child, &bytes).unwrap_or(std::mem::take(&mut heard.list));
+                (heard.at, heard.list) = (at, list);
+            }
+        }
+        let children = status.children.iter();
+        let lists: Vec<_> = children.map(|child| self.list(child, &status.name, now)).collect();
+        let mut best = BTreeMap::new();
+        for (at, list) in lists.iter().enumerate() {
+            for (place, seen) in list.iter().enumerate() {
+                let here = place == 0 && seen.connected;
+                let news = (seen.connected, here, seen.sequence > 0, Reverse(seen.age));
+                let best = best.entry(&*seen.name).or_insert((news, at));
+                *best = if news > best.0 { (news, at) } else { *best };
+            }
+        }
+        // (first where it is best; and where there it has no place, anywhere)
+        let mut taken = BTreeMap::from([(&*status.name, usize::MAX)]);
+        for anywhere in [false, true] {
+            for (at, list) in lists.iter().enumerate() {
+                for (place, seen) in list.iter().enumerate() {
+                    let placed = place == 0 || taken.get(&*seen.parent) == Some(&at);
+                    if placed && (anywhere || best[&*seen.name].1 == at) {
+                        taken.entry(&*seen.name).or_insert(at);
                     }
                 }
-                None => list.push(Seen { name: child.name.clone(), ..Seen::default() }),
             }
-            list[at].parent = status.name.clone();
-            list[at].connected = child.connected;
         }
+        let all =
+            lists.iter().enumerate().flat_map(|(at, list)| list.iter().map(move |it| (at, it)));
+        let kept = all
+            .filter(|(at, seen)| taken.get(&*seen.name) == Some(at))
+            .map(|(_, seen)| seen.clone());
+        share(std::iter::once(status.seen()).chain(kept).collect(), KNOWN)
+    }
+
+    /// What is known of a child and those below it.
+    fn list(&self, child: &ChildStatus, parent: &str, now: Instant) -> Vec<Seen> {
+        let heard = self.0.get(&child.name);
+        let nothing = || vec![Seen { name: child.name.clone(), ..Seen::default() }];
+        let mut list = heard.map_or_else(nothing, |heard| heard.list.clone());
+        let age = heard.map_or(0, |it| now.saturating_duration_since(it.at).as_millis() as u64);
+        for seen in &mut list {
+            seen.age = seen.age.saturating_add(age);
+            // (of who is below an agent that is away, nothing newer is known)
+            seen.connected &= child.connected;
+            // (and what it said before it connected may be of an earlier life)
+            seen.applied *= u64::from(age <= child.since || !child.connected);
+        }
+        (list[0].parent, list[0].connected) = (parent.into(), child.connected);
         list
     }
 
     /// The bytes to send to the parent: the list, cut where it would be too long.
-    pub fn report(&self, status: &crate::control::Status, now: Instant) -> Vec<u8> {
-        let mut list = self.tree(status, now);
-        let mut most = AGENTS;
+    pub fn report(&mut self, status: &Status, now: Instant) -> Vec<u8> {
+        let (mut list, mut most) = (self.tree(status, now), AGENTS);
         loop {
-            list[0].cut |= list.len() > most;
-            list.truncate(most);
+            list = share(list, most);
             let bytes = serde_json::to_vec(&list).expect("texts, numbers and lists are JSON");
             if bytes.len() <= REPORT_BYTES {
                 return bytes;
             }
-            most = list.len() / 2;
+            most = REPORT_BYTES / 10 * 9 / (bytes.len() / list.len() + 1);
         }
     }
+}
+
+/// At most so many agents of a list. Of those below an agent each child has the same share, and
+/// what needs less is whole: so whoever has many below it drives nobody else out. An agent that has
+/// lost a child is `cut`.
+fn share(mut list: Vec<Seen>, most: usize) -> Vec<Seen> {
+    if list.len() <= most {
+        return list;
+    }
+    let places: BTreeMap<_, _> = list.iter().enumerate().map(|(at, it)| (&*it.name, at)).collect();
+    let above = |seen: &Seen| places.get(&*seen.parent).copied().unwrap_or(0);
+    let above: Vec<usize> = list.iter().map(above).collect();
+    let (mut sizes, mut below) = (vec![1; list.len()], vec![Vec::new(); list.len()]);
+    for at in (1..list.len()).rev() {
+        sizes[above[at]] += sizes[at];
+        below[above[at]].push(at);
+    }
+    let mut shares = vec![0; list.len()];
+    shares[0] = most.max(1);
+    for (at, mut children) in below.into_iter().enumerate() {
+        children.sort_by_key(|child| sizes[*child]);
+        let (mut room, mut count) = (shares[at].saturating_sub(1), children.len());
+        for child in children {
+            shares[child] = sizes[child].min(room / count);
+            list[at].cut |= shares[child] == 0;
+            (room, count) = (room - shares[child], count - 1);
+        }
+    }
+    let mut shares = shares.into_iter();
+    list.retain(|_| shares.next() > Some(0));
+    list
 }

@@ -76,16 +76,16 @@ trait Bodies {
 
 impl Bodies for Applier {
     fn set(&mut self, key: &str, value: &[u8], sequence: u64) {
-        self.take(&Meaning::Changes(vec![(key, Some(value))]), sequence, false);
+        self.take(&Meaning::Changes(vec![(key, Some(value))]), sequence, false, false);
     }
 
     fn unset(&mut self, key: &str, sequence: u64) {
-        self.take(&Meaning::Changes(vec![(key, None)]), sequence, false);
+        self.take(&Meaning::Changes(vec![(key, None)]), sequence, false, false);
     }
 
     fn table<const N: usize>(&mut self, entries: [(&str, &[u8]); N], sequence: u64) {
         let entries = entries.map(|(key, value)| (key, Some(value)));
-        self.take(&Meaning::Table(entries.into()), sequence, true);
+        self.take(&Meaning::Table(entries.into()), sequence, true, false);
     }
 }
 
@@ -233,7 +233,7 @@ fn a_table_between_rounds_looks_at_no_file_that_is_as_it_was_put() {
     fs::write(folder.join("unknown"), "1").unwrap();
     let between = |it: &mut Applier, sequence| {
         let entries = [("a", &b"1"[..]), ("b", b"4")].map(|(key, value)| (key, Some(value)));
-        it.take(&Meaning::Table(entries.into()), sequence, false);
+        it.take(&Meaning::Table(entries.into()), sequence, false, false);
     };
     // (what changed, or is not named, is applied)
     between(&mut applier, 2);
@@ -368,4 +368,25 @@ fn a_file_that_cannot_be_written_is_failing_until_it_can() {
     applied(&mut applier, 2);
     assert_eq!(applier.failing(), 0);
     assert_eq!(place.files(), map([("a", "1")]));
+}
+
+/// The table that makes up for what was missed brings changes of any age: nothing is known to be
+/// applied before all its hooks ended.
+#[test]
+fn a_table_that_fills_a_gap_is_applied_as_a_whole() {
+    let place = Place::new();
+    let config = place.with_hook("while ! [ -e go ]; do sleep 0.01; done; echo \"$2\" >>calls");
+    let mut applier = start(&config);
+    let entries = [("a", Some(&b"1"[..])), ("b", Some(b"2"))];
+    applier.take(&Meaning::Table(entries.into()), 9, true, true);
+    until(|| place.folder().join("b").exists() && !applier.is_busy());
+    assert_eq!(applier.applied(9), 0);
+    applier.set("c", b"3", 10);
+    until(|| place.folder().join("c").exists());
+    assert_eq!(applier.applied(10), 0);
+    fs::write(place.0.join("go"), "").unwrap();
+    until(|| applier.applied(10) > 0);
+    assert!(place.calls().len() >= 2, "{:?}", place.calls());
+    until(|| applier.applied(10) == 10);
+    assert_eq!(place.calls(), ["a", "b", "c"]);
 }

@@ -5,8 +5,12 @@ use rignoldad::tree::{Below, Seen, REPORT_BYTES};
 use std::time::{Duration, Instant};
 
 fn status(name: &str, children: &[&str]) -> Status {
-    let child =
-        |name: &&str| ChildStatus { name: name.to_string(), connected: true, ..Default::default() };
+    let child = |name: &&str| ChildStatus {
+        name: name.to_string(),
+        connected: true,
+        since: 60_000,
+        ..Default::default()
+    };
     Status {
         name: name.into(),
         limit: 10,
@@ -22,7 +26,7 @@ fn status(name: &str, children: &[&str]) -> Status {
 /// The lists of a tree: the root, `a` with `b` and `c`, and `d` below `c`.
 fn tree(now: Instant) -> Vec<Seen> {
     let (mut root, mut a, mut c) = (Below::default(), Below::default(), Below::default());
-    let none = Below::default();
+    let mut none = Below::default();
     assert!(c.heard("d", &none.report(&status("d", &[]), now), now));
     assert!(a.heard("c", &c.report(&status("c", &["d"]), now), now));
     assert!(a.heard("b", &none.report(&status("b", &[]), now), now));
@@ -89,7 +93,7 @@ fn an_agent_lacks_what_it_has_not_applied() {
 
 #[test]
 fn refuses_a_list_that_is_none() {
-    let now = Instant::now();
+    let mut now = Instant::now();
     let seen = |name: &str, parent: &str| Seen {
         name: name.into(),
         parent: parent.into(),
@@ -100,8 +104,10 @@ fn refuses_a_list_that_is_none() {
     let mut below = Below::default();
     assert!(below.heard("a", &serde_json::to_vec(&good).unwrap(), now));
     for list in bad {
+        now += Duration::from_secs(1);
         assert!(!below.heard("a", &serde_json::to_vec(&list).unwrap(), now), "{list:?}");
     }
+    now += Duration::from_secs(1);
     assert!(!below.heard("a", &vec![b' '; REPORT_BYTES + 1], now));
     assert_eq!(below.tree(&status("root", &["a"]), now).len(), 3, "the good one stays");
     assert_eq!(below.agents(), 2);
@@ -113,6 +119,7 @@ fn refuses_a_list_that_is_none() {
             let at = (state >> 33) as usize % bytes.len();
             bytes[at] = (state >> 24) as u8;
         }
+        now += Duration::from_secs(1);
         let _ = below.heard("a", &bytes, now);
     }
 }
@@ -206,4 +213,147 @@ fn requests_and_answers_are_json() {
     {
         assert!(serde_json::from_str::<Request>(bad).is_err());
     }
+}
+
+fn seen(name: &str, parent: &str, connected: bool) -> Seen {
+    let (name, parent) = (name.into(), parent.into());
+    Seen { name, parent, connected, sequence: 5, applied: 5, whole: true, ..Default::default() }
+}
+
+/// What is known at a root whose children said this, a second after it.
+fn known(children: &[(&str, bool)], lists: &[Vec<Seen>]) -> Vec<(String, String, bool)> {
+    let (now, mut root) = (Instant::now(), Below::default());
+    for list in lists {
+        assert!(root.heard(&list[0].name, &serde_json::to_vec(list).unwrap(), now));
+    }
+    let names: Vec<&str> = children.iter().map(|(name, _)| *name).collect();
+    let mut status = status("root", &names);
+    for (child, (_, connected)) in status.children.iter_mut().zip(children) {
+        child.connected = *connected;
+    }
+    let list = root.tree(&status, now + Duration::from_secs(1));
+    list.into_iter().skip(1).map(|it| (it.name, it.parent, it.connected)).collect()
+}
+
+#[test]
+fn an_agent_is_where_it_is_connected() {
+    let at = |name: &str, parent: &str, connected| (name.into(), parent.into(), connected);
+    let a = at("a", "root", true);
+    let rack = |name: &str, leaf, below: &[Seen]| {
+        let head = [seen(name, "", true), seen("leaf", name, leaf)];
+        [&head[..], below].concat()
+    };
+    let both = [("a", true), ("b", true)];
+    let far = [seen("far", "leaf", true)];
+    // (at its second parent; and what the first one knows of those below it is old)
+    let lists = [rack("a", false, &far), rack("b", true, &far)];
+    let b = [at("b", "root", true), at("leaf", "b", true), at("far", "leaf", true)];
+    assert_eq!(known(&both, &lists), [&[a.clone()][..], &b].concat());
+    // (its first parent went away with what it knew)
+    let lists = [rack("a", true, &far), rack("b", true, &[])];
+    let away = at("a", "root", false);
+    let expected = [&[away][..], &b[..2]].concat();
+    assert_eq!(known(&[("a", false), ("b", true)], &lists), expected);
+    // (nowhere, so it is away once)
+    let lists = [rack("a", false, &[]), rack("b", false, &[])];
+    let expected = [a.clone(), at("leaf", "a", false), at("b", "root", true)];
+    assert_eq!(known(&both, &lists), expected);
+    // (a child that has a connection here is here, whatever another one says; else it is there)
+    let list = [vec![seen("a", "", true), seen("b", "a", true)]];
+    assert_eq!(known(&both, &list), [a.clone(), at("b", "root", true)]);
+    assert_eq!(known(&[("a", true), ("b", false)], &list), [a, at("b", "a", true)]);
+}
+
+#[test]
+fn of_two_that_say_it_is_connected_the_last_heard_one_counts() {
+    let mut old = vec![seen("a", "", true), seen("leaf", "a", true), seen("only", "leaf", true)];
+    old[1].age = 9;
+    let new = vec![seen("b", "", true), seen("leaf", "b", true)];
+    let list = known(&[("a", true), ("b", true)], &[old, new]);
+    let names: Vec<&str> =
+        list.iter().map(|(name, parent, _)| [name, parent][1].as_str()).collect();
+    assert_eq!((list.len(), names), (3, vec!["root", "root", "b"]));
+}
+
+#[test]
+fn invented_agents_drive_nobody_out() {
+    let now = Instant::now();
+    let (mut rack, mut root) = (Below::default(), Below::default());
+    let name = |at| format!(r#",{{"name":"n{at}","parent":"liar","connected":true}}"#);
+    let liar = |most| format!(r#"[{{"name":"liar"}}{}]"#, (0..most).map(name).collect::<String>());
+    // (there is more than a report may have; and then more than goes into one when it is passed on)
+    assert!(!rack.heard("liar", liar(10_000).as_bytes(), now));
+    assert!(rack.heard("liar", liar(9_999).as_bytes(), now));
+    let honest: Vec<String> = (0..500).map(|at| format!("z{at}")).collect();
+    let mut zeta = vec![seen("zeta", "", true)];
+    zeta.extend(honest.iter().map(|name| seen(name, "zeta", true)));
+    assert!(rack.heard("zeta", &serde_json::to_vec(&zeta).unwrap(), now));
+    let report = rack.report(&status("rack", &["host", "liar", "zeta"]), now);
+    assert!(report.len() <= REPORT_BYTES && root.heard("rack", &report, now));
+    let list = root.tree(&status("root", &["rack"]), now);
+    let cut: Vec<&str> = list.iter().filter(|it| it.cut).map(|it| &*it.name).collect();
+    assert_eq!(cut, ["liar"]);
+    for name in ["host", "zeta", "z0", "z499"] {
+        assert!(list.iter().any(|it| it.name == name), "{name}");
+    }
+    assert!(list.len() > 2_000, "{}", list.len());
+}
+
+#[test]
+fn a_chain_without_end_is_cut() {
+    let name = |at: usize| if at == 0 { "liar".into() } else { format!("n{at}") };
+    let parent = |at: usize| if at == 0 { "".into() } else { name(at - 1) };
+    let chain: Vec<Seen> = (0..3_000).map(|at| seen(&name(at), &parent(at), true)).collect();
+    let (now, mut root) = (Instant::now(), Below::default());
+    assert!(root.heard("liar", &serde_json::to_vec(&chain).unwrap(), now));
+    let list = root.tree(&status("root", &["liar"]), now);
+    assert_eq!((list.len(), depths(&list).pop()), (66, Some(65)));
+    assert_eq!(lacks(&list[1], 5), Some("has more agents below it than it can report"));
+    assert!(tree_text(&list).len() < 66 * 300);
+    assert_eq!(harmless_needed(&list), 2 * 65 + 3);
+    assert!(too_few_harmless(&list).unwrap().contains("as at n64 needs"));
+    // (and no list of very many takes many times its bytes)
+    let many = format!("[{{\"name\":\"liar\"}}{}]", ",{}".repeat(300_000));
+    assert!(!root.heard("liar", many.as_bytes(), now + Duration::from_secs(1)));
+}
+
+#[test]
+fn what_was_said_before_it_connected_counts_for_nothing() {
+    let (now, mut root) = (Instant::now(), Below::default());
+    let list = serde_json::to_vec(&[seen("a", "", true), seen("b", "a", true)]).unwrap();
+    assert!(root.heard("a", &list, now));
+    let mut above = status("root", &["a"]);
+    above.children[0].since = 1_000;
+    let lack = |list: Vec<Seen>| list.iter().map(|it| lacks(it, 5)).collect::<Vec<_>>();
+    let not = Some("has not applied it");
+    assert_eq!(lack(root.tree(&above, now + Duration::from_secs(2))), [None, not, not]);
+    assert!(root.heard("a", &list, now + Duration::from_secs(2)));
+    assert_eq!(lack(root.tree(&above, now + Duration::from_secs(2))), [None, None, None]);
+}
+
+#[test]
+fn what_comes_too_soon_is_read_later() {
+    let (now, mut root) = (Instant::now(), Below::default());
+    let mut list: Vec<Seen> = (0..1_000).map(|at| seen(&format!("n{at}"), "a", true)).collect();
+    list.insert(0, seen("a", "", true));
+    let count = |root: &mut Below, after| root.tree(&status("root", &["a"]), now + after).len();
+    assert!(root.heard("a", &serde_json::to_vec(&list).unwrap(), now));
+    list.truncate(3);
+    assert!(root.heard("a", &serde_json::to_vec(&list).unwrap(), now));
+    assert_eq!(count(&mut root, Duration::ZERO), 1_002);
+    assert_eq!(count(&mut root, Duration::from_secs(1)), 4);
+    // (of one that is none nothing is kept)
+    assert!(root.heard("a", b"[", now) && count(&mut root, Duration::from_secs(2)) == 4);
+}
+
+#[test]
+fn what_is_harmless_is_no_lag() {
+    let mut list = tree(Instant::now());
+    (list[0].sequence, list[0].changed, list[3].applied, list[4].applied) = (30, 6, 4, 0);
+    let text = tree_text(&list);
+    let lag = |line: &str| line.split_whitespace().nth(1).map(String::from);
+    let lags: Vec<String> = text.lines().skip(1).filter_map(lag).collect();
+    assert_eq!(lags, ["1", "1", "1", "2", "-"], "{text}");
+    list[0].changed = 4;
+    assert!(tree_text(&list).lines().nth(2).unwrap().contains(" 0 "));
 }

@@ -80,6 +80,20 @@ impl Waiting {
         }
     }
 
+    /// What waits may be older than all numbers: a whole table that makes up for what was left out
+    /// brings changes of before.
+    pub fn is_from_before(&mut self) {
+        self.whole = self.whole.map(|(_, last)| (1, last));
+        self.changes
+            .values_mut()
+            .for_each(|change| change.first = 1);
+    }
+
+    /// How many changes wait.
+    pub fn count(&self) -> usize {
+        self.changes.len()
+    }
+
     /// Puts a change in the place of the one of its key that waits.
     pub fn put(&mut self, key: &str, mut change: Change) {
         if let Some(before) = self.changes.get(key) {
