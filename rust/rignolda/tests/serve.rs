@@ -87,3 +87,46 @@ fn nothing_is_waited_for_that_changes_nothing() {
     }
     assert!(got == answer && clients(&server).is_empty(), "it has gone");
 }
+
+#[test]
+fn clients_without_a_request_keep_no_other_out() {
+    let path = std::env::temp_dir().join(format!("rignolda-serves-idle-{}", std::process::id()));
+    let _ = std::fs::remove_file(&path);
+    let listener = UnixListener::bind(&path).unwrap();
+    listener.set_nonblocking(true).unwrap();
+    let mut server: Server<u8, _> =
+        Server::new(listener, 8, IDLE, |bytes| Some((*bytes.first()?, 1)));
+    let begun = Instant::now();
+    let at = |milliseconds| begun + Duration::from_millis(milliseconds);
+    let mut idle: Vec<UnixStream> = Vec::new();
+    for round in 0..3_u64 {
+        idle.extend((0..16).map(|_| UnixStream::connect(&path).unwrap()));
+        assert!(asked(&mut server, at(round * 10)).is_empty());
+        let mut client = UnixStream::connect(&path).unwrap();
+        client.write_all(b"?").unwrap();
+        // (where more come at once than there is room for, the next turn has those that are left)
+        let mut requests = Vec::new();
+        for turn in 1..4 {
+            requests.extend(asked(&mut server, at(round * 10 + turn)));
+        }
+        assert_eq!(requests.len(), 1, "{round}");
+        server.answer(requests[0].0, b"!", true);
+        let mut answer = Vec::new();
+        client.read_to_end(&mut answer).unwrap();
+        assert_eq!(answer, b"!", "{round}");
+    }
+    assert!(server.descriptors().count() <= 17);
+    // (one whose request waits for its answer stays)
+    let mut waits = UnixStream::connect(&path).unwrap();
+    waits.write_all(b"?").unwrap();
+    let request = asked(&mut server, at(100));
+    idle.extend((0..40).map(|_| UnixStream::connect(&path).unwrap()));
+    for turn in 1..9 {
+        assert!(asked(&mut server, at(100 + turn)).is_empty());
+    }
+    server.answer(request[0].0, b"!", true);
+    let mut answer = Vec::new();
+    waits.read_to_end(&mut answer).unwrap();
+    assert_eq!(answer, b"!");
+    std::fs::remove_file(path).unwrap();
+}

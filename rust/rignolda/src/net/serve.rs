@@ -34,7 +34,8 @@ use std::os::unix::net::{UnixListener, UnixStream};
 use std::sync::atomic::{AtomicU64, Ordering};
 use std::time::{Duration, Instant};
 
-/// How many clients there are at most. One more is refused.
+/// How many clients there are at most. For one more, that is closed which has been longest without
+/// a request.
 const CLIENTS: usize = 16;
 
 /// Where clients are accepted.
@@ -182,10 +183,21 @@ impl<T, L: Listener> Server<T, L> {
     }
 
     fn accept(&mut self, now: Instant) {
-        // (a client that is one too many is closed, and at most `CLIENTS` are accepted in one turn)
+        let until = now + self.idle;
         for _ in 0..CLIENTS {
-            match self.listener.accept() {
-                Ok(socket) if self.clients.len() < CLIENTS => {
+            let clients = self.clients.iter().enumerate();
+            let may_go = clients.filter(|(_, it)| !it.asked && it.until < until);
+            let goes = may_go.min_by_key(|(_, it)| (!it.output.is_empty(), it.until));
+            let goes = goes.map(|(at, _)| at);
+            let is_full = self.clients.len() >= CLIENTS;
+            // (what those that came in this turn have sent is read before one of them goes)
+            if is_full && goes.is_none() && self.clients.iter().any(|it| !it.asked) {
+                return;
+            }
+            match (self.listener.accept(), goes) {
+                (Ok(_), None) if is_full => (),
+                (Ok(socket), goes) => {
+                    goes.filter(|_| is_full).map(|at| self.clients.remove(at));
                     self.clients.push(Client {
                         number: MADE.fetch_add(1, Ordering::Relaxed),
                         socket,
@@ -194,12 +206,11 @@ impl<T, L: Listener> Server<T, L> {
                         asked: false,
                         again: false,
                         last: false,
-                        until: now + self.idle,
+                        until,
                     });
                 }
-                Ok(_) => (),
-                Err(error) if error.kind() == ErrorKind::WouldBlock => return,
-                Err(_) => {
+                (Err(error), _) if error.kind() == ErrorKind::WouldBlock => return,
+                (Err(_), _) => {
                     self.full = Some(now + Duration::from_millis(100));
                     return;
                 }
