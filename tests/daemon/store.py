@@ -6,11 +6,10 @@
                                       by hand: faults in the store and kills, each count judged
                                       as long.py does
 
-It needs Debian's redis-server and libhiredis0.14, and by hand installs them where it may; where
-they cannot be had it says so. The last line is 'N passed, M failed'.
+It needs Debian's redis-server, and by hand installs it where it may; where that cannot be had it
+says so. The last line is 'N passed, M failed'.
 """
 import argparse
-import ctypes
 import os
 import pathlib
 import random
@@ -27,19 +26,13 @@ sys.dont_write_bytecode = True
 from daemons import Tree, free_port, until
 from reverse import sure
 
-PACKAGES = ["redis-server", "libhiredis0.14"]
+PACKAGES = ["redis-server"]
 IN_STORE = ["left", "left1", "left2", "right2"]      # the others have connections
 
 
 def is_there():
-    """Whether this machine has the server and the client's library."""
-    for version in ("1.1.0", "1.0.0", "0.14"):
-        try:
-            ctypes.CDLL(f"libhiredis.so.{version}")
-            return shutil.which("redis-server") is not None
-        except OSError:
-            pass
-    return False
+    """Whether this machine has the server."""
+    return shutil.which("redis-server") is not None
 
 
 def install():

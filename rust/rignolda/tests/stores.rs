@@ -560,3 +560,46 @@ fn the_next_parent_is_tried_where_the_store_has_no_word_of_one() {
     assert_eq!(net.items("a"), ["T0", "1"]);
     assert_eq!(net.said("root", "gone a"), 1);
 }
+
+/// Whoever may write there makes a parent send its table again and again, as each costs some bytes.
+#[test]
+fn words_that_change_their_lives_or_are_spoiled_cost_few_tables() {
+    for spoils in [false, true] {
+        let mut net = Net::new(7);
+        net.publish(&format!("T{}", "x".repeat(4 << 20)));
+        net.settle();
+        let (mut tables, mut before) = (0, Vec::new());
+        for at in 0..1_200 {
+            let (life, label) = (1_000 + at, (at % 200) as u16);
+            let (from, to) = ("a".to_string(), "root".to_string());
+            let mut word = Hello {
+                life,
+                label,
+                from,
+                to,
+            }
+            .bytes();
+            word.extend((at as u32).to_be_bytes());
+            if !spoils || at == 0 {
+                net.keys.insert("root:a:up".into(), word);
+            }
+            net.step();
+            let down = net.keys.get_mut("root:a:down").expect("the root sets it");
+            tables += usize::from(down.len() > 4 << 20 && *down != before);
+            before.clone_from(down);
+            if spoils {
+                *down = vec![0];
+                before = vec![0];
+            }
+        }
+        assert!(
+            (1..9).contains(&tables),
+            "{tables} tables of 4 MiB in 12 s, {spoils}"
+        );
+        // (and the honest one is served when that is over)
+        net.publish("1");
+        net.settle();
+        net.settle();
+        assert_eq!(net.items("b").last().unwrap(), "1", "{spoils}");
+    }
+}

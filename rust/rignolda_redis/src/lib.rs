@@ -6,9 +6,10 @@
 //! transaction. So the server refuses a transaction of any earlier connection of this agent, also
 //! of an earlier process of it, or of two at once. It is one server, neither a cluster nor a
 //! replica; and nothing is encrypted.
-mod hiredis;
+#![forbid(unsafe_code)]
+mod connection;
 
-use hiredis::{Connection, Reply};
+use connection::{Connection, Reply};
 use rignolda::net::{Address, Handler, Line, Peers, Store, Turn, Worker};
 use std::path::PathBuf;
 use std::sync::Arc;
@@ -91,8 +92,8 @@ pub struct Redis {
 }
 
 impl Redis {
-    /// The store at `HOST:PORT`, where all keys begin with a prefix, for the agent of this name. No
-    /// answer may take longer than `timeout`.
+    /// The store at `HOST:PORT`, where all keys begin with a prefix, for the agent of this name. A
+    /// turn may take `timeout`, and more for its bytes where they come at 64 KiB in a second.
     pub fn new(server: &str, prefix: &str, name: &str, login: Login, timeout: Duration) -> Redis {
         Redis {
             server: server.into(),
@@ -130,31 +131,31 @@ impl Redis {
 
     fn run(&self, connection: &mut Connection, turn: &Turn) -> Result<Vec<Vec<u8>>, String> {
         if !turn.sets.is_empty() {
-            connection.append(&[b"MULTI"])?;
+            connection.append(&[b"MULTI"]);
             for (key, value) in &turn.sets {
                 let key = format!("{}:{key}", self.prefix);
-                connection.append(&[b"SET", key.as_bytes(), value])?;
+                connection.append(&[b"SET", key.as_bytes(), value]);
             }
-            connection.append(&[b"EXEC"])?;
-            connection.append(&[b"WATCH", self.own.as_bytes()])?;
+            connection.append(&[b"EXEC"]);
+            connection.append(&[b"WATCH", self.own.as_bytes()]);
         }
         for (key, most) in &turn.gets {
             let key = format!("{}:{key}", self.prefix);
             let last = most.saturating_sub(1).to_string();
-            connection.append(&[b"GETRANGE", key.as_bytes(), b"0", last.as_bytes()])?;
+            connection.append(&[b"GETRANGE", key.as_bytes(), b"0", last.as_bytes()]);
         }
         if !turn.sets.is_empty() {
             for _ in 0..=turn.sets.len() {
-                good(connection.reply()?)?;
+                good(connection.reply(0)?)?;
             }
-            let done = good(connection.reply()?)?;
-            good(connection.reply()?)?;
+            let done = good(connection.reply(turn.sets.len())?)?;
+            good(connection.reply(0)?)?;
             match done {
                 Reply::List(all) => all.into_iter().try_for_each(|it| good(it).map(drop))?,
                 _ => return Err("another process writes there under this agent's name".into()),
             }
         }
-        let got = turn.gets.iter().map(|_| match connection.reply()? {
+        let got = turn.gets.iter().map(|(_, most)| match connection.reply(*most)? {
             Reply::Text(bytes) => Ok(bytes),
             // (somebody made it a list, say)
             Reply::Error(why) if why.starts_with("WRONGTYPE") => Ok(Vec::new()),
@@ -170,6 +171,7 @@ impl Store for Redis {
             Some(connection) => connection,
             None => self.connect()?,
         };
+        connection.begin();
         // (one on which something failed is closed)
         let got = self.run(&mut connection, turn)?;
         self.connection = Some(connection);
@@ -187,6 +189,6 @@ fn good(reply: Reply) -> Result<Reply, String> {
 
 /// Sends a command, and waits until it is done.
 fn done(connection: &mut Connection, words: &[&[u8]]) -> Result<(), String> {
-    connection.append(words)?;
-    good(connection.reply()?).map(drop)
+    connection.append(words);
+    good(connection.reply(0)?).map(drop)
 }

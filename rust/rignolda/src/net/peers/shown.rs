@@ -79,6 +79,8 @@ impl<L: Line, A: Clone + PartialEq + fmt::Display> Peers<L, A> {
             (What::Own, _) => {
                 // (somebody deleted or spoiled it, or it is of a backup)
                 let differs = words.own.as_ref().map_or(false, |own| *own != bytes);
+                let differs =
+                    differs && (*whom == Whom::Parent || words.may_begin(self.relay.kept().1, now));
                 if differs {
                     words.own = None;
                 }
@@ -144,6 +146,10 @@ impl<L: Line, A: Clone + PartialEq + fmt::Display> Peers<L, A> {
     ) -> Option<bool> {
         let (Hello { life, label, .. }, rest) = word_of(bytes, name, &self.setup.name)?;
         let reports = u32::from_be_bytes(rest.try_into().ok()?);
+        let is_other = words.last.map_or(false, |(old, _)| old != life);
+        if is_other && !words.may_begin(self.relay.kept().1, now) {
+            return None;
+        }
         let before = words.last.replace((life, label));
         let changed = before != words.last;
         let is_new = before.map_or(true, |(old, _)| old != life);

@@ -30,6 +30,9 @@ use std::{fmt, mem};
 
 /// How much of a frame is got before it is known to be fresh.
 const LOOK: usize = 1_024;
+/// A link that begins anew costs a whole table, and so does a frame that others spoiled and that is
+/// set again: so many bytes of that in a second at most.
+const ANEW: u64 = 1 << 20;
 
 /// The links of an agent in one store.
 pub(super) struct Place<A> {
@@ -66,9 +69,21 @@ pub(super) struct Words {
     pub(super) more: bool,
     pub(super) reports: u32,
     report: Option<Vec<u8>>,
+    /// From when it may begin anew again.
+    calm: Instant,
 }
 
 impl Words {
+    /// Whether it may begin anew now, or set again what others spoiled, where so many bytes are kept
+    /// for it; then it begins.
+    pub(super) fn may_begin(&mut self, kept: usize, now: Instant) -> bool {
+        let may = now >= self.calm;
+        if may {
+            self.calm = now + Duration::from_millis(kept as u64 * 1_000 / ANEW);
+        }
+        may
+    }
+
     fn key(&self, of: &str) -> String {
         format!("{}:{of}", self.keys)
     }
@@ -115,6 +130,7 @@ impl<L: Line, A: Clone + PartialEq + fmt::Display> Peers<L, A> {
             more: false,
             reports: 0,
             report: None,
+            calm: now,
         };
         let at = self.stores.iter().position(|it| it.address == call.address);
         let at = at.unwrap_or_else(|| {
