@@ -11,6 +11,9 @@ use std::time::{Duration, Instant};
 /// A disk that takes longer than this for one file is given the others at once.
 const QUICK: Duration = Duration::from_micros(500);
 const STACK_BYTES: usize = 64 << 10;
+/// The permissions of a file that is in nobody's place, at most.
+#[cfg(unix)]
+const NEW: u32 = 0o640;
 
 /// New files of a folder, which come to their places together.
 ///
@@ -55,7 +58,7 @@ impl Batch {
 
     /// Writes a file beside its place, under a name with a dot in front. A batch has at most one
     /// file of each path, and a folder one batch. Where there is a file in that place, the new one
-    /// gets its permissions, and never has more; else those that the process gives to new files.
+    /// gets its permissions, and never has more; else 0640, or what the mask of the process leaves.
     ///
     /// # Errors
     ///
@@ -116,7 +119,7 @@ fn create(at: &Path, most: Option<&Permissions>) -> io::Result<File> {
     let mut options = OpenOptions::new();
     options.write(true).create_new(true);
     #[cfg(unix)]
-    options.mode(most.map_or(0o666, |most| most.mode() & 0o777));
+    options.mode(most.map_or(NEW, |most| most.mode() & 0o777));
     #[cfg(not(unix))]
     let _ = most;
     match options.open(at) {
