@@ -10,7 +10,7 @@ use socket2::{Domain, SockAddr, Socket, TcpKeepalive, Type};
 use std::fs::{self, Permissions};
 use std::io::{self, ErrorKind, Read, Write};
 use std::net::TcpListener;
-use std::os::unix::fs::PermissionsExt;
+use std::os::unix::fs::{FileTypeExt, PermissionsExt};
 use std::os::unix::io::{AsRawFd, RawFd};
 use std::os::unix::net::UnixStream;
 use std::path::{Path, PathBuf};
@@ -129,9 +129,10 @@ impl Listener {
                     let why = "another process listens there";
                     return Err(io::Error::new(ErrorKind::AddrInUse, why));
                 }
-                match fs::remove_file(path) {
-                    Err(error) if error.kind() != ErrorKind::NotFound => return Err(error),
-                    _ => (),
+                match fs::symlink_metadata(path) {
+                    Ok(is) if is.file_type().is_socket() => fs::remove_file(path)?,
+                    Ok(_) => return Err(io::Error::other("what is there is no socket")),
+                    Err(_) => (),
                 }
                 let socket = Socket::new(Domain::UNIX, Type::STREAM, None)?;
                 socket.bind(&SockAddr::unix(path)?)?;
