@@ -103,13 +103,16 @@ fn a_batch_keeps_the_modes_of_the_files_that_it_replaces() {
     for path in [&secret, &open, &new] {
         batch.write(path.clone(), b"1").unwrap();
     }
-    let usual = mode(&beside[2]);
-    assert_eq!((mode(&beside[0]), mode(&beside[1])), (0o600, 0o666));
+    assert_eq!(
+        beside.each_ref().map(|path| mode(path)),
+        [0o600, 0o666, 0o640]
+    );
     assert!(batch.commit().is_empty());
-    assert_eq!((mode(&secret), mode(&open)), (0o600, 0o666));
-    // (without one before, it has what any new file of this process has)
-    fs::write(place.0.join("any"), "").unwrap();
-    assert_eq!((mode(&new), usual), (usual, mode(place.0.join("any"))));
+    // (without one before, it is not for everybody)
+    assert_eq!(
+        [&secret, &open, &new].map(|path| mode(path)),
+        [0o600, 0o666, 0o640]
+    );
     assert_eq!(text(&secret), "1");
 }
 
@@ -252,4 +255,28 @@ fn those_of_a_batch_that_fail_are_named_and_the_others_are_there() {
     assert!(batch.write(place.0.join("no/such"), b"1").is_err());
     assert!(batch.commit().is_empty());
     assert_eq!(place.names(), ["a", "b", "c"]);
+}
+
+#[test]
+fn what_is_none_of_settings_is_named_and_a_link_to_a_folder_is_no_folder() {
+    let place = Place::new("others");
+    let mut folder = Folder::new(place.0.clone());
+    folder.put("a", Some(b"1"), 0o640).unwrap();
+    fs::create_dir_all(place.0.join("inner/deep")).unwrap();
+    std::os::unix::fs::symlink("inner", place.0.join("link")).unwrap();
+    for name in [".hidden", "no key", ".new"] {
+        fs::write(place.0.join(name), "").unwrap();
+    }
+    let sorted = |mut names: Vec<String>| {
+        names.sort();
+        names
+    };
+    assert_eq!(sorted(folder.others()), [".hidden", "inner", "no key"]);
+    assert_eq!(
+        sorted(folder.names()),
+        [".hidden", ".new", "a", "link", "no key"]
+    );
+    set_mode(place.0.clone(), 0o040);
+    folder.mend().unwrap();
+    assert_eq!(mode(&place.0), 0o740);
 }

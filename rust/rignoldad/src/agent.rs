@@ -1,6 +1,6 @@
 //! The loop of an agent: its sockets, timers and files. One thread does all of it but hooks and the
 //! look-up of names, and never waits for anything else than for all of them at once.
-use crate::apply::{Applied, Applier};
+use crate::apply::{Applied, Applier, Outcome};
 use crate::config::{Address, Config, Fault};
 use crate::control::{self, ChildStatus, Request, Response, Status};
 use crate::fact;
@@ -16,7 +16,7 @@ use rignolda::net::{Body, Call, Handler, Peers};
 use rignolda::settings::{Meaning, Table};
 use rignolda_redis::Stores;
 use socket2::SockAddr;
-use std::collections::HashSet;
+use std::collections::{BTreeMap, HashSet};
 use std::io::{self, ErrorKind, Read};
 use std::net::{SocketAddr, ToSocketAddrs};
 use std::os::unix::io::{AsRawFd, RawFd};
@@ -110,6 +110,7 @@ pub fn run(path: &Path, config: Config) -> Result<(), String> {
         if fired.contains(&signals.end.as_raw_fd()) {
             notify("STOPPING=1");
             fact!("end", "{}", agent.config.peers.name);
+            journal::flush();
             return Ok(());
         }
         let now = Instant::now();
@@ -172,8 +173,17 @@ impl State {
         let applying = applier.is_busy();
         self.changed |= !done.is_empty() || self.applying != applying;
         self.applying = applying;
-        let words = |it: &Applied| format!("{} {} {:?}", it.sequence, it.key, it.status);
-        journal::lines("applied", done.iter().map(words));
+        let (good, bad): (Vec<_>, _) = done.into_iter().partition(|it| it.status == Outcome::Done);
+        let words = |it: Applied| format!("{} {}", it.sequence, it.key);
+        journal::lines("applied", good.into_iter().map(words));
+        // (what fails for one reason is one line)
+        let mut whys: BTreeMap<String, Vec<String>> = BTreeMap::new();
+        bad.into_iter().for_each(|it| whys.entry(it.status.to_string()).or_default().push(it.key));
+        let words = |(why, keys): (String, Vec<String>)| match &keys[..] {
+            [key] => format!("{key}: {why}"),
+            _ => format!("{} and {} more: {why}", keys[0], keys.len() - 1),
+        };
+        journal::lines("failed", whys.into_iter().map(words));
     }
 }
 
@@ -206,6 +216,8 @@ impl Handler for State {
         if self.traces {
             let fact = if self.is_root { "published" } else { "received" };
             journal::lines(fact, [sequence.to_string()]);
+            // (what a trial judges is written before anything follows from it)
+            journal::flush();
         }
         if self.table.strays > strays {
             fact!("stray", "{sequence}");

@@ -1,13 +1,15 @@
 //! Applies settings: a file for each in a folder, and a hook for each change.
 //!
-//! The loop hands changes over and never waits: one thread keeps the files, another runs hooks. Of
-//! changes of one key that wait, the last is applied. A hook is due from before its file changes
-//! until it ended well, which an empty file in `.pending` says; so it is run again after a failure,
-//! at the next round, and after a crash. Nothing in the folder has to be right: what is wrong or
-//! lacking is made anew by the next round.
+//! The loop hands changes over and never waits: one thread keeps the files, others run hooks, so
+//! that one that hangs holds up its own key alone. Of changes of one key that wait, the last is
+//! applied. A hook is due from before its file changes until it ended well, which an empty file in
+//! `.pending` says; so it is run again after a failure, at the next round, and after a crash.
+//! Nothing in the folder has to be right: what is wrong or lacking is made anew by the next round.
 use crate::config::{is_key, Apply};
+use crate::fact;
 use rignolda::settings::{remove, Change, Folder, Meaning, Waiting, SETTINGS};
-use std::collections::BTreeSet;
+use std::collections::{BTreeMap, BTreeSet};
+use std::fmt;
 use std::fs::{self, File, OpenOptions};
 use std::io::{self, Seek, Write};
 use std::os::unix::fs::OpenOptionsExt;
@@ -18,6 +20,12 @@ use std::thread;
 
 /// The folder of the hooks that are due, in the folder of the settings.
 const PENDING: &str = ".pending";
+/// The file that says that a folder is an agent's.
+const MARKER: &str = ".rignolda";
+/// How the name of a hook's input begins, while it has one.
+const INPUT: &str = ".input";
+/// How many hooks run at once at most, each of another key.
+const HOOKS: usize = 4;
 /// A folder that is in the way of a file may be deep. (What is not used takes no memory.)
 const STACK_BYTES: usize = 16 << 20;
 
@@ -38,6 +46,27 @@ pub enum Outcome {
     File(String),
     /// The hook failed, with this status.
     Hook(String),
+}
+
+impl fmt::Display for Outcome {
+    fn fmt(&self, f: &mut fmt::Formatter<'_>) -> fmt::Result {
+        match self {
+            Outcome::Done => f.write_str("done"),
+            Outcome::File(why) => write!(f, "its file: {why}"),
+            Outcome::Hook(why) => write!(f, "its hook: {why}"),
+        }
+    }
+}
+
+/// Why this folder is not taken, where it is not: what no setting names is removed there, and it
+/// has what a setting could name, but nothing that says it is an agent's.
+pub fn refusal(config: &Apply) -> Option<String> {
+    let folder = &config.folder;
+    let is_own = config.take || [MARKER, PENDING].iter().any(|it| folder.join(it).exists());
+    let there = fs::read_dir(folder).ok().filter(|_| !is_own)?;
+    let mut names = there.flatten().filter_map(|entry| entry.file_name().into_string().ok());
+    let (name, folder) = (names.find(|name| is_key(name))?, folder.display());
+    Some(format!("{folder} has `{name}`, and no `{MARKER}`: all of it would go; see `take`"))
 }
 
 /// Wakes the loop when a hook has ended. What was done about files, it asks for.
@@ -68,28 +97,30 @@ struct State {
     /// The key whose file is being written.
     key: Option<String>,
     hooks: Waiting,
-    /// The first sequence number of the change whose hook runs.
-    running: Option<u64>,
+    /// The first sequence numbers of the changes whose hooks run.
+    running: BTreeMap<String, u64>,
     /// Keys whose file or hook has failed, or whose hook was due when the agent started.
     due: BTreeSet<String>,
-    /// Keys whose file or hook failed last.
-    failing: BTreeSet<String>,
+    /// Keys whose file or hook failed last, and how.
+    failing: BTreeMap<String, Outcome>,
     failures: u64,
     done: Vec<Applied>,
     closed: bool,
 }
 
 impl Applier {
-    /// Starts the threads. Where one cannot be started, the other one ends, and nothing was done.
+    /// Starts the threads. Where one cannot be started, the others end, and nothing was done.
     pub fn new(config: &Apply, wake: Wake) -> io::Result<Applier> {
         let folder = config.folder.clone();
+        refusal(config).map_or(Ok(()), |why| Err(io::Error::other(why)))?;
         let due = Folder::new(folder.join(PENDING)).names();
         let due = due.into_iter().filter(|name| is_key(name)).collect();
         let state = Mutex::new(State { config: config.clone(), due, ..State::default() });
         let (files, hooks) = (Condvar::new(), Condvar::new());
         let shared = Arc::new(Shared { folder, state, files, hooks, wake });
         let applier = Applier { shared };
-        for (name, work) in [("files", keep_files as fn(&Shared)), ("hooks", run_hooks)] {
+        let hooks = [("hooks", run_hooks as fn(&Shared)); HOOKS];
+        for (name, work) in hooks.into_iter().chain([("files", keep_files as fn(&Shared))]) {
             let shared = applier.shared.clone();
             let thread = thread::Builder::new().name(name.into()).stack_size(STACK_BYTES);
             thread.spawn(move || work(&shared))?;
@@ -136,7 +167,8 @@ impl Applier {
     pub fn applied(&self, sequence: u64) -> u64 {
         let state = self.shared.lock();
         let waiting = state.files.first().into_iter().chain(state.hooks.first());
-        let oldest = waiting.chain(state.writing).chain(state.running).min();
+        let running = state.running.values().copied();
+        let oldest = waiting.chain(state.writing).chain(running).min();
         oldest.map_or(sequence, |oldest| sequence.min(oldest.saturating_sub(1)))
     }
 
@@ -155,7 +187,7 @@ impl Drop for Applier {
     fn drop(&mut self) {
         self.shared.lock().closed = true;
         self.shared.files.notify_one();
-        self.shared.hooks.notify_one();
+        self.shared.hooks.notify_all();
     }
 }
 
@@ -177,11 +209,14 @@ impl Shared {
     }
 
     fn report(&self, state: &mut State, key: &str, sequence: u64, status: Outcome) {
-        match status {
+        let before = match &status {
             Outcome::Done => state.failing.remove(key),
-            _ => state.failing.insert(key.into()),
+            how => state.failing.insert(key.into(), how.clone()),
         };
-        state.done.push(Applied { key: key.into(), sequence, status });
+        // (a failure is said once, and again when it is another one)
+        if before.as_ref() != Some(&status) {
+            state.done.push(Applied { key: key.into(), sequence, status });
+        }
     }
 }
 
@@ -194,10 +229,13 @@ fn keep_files(shared: &Shared) {
         let looks = std::mem::take(&mut state.looks) || !files.is_whole();
         Some((files, due, looks, state.config.clone()))
     };
-    let mut folder = Folder::new(shared.folder.clone());
+    let (mut folder, mut others) = (Folder::new(shared.folder.clone()), Vec::new());
     while let Some((mut files, mut due, looks, config)) = shared.next(&shared.files, take) {
+        if looks {
+            let _ = folder.mend().and_then(|()| mark(&shared.folder));
+        }
         if files.is_whole() {
-            // (another folder is no setting, and may be somebody's)
+            // (a folder in it is no setting, and may be somebody's)
             let there = if looks { folder.names() } else { folder.keys() };
             files.unset_others(there.into_iter().chain(due.iter().cloned()));
         }
@@ -209,10 +247,35 @@ fn keep_files(shared: &Shared) {
                 keep_file(shared, &mut folder, &config, &key, change, differs);
             }
         }
+        if looks {
+            say_others(&folder, &mut others);
+        }
         let mut state = shared.lock();
         state.due.append(&mut due);
         state.writing = None;
     }
+}
+
+/// Says in the folder that it is an agent's.
+fn mark(folder: &Path) -> io::Result<()> {
+    let marker = folder.join(MARKER);
+    if marker.exists() {
+        Ok(())
+    } else {
+        File::create(marker).map(drop)
+    }
+}
+
+/// Names once what is in the folder and is nothing of the agent's, and not removed either.
+fn say_others(folder: &Folder, before: &mut Vec<String>) {
+    let mut others = folder.others();
+    others.retain(|name| ![MARKER, PENDING].contains(&&**name) && !name.starts_with(INPUT));
+    others.sort();
+    if others != *before && !others.is_empty() {
+        let (count, first) = (others.len(), others[..others.len().min(3)].join(" "));
+        fact!("settings", "{count} in the folder are none of settings, as {first}");
+    }
+    *before = others;
 }
 
 /// Makes one file what it should be, where it differs, and lets its hook wait.
@@ -263,17 +326,19 @@ fn announce(shared: &Shared, key: &str) -> io::Result<()> {
     Ok(())
 }
 
-/// The thread that runs hooks, one at a time, the oldest change first.
+/// A thread that runs hooks, the oldest change first whose key has none that runs.
 fn run_hooks(shared: &Shared) {
     let take = |state: &mut State| {
-        let (key, change) = state.hooks.pop()?;
-        state.running = Some(change.first);
+        let (key, change) = state.hooks.pop_of(|key| !state.running.contains_key(key))?;
+        state.running.insert(key.clone(), change.first);
         Some((key, change, state.config.clone()))
     };
     while let Some((key, change, config)) = shared.next(&shared.hooks, take) {
         let status = run_hook(&shared.folder, &config, &key, &change);
         let mut state = shared.lock();
-        state.running = None;
+        state.running.remove(&key);
+        // (a change of the same key may have waited for this)
+        shared.hooks.notify_one();
         let outcome = match status {
             Ok(()) => {
                 let again = state.hooks.has(&key) || state.key.as_ref() == Some(&key);
@@ -299,7 +364,9 @@ fn run_hook(folder: &Path, config: &Apply, key: &str, change: &Change) -> Result
     // (a file and not a pipe, since a hook need not read it)
     let input = match change.value.as_deref() {
         None => Stdio::null(),
-        Some(value) => Stdio::from(input(folder, value).map_err(|e| format!("its input: {e}"))?),
+        Some(value) => {
+            Stdio::from(input(folder, key, value).map_err(|e| format!("its input: {e}"))?)
+        }
     };
     let status = Command::new("timeout")
         .arg("--kill-after=5")
@@ -307,6 +374,10 @@ fn run_hook(folder: &Path, config: &Apply, key: &str, change: &Change) -> Result
         .arg(hook)
         .args([if change.value.is_some() { "set" } else { "unset" }, key])
         .env("RIGNOLDA_SEQUENCE", change.last.to_string())
+        // (what systemd gave to the agent alone)
+        .env_remove("NOTIFY_SOCKET")
+        .env_remove("WATCHDOG_USEC")
+        .env_remove("CREDENTIALS_DIRECTORY")
         .stdin(input)
         .status();
     match status {
@@ -318,8 +389,8 @@ fn run_hook(folder: &Path, config: &Apply, key: &str, change: &Change) -> Result
 }
 
 /// A file without a name that has these bytes.
-fn input(folder: &Path, value: &[u8]) -> io::Result<File> {
-    let path = folder.join(".input");
+fn input(folder: &Path, key: &str, value: &[u8]) -> io::Result<File> {
+    let path = folder.join(format!("{INPUT}{key}"));
     remove(&path)?;
     let mut options = OpenOptions::new();
     let mut file = options.read(true).write(true).create_new(true).mode(0o600).open(&path)?;

@@ -58,6 +58,8 @@ pub struct Tls {
 #[derive(Clone, Debug, Default, PartialEq)]
 pub struct Apply {
     pub folder: PathBuf,
+    /// Whether the folder is taken whatever it has.
+    pub take: bool,
     /// The permissions of a setting's file.
     pub mode: u32,
     pub hook: Option<PathBuf>,
@@ -160,7 +162,8 @@ impl Config {
 const KEYS: &str = "name listen children parents insecure control metrics \
     root.settings root.round root.harmless link.ack_timeout link.backlog link.evict \
     store.user store.password store.database store.poll \
-    tls.certificate tls.key tls.authority apply.folder apply.mode apply.hook apply.hook_timeout";
+    tls.certificate tls.key tls.authority apply.folder apply.take apply.mode apply.hook \
+    apply.hook_timeout";
 
 /// The checks of one text, and the faults that they found.
 struct Check<'a> {
@@ -311,8 +314,10 @@ impl<'a> Check<'a> {
 
     fn config(&mut self) -> Config {
         self.expect("name", self.get("name"), "it is missing");
-        let is_wrong = self.get("insecure").is_some_and(|value| !value.is_bool());
-        self.refuse("insecure", is_wrong, "true or false is expected");
+        for key in ["insecure", "apply.take"] {
+            let is_wrong = self.get(key).is_some_and(|value| !value.is_bool());
+            self.refuse(key, is_wrong, "true or false is expected");
+        }
         let name = self.text("name").map_or(String::new(), |name| self.name("name", name));
         let children = self.children(&name);
         let parents = self.texts("parents", ADDRESSES);
@@ -340,6 +345,7 @@ impl<'a> Check<'a> {
             }),
             apply: self.has("apply").then(|| Apply {
                 folder: self.needed("apply.folder"),
+                take: self.get("apply.take").and_then(Value::as_bool) == Some(true),
                 mode: self.mode(),
                 hook: self.path("apply.hook"),
                 hook_timeout: self.time("apply.hook_timeout", 30_000, 100..=3_600_000),

@@ -1,20 +1,109 @@
 //! One line for each fact, on the standard error, where systemd's journal takes it.
+//!
+//! Nobody waits for whoever reads them: a thread writes what waits here, and what does not fit is
+//! counted.
+use std::collections::VecDeque;
 use std::io::Write;
+use std::os::unix::fs::MetadataExt;
+use std::sync::{Condvar, Mutex, MutexGuard, OnceLock, PoisonError};
+use std::time::Duration;
 
-/// With more bytes than this, lines are written: a pipe takes twice as many whole.
-const TOGETHER: usize = 2_048;
+/// How many bytes are written at once at most: a pipe takes so many whole.
+const TOGETHER: usize = 4_096;
+/// The longest words of a line, in characters. (One has at most 4 bytes.)
+const WORDS: usize = 1_000;
+/// How many bytes wait at most.
+const WAITING: usize = 256 << 10;
+/// How long the end of the process waits for whoever reads them.
+const PATIENCE: Duration = Duration::from_secs(1);
+
+static QUEUE: Mutex<Queue> =
+    Mutex::new(Queue { lines: VecDeque::new(), bytes: 0, left_out: 0, is_writing: false });
+static CHANGED: Condvar = Condvar::new();
+
+struct Queue {
+    lines: VecDeque<String>,
+    bytes: usize,
+    left_out: u64,
+    is_writing: bool,
+}
 
 /// Writes lines: what happened, and the words of each. What is no plain text is escaped. Each is
 /// written whole, so that a process that is killed leaves no part of a line.
 pub fn lines(fact: &str, all: impl IntoIterator<Item = String>) {
-    let (mut text, mut all) = (String::new(), all.into_iter().peekable());
-    while let Some(words) = all.next() {
-        let words: String = words.chars().flat_map(char::escape_debug).collect();
-        text += &format!("{fact} {words}\n");
-        if text.len() > TOGETHER || all.peek().is_none() {
-            let _ = std::io::stderr().lock().write_all(text.as_bytes());
-            text.clear();
+    static THREAD: OnceLock<bool> = OnceLock::new();
+    let start = || std::thread::Builder::new().name("journal".into()).spawn(write).is_ok();
+    THREAD.get_or_init(start);
+    let mut queue = lock();
+    for words in all {
+        let front = priority(fact, &words);
+        let words: String = words.chars().flat_map(char::escape_debug).take(WORDS).collect();
+        let line = format!("{front}{fact} {words}\n");
+        if queue.bytes + line.len() > WAITING {
+            queue.left_out += 1;
+        } else {
+            queue.bytes += line.len();
+            queue.lines.push_back(line);
         }
+    }
+    CHANGED.notify_all();
+}
+
+/// Waits until all lines are written, but not for long: to be called at the end.
+pub fn flush() {
+    let waits = |queue: &mut Queue| queue.is_writing || !queue.lines.is_empty();
+    drop(CHANGED.wait_timeout_while(lock(), PATIENCE, waits));
+}
+
+fn lock() -> MutexGuard<'static, Queue> {
+    QUEUE.lock().unwrap_or_else(PoisonError::into_inner)
+}
+
+/// The thread that writes.
+fn write() {
+    let mut queue = lock();
+    loop {
+        if queue.left_out > 0 && queue.bytes < WAITING / 2 {
+            let front = priority("journal", "");
+            let count = std::mem::take(&mut queue.left_out);
+            let line = format!("{front}journal {count} lines are left out: they were not read\n");
+            queue.bytes += line.len();
+            queue.lines.push_back(line);
+        }
+        let mut text = String::new();
+        while let Some(line) = queue.lines.front().filter(|it| text.len() + it.len() <= TOGETHER) {
+            text += line;
+            queue.lines.pop_front();
+        }
+        queue.is_writing = !text.is_empty();
+        if text.is_empty() {
+            CHANGED.notify_all();
+            queue = CHANGED.wait(queue).unwrap_or_else(PoisonError::into_inner);
+            continue;
+        }
+        drop(queue);
+        let _ = std::io::stderr().lock().write_all(text.as_bytes());
+        queue = lock();
+        queue.bytes -= text.len();
+    }
+}
+
+/// What systemd takes for a line's priority, where it is systemd that reads them.
+fn priority(fact: &str, words: &str) -> &'static str {
+    static IS_READ: OnceLock<bool> = OnceLock::new();
+    let is_read = || {
+        let stderr = std::fs::metadata("/proc/self/fd/2").ok()?;
+        let stream = std::env::var("JOURNAL_STREAM").ok()?;
+        Some(stream == format!("{}:{}", stderr.dev(), stderr.ino()))
+    };
+    match fact {
+        _ if !IS_READ.get_or_init(|| is_read() == Some(true)) => "",
+        "failed" | "settings" => "<3>",
+        "reload" if words.starts_with("nothing changes") => "<3>",
+        "child" | "closed" | "evicted" | "garbage" | "journal" | "left-behind" | "parent"
+        | "refused" | "stray" => "<4>",
+        "applied" | "published" | "received" => "<6>",
+        _ => "<5>",
     }
 }
 

@@ -32,6 +32,7 @@ fn main() -> ExitCode {
     match done {
         Ok(()) => ExitCode::SUCCESS,
         Err(why) => {
+            rignoldad::journal::flush();
             eprintln!("{why}");
             ExitCode::FAILURE
         }

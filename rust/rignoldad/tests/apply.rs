@@ -1,6 +1,6 @@
 //! The files of settings and their hooks.
 use rignolda::settings::Meaning;
-use rignoldad::apply::{Applied, Applier, Outcome};
+use rignoldad::apply::{refusal, Applied, Applier, Outcome};
 use rignoldad::config::Apply;
 use std::collections::BTreeMap;
 use std::fs::{self, Permissions};
@@ -29,6 +29,7 @@ impl Place {
     fn config(&self) -> Apply {
         Apply {
             folder: self.folder(),
+            take: false,
             mode: 0o640,
             hook: None,
             hook_timeout: Duration::from_secs(600),
@@ -243,8 +244,11 @@ fn a_table_between_rounds_looks_at_no_file_that_is_as_it_was_put() {
     between(&mut applier, 4);
     applied(&mut applier, 4);
     assert_eq!(place.files(), map([("a", "1"), ("b", "4")]));
-    let calls = ["set a 1 1", "set b 2 1", "set c 3 1", "set b 4 2", "unset c  2"];
-    assert_eq!(place.calls()[..5], calls);
+    // (hooks of several keys run at once)
+    let (mut first, mut then) = (place.calls()[..3].to_vec(), place.calls()[3..5].to_vec());
+    (first.sort(), then.sort());
+    assert_eq!(first, ["set a 1 1", "set b 2 1", "set c 3 1"]);
+    assert_eq!(then, ["set b 4 2", "unset c  2"]);
     // (of one that began anew every file is looked at that it has not put)
     drop(applier);
     let mut applier = start(&place.config());
@@ -289,16 +293,125 @@ fn of_changes_that_wait_the_hook_gets_the_last() {
         start(&place.with_hook(&format!("{LOG}\nwhile [ ! -e go ]; do sleep 0.01; done")));
     applier.set("a", b"1", 1);
     until(|| place.calls().len() == 1);
-    applier.set("b", b"0", 2);
-    for sequence in 3..=50 {
-        applier.set("b", sequence.to_string().as_bytes(), sequence);
+    for sequence in 2..=50 {
+        applier.set("a", sequence.to_string().as_bytes(), sequence);
     }
-    // (the files are there already, and nothing is applied that an older change waits before)
-    until(|| place.files() == map([("a", "1"), ("b", "50")]));
+    // (the file is there already, and nothing is applied that an older change waits before)
+    until(|| place.files() == map([("a", "50")]));
     assert_eq!(applier.applied(50), 0);
     fs::write(place.0.join("go"), "").unwrap();
     applied(&mut applier, 50);
-    assert_eq!(place.calls(), ["set a 1 1", "set b 50 50"]);
+    assert_eq!(place.calls(), ["set a 1 1", "set a 50 50"]);
+}
+
+#[test]
+fn a_hook_that_hangs_holds_up_its_own_key_alone() {
+    let place = Place::new();
+    let hangs = format!("{LOG}\n[ $2 != a ] || while [ ! -e go ]; do sleep 0.01; done");
+    let mut applier = start(&place.with_hook(&hangs));
+    applier.set("a", b"1", 1);
+    until(|| place.calls().len() == 1);
+    applier.set("a", b"2", 2);
+    for sequence in 3..=9 {
+        applier.set(&format!("b{sequence}"), b"", sequence);
+    }
+    until(|| place.calls().len() == 8);
+    // (of one key they run in their order, one after the other)
+    assert!(!place.calls().contains(&"set a 2 2".to_string()));
+    assert_eq!(applier.applied(9), 0);
+    fs::write(place.0.join("go"), "").unwrap();
+    applied(&mut applier, 9);
+    assert_eq!(place.calls().last().unwrap(), "set a 2 2");
+}
+
+#[test]
+fn a_hook_gets_nothing_that_is_the_agents_alone() {
+    let place = Place::new();
+    for name in ["NOTIFY_SOCKET", "WATCHDOG_USEC", "CREDENTIALS_DIRECTORY"] {
+        std::env::set_var(name, "/nowhere");
+    }
+    let mut applier = start(&place.with_hook("env >calls"));
+    applier.set("a", b"1", 1);
+    applied(&mut applier, 1);
+    let calls = place.calls();
+    let is_there = |name: &str| calls.iter().any(|line| line.starts_with(name));
+    assert!(is_there("RIGNOLDA_SEQUENCE=1"), "{calls:?}");
+    assert!(!is_there("NOTIFY") && !is_there("WATCHDOG") && !is_there("CREDENTIALS"), "{calls:?}");
+}
+
+/// What no setting names is removed there.
+#[test]
+fn a_folder_that_may_be_somebody_elses_is_not_taken() {
+    let place = Place::new();
+    let config = place.config();
+    let refused = |config: &Apply| Applier::new(config, Arc::new(|| ())).err();
+    assert!(refusal(&config).is_none(), "it is not there");
+    fs::create_dir(place.folder()).unwrap();
+    for name in [".gitkeep", "lost+found"] {
+        fs::write(place.folder().join(name), "").unwrap();
+    }
+    assert!(refusal(&config).is_none(), "no setting has such a name");
+    for is_folder in [false, true] {
+        let path = place.folder().join("app.conf");
+        if is_folder {
+            fs::create_dir(&path).unwrap();
+        } else {
+            fs::write(&path, "mine").unwrap();
+        }
+        let why = refused(&config).expect("it may be somebody else's").to_string();
+        assert!(why.contains("`app.conf`") && why.contains("settings"), "{why}");
+        // (a marker, what 0.5.0 left there, or consent)
+        for marker in [".rignolda", ".pending"] {
+            fs::write(place.folder().join(marker), "").unwrap();
+            assert!(refusal(&config).is_none());
+            fs::remove_file(place.folder().join(marker)).unwrap();
+        }
+        assert!(refusal(&Apply { take: true, ..config.clone() }).is_none());
+        assert!(path.exists());
+        let _ = fs::remove_dir(&path).or_else(|_| fs::remove_file(&path));
+    }
+    // (one that was taken is known again, though its marker was lost while the agent ran)
+    let mut applier = start(&config);
+    applier.table([("a", b"1")], 1);
+    applied(&mut applier, 1);
+    fs::remove_file(place.folder().join(".rignolda")).unwrap();
+    applier.table([("a", b"1")], 2);
+    applied(&mut applier, 2);
+    drop(applier);
+    assert!(refused(&config).is_none());
+}
+
+#[test]
+fn what_is_wrong_with_the_folder_itself_is_mended() {
+    let place = Place::new();
+    let mut applier = start(&place.config());
+    applier.table([("a", b"1")], 1);
+    applied(&mut applier, 1);
+    fs::create_dir(place.0.join("elsewhere")).unwrap();
+    fs::write(place.0.join("elsewhere/file"), "mine").unwrap();
+    symlink(place.0.join("elsewhere"), place.folder().join("linked")).unwrap();
+    fs::create_dir(place.folder().join("inner")).unwrap();
+    fs::set_permissions(place.folder(), Permissions::from_mode(0o000)).unwrap();
+    applier.table([("a", b"1")], 2);
+    applied(&mut applier, 2);
+    let mode = fs::metadata(place.folder()).unwrap().permissions().mode();
+    assert_eq!(mode & 0o777, 0o700);
+    assert!(fs::symlink_metadata(place.folder().join("linked")).is_err());
+    assert!(place.0.join("elsewhere/file").exists() && place.folder().join("inner").is_dir());
+}
+
+#[test]
+fn a_failure_is_said_once_and_again_when_it_is_another_one() {
+    let place = Place::new();
+    let mut applier = start(&place.with_hook("exit $(cat code)"));
+    let mut said = Vec::new();
+    for (sequence, code) in (1..).zip(["1", "1", "2", "2", "0", "0", "1"]) {
+        fs::write(place.0.join("code"), code).unwrap();
+        applier.table([("a", b"1")], sequence);
+        said.extend(applied(&mut applier, sequence).into_iter().map(|it| it.2.to_string()));
+    }
+    let failed = |code| format!("its hook: exit status: {code}");
+    assert_eq!(said, [failed(1), failed(2), "done".into()]);
 }
 
 #[test]
@@ -388,5 +501,7 @@ fn a_table_that_fills_a_gap_is_applied_as_a_whole() {
     until(|| applier.applied(10) > 0);
     assert!(place.calls().len() >= 2, "{:?}", place.calls());
     until(|| applier.applied(10) == 10);
-    assert_eq!(place.calls(), ["a", "b", "c"]);
+    let mut calls = place.calls();
+    calls.sort();
+    assert_eq!(calls, ["a", "b", "c"]);
 }

@@ -52,13 +52,37 @@ impl Folder {
         }
     }
 
-    /// The names of all that is there and is no folder.
+    /// The names of all that is there and is no folder. A link to one is none.
     pub fn names(&self) -> Vec<String> {
+        self.there(|is_folder, _| !is_folder)
+    }
+
+    /// The names of what is there and is nothing of settings, whether whole or while it is written:
+    /// folders, and names that are no keys. What is no text is shown as well as it may be.
+    pub fn others(&self) -> Vec<String> {
+        self.there(|is_folder, name| name != NEW && (is_folder || !is_key(name)))
+    }
+
+    fn there(&self, is: impl Fn(bool, &str) -> bool) -> Vec<String> {
         let entries = fs::read_dir(&self.path).into_iter().flatten().flatten();
-        let files = entries.filter(|entry| !entry.path().is_dir());
-        files
-            .filter_map(|entry| entry.file_name().into_string().ok())
-            .collect()
+        let is_folder = |entry: &fs::DirEntry| entry.file_type().map_or(false, |it| it.is_dir());
+        let named = entries.map(|it| (is_folder(&it), it.file_name().to_string_lossy().into()));
+        let named = named.filter(|(is_folder, name): &(bool, String)| is(*is_folder, name));
+        named.map(|(_, name)| name).collect()
+    }
+
+    /// Makes the folder one that its owner can use, where it is there or can be made.
+    ///
+    /// # Errors
+    ///
+    /// Where the system refuses it.
+    pub fn mend(&self) -> io::Result<()> {
+        fs::create_dir_all(&self.path)?;
+        let mode = fs::metadata(&self.path)?.permissions().mode();
+        match mode & 0o700 {
+            0o700 => Ok(()),
+            _ => fs::set_permissions(&self.path, Permissions::from_mode(mode | 0o700)),
+        }
     }
 
     /// Whether a setting's file is to be put: it is no plain file with this value and mode, or,

@@ -137,7 +137,13 @@ impl Waiting {
 
     /// Takes out the change that has waited longest.
     pub fn pop(&mut self) -> Option<(String, Change)> {
-        let oldest = self.changes.iter().min_by_key(|(_, change)| change.first);
+        self.pop_of(|_| true)
+    }
+
+    /// Takes out the one that has waited longest of those whose keys may go.
+    pub fn pop_of(&mut self, may_go: impl Fn(&str) -> bool) -> Option<(String, Change)> {
+        let changes = self.changes.iter().filter(|(key, _)| may_go(key));
+        let oldest = changes.min_by_key(|(_, change)| change.first);
         let key = oldest?.0.clone();
         self.changes.remove_entry(&key)
     }
