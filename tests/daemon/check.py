@@ -985,8 +985,9 @@ def counts_are_there_for_prometheus():
 def check_names_the_line_and_the_key():
     with Tree({}) as tree:
         tree.root.configure()
-        check = lambda: subprocess.run([tree.bin / "rignoldad", "--check", tree.root.file],
-                                       capture_output=True, text=True, timeout=60)
+        # (another user may not enter the folder of this test)
+        words = [tree.bin / "rignoldad", "--check", "--user", "root", tree.root.file]
+        check = lambda: subprocess.run(words, capture_output=True, text=True, timeout=60)
         sure(check().returncode == 0, check().stderr)
         lines = tree.root.file.read_text().splitlines()
         at = next(n for n, line in enumerate(lines) if line.startswith("round"))
@@ -1015,7 +1016,11 @@ def it_is_installed_packed_and_removed():
         # (else systemd gives it up after five starts that failed soon)
         sure("StartLimitIntervalSec=0" in unit.partition("[Service]")[0], unit)
         example = house / "usr/local/share/doc/rignoldad/examples/agent.toml"
-        subprocess.run([house / "usr/local/bin/rignoldad", "--check", example], check=True)
+        done = subprocess.run([house / "usr/local/bin/rignoldad", "--check", example],
+                              capture_output=True, text=True, timeout=60)
+        # (it names certificates, which are not there yet)
+        faults = done.stderr.splitlines()
+        sure(faults and all(it.endswith("is not there") for it in faults), done.stderr)
         make("uninstall", f"DESTDIR={house}")
         sure(not [path for path in house.rglob("*") if path.is_file()], "something is left")
         if not shutil.which("dpkg-deb"):

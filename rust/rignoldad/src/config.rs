@@ -9,7 +9,7 @@ use std::collections::BTreeMap;
 use std::fmt;
 use std::fs::File;
 use std::io::{self, Read};
-use std::net::SocketAddr;
+use std::net::{IpAddr, SocketAddr};
 use std::ops::RangeInclusive;
 use std::path::{Path, PathBuf};
 use std::time::Duration;
@@ -19,6 +19,8 @@ use toml::value::{Table, Value};
 const FILE_BYTES: usize = 1 << 20;
 const CHILDREN: usize = 10_000;
 const ADDRESSES: usize = 64;
+/// How much of a text is shown.
+const TEXT_CHARS: usize = 500;
 
 /// What an agent is set up with.
 #[derive(Clone, Debug, PartialEq)]
@@ -73,34 +75,48 @@ pub struct Fault {
     pub line: usize,
     pub key: String,
     pub text: String,
+    /// Whether all works now, and may not later, or not all that one may want.
+    pub is_warning: bool,
 }
 
 impl Fault {
     /// One that is of no key.
     fn of(line: usize, text: impl Into<String>) -> Fault {
-        Fault { line, key: String::new(), text: text.into() }
+        Fault { line, key: String::new(), text: text.into(), is_warning: false }
     }
 }
 
 impl fmt::Display for Fault {
     fn fmt(&self, f: &mut fmt::Formatter<'_>) -> fmt::Result {
+        if self.is_warning {
+            f.write_str("warning: ")?;
+        }
         if self.line > 0 {
             write!(f, "line {}: ", self.line)?;
         }
         if !self.key.is_empty() {
-            write!(f, "{}: ", self.key)?;
+            write!(f, "{}: ", plain(&self.key))?;
         }
-        f.write_str(&self.text)
+        f.write_str(&plain(&self.text))
     }
+}
+
+/// A text for a person, of which nothing acts on a terminal, and not too long for a line.
+pub fn plain(text: &str) -> String {
+    let mut plain = String::new();
+    for c in text.chars().take(TEXT_CHARS) {
+        match c {
+            '"' | '\'' | '\\' => plain.push(c),
+            _ => plain.extend(c.escape_debug()),
+        }
+    }
+    plain
 }
 
 impl Config {
     /// Reads a file, and checks it.
     pub fn read(path: &Path) -> Result<Config, Vec<Fault>> {
-        let text = read_file(path, FILE_BYTES, "the file")
-            .and_then(|bytes| io::read_to_string(&bytes[..]))
-            .map_err(|e| vec![Fault::of(0, e.to_string())])?;
-        Config::parse(&text)
+        Config::parse(&read_text(path)?)
     }
 
     /// Reads a text, and checks it: the configuration, or every fault that was found.
@@ -173,23 +189,9 @@ struct Check<'a> {
 }
 
 impl<'a> Check<'a> {
-    /// Reports a key, at its line where it is written as is usual; and what is lacking in a table
-    /// where the table begins.
     fn fault(&mut self, key: &str, text: impl Into<String>) {
-        let at = self.line_of(key).or_else(|| self.line_of(key.split_once('.')?.0));
-        let line = at.map_or(0, |at| at + 1);
-        self.faults.push(Fault { line, key: key.into(), text: text.into() });
-    }
-
-    fn line_of(&self, key: &str) -> Option<usize> {
-        let mut table = String::new();
-        self.text.lines().map(str::trim).position(|line| {
-            if let Some((name, _)) = line.strip_prefix('[').and_then(|rest| rest.split_once(']')) {
-                table = format!("{}.", name.trim());
-                return name.trim() == key;
-            }
-            line.split_once('=').is_some_and(|(word, _)| format!("{table}{}", word.trim()) == key)
-        })
+        let fault = Fault::of(line_of(self.text, key), text);
+        self.faults.push(Fault { key: key.into(), ..fault });
     }
 
     /// Reports a key where something is wrong with it.
@@ -370,6 +372,16 @@ impl<'a> Check<'a> {
         self.refuse("children", child_comes && nowhere, text);
         let text = "a parent without an address connects to one of `listen`";
         self.refuse("parents", parent_comes && nowhere, text);
+        let metrics = config.metrics.map(|it| ("metrics", Address::Tcp(it.to_string())));
+        let control = config.control.as_ref().map(|it| ("control", Address::Unix(it.clone())));
+        let places = config.listen.iter().map(|it| ("listen", it.clone()));
+        let places: Vec<_> = places.chain(metrics).chain(control).collect();
+        for (at, (key, one)) in places.iter().enumerate() {
+            let clashes = |it: &Address| Some(true) == leads(it, one).max(leads(one, it));
+            if let Some((_, other)) = places[..at].iter().find(|(_, it)| clashes(it)) {
+                self.fault(key, format!("`{one}` clashes with `{other}`"));
+            }
+        }
         let nobody = !has_children && !parent_comes;
         self.refuse("listen", nobody && !nowhere, "nobody may connect: there are no `children`");
         for parent in peers.parents.iter().filter_map(|parent| parent.name.as_deref()) {
@@ -463,6 +475,49 @@ pub fn milliseconds(text: &str) -> Option<u64> {
         _ => return None,
     };
     text[..end].parse::<u64>().ok()?.checked_mul(unit)
+}
+
+/// The line of a key, from 1, where it is written as is usual; of what is lacking in a table the
+/// one where the table begins. 0 where there is none.
+pub fn line_of(text: &str, key: &str) -> usize {
+    let find = |key: &str| {
+        let mut table = String::new();
+        text.lines().map(str::trim).position(|line| {
+            if let Some((name, _)) = line.strip_prefix('[').and_then(|rest| rest.split_once(']')) {
+                table = format!("{}.", name.trim());
+                return name.trim() == key;
+            }
+            line.split_once('=').is_some_and(|(word, _)| format!("{table}{}", word.trim()) == key)
+        })
+    };
+    find(key).or_else(|| find(key.split_once('.')?.0)).map_or(0, |at| at + 1)
+}
+
+/// Whether who connects to `to` comes to who listens at `at`. Nothing where a host's name hides it.
+pub fn leads(to: &Address, at: &Address) -> Option<bool> {
+    let (Address::Tcp(one), Address::Tcp(all)) = (to, at) else { return Some(to == at) };
+    let split = |text: &str| {
+        let (host, port) = text.rsplit_once(':').unwrap_or_default();
+        (host.trim_matches(['[', ']']).parse::<IpAddr>().ok(), port.parse::<u16>().ok())
+    };
+    let ((one_ip, one_port), (all_ip, all_port)) = (split(one), split(all));
+    match (one_ip, all_ip) {
+        _ if one == all || one_port != all_port => Some(one == all),
+        (None, Some(all)) if all.is_unspecified() => Some(true),
+        // (who listens at all of IPv6 listens at all of IPv4 too)
+        (Some(one), Some(all)) => Some(
+            one.to_canonical() == all.to_canonical()
+                || all.is_unspecified() && (all.is_ipv6() || one.is_ipv4()),
+        ),
+        _ => None,
+    }
+}
+
+/// The text of a configuration.
+pub fn read_text(path: &Path) -> Result<String, Vec<Fault>> {
+    read_file(path, FILE_BYTES, "the file")
+        .and_then(|bytes| io::read_to_string(&bytes[..]))
+        .map_err(|e| vec![Fault::of(0, e.to_string())])
 }
 
 /// The bytes of a file, of which there are at most `most`.

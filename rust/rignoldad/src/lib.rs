@@ -7,6 +7,7 @@
 pub mod agent;
 pub mod apply;
 pub mod ask;
+pub mod check;
 pub mod config;
 pub mod control;
 pub mod journal;

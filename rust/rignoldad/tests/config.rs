@@ -175,6 +175,34 @@ fn says_each_fault_with_its_line_and_key() {
             "to be read",
         ),
     ];
+    let clash = |two: [&str; 2], line, key, text| {
+        let it = format!(
+            "name = \"a\"\nchildren = \"any\"\ninsecure = true\n{}\n{}\n[root]\n\
+                          settings = \"/s\"",
+            two[0], two[1]
+        );
+        (it, line, key, text)
+    };
+    let clashes = [
+        clash(["listen = [\"[::1]:1\", \"[::1]:1\"]", ""], 4, "listen", "`[::1]:1`"),
+        clash(["listen = [\"0.0.0.0:1\", \"127.0.0.1:1\"]", ""], 4, "listen", "`0.0.0.0:1`"),
+        clash(["listen = [\"127.0.0.1:1\", \"0.0.0.0:1\"]", ""], 4, "listen", "`127.0.0.1:1`"),
+        clash(["listen = [\"[::]:1\", \"0.0.0.0:1\"]", ""], 4, "listen", "`[::]:1`"),
+        clash(["listen = \"hub:1\"", "metrics = \"0.0.0.0:1\""], 5, "metrics", "`hub:1`"),
+        clash(["listen = \"unix:/c\"", "control = \"/c\""], 5, "control", "clashes"),
+    ];
+    for (text, line, key, said) in &clashes {
+        let faults = Config::parse(text).expect_err(text);
+        assert_eq!((faults.len(), faults[0].line, &*faults[0].key), (1, *line, *key), "{text}");
+        assert!(faults[0].text.contains(said), "{}", faults[0].text);
+    }
+    for two in [
+        ["listen = [\"127.0.0.1:1\", \"127.0.0.2:1\"]", ""],
+        ["listen = [\"0.0.0.0:1\", \"[::1]:1\"]", ""],
+        ["listen = \"0.0.0.0:1\"", "metrics = \"0.0.0.0:2\""],
+    ] {
+        assert!(Config::parse(&clash(two, 0, "", "").0).is_ok(), "{two:?}");
+    }
     let own = "of the agent's own";
     let folders = [
         ("name = \"a\"\nparents = [\"127.0.0.1:1\"]\n[apply]\nfolder = \"/etc\"", 4),

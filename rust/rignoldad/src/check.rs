@@ -1,0 +1,287 @@
+//! What `--check` finds beyond the text of a configuration: what its user cannot use on this
+//! machine, and, of the files of a whole tree, which agents do not fit.
+use crate::apply::refusal;
+use crate::config::{leads, line_of, read_file, read_text, Address, Children, Config, Fault, Tls};
+use crate::line::Maker;
+use openssl::asn1::Asn1Time;
+use openssl::error::ErrorStack;
+use openssl::pkey::PKey;
+use openssl::stack::Stack;
+use openssl::x509::{store::X509StoreBuilder, X509StoreContext, X509};
+use std::collections::BTreeMap;
+use std::fs;
+use std::io::ErrorKind;
+use std::os::unix::fs::FileTypeExt;
+use std::path::{Path, PathBuf};
+use std::process::Command;
+use std::time::Duration;
+
+/// From how many days before its end on a certificate is warned of.
+const DAYS: u32 = 30;
+const PEM_BYTES: usize = 1 << 20;
+/// How many agents of a way are named.
+const WAY: usize = 8;
+/// What `test` answers, and what is said where it says no.
+const TESTS: [(&str, &str); 4] = [
+    ("-r", "cannot be read"),
+    ("-w", "cannot be written"),
+    ("-x", "cannot be run or entered"),
+    ("-f", "is no file"),
+];
+
+/// Checks the files: one with all that it names here, several as the agents of one tree. Each fault
+/// comes with the place of its file. The words run a command as the user who counts.
+pub fn check(paths: &[PathBuf], words: &[String]) -> Vec<(usize, Fault)> {
+    let mut it = Check { paths, words, texts: Vec::new(), faults: Vec::new() };
+    let mut all = Vec::new();
+    for (at, path) in paths.iter().enumerate() {
+        let text = read_text(path);
+        match text.as_ref().map_err(Vec::clone).and_then(|text| Config::parse(text)) {
+            Ok(config) => all.push(config),
+            Err(faults) => it.faults.extend(faults.into_iter().map(|fault| (at, fault))),
+        }
+        it.texts.push(text.unwrap_or_default());
+    }
+    match &all[..] {
+        [config] if paths.len() == 1 => it.machine(config),
+        // (what does not fit may be in a file that cannot be read)
+        all if all.len() == paths.len() => it.tree(all),
+        _ => (),
+    }
+    it.faults.sort_by_key(|(at, fault)| (*at, fault.line));
+    it.faults
+}
+
+struct Check<'a> {
+    paths: &'a [PathBuf],
+    words: &'a [String],
+    texts: Vec<String>,
+    faults: Vec<(usize, Fault)>,
+}
+
+impl Check<'_> {
+    fn say(&mut self, at: usize, is_warning: bool, key: &str, text: impl Into<String>) {
+        let line = line_of(&self.texts[at], key);
+        self.faults.push((at, Fault { line, key: key.into(), text: text.into(), is_warning }));
+    }
+
+    // ---- One agent, on its machine
+
+    fn machine(&mut self, config: &Config) {
+        config.tls.iter().for_each(|tls| self.tls(&config.peers.name, tls));
+        if let Some(password) = &config.store.password {
+            self.may("store.password", password, "-r -f");
+        }
+        if let Some(hook) = config.apply.as_ref().and_then(|it| it.hook.as_ref()) {
+            self.may("apply.hook", hook, "-x -f");
+        }
+        if let Some(path) = config.root.as_ref().map(|it| &it.settings) {
+            let is_folder = path.is_dir();
+            let is_well =
+                self.may("root.settings", path, if is_folder { "-r -x" } else { "-r -f" });
+            if is_well && is_folder && config.control.is_some() && !self.test("-w", path) {
+                self.say(0, true, "root.settings", "cannot be written: `publish` is refused");
+            }
+        }
+        if let Some(apply) = &config.apply {
+            refusal(apply).iter().for_each(|why| self.say(0, false, "apply.folder", why));
+            // (what is lacking there is made, and what is above it by a unit)
+            let nearest = apply.folder.ancestors().take(2).find(|it| it.is_dir());
+            if let Some(it) = nearest {
+                self.may("apply.folder", it, "-r -w -x");
+            }
+        }
+        let control = config.control.iter().map(|it| ("control", Address::Unix(it.clone())));
+        for (key, it) in control.chain(config.listen.iter().map(|it| ("listen", it.clone()))) {
+            let Address::Unix(path) = it else { continue };
+            self.may(key, path.parent().unwrap_or(&path), "-w -x");
+            if fs::symlink_metadata(&path).is_ok_and(|it| !it.file_type().is_socket()) {
+                self.say(0, false, key, format!("`{}` is there, and no socket", path.display()));
+            }
+        }
+    }
+
+    /// What the system says to the user, as it knows of groups, mounts and lists of access.
+    fn test(&self, what: &str, path: &Path) -> bool {
+        let test = Command::new("env").args(self.words).args(["test", what]).arg(path).status();
+        test.is_ok_and(|it| it.success())
+    }
+
+    /// Whether it is there, and all of these hold of it.
+    fn may(&mut self, key: &str, path: &Path, tests: &str) -> bool {
+        let is_missing = fs::metadata(path).is_err_and(|e| e.kind() == ErrorKind::NotFound);
+        let fails = |(it, _): &&(&str, _)| tests.contains(it) && !self.test(it, path);
+        let why = match is_missing {
+            true => "is not there",
+            false => TESTS.iter().find(fails).map_or("", |it| it.1),
+        };
+        if !why.is_empty() {
+            // (a start makes what is beneath /run)
+            let is_warning = is_missing && path.starts_with("/run");
+            self.say(0, is_warning, key, format!("`{}` {why}", path.display()));
+        }
+        why.is_empty()
+    }
+
+    fn tls(&mut self, name: &str, tls: &Tls) {
+        let files = [
+            ("tls.certificate", &tls.certificate),
+            ("tls.authority", &tls.authority),
+            ("tls.key", &tls.key),
+        ];
+        let may = files.map(|(key, path)| self.may(key, path, "-r -f"));
+        let read = |at: usize| read_file(files[at].1, PEM_BYTES, "it").unwrap_or_default();
+        let pems = [0, 1, 2].map(|at| if may[at] { read(at) } else { Vec::new() });
+        let certificates = |at: usize| X509::stack_from_pem(&pems[at]).unwrap_or_default();
+        let (own, authority, key) = (certificates(0), certificates(1), "tls.certificate");
+        // (nobody is there to be asked for a word that opens a key)
+        let private = PKey::private_key_from_pem_callback(&pems[2], |_| Ok(0));
+        for (at, is_bad) in
+            [own.is_empty(), authority.is_empty(), private.is_err()].iter().enumerate()
+        {
+            if *is_bad && may[at] {
+                self.say(0, false, files[at].0, "nothing in it can be used");
+            }
+        }
+        let times = (Asn1Time::days_from_now(0), Asn1Time::days_from_now(DAYS));
+        let (Some(leaf), (Ok(now), Ok(soon))) = (own.first(), times) else { return };
+        let (begin, end) = (leaf.not_before(), leaf.not_after());
+        let is_out = end < now || begin > now;
+        let word = if end < now { "has expired" } else { "is not yet valid" };
+        if is_out || end < soon {
+            let word = if is_out { word } else { "expires soon" };
+            self.say(0, !is_out, key, format!("it {word}: it is valid from {begin} to {end}"));
+        }
+        if !leaf.subject_alt_names().iter().flatten().any(|it| it.dnsname() == Some(name)) {
+            self.say(0, false, key, format!("no DNS name of its SAN is `{name}`"));
+        }
+        if private.is_ok_and(|it| !leaf.public_key().is_ok_and(|own| own.public_eq(&it))) {
+            self.say(0, false, "tls.key", "it is the key of another certificate");
+        }
+        let verify = || -> Result<_, ErrorStack> {
+            let (mut store, mut others) = (X509StoreBuilder::new()?, Stack::new()?);
+            authority.iter().try_for_each(|it| store.add_cert(it.clone()))?;
+            own[1..].iter().try_for_each(|it| others.push(it.clone()))?;
+            X509StoreContext::new()?.init(&store.build(), leaf, &others, |it| {
+                Ok((!it.verify_cert()?).then(|| it.error().error_string()))
+            })
+        };
+        match verify() {
+            Ok(Some(why)) if !is_out && !authority.is_empty() => {
+                self.say(0, false, key, format!("`authority` did not sign it: {why}"));
+            }
+            _ => (),
+        }
+        // (whatever else the daemon would refuse, as a key that is too short)
+        if self.faults.iter().all(|(_, it)| it.is_warning) {
+            let why = Maker::new(Some(tls), Duration::from_secs(1)).err();
+            why.iter().for_each(|why| self.say(0, false, key, why));
+        }
+    }
+
+    // ---- The agents of a tree
+
+    fn tree(&mut self, all: &[Config]) {
+        let (paths, mut places) = (self.paths, BTreeMap::new());
+        let roots: Vec<usize> = (0..all.len()).filter(|at| all[*at].root.is_some()).collect();
+        for (at, it) in all.iter().enumerate() {
+            let shown = |at: usize| paths[at].display();
+            if let Some(other) = places.insert(&it.peers.name, at) {
+                self.say(at, false, "name", format!("it is that of {} too", shown(other)));
+            }
+            match roots.first() {
+                None if at == 0 => self.say(0, false, "root", "no file has [root]"),
+                Some(first) if it.root.is_some() && at > *first => {
+                    self.say(at, false, "root", format!("{} is the root", shown(*first)));
+                }
+                _ => (),
+            }
+        }
+        let mut above = vec![Vec::new(); all.len()];
+        for (at, it) in all.iter().enumerate() {
+            for parent in &it.peers.parents {
+                match parent.name.as_ref().map(|name| places.get(name)) {
+                    Some(Some(up)) => {
+                        above[at].push(*up);
+                        self.link(all, at, *up, parent.address.as_ref());
+                    }
+                    Some(None) => self.say(at, false, "parents", format!("no file has `{parent}`")),
+                    None => {
+                        above[at].extend(roots.first());
+                        self.say(at, true, "parents", format!("`{parent}` has no name to look at"));
+                    }
+                }
+            }
+        }
+        for (at, it) in all.iter().enumerate() {
+            let Children::Named(names) = &it.peers.children else { continue };
+            for (name, address) in names {
+                let place = places.get(name);
+                if !place.is_some_and(|place| above[*place].contains(&at)) {
+                    let text = format!("`{name}` has not this one as a parent");
+                    self.say(at, place.is_none() || address.is_none(), "children", text);
+                }
+            }
+        }
+        let Some(root) = roots.first() else { return };
+        let mut depths: Vec<_> = all.iter().map(|it| it.root.as_ref().map(|_| 0)).collect();
+        // (first by the first parents alone, then by any)
+        for most in [1, usize::MAX] {
+            while let Some((at, depth)) = (0..all.len()).find_map(|at| {
+                let mut ways = above[at].iter().take(most).filter(|_| depths[at].is_none());
+                ways.find_map(|up| Some((at, depths[*up]? + 1)))
+            }) {
+                depths[at] = Some(depth);
+            }
+        }
+        for at in (0..all.len()).filter(|at| depths[*at].is_none()) {
+            let next = |at: &usize| above[*at].first().copied();
+            let way = std::iter::successors(Some(at), next).take(WAY);
+            let way: Vec<_> = way.map(|at| &*all[at].peers.name).collect();
+            self.say(at, false, "parents", format!("no way leads to the root: {}", way.join(", ")));
+        }
+        let least = 2 * depths.into_iter().flatten().max().unwrap_or(0) + 3;
+        if all[*root].root.as_ref().is_some_and(|root| root.harmless < least) {
+            self.say(*root, false, "root.harmless", format!("in this tree it is at least {least}"));
+        }
+    }
+
+    /// What does not fit between a child and a parent of it, to which it connects at `to`.
+    fn link(&mut self, all: &[Config], low: usize, up: usize, to: Option<&Address>) {
+        let (lower, upper) = (&all[low], &all[up]);
+        let name = &lower.peers.name;
+        let from = match &upper.peers.children {
+            Children::Any => None,
+            Children::Named(names) if names.contains_key(name) => names[name].as_ref(),
+            _ => return self.say(up, false, "children", format!("`{name}` is missing")),
+        };
+        if to.or(from).is_none() {
+            let text = format!("neither it nor `{name}` has an address of the other");
+            self.say(up, false, "children", text);
+        }
+        for (at, key, address, other) in
+            [(low, "parents", to, upper), (up, "children", from, lower)]
+        {
+            let (Some(address), name) = (address, &other.peers.name) else { continue };
+            let is_there = |unsure| match address {
+                Address::Redis { .. } => to == from,
+                _ => other.listen.iter().any(|it| leads(address, it).unwrap_or(unsure)),
+            };
+            if !is_there(false) {
+                self.say(
+                    at,
+                    is_there(true),
+                    key,
+                    format!("no `listen` of `{name}` is `{address}`"),
+                );
+            }
+            if matches!(address, Address::Tcp(_)) && lower.tls.is_some() != upper.tls.is_some() {
+                self.say(at, false, key, format!("one of it and `{name}` alone has [tls]"));
+            }
+        }
+        if upper.peers.evict <= lower.peers.ack_timeout {
+            let text = format!("it has to be longer than the `ack_timeout` of `{name}`");
+            self.say(up, false, "link.evict", text);
+        }
+    }
+}
