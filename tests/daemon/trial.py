@@ -166,6 +166,15 @@ def status(agent, seconds=5.0):
         return None
 
 
+def memory(agent):
+    """The most MiB that a process had in memory."""
+    try:
+        text = pathlib.Path(f"/proc/{agent.process.pid}/status").read_text()
+        return int(re.search(r"VmHWM:\s+(\d+)", text)[1]) // 1024
+    except (OSError, TypeError):
+        return 0
+
+
 # ---- Folders
 
 def contents(folder):
@@ -433,8 +442,9 @@ class Run:
                         self.cuts.discard(link)
                     self.later(draw.choice([0.3, 1.0, 3.0, 5.0]), mend)
         else:
-            victim = draw.choice([agent for agent in net])
-            if kind == "copy" and victim.name in self.copies:
+            victim = draw.choice([agent for agent in net if agent is not net.root])
+            if kind == "copy" and self.copies:
+                victim = net[draw.choice(sorted(self.copies))]
                 shutil.rmtree(victim.settings, ignore_errors=True)
                 spoil(victim, lambda folder, _: shutil.copytree(
                     self.copies[victim.name], folder, dirs_exist_ok=True), draw)
@@ -445,9 +455,9 @@ class Run:
                 spoil(victim, how, draw)
         self.counts[kind] += 1
         # (what will be an old copy)
-        kept = draw.choice([agent for agent in net])
+        kept = draw.choice([agent for agent in net if agent is not net.root])
         copy = kept.home / f"copy{draw.randrange(3)}"
-        if not copy.exists() and draw.random() < 0.5:
+        if not copy.exists():
             try:
                 copy.mkdir()
                 for name, value in contents(kept.settings).items():
@@ -489,7 +499,7 @@ class Run:
         for agent in rest:
             agent.start()
         begun = time.monotonic()
-        cold = until(lambda: not self.wrong()[0], 10)
+        cold = until(lambda: not self.wrong()[0], 15)
         result = {"cold": round(time.monotonic() - begun, 2) if cold else None}
         changer = threading.Thread(target=self.change)
         changer.start()
@@ -518,6 +528,9 @@ class Run:
         self.settle(time.monotonic())
         result.update(rounds=None if equal is None else round(equal / period, 2), keys=keys,
                       ever=len(wrong), wrong={name: found[:4] for name, found in wrong.items()})
+        said = {agent.name: status(agent) for agent in net}
+        parents = {name: it and it["parent"] for name, it in said.items()}
+        moves = sum(agent.said("connected the parent") for agent in net)
         # A change that is said to be everywhere is everywhere.
         number = net.root.ask("publish", "final", str(draw.random()), check=False).get("sequence")
         answer = net.root.ask("wait", "--everywhere", "--timeout", "40s", number, check=False)
@@ -526,9 +539,9 @@ class Run:
                    if contents(agent.settings).get("final") != value]
         result["wait"] = "ok" if "error" not in answer else str(answer["error"])[:200]
         result["early"] = lacking if result["wait"] == "ok" else []
-        said = {agent.name: status(agent) for agent in net}
-        parents = {name: it and it["parent"] for name, it in said.items()}
         result.update(lost=self.circles(parents), parents=parents, ended=self.ended,
+                      moves=sum(agent.said("connected the parent") for agent in net) - moves,
+                      most=max(memory(agent) for agent in net),
                       panics=[agent.name for agent in net if agent.said("panicked")],
                       second=sum(parents[name] != parents_of(name)[0] for name in NAMES[1:]),
                       counts=self.counts, changes=self.changes)
