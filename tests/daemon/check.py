@@ -25,6 +25,7 @@ from daemons import PATIENCE, USUAL, Agent, Tree, binaries, chain, free_port, un
 from memory import write_over
 from relay import Relay
 from reverse import parents_may_connect_to_their_children
+import hostile
 import store
 
 TESTS = []
@@ -48,6 +49,8 @@ if store.is_there():
         long_test(function)
 else:
     print("the links in a store are not tried: see tests/daemon/store.py")
+for function in hostile.TESTS:
+    test(function)
 
 
 def sure(holds, *words):

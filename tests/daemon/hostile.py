@@ -593,7 +593,7 @@ def files_by_the_thousand_in_the_roots_folder_hold_nobody_up():
         sure(tree.right(60), tree.wrong())
 
 
-@test
+@long_test
 def odd_things_in_the_roots_folder_hold_nobody_up():
     with Tree({"left": "root"}, before=patient) as tree:
         begun(tree)
@@ -661,7 +661,7 @@ def certify(home, name, seconds=86_400, file=None):
             "authority": str(home / "ca.crt")}
 
 
-@test
+@long_test
 def a_link_ends_with_its_certificate():
     def secure(tree):
         patient(tree)
