@@ -864,6 +864,57 @@ def a_reload_changes_children_and_parents():
 
 
 @test
+def a_reload_that_is_not_taken_is_shown():
+    unit = pathlib.Path(__file__).resolve().parents[2] / "rust/rignoldad/packaging/rignoldad.service"
+    lines = re.findall("^ExecReload=(.*)$", unit.read_text(), re.M)
+    with Tree({}) as tree:
+        root = tree.root
+        port = free_port()
+        root.top["metrics"] = f"127.0.0.1:{port}"
+        usual(tree)
+
+        def reload():
+            """Does what systemd does: each line of the unit, unless the one before it fails."""
+            for line in lines:
+                for old, new in [("/usr/bin/rignoldad", f"{tree.bin}/rignoldad --user root"),
+                                 ("/etc/rignolda/agent.toml", str(root.file)),
+                                 ("$MAINPID", str(root.process.pid))]:
+                    line = line.replace(old, new)
+                done = subprocess.run(line.split(), capture_output=True, text=True, timeout=60)
+                if done.returncode:
+                    return done.returncode, done.stderr
+            return 0, ""
+
+        def metric():
+            with socket.create_connection(("127.0.0.1", port), timeout=60) as sock:
+                sock.sendall(b"GET /metrics HTTP/1.1\r\n\r\n")
+                text = b"".join(iter(lambda: sock.recv(65536), b"")).decode()
+            return re.search("^rignolda_reload_failed ([01])$", text, re.M)[1]
+
+        def shows(text):
+            is_one = metric() == "1"
+            return text in root.status()["reload_failed"] and is_one == bool(text)
+
+        sure(len(lines) == 2 and reload() == (0, "") and shows(""), lines)
+        good = root.file.read_text()
+        # what cannot work is found before the agent hears of it
+        root.file.write_text(good.replace("round =", "rund ="))
+        status, said = reload()
+        sure(status == 1 and "root.rund" in said and shows(""), status, said)
+        # and by the agent, where it is told all the same
+        root.signal(signal.SIGHUP)
+        sure(until(lambda: shows("nothing changes: ")), root.status())
+        sure("root.rund" in root.status()["reload_failed"], root.status())
+        # what is right, but counts from a start alone
+        root.file.write_text(good.replace("metrics =", "#metrics ="))
+        sure(reload() == (0, ""))
+        sure(until(lambda: shows("from a start alone: metrics")), root.status())
+        root.file.write_text(good)
+        sure(reload() == (0, "") and until(lambda: root.status()["reload_failed"] == ""))
+        sure(shows(""), "the metric stays")
+
+
+@test
 def the_next_parent_is_tried():
     with Tree({"left": "root", "right": "root"}) as tree:
         leaf = tree.add("leaf", "left")

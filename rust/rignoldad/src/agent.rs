@@ -1,7 +1,7 @@
 //! The loop of an agent: its sockets, timers and files. One thread does all of it but hooks and the
 //! look-up of names, and never waits for anything else than for all of them at once.
 use crate::apply::{Applied, Applier, Outcome};
-use crate::config::{Address, Config, Fault};
+use crate::config::{plain, Address, Config, Fault};
 use crate::control::{self, ChildStatus, Request, Response, Status};
 use crate::fact;
 use crate::journal;
@@ -73,6 +73,8 @@ pub struct Agent {
     /// Who asked for a change, and waits for its number.
     asked: Vec<(Ticket, String)>,
     reported: Instant,
+    /// What was not taken at the last reload, and why.
+    reload_failed: String,
 }
 
 /// What came, and what became of it.
@@ -116,10 +118,12 @@ pub fn run(path: &Path, config: Config) -> Result<(), String> {
         let now = Instant::now();
         if fired.contains(&signals.reload.as_raw_fd()) {
             let _ = (&signals.reload).read(&mut [0; 64]);
-            match agent.reload(now) {
-                Ok(()) => fact!("reload", "done"),
-                Err(whys) => whys.iter().for_each(|why| fact!("reload", "nothing changes: {why}")),
+            agent.reload_failed = agent.reload(now).err().unwrap_or_default();
+            match &*agent.reload_failed {
+                "" => fact!("reload", "done"),
+                why => fact!("reload", "{why}"),
             }
+            notify(&format!("STATUS={}", agent.reload_failed));
         }
         agent.turn(&fired, now);
         if watchdog.is_some_and(|part| now >= watched + part) {
@@ -300,6 +304,7 @@ impl Agent {
             metrics: metrics.transpose()?,
             asked: Vec::new(),
             reported: now,
+            reload_failed: String::new(),
             config,
         })
     }
@@ -548,6 +553,7 @@ impl Agent {
             refused: self.peers.refused(),
             hook_failures: applier.as_ref().map_or(0, Applier::hook_failures),
             children: children.collect(),
+            reload_failed: self.reload_failed.clone(),
         }
     }
 
@@ -612,17 +618,17 @@ impl Agent {
         Ok(Some(Response::Done))
     }
 
-    /// Reads the configuration again, and takes what may change while the agent runs.
-    fn reload(&mut self, now: Instant) -> Result<(), Vec<String>> {
+    /// Reads the configuration again, and takes what may change while the agent runs. It says what
+    /// it did not take.
+    fn reload(&mut self, now: Instant) -> Result<(), String> {
+        let nothing = |why: String| format!("nothing changes: {}", plain(&why));
         let whys = |faults: Vec<Fault>| faults.iter().map(Fault::to_string).collect::<Vec<_>>();
-        let new = Config::read(&self.path).map_err(whys)?;
-        for key in self.config.at_a_start_alone(&new) {
-            fact!("reload", "{key} counts from a start alone");
-        }
+        let new = Config::read(&self.path).map_err(|faults| nothing(whys(faults).join("; ")))?;
         if new.root.is_some() != self.root.is_some() {
-            return Err(vec!["a root is one from its start alone".into()]);
+            return Err(nothing("a root is one from its start alone".into()));
         }
-        self.maker = maker(&new).map_err(|why| vec![why])?;
+        self.maker = maker(&new).map_err(nothing)?;
+        let late = self.config.at_a_start_alone(&new).join(", ");
         self.config.take(new);
         if let (Some(applier), Some(apply)) = (&mut self.state.applier, &self.config.apply) {
             applier.reload(apply);
@@ -632,7 +638,8 @@ impl Agent {
         }
         self.peers.set_up(self.config.peers.clone(), now, &mut self.state);
         self.state.changed = true;
-        Ok(())
+        let late = Some(late).filter(|late| !late.is_empty());
+        late.map_or(Ok(()), |late| Err(format!("counts from a start alone: {late}")))
     }
 }
 

@@ -215,6 +215,9 @@ pub fn status_text(status: &Status) -> String {
     ] {
         fact(name, count.to_string());
     }
+    if !status.reload_failed.is_empty() {
+        fact("reload", status.reload_failed.clone());
+    }
     if status.draining {
         fact("draining", "yes".into());
     }

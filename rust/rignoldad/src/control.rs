@@ -102,6 +102,8 @@ pub struct Status {
     /// Settings whose file or hook failed last.
     pub failing: u64,
     pub children: Vec<ChildStatus>,
+    /// What was not taken at the last reload, and why; empty where all was.
+    pub reload_failed: String,
 }
 
 /// A child, as its parent sees it.

@@ -13,7 +13,7 @@ const REQUEST_BYTES: usize = 8_192;
 /// A number of an agent: its name, its kind, what it is, and how to get it.
 type Number<T> = (&'static str, &'static str, &'static str, fn(&T) -> u64);
 
-const OF_AGENT: [Number<Status>; 18] = [
+const OF_AGENT: [Number<Status>; 19] = [
     ("connected", "gauge", "Whether the agent has its parent; 1 at the root.", |s| {
         u64::from(s.parent.is_some() || s.is_root)
     }),
@@ -34,6 +34,9 @@ const OF_AGENT: [Number<Status>; 18] = [
     ("refused_total", "counter", "Connections that were refused.", |s| s.refused),
     ("hook_failures_total", "counter", "Hooks that failed.", |s| s.hook_failures),
     ("failing", "gauge", "Settings whose file or hook failed last.", |s| s.failing),
+    ("reload_failed", "gauge", "Whether the last reload was not taken whole.", |s| {
+        u64::from(!s.reload_failed.is_empty())
+    }),
 ];
 
 const OF_CHILD: [Number<ChildStatus>; 8] = [
