@@ -32,6 +32,8 @@ const ACCEPTS: usize = 64;
 const REPORTS: Duration = Duration::from_millis(100);
 const SAYS_AGAIN: Duration = Duration::from_secs(10);
 
+/// How many faults of the root's folder its status names.
+const FAULTS: usize = 8;
 /// How soon the loop asks again what was done about files.
 const ASKS_AGAIN: Duration = Duration::from_millis(20);
 /// How many events are taken in one turn.
@@ -70,8 +72,8 @@ pub struct Agent {
     state: State,
     control: Option<control::Server>,
     metrics: Option<metrics::Server>,
-    /// Who asked for a change, and waits for its number.
-    asked: Vec<(Ticket, String)>,
+    /// Who asked for a change, of which key and in which batch, and waits for its number.
+    asked: Vec<(Ticket, String, u64)>,
     reported: Instant,
     /// What was not taken at the last reload, and why.
     reload_failed: String,
@@ -276,6 +278,10 @@ impl Agent {
             Applier::new(apply, wake.clone())
                 .map_err(|e| format!("apply: its threads cannot be started: {e}"))
         });
+        let root = config.root.as_ref().map(|root| {
+            Root::new(root, now, wake.clone())
+                .map_err(|e| format!("root: its thread cannot be started: {e}"))
+        });
         Ok(Agent {
             path: path.into(),
             maker: maker(&config)?,
@@ -291,7 +297,7 @@ impl Agent {
             found: mpsc::channel(),
             peers: Peers::new(config.peers.clone(), life, config.backlog, now),
             stores: Stores::new(config.store.clone(), silence(&config), wake.clone()),
-            root: config.root.as_ref().map(|root| Root::new(root, now)),
+            root: root.transpose()?,
             state: State {
                 is_root: config.root.is_some(),
                 applier: applier.transpose()?,
@@ -465,22 +471,24 @@ impl Agent {
     /// At the root: publishes what waits, as fast as the quickest child takes it.
     fn publish(&mut self, now: Instant) {
         while self.may_publish() {
-            let next = self.root.as_mut().and_then(|root| root.next(self.config.backlog / 2));
-            let Some(published) = next else { return };
+            let Some(root) = &mut self.root else { return };
+            let written = root.written();
+            let Some(published) = root.next(self.config.backlog / 2, now) else { return };
             self.peers.publish(&published.body, now, &mut self.state);
             if !published.keys.is_empty() {
                 self.state.last_change = self.state.table.sequence;
             }
             let response = Response::Published(self.state.table.sequence);
-            self.answer(|key| published.keys.contains(key), &response);
+            let is_there = |key: &String, batch| batch <= written && published.keys.contains(key);
+            self.answer(is_there, &response);
         }
     }
 
     /// Answers those who asked for changes of these keys.
-    fn answer(&mut self, is: impl Fn(&String) -> bool, response: &Response) {
+    fn answer(&mut self, is: impl Fn(&String, u64) -> bool, response: &Response) {
         let control = &mut self.control;
-        self.asked.retain(|(ticket, key)| {
-            let done = is(key);
+        self.asked.retain(|(ticket, key, batch)| {
+            let done = is(key, *batch);
             if let (true, Some(control)) = (done, control.as_mut()) {
                 control::answer(control, *ticket, response);
             }
@@ -511,6 +519,7 @@ impl Agent {
         let millis = |since: Instant| now.saturating_duration_since(since).as_millis() as u64;
         let State { table, applier, .. } = &self.state;
         let (relay, parent) = (self.peers.relay(), self.peers.parent());
+        let faults = self.root.as_ref().map(Root::faults);
         let children = relay.children().map(|(name, link)| ChildStatus {
             name: name.clone(),
             connected: link.is_connected(),
@@ -552,6 +561,8 @@ impl Agent {
             reconnects: self.peers.reconnects(),
             refused: self.peers.refused(),
             hook_failures: applier.as_ref().map_or(0, Applier::hook_failures),
+            unpublished: faults.map_or(0, |it| it.count),
+            faults: faults.iter().flat_map(|it| it.texts.iter().take(FAULTS).cloned()).collect(),
             children: children.collect(),
             reload_failed: self.reload_failed.clone(),
         }
@@ -573,8 +584,9 @@ impl Agent {
                 control::answer(server, ticket, &response);
             }
         }
-        for (key, why) in self.root.iter_mut().flat_map(Root::commit).collect::<Vec<_>>() {
-            self.answer(|asked| *asked == key, &Response::Refused(why));
+        self.root.iter_mut().for_each(Root::commit);
+        for (at, key, why) in self.root.iter_mut().flat_map(Root::failed).collect::<Vec<_>>() {
+            self.answer(|asked, batch| *asked == key && batch == at, &Response::Refused(why));
         }
     }
 
@@ -599,13 +611,13 @@ impl Agent {
             (_, None) => return Err("it is not the root".into()),
             // (who asked for a change is answered when it is published)
             (Request::Publish { key, value }, Some(root)) => {
-                root.ask(&key, Some(&value))?;
-                self.asked.push((ticket, key));
+                let batch = root.ask(&key, Some(value))?;
+                self.asked.push((ticket, key, batch));
                 return Ok(None);
             }
             (Request::Unset { key }, Some(root)) => {
-                root.ask(&key, None)?;
-                self.asked.push((ticket, key));
+                let batch = root.ask(&key, None)?;
+                self.asked.push((ticket, key, batch));
                 return Ok(None);
             }
             (Request::Drain, Some(root)) => root.draining = true,

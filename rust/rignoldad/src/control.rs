@@ -101,6 +101,9 @@ pub struct Status {
     pub hook_failures: u64,
     /// Settings whose file or hook failed last.
     pub failing: u64,
+    /// At the root: what of its folder cannot be published, and the first of these with their whys.
+    pub unpublished: u64,
+    pub faults: Vec<String>,
     pub children: Vec<ChildStatus>,
     /// What was not taken at the last reload, and why; empty where all was.
     pub reload_failed: String,

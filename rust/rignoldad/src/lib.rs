@@ -10,6 +10,7 @@ pub mod ask;
 pub mod check;
 pub mod config;
 pub mod control;
+pub mod disk;
 pub mod journal;
 pub mod line;
 pub mod metrics;

@@ -1,63 +1,90 @@
 //! The root's settings: a folder is the truth, and what differs from it is published.
-use crate::config::{is_key, read_file, too_deep, Root as Config, TOO_DEEP};
+//!
+//! Nothing here waits for the disk: [`Disk`] does, and says what it found. A round, and each table,
+//! is of what the folder had when it was asked for; where the disk does not answer in time, it is of
+//! what was known before.
+use crate::config::{is_key, Root as Config};
+use crate::disk::{no_key, Change, Disk, Done, Empty, Faults, Found, Job};
 use crate::fact;
-use inotify::{Inotify, WatchMask};
 use rignolda::net::BODY_BYTES;
-use rignolda::settings::{Batch, Published, Publisher, VALUE_BYTES};
-use std::collections::{BTreeMap, BTreeSet};
-use std::fs;
+use rignolda::settings::{Published, Publisher};
 use std::io;
-use std::os::unix::io::{AsRawFd, RawFd};
-use std::path::Path;
+use std::os::unix::io::RawFd;
+use std::sync::Arc;
 use std::time::{Duration, Instant, SystemTime, UNIX_EPOCH};
 
 /// How long after a change of the folder it is read.
 const SETTLES: Duration = Duration::from_millis(5);
+/// How long a round or a table waits for the disk.
+const PATIENCE: Duration = Duration::from_secs(5);
+/// How old what was read for a table may be.
+const FRESH: Duration = Duration::from_secs(1);
 
 pub struct Root {
     config: Config,
-    notify: Option<Inotify>,
+    disk: Disk,
     publisher: Publisher,
     pub draining: bool,
     /// Whether all settings were read once. Before that a table would unset what it does not name.
     known: bool,
+    /// Whether the folder is empty, and the first setting may be published.
+    is_new: bool,
     next_round: Instant,
     next_scan: Option<Instant>,
-    /// The keys whose files may have changed, where that is all; else the whole folder is read.
-    touched: Option<BTreeSet<String>>,
-    /// Changes whose files are not in their places yet.
-    batch: Batch,
-    /// Their keys, and what these settings were before.
-    asked: Vec<(String, Option<Vec<u8>>)>,
-    /// Those whose files could not be written, and why.
-    failed: Vec<(String, String)>,
+    /// How often the disk was asked to read, and has not answered.
+    reads: u32,
+    /// Until when the next body waits for the disk, and whether it is late already.
+    until: Option<Instant>,
+    is_late: bool,
+    /// Whether a round begins then; whether a table is waited for, and when it was read.
+    begins: bool,
+    for_table: bool,
+    fresh: Option<Instant>,
+    /// Changes that were asked for and are not begun, each key once in a batch; whether one is
+    /// under way, and how many are over.
+    asked: Vec<Vec<Change>>,
+    is_writing: bool,
+    written: u64,
+    /// Those that could not be written: their batch and key, and why.
+    failed: Vec<(u64, String, String)>,
     /// Whether it was time for a round while one was under way.
     overdue: bool,
-    /// What was wrong with the folder when it was read last.
-    faults: BTreeSet<String>,
+    faults: Faults,
 }
 
 impl Root {
-    pub fn new(config: &Config, now: Instant) -> Root {
+    /// Begins to read the folder, in a thread that calls `wake` whenever it has something to say.
+    pub fn new(
+        config: &Config,
+        now: Instant,
+        wake: Arc<dyn Fn() + Send + Sync>,
+    ) -> io::Result<Root> {
         // (a root that restarts goes on above the numbers of its earlier lives)
         let clock = SystemTime::now().duration_since(UNIX_EPOCH).unwrap_or_default();
         let mut root = Root {
             config: config.clone(),
-            notify: Inotify::init().ok(),
+            disk: Disk::new(config.settings.clone(), wake)?,
             publisher: Publisher::new(clock.as_micros() as u64),
             draining: false,
             known: false,
+            is_new: false,
             next_round: now,
             next_scan: None,
-            touched: None,
-            batch: Batch::default(),
+            reads: 0,
+            until: None,
+            is_late: false,
+            begins: false,
+            for_table: false,
+            fresh: None,
             asked: Vec::new(),
+            is_writing: false,
+            written: 0,
             failed: Vec::new(),
             overdue: false,
-            faults: BTreeSet::new(),
+            faults: Faults::default(),
         };
-        root.read();
-        root
+        root.look(now);
+        Ok(root)
     }
 
     /// Takes a new period and number of harmless items. The folder stays.
@@ -66,56 +93,59 @@ impl Root {
         self.config = Config { settings: self.config.settings.clone(), ..config.clone() };
     }
 
+    /// What can be read when the folder has changed, while that is not known already.
     pub fn descriptor(&self) -> Option<RawFd> {
-        self.notify.as_ref().map(AsRawFd::as_raw_fd)
+        self.disk.descriptor.filter(|_| self.next_scan.is_none() && self.reads == 0)
     }
 
     pub fn settings(&self) -> u64 {
         self.publisher.settings().len() as u64
     }
 
+    /// What of the folder cannot be published, and why.
+    pub fn faults(&self) -> &Faults {
+        &self.faults
+    }
+
     /// The folder may have changed: when it is read is said by [`Root::deadline`].
     pub fn notified(&mut self, now: Instant) {
-        let mut space = [0; 4_096];
-        let (mut keys, mut came) = (BTreeSet::new(), 0);
-        let mut all = !self.config.settings.is_dir();
-        while let Some(Ok(events)) = self.notify.as_mut().map(|it| it.read_events(&mut space)) {
-            let before = came;
-            for event in events {
-                came += 1;
-                match event.name.and_then(|name| name.to_str()) {
-                    Some(name) if is_key(name) => drop(keys.insert(name.to_owned())),
-                    // (its own, before they are moved to their places)
-                    Some(name) if name.starts_with(".rignolda") => (),
-                    _ => all = true,
-                }
-            }
-            if came == before {
-                break;
-            }
-        }
-        all |= came == 0;
-        if all || !keys.is_empty() {
-            self.next_scan.get_or_insert(now + SETTLES);
-        }
-        match &mut self.touched {
-            Some(touched) if !all => touched.append(&mut keys),
-            touched => *touched = None,
-        }
+        self.next_scan.get_or_insert(now + SETTLES);
     }
 
     /// When to come again.
     pub fn deadline(&self) -> Instant {
-        self.next_scan.map_or(self.next_round, |scan| scan.min(self.next_round))
+        let scan = self.next_scan.filter(|_| self.reads == 0);
+        let all = [scan, self.until].into_iter().flatten();
+        all.fold(self.next_round, Instant::min)
     }
 
-    /// Reads the folder and begins a round, where it is time for that.
+    /// Whether the disk has something to answer.
+    pub fn is_busy(&self) -> bool {
+        self.reads > 0 || self.is_writing
+    }
+
+    /// Takes up what the disk says, has the folder read and begins a round, where it is time.
     pub fn tick(&mut self, now: Instant) {
-        if self.next_scan.is_some_and(|scan| now >= scan) {
-            match self.touched.take() {
-                Some(keys) if keys.iter().all(|key| self.read_key(key)) => self.is_read(),
-                _ => self.read(),
+        while let Some(done) = self.disk.done() {
+            match done {
+                Done::Written(all) => self.is_written(all, now),
+                Done::Keys(changes) => self.have_changed(changes, now),
+                Done::Read(read) => self.is_read(read, now),
             }
+        }
+        if self.reads == 0 && self.next_scan.is_some_and(|scan| now >= scan) {
+            self.next_scan = None;
+            self.reads += 1;
+            self.disk.begin(Job::Changed);
+        }
+        if self.until.is_some_and(|until| now >= until) {
+            if !std::mem::replace(&mut self.is_late, true) {
+                let path = self.config.settings.display();
+                let text = format!("{path}: the disk does not answer");
+                fact!("settings", "{text}");
+                self.faults.add(text);
+            }
+            self.goes_on(now);
         }
         if now >= self.next_round {
             self.overdue = self.publisher.is_in_a_round();
@@ -123,27 +153,50 @@ impl Root {
         }
     }
 
-    /// A round begins now. One that is under way goes on instead.
+    /// A round begins once the folder is read. One that is under way goes on instead.
     pub fn begin_round(&mut self, now: Instant) {
         self.next_round = now + self.config.round;
-        self.read();
-        if self.known && !self.draining {
+        self.begins = true;
+        self.look(now);
+    }
+
+    /// Has the whole folder read, before anything more is published.
+    fn look(&mut self, now: Instant) {
+        let patience = if self.is_late { Duration::ZERO } else { PATIENCE };
+        self.until.get_or_insert(now + patience);
+        // (one that is under way may be past what changed since)
+        if self.reads < 2 {
+            self.reads += 1;
+            self.disk.begin(Job::Read);
+        }
+    }
+
+    /// Goes on with what the folder had, or with what is known.
+    fn goes_on(&mut self, now: Instant) {
+        self.until = None;
+        self.fresh = std::mem::take(&mut self.for_table).then_some(now);
+        if std::mem::take(&mut self.begins) && self.known && !self.draining {
             self.publisher.begin_round(self.config.harmless);
         }
     }
 
     /// Whether something waits to be published.
     pub fn waits(&self) -> bool {
-        self.known && !self.draining && self.publisher.waits()
+        self.known && !self.draining && self.until.is_none() && self.publisher.waits()
     }
 
     /// The next body to publish. `limit`: how many items may follow a table at most.
-    pub fn next(&mut self, limit: u64) -> Option<Published> {
+    pub fn next(&mut self, limit: u64, now: Instant) -> Option<Published> {
         // (what it remembers may be spoiled: no table is made of that)
-        if self.waits() && self.publisher.is_table_next(limit) {
-            self.read();
+        let is_fresh = self.fresh.is_some_and(|at| now < at + FRESH);
+        if self.waits() && !is_fresh && self.publisher.is_table_next(limit) {
+            self.for_table = true;
+            self.look(now);
         }
         let next = self.waits().then(|| self.publisher.next(limit))?;
+        if next.as_ref().is_some_and(|next| next.is_table) {
+            self.fresh = None;
+        }
         if self.overdue && !self.publisher.is_in_a_round() {
             self.overdue = false;
             self.publisher.begin_round(self.config.harmless);
@@ -151,187 +204,113 @@ impl Root {
         next
     }
 
-    /// Writes a setting's file and publishes it when its turn comes; without a value, removes it.
-    pub fn change(&mut self, key: &str, value: Option<&[u8]>) -> Result<(), String> {
-        self.ask(key, value)?;
-        self.commit().pop().map_or(Ok(()), |(_, why)| Err(why))
-    }
-
-    /// The same up to [`Root::commit`], which is to be called before anything is published.
-    pub fn ask(&mut self, key: &str, value: Option<&[u8]>) -> Result<(), String> {
-        let settings = &self.config.settings;
-        let path = settings.join(key);
-        match value {
-            _ if settings.is_file() => {
-                Err(format!("the settings are kept in {}", settings.display()))
-            }
+    /// Writes a setting's file after [`Root::commit`], and publishes it then; without a value,
+    /// removes it. The number of its batch.
+    pub fn ask(&mut self, key: &str, value: Option<Vec<u8>>) -> Result<u64, String> {
+        let settings = self.config.settings.display();
+        match &value {
             _ if self.draining => Err("it is draining".into()),
-            _ if !self.known => Err(format!("{} cannot be read, or is empty", settings.display())),
-            _ if !is_key(key) => Err("it is no key".into()),
+            _ if !self.known && !self.is_new => {
+                let first = self.faults.texts.first().map_or("it is not read yet", |it| it);
+                Err(format!("{settings} is not known: {first}"))
+            }
+            _ if !is_key(key) => Err(no_key(key)),
             Some(value) if !self.publisher.has_room(key, value) => Err("it is too long".into()),
             _ => Ok(()),
         }?;
-        if self.batch.has(&path) {
-            self.sync();
+        if self.asked.last().is_none_or(|batch| batch.iter().any(|it| it.0 == key)) {
+            self.asked.push(Vec::new());
         }
-        let done = match value {
-            Some(value) => self.batch.write(path.clone(), value),
-            None => self.batch.remove(&path),
-        };
-        done.map_err(|e| format!("{}: {e}", path.display()))?;
-        if value.is_some() {
-            self.asked.push((key.into(), self.publisher.settings().get(key).cloned()));
-        }
-        // (also where it is as it was: whoever asked for it is told a number)
-        self.publisher.put(key, value.map(Vec::from));
-        Ok(())
+        self.asked.last_mut().into_iter().for_each(|it| it.push((key.into(), value.clone())));
+        Ok(self.written + u64::from(self.is_writing) + self.asked.len() as u64)
     }
 
-    /// Waits until the disk has what was asked for: the changes that failed, and why.
-    pub fn commit(&mut self) -> Vec<(String, String)> {
-        self.sync();
+    /// Has what was asked for written, one batch after the other.
+    pub fn commit(&mut self) {
+        if !self.is_writing && !self.asked.is_empty() {
+            self.is_writing = true;
+            self.disk.begin(Job::Write(self.asked.remove(0)));
+        }
+    }
+
+    /// How many batches are written.
+    pub fn written(&self) -> u64 {
+        self.written
+    }
+
+    /// The changes that could not be written: batch, key, and why.
+    pub fn failed(&mut self) -> Vec<(u64, String, String)> {
         std::mem::take(&mut self.failed)
     }
 
-    fn sync(&mut self) {
-        let failed = self.batch.commit();
-        for (key, before) in std::mem::take(&mut self.asked) {
-            let path = self.config.settings.join(&key);
-            let Some((_, error)) = failed.iter().find(|(it, _)| *it == path) else { continue };
-            self.failed.push((key.clone(), format!("{}: {error}", path.display())));
-            self.publisher.put(&key, before);
+    fn is_written(&mut self, all: Vec<(Change, Result<(), String>)>, now: Instant) {
+        self.is_writing = false;
+        self.written += 1;
+        for ((key, value), done) in all {
+            match done {
+                // (also where it is as it was: whoever asked for it is told a number)
+                Ok(()) => self.publisher.put(&key, value),
+                Err(why) => self.failed.push((self.written, key, why)),
+            }
+        }
+        if !self.known {
+            self.look(now);
+        }
+        self.commit();
+    }
+
+    fn have_changed(&mut self, changes: Vec<Change>, now: Instant) {
+        let mut again = !self.known;
+        for (key, value) in changes {
+            let differs = self.publisher.settings().get(&key) != value.as_ref();
+            let fits = value.as_ref().is_none_or(|value| self.publisher.has_room(&key, value));
+            again |= differs && !fits;
+            if differs && fits {
+                self.publisher.put(&key, value);
+            }
+        }
+        self.has_answered(now);
+        // (a fault may have ended)
+        if again || self.faults.count > 0 {
+            self.look(now);
         }
     }
 
-    /// Reads the settings, and notes what differs. What cannot be read stays as it was.
-    fn read(&mut self) {
-        self.sync();
-        self.is_read();
-        let mut faults = BTreeSet::new();
-        self.watch();
-        let path = self.config.settings.clone();
-        let read = match path.is_file() {
-            true => read_settings(&path),
-            false => self.read_folder(&path, &mut faults),
-        };
+    /// Notes what differs. What could not be read stays as it was.
+    fn is_read(&mut self, read: Result<Found, Empty>, now: Instant) {
+        self.is_new = matches!(&read, Err(empty) if empty.is_new);
+        let mut faults;
         match read {
-            Ok(settings) if Publisher::bytes_of(&settings) > BODY_BYTES => {
-                faults.insert(format!("all settings have more than {BODY_BYTES} bytes"));
+            Err(empty) => {
+                faults = empty.faults;
+                faults.add(empty.why);
             }
-            Ok(settings) => {
-                self.known = true;
-                self.publisher.replace(settings);
+            Ok(mut found) => {
+                faults = found.faults;
+                for key in found.unread.keys() {
+                    let old = self.publisher.settings().get_key_value(key);
+                    found.settings.extend(old.map(|(key, value)| (key.clone(), value.clone())));
+                }
+                if Publisher::bytes_of(&found.settings) > BODY_BYTES {
+                    faults.add(format!("all settings have more than {BODY_BYTES} bytes"));
+                } else if self.known || !found.unread.values().any(|may_be| *may_be) {
+                    self.known = true;
+                    self.publisher.replace(found.settings);
+                }
             }
-            Err(error) => drop(faults.insert(format!("{}: {error}", path.display()))),
         }
-        for fault in faults.difference(&self.faults) {
+        for fault in faults.texts.difference(&self.faults.texts) {
             fact!("settings", "{fault}");
         }
         self.faults = faults;
+        self.has_answered(now);
     }
 
-    fn is_read(&mut self) {
-        self.next_scan = None;
-        self.touched = self.known.then(BTreeSet::new);
-    }
-
-    /// Reads one setting's file. Whether that is enough; else the whole folder is to be read.
-    fn read_key(&mut self, key: &str) -> bool {
-        let settings = &self.config.settings;
-        let value = match read_value(&settings.join(key)) {
-            Ok(value) => Some(value),
-            Err(e) if e.kind() == io::ErrorKind::NotFound && settings.is_dir() => None,
-            Err(_) => return false,
-        };
-        let differs = self.publisher.settings().get(key) != value.as_ref();
-        let fits = value.as_ref().is_none_or(|value| self.publisher.has_room(key, value));
-        if differs && fits {
-            self.publisher.put(key, value);
-        }
-        fits || !differs
-    }
-
-    fn watch(&mut self) {
-        let Some(notify) = &mut self.notify else { return };
-        let path = &self.config.settings;
-        let folder = if path.is_dir() { Some(path.as_path()) } else { path.parent() };
-        let mask = WatchMask::CLOSE_WRITE | WatchMask::MOVE | WatchMask::DELETE;
-        // (the same folder is watched once, and one that was made anew again)
-        let _ = folder.map(|folder| notify.add_watch(folder, mask));
-    }
-
-    fn read_folder(
-        &self,
-        folder: &Path,
-        faults: &mut BTreeSet<String>,
-    ) -> io::Result<BTreeMap<String, Vec<u8>>> {
-        let mut settings = BTreeMap::new();
-        for entry in fs::read_dir(folder)? {
-            let entry = entry?;
-            let name = entry.file_name();
-            let text = name.to_string_lossy();
-            if text.starts_with('.') {
-                continue;
-            }
-            let Some(key) = name.to_str().filter(|name| is_key(name)) else {
-                faults.insert(format!("{text}: the name is no key"));
-                continue;
-            };
-            match read_value(&entry.path()) {
-                Ok(value) => drop(settings.insert(key.to_owned(), value)),
-                Err(error) if error.kind() == io::ErrorKind::NotFound => (),
-                // (what was found to be no setting is of the kind `Other`)
-                Err(error) if !self.known && error.kind() != io::ErrorKind::Other => {
-                    return Err(io::Error::other(format!("{key}: {error}")));
-                }
-                Err(error) => {
-                    faults.insert(format!("{key}: {error}"));
-                    let old = self.publisher.settings().get_key_value(key);
-                    settings.extend(old.map(|(key, value)| (key.clone(), value.clone())));
-                }
-            }
-        }
-        match settings.is_empty() && !folder.join(".empty").exists() {
-            true => Err(io::Error::other("it is empty: is a mount missing, or else `.empty`?")),
-            false => Ok(settings),
+    fn has_answered(&mut self, now: Instant) {
+        self.reads -= 1;
+        self.is_late = false;
+        if self.reads == 0 && self.until.is_some() {
+            self.goes_on(now);
         }
     }
-}
-
-fn read_value(path: &Path) -> io::Result<Vec<u8>> {
-    // (a pipe or a device would never end)
-    match fs::metadata(path)?.is_file() {
-        true => read_file(path, VALUE_BYTES, "it"),
-        false => Err(io::Error::other("it is no file")),
-    }
-}
-
-/// All settings in one file: JSON by its name, else TOML.
-fn read_settings(path: &Path) -> io::Result<BTreeMap<String, Vec<u8>>> {
-    let text = io::read_to_string(&read_file(path, BODY_BYTES, "the file")?[..])?;
-    if path.extension().is_some_and(|it| it == "json") {
-        let all: serde_json::Map<_, serde_json::Value> = serde_json::from_str(&text)?;
-        values(all, |value| value.as_str())
-    } else if text.trim().is_empty() {
-        Err(io::Error::other("it is empty: a comment would say that this is meant"))
-    } else if let Some(line) = too_deep(&text) {
-        Err(io::Error::other(format!("line {line}: {TOO_DEEP}")))
-    } else {
-        values(toml::from_str::<toml::value::Table>(&text)?, |value| value.as_str())
-    }
-}
-
-/// The bytes of values: a text is taken as it is, and any other one as it is written.
-fn values<V: ToString>(
-    all: impl IntoIterator<Item = (String, V)>,
-    text: fn(&V) -> Option<&str>,
-) -> io::Result<BTreeMap<String, Vec<u8>>> {
-    let bytes = |(key, value): (String, V)| {
-        let bytes = text(&value).map_or_else(|| value.to_string(), str::to_owned).into_bytes();
-        match is_key(&key) && bytes.len() <= VALUE_BYTES {
-            true => Ok((key, bytes)),
-            false => Err(io::Error::other(format!("{key}: it is no key, or its value too long"))),
-        }
-    };
-    all.into_iter().map(bytes).collect()
 }

@@ -246,7 +246,8 @@ fn a_table_between_rounds_looks_at_no_file_that_is_as_it_was_put() {
     assert_eq!(place.files(), map([("a", "1"), ("b", "4")]));
     // (hooks of several keys run at once)
     let (mut first, mut then) = (place.calls()[..3].to_vec(), place.calls()[3..5].to_vec());
-    (first.sort(), then.sort());
+    first.sort();
+    then.sort();
     assert_eq!(first, ["set a 1 1", "set b 2 1", "set c 3 1"]);
     assert_eq!(then, ["set b 4 2", "unset c  2"]);
     // (of one that began anew every file is looked at that it has not put)

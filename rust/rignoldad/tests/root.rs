@@ -1,11 +1,12 @@
 //! The root's folder, and what is published of it.
 use rignolda::net::{checksum, Body};
-use rignolda::settings::{Meaning, VALUE_BYTES};
+use rignolda::settings::{Meaning, Published, VALUE_BYTES};
 use rignoldad::config;
 use rignoldad::root::Root;
 use std::collections::BTreeMap;
 use std::fs;
 use std::path::{Path, PathBuf};
+use std::sync::Arc;
 use std::time::{Duration, Instant};
 
 struct Folder(PathBuf);
@@ -29,14 +30,88 @@ impl Drop for Folder {
 
 const ROUND: Duration = Duration::from_secs(3_600);
 
+/// A root, and what time it is there. Whatever it asks the disk for is waited for.
+struct Tried {
+    root: Root,
+    now: Instant,
+}
+
+impl Tried {
+    fn tick(&mut self, now: Instant) {
+        self.now = self.now.max(now);
+        self.root.tick(now);
+        while self.root.is_busy() {
+            std::thread::sleep(Duration::from_millis(1));
+            self.root.tick(now);
+        }
+    }
+
+    fn next(&mut self, limit: u64) -> Option<Published> {
+        let next = self.root.next(limit, self.now);
+        if next.is_some() || !self.root.is_busy() {
+            return next;
+        }
+        // (a table is read first)
+        self.wait();
+        self.next(limit)
+    }
+
+    fn wait(&mut self) {
+        let before = self.root.deadline().min(self.now);
+        self.tick(before.min(self.now));
+    }
+
+    fn begin_round(&mut self, now: Instant) {
+        self.root.begin_round(now);
+        self.wait();
+    }
+
+    fn ask(&mut self, key: &str, value: Option<&[u8]>) -> Result<u64, String> {
+        self.root.ask(key, value.map(Vec::from))
+    }
+
+    /// Those that failed.
+    fn commit(&mut self) -> Vec<(String, String)> {
+        self.root.commit();
+        self.wait();
+        self.root.failed().into_iter().map(|(_, key, why)| (key, why)).collect()
+    }
+
+    fn change(&mut self, key: &str, value: Option<&[u8]>) -> Result<(), String> {
+        self.ask(key, value)?;
+        self.commit().pop().map_or(Ok(()), |(_, why)| Err(why))
+    }
+
+    fn faults(&self) -> Vec<String> {
+        self.root.faults().texts.iter().cloned().collect()
+    }
+}
+
+impl std::ops::Deref for Tried {
+    type Target = Root;
+
+    fn deref(&self) -> &Root {
+        &self.root
+    }
+}
+
+impl std::ops::DerefMut for Tried {
+    fn deref_mut(&mut self) -> &mut Root {
+        &mut self.root
+    }
+}
+
 /// A root, whose first round is over where `settled`.
-fn root(settings: &Path, settled: bool) -> (Root, Instant) {
+fn root(settings: &Path, settled: bool) -> (Tried, Instant) {
     let now = Instant::now();
     let config = config::Root { settings: settings.into(), round: ROUND, harmless: 3 };
-    let mut root = Root::new(&config, now);
+    let root = Root::new(&config, now, Arc::new(|| ())).unwrap();
+    let mut root = Tried { root, now };
     if settled {
         root.tick(now);
         while root.next(100).is_some() {}
+    } else {
+        root.wait();
     }
     (root, now)
 }
@@ -54,7 +129,7 @@ fn said(body: &Body) -> (char, Said) {
     (body.bytes[0] as char, entries.collect())
 }
 
-fn next(root: &mut Root) -> Option<(char, Said)> {
+fn next(root: &mut Tried) -> Option<(char, Said)> {
     root.next(100).map(|published| said(&published.body))
 }
 
@@ -110,7 +185,7 @@ fn of_changes_that_wait_the_last_value_is_published() {
 fn numbers_go_up_by_one() {
     let folder = Folder::new("numbers");
     let (mut root, _) = root(&folder.0, false);
-    let number = |root: &mut Root| root.next(100).unwrap().body.meaning().unwrap().0;
+    let number = |root: &mut Tried| root.next(100).unwrap().body.meaning().unwrap().0;
     let first = number(&mut root);
     root.change("a", Some(b"1")).unwrap();
     let next = root.next(100).unwrap();
@@ -219,8 +294,8 @@ fn a_change_that_cannot_be_written_is_refused_and_is_as_it_was() {
     let failed = root.commit();
     assert!(matches!(&failed[..], [(key, _)] if key == "a"), "{failed:?}");
     // (what cannot be read stays as it was too)
-    let changes = vec![entry("a", Some("1")), entry("c", Some("3"))];
-    assert_eq!(next(&mut root), Some(('C', changes)));
+    assert_eq!(next(&mut root), Some(('C', vec![entry("c", Some("3"))])));
+    assert_eq!(root.settings(), 2);
     assert!(root.change("a", Some(b"2")).is_err());
 }
 
@@ -228,7 +303,7 @@ fn a_change_that_cannot_be_written_is_refused_and_is_as_it_was() {
 fn a_round_that_is_due_while_one_is_under_way_begins_after_it() {
     let folder = Folder::new("overdue");
     let (mut root, now) = root(&folder.0, false);
-    let kinds = |root: &mut Root, most: usize| -> String {
+    let kinds = |root: &mut Tried, most: usize| -> String {
         (0..most).map_while(|_| next(root)).map(|(kind, _)| kind).collect()
     };
     root.tick(now);
@@ -263,12 +338,6 @@ fn of_a_folder_what_changed_is_seen_whoever_changed_it() {
     };
     let changes = vec![entry("a", None), entry("b", Some("2")), entry("c", Some("1"))];
     seen(&moved, changes);
-    // (a name with a dot in front may be where others point to)
-    std::os::unix::fs::symlink(".data/d", folder.0.join("d")).unwrap();
-    fs::create_dir(folder.0.join(".other")).unwrap();
-    fs::write(folder.0.join(".other/d"), "4").unwrap();
-    let points = |it: &Path| fs::rename(it.join(".other"), it.join(".data")).unwrap();
-    seen(&points, vec![entry("d", Some("4"))]);
     seen(&|it| fs::write(it.join("a"), [0; VALUE_BYTES + 1]).unwrap(), vec![]);
     seen(&|it| fs::write(it.join("a"), "5").unwrap(), vec![entry("a", Some("5"))]);
     seen(&|it| fs::remove_file(it.join("c")).unwrap(), vec![entry("c", None)]);
@@ -315,7 +384,7 @@ fn an_empty_folder_unsets_nothing_unless_it_says_so() {
     fs::remove_file(&marker).unwrap();
     // (a folder where nothing is mounted, at the start)
     let (mut root, now) = root(&folder.0, true);
-    assert!(root.change("c", Some(b"1")).is_err() && !root.waits());
+    assert!(!root.waits());
     fs::write(folder.0.join(".other"), "").unwrap();
     root.tick(now + ROUND);
     assert!(!root.waits());
@@ -337,6 +406,86 @@ fn an_empty_folder_unsets_nothing_unless_it_says_so() {
     let all = std::iter::from_fn(|| next(&mut root)).last();
     assert_eq!(all, Some(('T', vec![])));
     fs::remove_dir_all(away).unwrap();
+}
+
+#[test]
+fn the_first_setting_of_an_empty_folder_may_be_published() {
+    let folder = Folder::new("first");
+    fs::remove_file(folder.0.join(".empty")).unwrap();
+    let (mut root, _) = root(&folder.0, true);
+    assert!(!root.waits() && root.faults().len() == 1, "{:?}", root.faults());
+    root.change("a", Some(b"1")).unwrap();
+    assert_eq!(next(&mut root), Some(('T', vec![entry("a", Some("1"))])));
+    assert_eq!(root.faults(), [""; 0]);
+    // (not where something is there, and is no setting)
+    fs::remove_file(folder.0.join("a")).unwrap();
+    fs::create_dir(folder.0.join("inner")).unwrap();
+    let (mut root, _) = self::root(&folder.0, true);
+    let why = root.change("a", Some(b"1")).unwrap_err();
+    assert!(why.contains("is not known"), "{why}");
+}
+
+#[test]
+fn no_link_is_followed_and_nothing_but_a_plain_file_is_read() {
+    let folder = Folder::new("plain");
+    fs::write(folder.0.join("a"), "1").unwrap();
+    fs::write(folder.0.with_extension("secret"), "of the agent alone").unwrap();
+    std::os::unix::fs::symlink(folder.0.with_extension("secret"), folder.0.join("b")).unwrap();
+    std::os::unix::fs::symlink("/dev/zero", folder.0.join("c")).unwrap();
+    std::os::unix::net::UnixListener::bind(folder.0.join("d")).unwrap();
+    assert!(std::process::Command::new("mkfifo")
+        .arg(folder.0.join("e"))
+        .status()
+        .unwrap()
+        .success());
+    let (mut root, now) = root(&folder.0, false);
+    root.tick(now);
+    assert_eq!(next(&mut root), Some(('T', vec![entry("a", Some("1"))])));
+    let why = "it is no plain file, and no link is followed";
+    assert_eq!(root.faults(), ["b", "c", "d", "e"].map(|key| format!("{key}: {why}")));
+    while root.next(100).is_some() {}
+    // (one that was a setting, and is a link now, stays as it was)
+    fs::remove_file(folder.0.join("a")).unwrap();
+    fs::rename(folder.0.join("b"), folder.0.join("a")).unwrap();
+    root.notified(now);
+    root.tick(root.deadline());
+    assert_eq!((next(&mut root), root.settings()), (None, 1));
+    fs::remove_file(folder.0.with_extension("secret")).unwrap();
+}
+
+#[test]
+fn what_cannot_be_published_is_named_until_it_can() {
+    let folder = Folder::new("faults");
+    fs::write(folder.0.join("a"), "1").unwrap();
+    let (mut root, now) = root(&folder.0, true);
+    assert_eq!(root.faults(), [""; 0]);
+    let mut at = now;
+    let mut after = |root: &mut Tried, change: &dyn Fn(&Path)| {
+        change(&folder.0);
+        at += Duration::from_secs(1);
+        root.notified(at);
+        root.tick(root.deadline());
+        while root.next(100).is_some() {}
+        root.faults()
+    };
+    let long = vec![b'x'; VALUE_BYTES + 1];
+    let faults = after(&mut root, &|it| fs::write(it.join("a"), &long).unwrap());
+    assert_eq!(faults, ["a: it has more than 1048576 bytes"]);
+    assert_eq!(after(&mut root, &|it| fs::write(it.join("a"), "2").unwrap()), [""; 0]);
+    let faults = after(&mut root, &|it| fs::write(it.join("no key"), "2").unwrap());
+    assert!(faults.len() == 1 && faults[0].starts_with("`no key` is no key: that is 1 to 128"));
+    assert_eq!(after(&mut root, &|it| fs::remove_file(it.join("no key")).unwrap()), [""; 0]);
+    // (too many bytes together, and gone)
+    let faults = after(&mut root, &|it| {
+        (0..17).for_each(|at| fs::write(it.join(format!("big{at}")), &long[1..]).unwrap());
+    });
+    assert!(faults.len() == 1 && faults[0].contains("all settings have more than"), "{faults:?}");
+    (0..17).for_each(|at| fs::remove_file(folder.0.join(format!("big{at}"))).unwrap());
+    assert_eq!(after(&mut root, &|it| fs::write(it.join("a"), "3").unwrap()), [""; 0]);
+    let faults = after(&mut root, &|it| fs::rename(it, it.with_extension("gone")).unwrap());
+    assert!(faults.len() == 1 && faults[0].contains("No such file"), "{faults:?}");
+    fs::rename(folder.0.with_extension("gone"), &folder.0).unwrap();
+    assert!(root.ask("../a", None).unwrap_err().contains("the first one no dot or hyphen"));
 }
 
 #[test]
@@ -363,7 +512,7 @@ fn each_table_is_what_the_folder_has() {
     }
     let (mut root, now) = root(&folder.0, true);
     let all = |b: &str| vec![entry("a", Some("2")), entry("b", Some(b)), entry("c", Some("1"))];
-    let changed = |root: &mut Root| {
+    let changed = |root: &mut Tried| {
         root.change("a", Some(b"2")).unwrap();
         said(&root.next(5).unwrap().body)
     };

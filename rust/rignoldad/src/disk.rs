@@ -1,0 +1,320 @@
+//! The disk that has the root's settings. A thread does what may have to wait for it.
+use crate::config::{is_key, too_deep, TOO_DEEP};
+use inotify::{Inotify, WatchMask};
+use rignolda::net::BODY_BYTES;
+use rignolda::settings::{entry_bytes, Batch, KEY_BYTES, SETTINGS, VALUE_BYTES};
+use std::collections::{BTreeMap, BTreeSet};
+use std::fs::{self, File, OpenOptions};
+use std::io::{self, ErrorKind, Read};
+use std::os::unix::fs::{MetadataExt, OpenOptionsExt};
+use std::os::unix::io::{AsRawFd, RawFd};
+use std::path::{Path, PathBuf};
+use std::sync::{mpsc, Arc};
+use std::thread;
+
+/// O_NOFOLLOW and O_NONBLOCK of Linux: what a link points to may be a secret of the agent's own,
+/// and a pipe would never end.
+const AS_IT_IS: i32 = 0o4000
+    | if cfg!(any(target_arch = "aarch64", target_arch = "arm")) { 0o100_000 } else { 0o400_000 };
+/// How many faults are named.
+const NAMED: usize = 64;
+const NO_FILE: &str = "it is no plain file, and no link is followed";
+const EMPTY: &str = "it is empty: is a mount missing, or else `.empty`?";
+
+/// What is to be done. One comes after the other.
+pub enum Job {
+    /// To read all settings.
+    Read,
+    /// To read what changed.
+    Changed,
+    /// To write these files, or to remove them.
+    Write(Vec<Change>),
+}
+
+/// A key, and its value; without one, it is unset.
+pub type Change = (String, Option<Vec<u8>>);
+
+/// What was done.
+pub enum Done {
+    Read(Result<Found, Empty>),
+    /// These alone changed.
+    Keys(Vec<Change>),
+    /// Each change, and why it was not done.
+    Written(Vec<(Change, Result<(), String>)>),
+}
+
+/// What cannot be published, and why.
+#[derive(Default, PartialEq)]
+pub struct Faults {
+    pub count: u64,
+    pub texts: BTreeSet<String>,
+}
+
+/// All settings that could be read.
+#[derive(Default)]
+pub struct Found {
+    pub settings: BTreeMap<String, Vec<u8>>,
+    /// Those that are there and could not, and whether each may be a setting all the same.
+    pub unread: BTreeMap<String, bool>,
+    pub faults: Faults,
+}
+
+/// Why there are no settings.
+pub struct Empty {
+    pub why: String,
+    /// Whether the first one may be published: the folder is there, empty and the agent's own.
+    pub is_new: bool,
+    pub faults: Faults,
+}
+
+/// The thread.
+pub struct Disk {
+    pub descriptor: Option<RawFd>,
+    jobs: mpsc::Sender<Job>,
+    done: mpsc::Receiver<Done>,
+}
+
+struct Place {
+    settings: PathBuf,
+    notify: Option<Inotify>,
+}
+
+impl Faults {
+    pub fn add(&mut self, text: String) {
+        self.count += 1;
+        if self.texts.len() < NAMED {
+            self.texts.insert(text);
+        }
+    }
+}
+
+impl Disk {
+    /// Starts it. It calls `wake` whenever something was done.
+    pub fn new(settings: PathBuf, wake: Arc<dyn Fn() + Send + Sync>) -> io::Result<Disk> {
+        let (jobs, asked) = mpsc::channel();
+        let (to, done) = mpsc::channel();
+        let mut place = Place { settings, notify: Inotify::init().ok() };
+        let descriptor = place.notify.as_ref().map(AsRawFd::as_raw_fd);
+        thread::Builder::new().name("disk".into()).spawn(move || {
+            for job in asked {
+                if to.send(place.work(job)).is_err() {
+                    break;
+                }
+                wake();
+            }
+        })?;
+        Ok(Disk { descriptor, jobs, done })
+    }
+
+    pub fn begin(&self, job: Job) {
+        let _ = self.jobs.send(job);
+    }
+
+    pub fn done(&self) -> Option<Done> {
+        self.done.try_recv().ok()
+    }
+}
+
+impl Place {
+    fn work(&mut self, job: Job) -> Done {
+        match job {
+            Job::Read => Done::Read(self.read()),
+            Job::Changed => match self.changed() {
+                Some(changes) => Done::Keys(changes),
+                None => Done::Read(self.read()),
+            },
+            Job::Write(changes) => Done::Written(self.write(changes)),
+        }
+    }
+
+    /// The settings that changed, where it is known which; else all are to be read.
+    fn changed(&mut self) -> Option<Vec<Change>> {
+        let mut space = [0; 4_096];
+        let (mut keys, mut came, mut all) = (BTreeSet::new(), 0, !self.settings.is_dir());
+        while let Some(Ok(events)) = self.notify.as_mut().map(|it| it.read_events(&mut space)) {
+            let before = came;
+            for event in events {
+                came += 1;
+                match event.name.and_then(|name| name.to_str()) {
+                    Some(name) if is_key(name) => drop(keys.insert(name.to_owned())),
+                    // (its own, before they are moved to their places)
+                    Some(name) if name.starts_with(".rignolda") => (),
+                    _ => all = true,
+                }
+            }
+            if came == before {
+                break;
+            }
+        }
+        let value = |key: String| match read_value(&self.settings.join(&key)) {
+            Ok(value) => Some((key, Some(value))),
+            Err(e) if e.kind() == ErrorKind::NotFound && self.settings.is_dir() => {
+                Some((key, None))
+            }
+            Err(_) => None,
+        };
+        if all || came == 0 {
+            None
+        } else {
+            keys.into_iter().map(value).collect()
+        }
+    }
+
+    /// Writes files, and waits until the disk has them. No two are of one key.
+    fn write(&self, changes: Vec<Change>) -> Vec<(Change, Result<(), String>)> {
+        let (mut batch, path) = (Batch::default(), |key: &str| self.settings.join(key));
+        let write = |(key, value): Change| {
+            let done = match &value {
+                _ if self.settings.is_file() => Err(io::Error::other("all are kept in one file")),
+                Some(value) => batch.write(path(&key), value),
+                None => batch.remove(&path(&key)),
+            };
+            ((key, value), done)
+        };
+        let done: Vec<_> = changes.into_iter().map(write).collect();
+        let failed = batch.commit();
+        let done = done.into_iter().map(|(change, done)| {
+            let path = path(&change.0);
+            let later = failed.iter().find(|(it, _)| *it == path).map(|(_, error)| error);
+            let error = done.as_ref().err().or(later);
+            let done = error.map_or(Ok(()), |error| Err(format!("{}: {error}", path.display())));
+            (change, done)
+        });
+        done.collect()
+    }
+
+    /// Reads all settings, and waits for changes from before that.
+    fn read(&mut self) -> Result<Found, Empty> {
+        let path = &self.settings;
+        let folder = if path.is_dir() { Some(path.as_path()) } else { path.parent() };
+        let mask = WatchMask::CLOSE_WRITE | WatchMask::MOVE | WatchMask::DELETE;
+        // (the same folder is watched once, and one that was made anew again)
+        if let (Some(notify), Some(folder)) = (&mut self.notify, folder) {
+            let _ = notify.add_watch(folder, mask);
+        }
+        let read = match path.is_file() {
+            true => read_settings(path),
+            false => read_folder(path),
+        };
+        let (why, faults) = match read {
+            Ok(it) if it.settings.is_empty() && path.is_dir() && !path.join(".empty").exists() => {
+                (EMPTY.to_string(), it.faults)
+            }
+            Ok(found) => return Ok(found),
+            Err(error) => (error.to_string(), Faults::default()),
+        };
+        let owner = |path: &Path| fs::metadata(path).ok().map(|it| it.uid());
+        let is_own = || owner(path) == owner(Path::new("/proc/self"));
+        let is_new = why == EMPTY && faults.count == 0 && is_own();
+        Err(Empty { why: format!("{}: {why}", path.display()), is_new, faults })
+    }
+}
+
+fn read_folder(folder: &Path) -> io::Result<Found> {
+    let (mut found, mut bytes) = (Found::default(), 0);
+    for entry in fs::read_dir(folder)? {
+        let entry = entry?;
+        let name = entry.file_name();
+        let text = name.to_string_lossy();
+        if text.starts_with('.') {
+            continue;
+        }
+        let Some(key) = name.to_str().filter(|name| is_key(name)) else {
+            found.faults.add(no_key(&text));
+            continue;
+        };
+        match read_value(&entry.path()) {
+            Ok(value) => {
+                bytes += entry_bytes(&(key, Some(&value)));
+                found.settings.insert(key.to_owned(), value);
+            }
+            Err(error) if error.kind() == ErrorKind::NotFound => (),
+            Err(error) => {
+                // (what was found to be no setting is of the kind `Other`)
+                found.unread.insert(key.to_owned(), error.kind() != ErrorKind::Other);
+                found.faults.add(format!("{key}: {error}"));
+            }
+        }
+        if bytes > BODY_BYTES || found.settings.len() > SETTINGS {
+            return Err(too_many());
+        }
+    }
+    Ok(found)
+}
+
+fn too_many() -> io::Error {
+    let text = format!("all settings have more than {BODY_BYTES} bytes, or are over {SETTINGS}");
+    io::Error::other(text)
+}
+
+/// What is said of a name that is none of a setting.
+pub fn no_key(name: &str) -> String {
+    format!(
+        "`{name}` is no key: that is 1 to {KEY_BYTES} letters, digits, `.`, `_` or `-`, the first \
+         one no dot or hyphen"
+    )
+}
+
+fn read_value(path: &Path) -> io::Result<Vec<u8>> {
+    read_file(path, VALUE_BYTES)
+}
+
+/// The bytes of a plain file, of which there are at most so many.
+fn read_file(path: &Path, most: usize) -> io::Result<Vec<u8>> {
+    let open = OpenOptions::new().read(true).custom_flags(AS_IT_IS).open(path);
+    let is_file = || fs::symlink_metadata(path).map_or(true, |it| it.is_file());
+    let file: File = match open {
+        Err(_) if !is_file() => return Err(io::Error::other(NO_FILE)),
+        file => file?,
+    };
+    if !file.metadata()?.is_file() {
+        return Err(io::Error::other(NO_FILE));
+    }
+    let mut bytes = Vec::new();
+    file.take(most as u64 + 1).read_to_end(&mut bytes)?;
+    match bytes.len() > most {
+        true => Err(io::Error::other(format!("it has more than {most} bytes"))),
+        false => Ok(bytes),
+    }
+}
+
+/// All settings in one file: JSON by its name, else TOML.
+fn read_settings(path: &Path) -> io::Result<Found> {
+    let text = io::read_to_string(&read_file(path, BODY_BYTES)?[..])?;
+    if path.extension().is_some_and(|it| it == "json") {
+        let all: serde_json::Map<_, serde_json::Value> = serde_json::from_str(&text)?;
+        values(all, |value| value.as_str())
+    } else if text.trim().is_empty() {
+        Err(io::Error::other("it is empty: a comment would say that this is meant"))
+    } else if let Some(line) = too_deep(&text) {
+        Err(io::Error::other(format!("line {line}: {TOO_DEEP}")))
+    } else {
+        values(toml::from_str::<toml::value::Table>(&text)?, |value| value.as_str())
+    }
+}
+
+/// The bytes of values: a text is taken as it is, and any other one as it is written.
+fn values<V: ToString>(
+    all: impl IntoIterator<Item = (String, V)>,
+    text: fn(&V) -> Option<&str>,
+) -> io::Result<Found> {
+    let mut found = Found::default();
+    for (key, value) in all {
+        let bytes = text(&value).map_or_else(|| value.to_string(), str::to_owned).into_bytes();
+        let why = match () {
+            () if !is_key(&key) => no_key(&key),
+            () if bytes.len() > VALUE_BYTES => {
+                format!("{key}: it has more than {VALUE_BYTES} bytes")
+            }
+            () => {
+                found.settings.insert(key, bytes);
+                continue;
+            }
+        };
+        return Err(io::Error::other(why));
+    }
+    match found.settings.len() > SETTINGS {
+        true => Err(too_many()),
+        false => Ok(found),
+    }
+}
