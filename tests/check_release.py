@@ -123,7 +123,8 @@ lines = manifest.read_text().splitlines()
 holds("and is one", sorted(it.name for it in release.iterdir()) == ["MANIFEST", "stab.gz"]
       and gzip.decompress((release / "stab.gz").read_bytes()) == program.read_bytes()
       and lines[0] == "kit kit-1 logic 1" and len(lines) == 2
-      and re.fullmatch(f"stab sha256 {digest(program)} sources [0-9a-f]{{64}}", lines[1]))
+      and re.fullmatch(f"stab sha256 {digest(program)} sources [0-9a-f]{{64}} "
+                       "compared with kit-1 logic 1", lines[1]))
 keep()
 write("release/notes", "more\n")
 released("a second one takes what was built", 0)
@@ -159,7 +160,8 @@ checked("so does half a program", 4, BESIDE, EQUAL)
 checked("and so does more than the program", 5, BESIDE)
 restore("stab.gz")
 for name, text in (("a manifest of one line fails", lines[0] + "\n"),
-                   ("and so does one with a long digest", f"{lines[0]}\n{lines[1]}0\n")):
+                   ("and so does one with a long digest",
+                    f"{lines[0]}\n{lines[1].replace(' sources ', '0 sources ')}\n")):
     write(manifest, text)
     holds(name, f"\nOTHER  {MANIFEST}\n" in run("--check").out)
 restore("MANIFEST")
@@ -321,18 +323,35 @@ lines = manifest.read_text().splitlines()[:4]
 said("they are kept", 0, "", "--keep")
 daemon("--keep")
 sources = daemon("--sources").out.strip()
-lines += ["rustc 1.0", *(f"{it} sha256 {digest(top / 'rust/target/release' / it)} sources {sources}"
-                         for it in DAEMON)]
+own = [f"{it} sha256 {digest(top / 'rust/target/release' / it)} sources {sources}"
+       for it in DAEMON]
+lines += [f"{line} compared with rustc 1.0" for line in own]
 holds("with lines of their own, each once", manifest.read_text().splitlines() == lines)
 checked("then nothing is wrong", 17)
 keep()
 run()
 holds("another release leaves them as they are", same(work / "release", release))
 said("they are what is built of the sources", 0, "", "--check")
-said("another compiler is named, and nothing is compared", 0,
-     "of another compiler than rustc 2.0: not compared", "--check", RUSTC="2.0")
+said("where another compiler built them they are not compared, which is no success", 4,
+     "rignoldactl is NOT COMPARED: rustc 1.0 built it, not rustc 2.0", "--check", RUSTC="2.0")
+# Somebody puts another program there, with its digest, and names another compiler.
+(release / "rignoldad.gz").write_bytes(gzip.compress(b"another\n"))
+said("another program is found by its digest", 1, "rignoldad.gz is not what its MANIFEST says",
+     "--check")
+write(manifest, re.sub("(?<=rignoldad sha256 ).{64}", digest(b"another\n"), manifest.read_text()))
+said("and with its digest by its bytes", 1, "another rignoldad than these sources give", "--check")
+change("release/MANIFEST", lines[4][-9:], "rustc 2.0")
+said("and with another compiler it is not taken for compared", 4,
+     "rignoldad is NOT COMPARED: rustc 2.0 built it, not rustc 1.0", "--check")
+restore("rignoldad.gz")
+restore("MANIFEST")
+# A manifest of before, with a line of the compiler.
+write(manifest, "\n".join([*lines[:4], "rustc 1.0", *own, ""]))
+checked("one that has a line of the compiler can be read", 17)
+run()
+holds("and is written anew as it is now", same(work / "release", release))
 write(manifest, re.sub("(?<=rignoldad sha256 ).{64}", "0" * 64, manifest.read_text()))
-said("another program is found", 1, "other programs than these sources give", "--check")
+said("another digest is found", 1, "rignoldad.gz is not what its MANIFEST says", "--check")
 checked("here too", 16, NAMED[1])
 (work / "unpacked").mkdir()
 said("and it is not unpacked", 1, "is not what its MANIFEST says", "--unpack", work / "unpacked")
@@ -340,7 +359,7 @@ restore("MANIFEST")
 daemon("--unpack", work / "unpacked")
 holds("the right ones are", same(top / "rust/target/release", work / "unpacked"))
 add("rust/rignoldad/src/rignoldad.rs", "more\n")
-said("other sources are found", 1, "programs of other sources", "--check")
+said("other sources are found", 1, "has a rignoldad of other sources", "--check")
 checked("for both", 15, NAMED[0], NAMED[2])
 write("rust/rignoldad/src/rignoldad.rs", "a daemon\n")
 change("rust/rignoldad/Cargo.toml", "1.2.0", "1.1.9")

@@ -18,9 +18,10 @@
 
 What release/ has is in the table of tools/launch; a program is compressed. The file MANIFEST has
 the line of the kit, and a line for each of these files: its name, the digest of what it holds,
-unpacked if it is a program, and the digest of its sources. The programs of the daemon are made by
-tools/build_daemon --keep, which takes a minute, and stay as they are here; what --check says of
-them is that they and their sources are those of their lines.
+unpacked if it is a program, the digest of its sources, and what it was compared with: the kit or
+the compiler that gave the same bytes from these sources. The programs of the daemon are made by
+tools/build_daemon --keep, which takes a minute, and stay as they are here, with what their lines
+say; what --check says of them is that they and their sources are those of their lines.
 
 A build is over what checks have kept, or by rt ci in a copy of the sources, which takes what it has
 passed before on this machine, if the kit keeps that. Where it begins from nothing, rt ci does not
@@ -103,7 +104,7 @@ class Release(Commands):
         for line in said.stdout.splitlines():
             kind, *words = line.split("\t")
             if kind == "kit":
-                self.kit, self.why, self.released_by, self.daemon_by = words
+                self.kit, self.why, self.released_by = words
             elif kind == "artefact":
                 self.artefacts[words[0]] = Artefact(*words[1:])
             else:
@@ -422,7 +423,7 @@ class Release(Commands):
 
     def compare(self, name):
         """Says how a program that was built from nothing compares with that of the release."""
-        digest, sources = self.released.get(name, ("", ""))
+        digest, sources, _ = self.released.get(name, ("", "", ""))
         if self.why or not digest:
             self.say(f"nothing was compared: {self.why or f'the release has no {name}'}")
         elif sources != self.artefacts[name].sources:
@@ -464,14 +465,15 @@ class Release(Commands):
             if it.kind == "program":
                 data = output("gzip", "-9n", input=data)
             files[self.file(name)] = data
-            lines.append(f"{name} sha256 {it.built[-64:]} sources {it.sources}")
-        if self.daemon and not self.why and self.daemon_by:
-            lines.append(self.daemon_by)
+            lines.append(f"{name} sha256 {it.built[-64:]} sources {it.sources} "
+                         f"compared with {self.kit}")
+        if not self.why and {*self.daemon} <= {*self.released}:
             for name in self.daemon:
                 if not self.file(name).is_file():
                     self.fail(f"the release has no {name}.gz: run tools/build_daemon --keep")
                 files[self.file(name)] = self.file(name).read_bytes()
-                lines.append("{} sha256 {} sources {}".format(name, *self.released[name]))
+                lines.append("{} sha256 {} sources {} compared with {}".format(
+                    name, *self.released[name]))
         # (what is no more of a release goes)
         files[RELEASE / "MANIFEST"] = "".join(f"{line}\n" for line in lines).encode()
         shutil.rmtree(RELEASE, ignore_errors=True)
