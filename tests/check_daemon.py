@@ -1,6 +1,6 @@
 #!/usr/bin/env -S python3 -B
-"""The daemon: its tests and those of its library, the linter, its trials in trees of processes, and
-its kept programs.
+"""The daemon: its tests and those of its library, the linter, its trials in trees of processes, its
+kept programs, and what validators say of its alarms, counts, manuals, unit and package.
 
 Where it cannot be built here, the kept programs are tried, and a line says what to run. Where
 another compiler built the kept ones, a line says that they are not compared, which is not counted.
@@ -62,7 +62,7 @@ def main():
         if shutil.which("cargo"):
             cases.works("the tests of the library for Rust", "cargo", "test", *OFFLINE, *LIBRARY,
                         *APART)
-        for script in "check_judge.py", "check.py":
+        for script in "check_judge.py", "check.py", "check_validators.py":
             said = ran(f"tests/daemon/{script}")[1]
             print(said, end="", flush=True)
             found = re.search(r"^(\d+) passed, (\d+) failed\n\Z", said, re.M)
