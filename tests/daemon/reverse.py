@@ -29,9 +29,10 @@ def certify(home, names):
     run("req", "-x509", *key, "-days", "2", "-subj", "/CN=authority", "-keyout", "ca.key",
         "-out", "ca.crt")
     for name in names:
-        run("req", *key, "-subj", f"/CN={name}", "-keyout", f"{name}.key", "-out", f"{name}.csr")
+        run("req", *key, "-subj", f"/CN={name}", "-addext", f"subjectAltName=DNS:{name}",
+            "-keyout", f"{name}.key", "-out", f"{name}.csr")
         run("x509", "-req", "-in", f"{name}.csr", "-CA", "ca.crt", "-CAkey", "ca.key",
-            "-CAcreateserial", "-days", "2", "-out", f"{name}.crt")
+            "-copy_extensions", "copy", "-CAcreateserial", "-days", "2", "-out", f"{name}.crt")
     return {name: {"certificate": str(home / f"{name}.crt"), "key": str(home / f"{name}.key"),
                    "authority": str(home / "ca.crt")} for name in names}
 

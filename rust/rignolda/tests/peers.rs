@@ -361,7 +361,7 @@ fn whoever_is_somebody_else_is_refused() {
         let stranger = net.stranger(to, certificate, &says);
         net.step();
         assert!(
-            net.said(to, &format!("refused {why}")),
+            net.said(to, &format!("refused somewhere: {why}")),
             "{why}: {:?}",
             net.agent(to).said.facts
         );
@@ -412,7 +412,7 @@ fn parents_are_tried_in_order() {
     // (a parent that comes while there is another one is refused, and calls again)
     net.start(setup("first", vec![], children(&[("leaf", true)])));
     net.steps(100);
-    assert!(net.said("leaf", "refused another parent is connected"));
+    assert!(net.said("leaf", "refused somewhere: another parent is connected"));
     assert_eq!(name(&mut net).as_deref(), Some("second"));
     net.agents.remove("second");
     net.steps(400);

@@ -637,7 +637,17 @@ fn children_that_come_at_once_do_not_drive_each_other_out() {
         ends.push(here);
     }
     clock.set(60);
-    root.read(1..=300, began + Duration::from_millis(60), &mut said);
+    // (a turn has some handshakes alone, and says that there is more)
+    let now = began + Duration::from_millis(60);
+    root.read(1..=300, now, &mut said);
+    assert!(root
+        .relay()
+        .children()
+        .any(|(_, link)| !link.is_connected()));
+    for _ in 0..300 / 8 {
+        assert_eq!(root.deadline(now), Some(now));
+        root.read(None, now, &mut said);
+    }
     assert_eq!(root.refused(), 0);
     assert!(root.relay().children().all(|(_, link)| link.is_connected()));
 }

@@ -23,7 +23,7 @@ use std::os::unix::io::{AsRawFd, RawFd};
 use std::os::unix::net::{UnixDatagram, UnixStream};
 use std::path::{Path, PathBuf};
 use std::sync::{mpsc, Arc};
-use std::time::{Duration, Instant};
+use std::time::{Duration, Instant, SystemTime, UNIX_EPOCH};
 
 /// How many connections are accepted in one turn.
 const ACCEPTS: usize = 64;
@@ -59,6 +59,8 @@ pub struct Agent {
     ready: Vec<u64>,
     /// Whether there is anything else to do.
     is_due: bool,
+    /// When the first certificate of a line expires, in seconds since 1970.
+    expires: i64,
     /// The other descriptors that are waited for, each with its number, and whether until they can
     /// be written, and not read.
     others: Vec<(RawFd, u64, bool)>,
@@ -163,6 +165,19 @@ fn notify(text: &str) {
     if let (Ok(address), Ok(socket)) = (address, UnixDatagram::unbound()) {
         let _ = socket.send_to_addr(text.as_bytes(), &address);
     }
+}
+
+/// Seconds since 1970, by the clock of the machine.
+fn unix_now() -> i64 {
+    let since = SystemTime::now().duration_since(UNIX_EPOCH);
+    since.map_or(0, |it| it.as_secs() as i64)
+}
+
+/// How many descriptors the process may have.
+fn descriptors() -> usize {
+    let limits = std::fs::read_to_string("/proc/self/limits").unwrap_or_default();
+    let line = limits.lines().find_map(|line| line.strip_prefix("Max open files"));
+    line.and_then(|it| it.split_whitespace().next()?.parse().ok()).unwrap_or(1_024)
 }
 
 fn random() -> io::Result<u64> {
@@ -282,6 +297,9 @@ impl Agent {
             Root::new(root, now, wake.clone())
                 .map_err(|e| format!("root: its thread cannot be started: {e}"))
         });
+        let mut peers = Peers::new(config.peers.clone(), life, config.backlog, now);
+        // (the others are for children that came, files and control)
+        peers.bound_waiting((descriptors() / 4).max(1));
         Ok(Agent {
             path: path.into(),
             maker: maker(&config)?,
@@ -291,11 +309,12 @@ impl Agent {
             lines: Vec::new(),
             ready: Vec::new(),
             is_due: true,
+            expires: i64::MAX,
             others: Vec::new(),
             listeners: config.listen.iter().map(listen).collect::<Result<_, _>>()?,
             full_until: now,
             found: mpsc::channel(),
-            peers: Peers::new(config.peers.clone(), life, config.backlog, now),
+            peers,
             stores: Stores::new(config.store.clone(), silence(&config), wake.clone()),
             root: root.transpose()?,
             state: State {
@@ -329,6 +348,8 @@ impl Agent {
         let others: Vec<_> = reads.map(|fd| (fd, 0, false)).chain(served).collect();
         let line = |(id, it, has): (u64, &Line, bool)| (id, it.as_raw_fd(), it.wants_write(has));
         let lines: Vec<_> = self.peers.lines().map(line).collect();
+        let expires = self.peers.lines().map(|(_, line, _)| line.expires());
+        self.expires = expires.min().unwrap_or(i64::MAX);
         let registry = self.poll.registry();
         for (fd, ..) in self.others.iter().filter(|(fd, ..)| others.iter().all(|it| it.0 != *fd)) {
             // (where it was closed, the system has forgotten it already)
@@ -375,9 +396,13 @@ impl Agent {
         let served = self.control.as_ref().and_then(control::Server::deadline);
         let counted = self.metrics.as_ref().and_then(metrics::Server::deadline);
         let full = Some(self.full_until).filter(|at| *at > now);
+        let expires = u64::try_from(self.expires.saturating_sub(unix_now())).unwrap_or(0);
+        // (the clock may be set meanwhile)
+        let expires = Some(now + Duration::from_secs(expires).min(SAYS_AGAIN));
         let files = self.state.applying.then(|| now + ASKS_AGAIN);
         let more = self.may_publish().then_some(now);
-        let all = [self.peers.deadline(now), root, report, served, counted, full, files, more];
+        let all =
+            [self.peers.deadline(now), root, report, served, counted, full, files, more, expires];
         all.into_iter().flatten().min().unwrap_or(now + SAYS_AGAIN)
     }
 
@@ -387,6 +412,7 @@ impl Agent {
         if self.is_due {
             self.stores.done(&mut self.peers, now, &mut self.state);
             self.accept(fired, now);
+            self.leave_expired(now);
             self.peers.tick(now, &mut self.state);
             self.connect(now);
             if let Some(root) = &mut self.root {
@@ -418,6 +444,18 @@ impl Agent {
                         break;
                     }
                 }
+            }
+        }
+    }
+
+    /// Leaves lines when the certificate of one of their ends has expired.
+    fn leave_expired(&mut self, now: Instant) {
+        let time = unix_now();
+        if self.expires <= time {
+            let over = self.peers.lines().filter(|(_, line, _)| line.expires() <= time);
+            for id in over.map(|(id, ..)| id).collect::<Vec<_>>() {
+                let why = "a certificate, of it or of this agent, has expired";
+                self.peers.close(id, why, now, &mut self.state);
             }
         }
     }

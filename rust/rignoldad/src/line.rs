@@ -1,11 +1,12 @@
 //! A connection that never makes its caller wait: TCP, a Unix socket, or TLS over TCP.
 use crate::config::{Address, Tls};
 use crate::serve;
+use openssl::asn1::{Asn1Time, Asn1TimeRef};
 use openssl::ssl::{
-    ErrorCode, Ssl, SslContext, SslFiletype, SslMethod, SslMode, SslOptions, SslSessionCacheMode,
-    SslStream, SslVerifyMode, SslVersion,
+    Error, ErrorCode, Ssl, SslContext, SslFiletype, SslMethod, SslMode, SslOptions,
+    SslSessionCacheMode, SslStream, SslVerifyMode, SslVersion,
 };
-use openssl::x509::X509;
+use openssl::x509::{X509Ref, X509VerifyResult};
 use socket2::{Domain, SockAddr, Socket, TcpKeepalive, Type};
 use std::fs::{self, Permissions};
 use std::io::{self, ErrorKind, Read, Write};
@@ -23,10 +24,48 @@ pub enum Line {
 
 /// TLS, and what its last act waited for.
 pub struct Secure {
-    stream: SslStream<Socket>,
+    stream: SslStream<Bounded>,
     greeted: bool,
+    /// When the certificate of one of the ends has expired, in seconds since 1970.
+    expires: i64,
     /// Whether the last read, and the last write, wait until the line can be written.
     waits: [bool; 2],
+}
+
+/// The most bytes of the other end's handshake: a few certificates, each of which takes time.
+const HANDSHAKE_BYTES: usize = 16 << 10;
+/// The most bytes that may come without any data after it: a record of data has fewer. (A stream of
+/// messages of TLS itself, as for new keys, would never let go of the loop.)
+const IDLE_BYTES: usize = 20 << 10;
+/// How many of these each record of data may bring again, besides its own.
+const RECORD_BYTES: usize = 64;
+
+/// A socket of which no more is read than this, until data came.
+struct Bounded {
+    socket: Socket,
+    left: usize,
+}
+
+impl Read for Bounded {
+    fn read(&mut self, to: &mut [u8]) -> io::Result<usize> {
+        let most = self.left.min(to.len());
+        if most == 0 && !to.is_empty() {
+            return Err(io::Error::new(ErrorKind::InvalidData, "it sends too much without data"));
+        }
+        let count = self.socket.read(&mut to[..most])?;
+        self.left -= count;
+        Ok(count)
+    }
+}
+
+impl Write for Bounded {
+    fn write(&mut self, from: &[u8]) -> io::Result<usize> {
+        self.socket.write(from)
+    }
+
+    fn flush(&mut self) -> io::Result<()> {
+        Ok(())
+    }
 }
 
 const READ: usize = 0;
@@ -85,9 +124,21 @@ impl Maker {
             true => ssl.set_accept_state(),
             false => ssl.set_connect_state(),
         }
-        let stream = SslStream::new(ssl, socket)?;
-        Ok(Line::Tls(Box::new(Secure { stream, greeted: false, waits: [false; 2] })))
+        let stream = SslStream::new(ssl, Bounded { socket, left: HANDSHAKE_BYTES })?;
+        let (greeted, expires) = (false, i64::MAX);
+        Ok(Line::Tls(Box::new(Secure { stream, greeted, expires, waits: [false; 2] })))
     }
+
+    /// When the agent's own certificate expires, in seconds since 1970.
+    pub fn expires(&self) -> Option<i64> {
+        self.tls.as_ref()?.certificate().map(|it| unix_time(it.not_after()))
+    }
+}
+
+/// Seconds since 1970.
+pub fn unix_time(time: &Asn1TimeRef) -> i64 {
+    let since = Asn1Time::from_unix(0).and_then(|zero| zero.diff(time));
+    since.map_or(0, |it| i64::from(it.days) * 86_400 + i64::from(it.secs))
 }
 
 fn context(tls: &Tls) -> Result<SslContext, String> {
@@ -98,6 +149,11 @@ fn context(tls: &Tls) -> Result<SslContext, String> {
     let make = || -> Result<_, openssl::error::ErrorStack> {
         let mut context = SslContext::builder(SslMethod::tls())?;
         context.set_min_proto_version(Some(SslVersion::TLS1_2))?;
+        // (the groups of finite fields cost whoever accepts a hundred times as much)
+        context.set_groups_list("X25519:P-256")?;
+        context.set_cipher_list("ECDHE+AESGCM:ECDHE+CHACHA20")?;
+        // (an authority, and at most two below it)
+        context.set_verify_depth(3);
         context.set_options(SslOptions::NO_TICKET | SslOptions::NO_RENEGOTIATION);
         context.set_mode(
             SslMode::ENABLE_PARTIAL_WRITE
@@ -174,7 +230,7 @@ impl AsRawFd for Line {
     fn as_raw_fd(&self) -> RawFd {
         match self {
             Line::Plain(socket) => socket.as_raw_fd(),
-            Line::Tls(secure) => secure.stream.get_ref().as_raw_fd(),
+            Line::Tls(secure) => secure.stream.get_ref().socket.as_raw_fd(),
         }
     }
 }
@@ -191,9 +247,33 @@ impl rignolda::net::Line for Line {
             _ => true,
         }
     }
+
+    fn place(&self) -> String {
+        let socket = match self {
+            Line::Plain(socket) => socket,
+            Line::Tls(secure) => &secure.stream.get_ref().socket,
+        };
+        let address = socket.peer_addr().ok().and_then(|it| it.as_socket());
+        let address = address.map_or("a local socket".into(), |it| it.to_string());
+        let Line::Tls(secure) = self else { return address };
+        match secure.stream.ssl().peer_certificate().map(|it| names(&it)) {
+            None => address,
+            Some(all) if all.is_empty() => format!("{address}, whose certificate has no DNS name"),
+            Some(all) => format!("{address}, by its certificate {}", all.join(" or ")),
+        }
+    }
 }
 
 impl Line {
+    /// When it has to be left, since the certificate of one of its ends has expired then: in
+    /// seconds since 1970.
+    pub fn expires(&self) -> i64 {
+        match self {
+            Line::Tls(secure) => secure.expires,
+            _ => i64::MAX,
+        }
+    }
+
     /// Whether to wait until the line can be written, where it has something to write or not.
     pub fn wants_write(&self, has_output: bool) -> bool {
         match self {
@@ -203,47 +283,97 @@ impl Line {
     }
 }
 
-/// The DNS names of a certificate; where it has none, its common name.
-fn names(certificate: &X509) -> Vec<String> {
-    let other = certificate.subject_alt_names();
-    let dns = other.iter().flatten().filter_map(|name| name.dnsname().map(str::to_owned));
-    let dns: Vec<String> = dns.collect();
-    if !dns.is_empty() {
-        return dns;
+/// The DNS names of a certificate: no other name counts.
+pub fn names(certificate: &X509Ref) -> Vec<String> {
+    let all = certificate.subject_alt_names();
+    all.iter().flatten().filter_map(|name| name.dnsname().map(str::to_owned)).collect()
+}
+
+/// Why a certificate does not count, in words of an operator.
+pub fn unverified(why: X509VerifyResult) -> &'static str {
+    match why.as_raw() {
+        9 => "is not yet valid",
+        10 => "has expired",
+        2 | 7 | 18..=21 => "is of another authority",
+        22 | 25 => "has too many authorities above it",
+        _ => why.error_string(),
     }
-    let common = certificate.subject_name().entries_by_nid(openssl::nid::Nid::COMMONNAME);
-    common.filter_map(|entry| entry.data().as_utf8().ok().map(|text| text.to_string())).collect()
 }
 
 impl Secure {
     /// Goes on with the handshake, and then does an act.
-    fn act<T>(
+    fn act(
         &mut self,
         which: usize,
-        act: impl FnOnce(&mut SslStream<Socket>) -> Result<T, openssl::ssl::Error>,
-    ) -> io::Result<T> {
+        act: impl FnOnce(&mut SslStream<Bounded>) -> Result<usize, Error>,
+    ) -> io::Result<usize> {
         let mut done = Ok(());
         if !self.greeted {
             done = self.stream.do_handshake();
-            self.greeted = done.is_ok();
             self.waits = [false; 2];
+            if done.is_ok() {
+                self.greeted = true;
+                self.stream.get_mut().left = IDLE_BYTES;
+                let (own, other) = (self.stream.ssl().certificate(), self.stream.ssl());
+                let ends = own.map(|it| unix_time(it.not_after())).into_iter();
+                let ends = ends.chain(other.peer_certificate().map(|it| unix_time(it.not_after())));
+                self.expires = ends.min().unwrap_or(i64::MAX);
+            }
         }
         let done = done.and_then(|()| act(&mut self.stream));
         self.waits[which] = false;
-        done.map_err(|e| match e.code() {
-            ErrorCode::WANT_READ => ErrorKind::WouldBlock.into(),
-            ErrorCode::WANT_WRITE => {
-                self.waits[which] = true;
-                ErrorKind::WouldBlock.into()
+        match done {
+            Ok(count) => {
+                let socket = self.stream.get_mut();
+                if which == READ {
+                    socket.left = (socket.left + count + RECORD_BYTES).min(IDLE_BYTES);
+                }
+                Ok(count)
             }
-            ErrorCode::ZERO_RETURN => ErrorKind::UnexpectedEof.into(),
-            _ => match e.into_io_error() {
-                Ok(e) => e,
-                Err(e) => io::Error::new(ErrorKind::InvalidData, e.to_string()),
+            Err(e) if e.code() == ErrorCode::WANT_READ => Err(ErrorKind::WouldBlock.into()),
+            Err(e) if e.code() == ErrorCode::WANT_WRITE => {
+                self.waits[which] = true;
+                Err(ErrorKind::WouldBlock.into())
+            }
+            Err(e) if e.code() == ErrorCode::ZERO_RETURN => Err(ErrorKind::UnexpectedEof.into()),
+            Err(e) => {
+                let why = self.why(&e);
+                // (where it was refused, the other end has said why before it closed)
+                let said = match which {
+                    WRITE => self.stream.ssl_read(&mut [0]).err().map(|it| self.why(&it)),
+                    _ => None,
+                };
+                let said = said.filter(|it| it.starts_with(REFUSES));
+                Err(io::Error::new(ErrorKind::InvalidData, said.unwrap_or(why)))
+            }
+        }
+    }
+
+    /// Why an act failed, in words of an operator.
+    fn why(&self, error: &Error) -> String {
+        if let Some(error) = error.io_error() {
+            return error.to_string();
+        }
+        let last = error.ssl_error().and_then(|all| all.errors().last());
+        match last.and_then(|it| it.reason()).unwrap_or("unexpected eof while reading") {
+            "certificate verify failed" => {
+                format!("its certificate {}", unverified(self.stream.ssl().verify_result()))
+            }
+            "peer did not return a certificate" => "it has no certificate".into(),
+            "wrong version number" | "http request" | "packet length too long" => {
+                "what it sends is no TLS".into()
+            }
+            "unexpected eof while reading" => "it closed the connection".into(),
+            reason => match reason.split_once("alert ") {
+                Some((_, said)) => format!("{REFUSES}: {said}"),
+                None => format!("TLS: {reason}"),
             },
-        })
+        }
     }
 }
+
+/// What the other end's refusal begins with.
+const REFUSES: &str = "the other end refuses this one";
 
 impl Read for Line {
     fn read(&mut self, to: &mut [u8]) -> io::Result<usize> {

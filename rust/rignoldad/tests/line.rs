@@ -6,7 +6,7 @@ use openssl::ec::{EcGroup, EcKey};
 use openssl::hash::MessageDigest;
 use openssl::nid::Nid;
 use openssl::pkey::{PKey, Private};
-use openssl::ssl::{SslConnector, SslMethod, SslVerifyMode, SslVersion};
+use openssl::ssl::{SslConnector, SslConnectorBuilder, SslMethod, SslVerifyMode, SslVersion};
 use openssl::x509::extension::{BasicConstraints, SubjectAlternativeName};
 use openssl::x509::{X509Builder, X509NameBuilder, X509};
 use rignolda::net::Line as _;
@@ -199,25 +199,151 @@ fn by_tls_each_end_is_who_its_certificate_names() {
     let sign =
         |common: &str, names: &[&str], days| certificate(common, names, Some(&authority), days);
     let root = maker(&folder.0, "root", &sign("other", &["root", "root2"], 9), &authority.0);
-    let leaf = maker(&folder.0, "leaf", &sign("leaf", &[], 9), &authority.0);
+    let leaf = maker(&folder.0, "leaf", &sign("other", &["leaf"], 9), &authority.0);
     let [mut up, mut down] = connected(&root, &leaf).unwrap();
     exchange([&mut up, &mut down], 3_000_000).unwrap();
     assert!(down.may_be("root") && down.may_be("root2"));
-    assert!(!down.may_be("other"), "where there are names, the common one does not count");
+    assert!(!down.may_be("other"), "the common name does not count");
     assert!(up.may_be("leaf") && !up.may_be("root") && !up.may_be("lea") && !up.may_be(""));
+    assert!(up.place().ends_with(", by its certificate leaf"), "{}", up.place());
+    assert!(down.place().ends_with(", by its certificate root or root2"), "{}", down.place());
+    let nameless = maker(&folder.0, "nameless", &sign("leaf", &[], 9), &authority.0);
+    let [up, _down] = connected(&root, &nameless).unwrap();
+    assert!(!up.may_be("leaf"), "{}", up.place());
+    assert!(up.place().ends_with(", whose certificate has no DNS name"), "{}", up.place());
+}
 
-    // (whoever has no certificate of this authority, or an old one, gets no line at all)
-    let strange = certificate("authority", &[], None, 9);
-    let other = certificate("leaf", &[], Some(&strange), 9);
-    let other = maker(&folder.0, "other", &other, &authority.0);
-    assert!(connected(&root, &other).is_err());
-    let late = maker(&folder.0, "late", &sign("leaf", &[], 0), &authority.0);
-    assert!(connected(&root, &late).is_err());
-    // (nor does a parent whose authority the child does not know)
-    let distrusts = maker(&folder.0, "distrusts", &sign("leaf", &[], 9), &strange.0);
-    assert!(connected(&root, &distrusts).is_err());
+/// What the two ends of a connection say that cannot be made: whoever accepted it first.
+fn refused(above: &Maker, below: &Maker) -> [String; 2] {
+    let (listener, address) = listen();
+    let down = below.connect(&address.into()).unwrap();
+    let mut ends = [Some(accept(above, &listener)), Some(down)];
+    let (mut said, end) = ([String::new(), String::new()], Instant::now() + TIMEOUT);
+    while let Some(at) = (0..2).find(|at| ends[*at].is_some()) {
+        assert!(Instant::now() < end, "{said:?}");
+        for at in at..2 {
+            let Some(line) = &mut ends[at] else { continue };
+            // (as an agent, who writes its hello before it reads)
+            match line.write(b"x").and_then(|_| line.read(&mut [0; 99])) {
+                Err(e) if e.kind() == ErrorKind::WouldBlock => continue,
+                Err(e) => said[at] = e.to_string(),
+                Ok(0) => said[at] = "closed".into(),
+                Ok(_) => continue,
+            }
+            ends[at] = None;
+        }
+    }
+    said
+}
+
+#[test]
+fn both_ends_learn_why_there_is_no_line() {
+    let folder = Folder::new("refused");
+    let (authority, strange) =
+        (certificate("authority", &[], None, 9), certificate("authority", &[], None, 9));
+    let sign = |name: &str, by: &Pair, days| {
+        let pair = certificate(name, &[name], Some(by), days);
+        maker(&folder.0, &format!("{name}{days}"), &pair, &authority.0)
+    };
+    let root = sign("root", &authority, 9);
+    let [above, below] = refused(&root, &sign("leaf", &authority, 0));
+    assert_eq!(above, "its certificate has expired");
+    assert_eq!(below, "the other end refuses this one: certificate expired");
+    let [above, below] = refused(&root, &sign("leaf", &strange, 9));
+    assert_eq!(above, "its certificate is of another authority");
+    assert!(below.starts_with("the other end refuses this one: "), "{below}");
+    // (a parent whose authority the child does not know, and one whose time is over)
+    let pair = certificate("leaf", &["leaf"], Some(&authority), 9);
+    let distrusts = maker(&folder.0, "distrusts", &pair, &strange.0);
+    let [above, below] = refused(&root, &distrusts);
+    assert_eq!(below, "its certificate is of another authority");
+    assert!(above.starts_with("the other end refuses this one: "), "{above}");
+    let [_, below] = refused(&sign("root", &authority, 0), &distrusts);
+    assert!(below.starts_with("its certificate "), "{below}");
     let plain = Maker::new(None, TIMEOUT).unwrap();
-    assert!(connected(&root, &plain).is_err() && connected(&plain, &leaf).is_err());
+    assert_eq!(refused(&root, &plain)[0], "what it sends is no TLS");
+    assert_eq!(refused(&plain, &root)[1], "what it sends is no TLS");
+}
+
+#[test]
+fn a_line_knows_when_a_certificate_of_its_ends_expires() {
+    let folder = Folder::new("expires");
+    let authority = certificate("authority", &[], None, 9);
+    let make = |name: &str, days| {
+        let pair = certificate(name, &[name], Some(&authority), days);
+        let end = rignoldad::line::unix_time(pair.0.not_after());
+        (maker(&folder.0, name, &pair, &authority.0), end)
+    };
+    let ((root, last), (leaf, first)) = (make("root", 5), make("leaf", 3));
+    assert_eq!((root.expires(), leaf.expires()), (Some(last), Some(first)));
+    assert_eq!(last - first, 2 * 86_400);
+    let [up, down] = connected(&root, &leaf).unwrap();
+    assert_eq!((up.expires(), down.expires()), (first, first));
+    let plain = Maker::new(None, TIMEOUT).unwrap();
+    let [up, _down] = connected(&plain, &plain).unwrap();
+    assert_eq!((up.expires(), plain.expires()), (i64::MAX, None));
+}
+
+/// Whether an agent talks with a client that was set up so, and what it says.
+fn talks(name: &str, set_up: impl FnOnce(&mut SslConnectorBuilder)) -> Result<(), String> {
+    let folder = Folder::new(name);
+    let authority = certificate("authority", &[], None, 9);
+    let pair = |name: &str| certificate(name, &[name], Some(&authority), 9);
+    let (root, leaf) = (maker(&folder.0, "root", &pair("root"), &authority.0), pair("leaf"));
+    let (listener, address) = listen();
+    let mut client = SslConnector::builder(SslMethod::tls()).unwrap();
+    client.set_verify(SslVerifyMode::NONE);
+    client.set_certificate(&leaf.0).unwrap();
+    client.set_private_key(&leaf.1).unwrap();
+    set_up(&mut client);
+    let client = client.build();
+    let other = std::thread::spawn(move || {
+        let mut stream = client.connect("root", TcpStream::connect(address).unwrap()).ok()?;
+        // (records of one byte each)
+        (0..3_000).try_for_each(|_| stream.write_all(b"x")).ok()?;
+        stream.read_exact(&mut [0; 5]).ok()
+    });
+    let (mut line, mut came) = (accept(&root, &listener), 0);
+    let end = Instant::now() + TIMEOUT;
+    let done = loop {
+        assert!(Instant::now() < end);
+        match line.read(&mut [0; 100]) {
+            Ok(0) => break Err("closed".into()),
+            Ok(count) => came += count,
+            Err(e) if e.kind() == ErrorKind::WouldBlock => (),
+            Err(e) => break Err(e.to_string()),
+        }
+        if came == 3_000 {
+            line.write_all(b"hello").unwrap();
+            break Ok(());
+        }
+    };
+    drop(line);
+    other.join().unwrap();
+    done
+}
+
+#[test]
+fn a_handshake_is_bounded() {
+    for cheap in ["X25519", "P-256"] {
+        talks(cheap, |it| it.set_groups_list(cheap).unwrap()).unwrap();
+    }
+    for dear in ["ffdhe8192", "ffdhe2048", "P-521"] {
+        let said = talks(dear, |it| it.set_groups_list(dear).unwrap()).unwrap_err();
+        assert!(said.starts_with("TLS: no s"), "{said}");
+        let said = talks(dear, |it| {
+            it.set_max_proto_version(Some(SslVersion::TLS1_2)).unwrap();
+            it.set_groups_list(dear).unwrap();
+        });
+        assert!(said.is_err());
+    }
+    // (some hundred bytes each)
+    let more = certificate("more", &["more"], None, 9).0;
+    talks("few", |it| (0..5).for_each(|_| it.add_extra_chain_cert(more.clone()).unwrap())).unwrap();
+    let many = |it: &mut SslConnectorBuilder| {
+        (0..100).for_each(|_| it.add_extra_chain_cert(more.clone()).unwrap());
+    };
+    assert_eq!(talks("many", many).unwrap_err(), "it sends too much without data");
 }
 
 #[test]

@@ -24,6 +24,11 @@ const SLOWEST: u64 = 64 << 10;
 const UNREAD: usize = 16;
 /// How much is read from one connection before the others have their turn.
 const TURN_BYTES: usize = 1 << 20;
+/// The same in reads, each of which may bring little and take long.
+const TURN_READS: usize = 128;
+/// How many connections whose hello has not come are read in one turn: each may take as long as a
+/// handshake of TLS, and those that are established come first.
+const TURN_GREETINGS: usize = 8;
 /// How much is read at once: as much as TLS has in one record.
 const READ_BYTES: usize = 16 << 10;
 /// Up to this length a body is written together with its head.
@@ -35,6 +40,11 @@ const SHORT: Duration = Duration::from_secs(1);
 pub trait Line: Read + Write {
     /// Whether the other end may be called so, by its certificate say.
     fn may_be(&self, name: &str) -> bool;
+
+    /// Where the other end is, and who, as far as that is known: for the journal.
+    fn place(&self) -> String {
+        "somewhere".into()
+    }
 }
 
 /// What an agent does about what comes.
@@ -198,6 +208,8 @@ pub struct Peers<L, A> {
     said_refused: Option<Instant>,
     /// How often a hello was late on a connection that was accepted: nobody knows whose.
     late: u32,
+    /// How many connections may wait without a hello, whatever else allows more.
+    waiting: usize,
     /// Where what is read comes first.
     space: Box<[u8]>,
 }
@@ -225,6 +237,7 @@ impl<L: Line, A: Clone + PartialEq + fmt::Display> Peers<L, A> {
             refused: 0,
             said_refused: None,
             late: 0,
+            waiting: usize::MAX,
             space: vec![0; READ_BYTES].into_boxed_slice(),
         };
         peers.dial_all(now);
@@ -408,6 +421,11 @@ impl<L: Line, A: Clone + PartialEq + fmt::Display> Peers<L, A> {
 
     // ---- Connections
 
+    /// At most so many connections wait for a hello from now on, as few descriptors are there, say.
+    pub fn bound_waiting(&mut self, most: usize) {
+        self.waiting = most;
+    }
+
     /// Takes a line that was accepted. Of those whose hello has not come, one too many drives the
     /// oldest one out.
     pub fn accept(&mut self, line: L, now: Instant, to: &mut dyn Handler) {
@@ -416,7 +434,8 @@ impl<L: Line, A: Clone + PartialEq + fmt::Display> Peers<L, A> {
         let greeting: Vec<u64> = greeting.map(|(id, _)| *id).collect();
         let children = || self.relay.children().map(|(_, link)| link);
         let away = || children().filter(|link| !link.is_connected()).count();
-        if greeting.len() > GREETING && greeting.len() > GREETING + away() {
+        let most = self.waiting.min(GREETING);
+        if greeting.len() > most && greeting.len() > self.waiting.min(GREETING + away()) {
             self.close(greeting[0], "too many say no hello", now, to);
         }
     }
@@ -627,13 +646,15 @@ impl<L: Line, A: Clone + PartialEq + fmt::Display> Peers<L, A> {
                     .map_or(true, |said| now >= said + Duration::from_secs(1))
                 {
                     self.said_refused = Some(now);
-                    to.on_fact("refused", format_args!("{why} ({} in all)", self.refused));
+                    let (place, all) = (conn.line.place(), self.refused);
+                    to.on_fact("refused", format_args!("{place}: {why} ({all} in all)"));
                 }
                 return;
             }
         };
         if conn.greeted.is_some() {
-            to.on_fact("closed", format_args!("{whom}: {why}"));
+            let place = conn.line.place();
+            to.on_fact("closed", format_args!("{whom}: {why}, at {place}"));
         }
         match &whom {
             Whom::Parent => {
@@ -727,6 +748,11 @@ impl<L: Line, A: Clone + PartialEq + fmt::Display> Peers<L, A> {
         let mut ready: Vec<u64> = ready.into_iter().chain(self.again.drain(..)).collect();
         ready.sort_unstable();
         ready.dedup();
+        let waits = |id: &u64| self.conns.get(id).map_or(false, |conn| conn.whom.is_none());
+        let (waiting, mut ready): (Vec<u64>, Vec<u64>) = ready.into_iter().partition(waits);
+        let (first, later) = waiting.split_at(waiting.len().min(TURN_GREETINGS));
+        ready.extend_from_slice(first);
+        self.again.extend_from_slice(later);
         for id in ready {
             match self.read_one(id, now, to) {
                 Ok(()) => self.write_one(id, now, to),
@@ -736,8 +762,9 @@ impl<L: Line, A: Clone + PartialEq + fmt::Display> Peers<L, A> {
     }
 
     fn read_one(&mut self, id: u64, now: Instant, to: &mut dyn Handler) -> Result<(), String> {
-        let mut total = 0;
+        let (mut total, mut reads) = (0, 0);
         while let Some(conn) = self.conns.get_mut(&id) {
+            reads += 1;
             match conn.line.read(&mut self.space) {
                 Ok(0) => return Err("the other end closed it".into()),
                 Ok(count) => {
@@ -749,7 +776,7 @@ impl<L: Line, A: Clone + PartialEq + fmt::Display> Peers<L, A> {
                 Err(e) if e.kind() == ErrorKind::Interrupted => (),
                 Err(e) => return Err(e.to_string()),
             }
-            if total >= TURN_BYTES {
+            if total >= TURN_BYTES || reads >= TURN_READS {
                 // (by TLS, there may be more of which the system knows nothing)
                 self.again.push(id);
                 break;
