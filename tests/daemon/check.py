@@ -25,6 +25,7 @@ from daemons import PATIENCE, USUAL, Agent, Tree, binaries, chain, free_port, un
 from memory import write_over
 from relay import Relay
 from reverse import parents_may_connect_to_their_children
+import blocked
 import hostile
 import store
 
@@ -51,6 +52,8 @@ else:
     print("the links in a store are not tried: see tests/daemon/store.py")
 for function in hostile.TESTS:
     test(function)
+for function in blocked.TESTS:
+    (long_test if function in blocked.LONG else test)(function)
 
 
 def sure(holds, *words):

@@ -77,7 +77,8 @@ fn a_transaction_that_is_not_done_fails() {
 
 #[test]
 fn what_a_store_answers_is_bounded_before_it_is_read() {
-    let cases: [(&'static [u8], Result<&[u8], &str>); 9] = [
+    type Case = (&'static [u8], Result<&'static [u8], &'static str>);
+    let cases: [Case; 9] = [
         (b"$3\r\na\r\n\r\n", Ok(b"a\r\n")),
         (b"$-1\r\n", Err("its answer is none to GETRANGE")),
         (b"-WRONGTYPE it is a list\r\n", Ok(b"")),

@@ -1,0 +1,403 @@
+#!/usr/bin/env python3
+"""What an agent must not wait for: a standard error that nobody reads, a disk, a pipe, a hook, a
+store; and files that are not its own.
+
+    tests/daemon/blocked.py [WORD..]     by itself; check.py runs it with all others
+"""
+import contextlib
+import os
+import pathlib
+import re
+import signal
+import socket
+import struct
+import subprocess
+import sys
+import threading
+import time
+
+sys.dont_write_bytecode = True
+
+from daemons import PATIENCE, USUAL, Tree, free_port, until
+
+# (a call that takes so many seconds, or none, as a file says)
+SLOW = r"""
+#include <stdio.h>
+#include <stdlib.h>
+#include <sys/syscall.h>
+#include <unistd.h>
+int fsync(int file)
+{
+    int seconds = 0;
+    FILE *says = fopen(getenv("SLOW_FILE"), "r");
+    if (says) {
+        if (fscanf(says, "%d", &seconds) != 1)
+            seconds = 0;
+        fclose(says);
+    }
+    while (seconds > 0)
+        seconds = sleep(seconds);
+    return syscall(SYS_fsync, file);
+}
+int fsync64(int file) { return fsync(file); }
+"""
+
+
+def sure(holds, *words):
+    """An assertion that python -O keeps."""
+    if not holds:
+        raise AssertionError(" ".join(map(str, words)))
+
+
+def begun(tree):
+    for at in range(8):
+        tree.write(f"key{at}", f"value {at}")
+    tree.start()
+    sure(tree.ready() and tree.right(), tree.wrong(), [agent.text()[-300:] for agent in tree])
+
+
+def answers(agent, seconds=3):
+    """Whether it says its status within a time."""
+    command = [agent.tree.bin / "rignoldactl", "--json", "--socket", agent.socket, "status"]
+    try:
+        done = subprocess.run(command, capture_output=True, timeout=seconds * PATIENCE)
+        return done.returncode == 0
+    except subprocess.TimeoutExpired:
+        return False
+
+
+def ends(agent):
+    """Whether it ends soon, as it is told to."""
+    process, agent.process = agent.process, None
+    process.send_signal(signal.SIGTERM)
+    try:
+        return process.wait(5 * PATIENCE) == 0
+    except subprocess.TimeoutExpired:
+        process.kill()
+        process.wait()
+        return False
+
+
+class Unread:
+    """An agent whose standard error is a pipe that nobody reads yet."""
+
+    def __init__(self, agent, **environment):
+        agent.configure()
+        self.read, write = os.pipe()
+        is_pipe = os.fstat(write)
+        stream = {"JOURNAL_STREAM": f"{is_pipe.st_dev}:{is_pipe.st_ino}"} if environment else {}
+        agent.process = subprocess.Popen([agent.tree.bin / "rignoldad", agent.file], stderr=write,
+                                         stdin=subprocess.DEVNULL, env={**os.environ, **stream})
+        os.close(write)
+        self.text = b""
+
+    def begin(self):
+        """From now on it is read."""
+        threading.Thread(target=self.all, daemon=True).start()
+
+    def all(self):
+        while piece := os.read(self.read, 1 << 16):
+            self.text += piece
+
+
+def a_standard_error_that_nobody_reads_stops_nobody():
+    """2,000 connections, of each of which two lines are said."""
+    name = "evil" + 56 * "x"
+    with Tree({"left": "root"}) as tree:
+        tree.root.top["children"] = ["left", name]
+        unread = Unread(tree.root)
+        tree["left"].start()
+        sure(until(lambda: answers(tree.root) and tree["left"].up()), "the tree is not ready")
+        text = lambda words: bytes([len(words)]) + words.encode()
+        for life in range(2_000):
+            hello = b"RGND" + struct.pack(">BQH", 1, life, 255) + text(name) + text("root")
+            with socket.create_connection(("127.0.0.1", tree.root.port), timeout=USUAL) as sock:
+                sock.sendall(hello)
+                sure(len(sock.recv(4)) == 4, "no answer to connection", life)
+        sure(answers(tree.root), "it does not answer")
+        tree.write("after", "that")
+        sure(tree.right(agents=[tree["left"]]), tree.wrong())
+        # what did not fit is counted, once somebody reads it, and each line is a whole one
+        unread.begin()
+        sure(until(lambda: b"lines are left out" in unread.text), unread.text[-300:])
+        whole = rf"(start|connected|closed|journal|settings|refused|end|published|report|parent) .*"
+        odd = [line for line in unread.text.decode().splitlines()[:-1]
+               if not re.fullmatch(whole, line)]
+        sure(not odd, odd[:3])
+        sure(ends(tree.root), "it does not end")
+
+
+def an_end_waits_for_no_reader_and_lines_have_priorities():
+    with Tree({"left": "root"}) as tree:
+        (tree.root.truth / "no key").touch()
+        unread = Unread(tree.root, journal=True)
+        tree["left"].start()
+        sure(until(lambda: answers(tree.root) and tree["left"].up()), "the tree is not ready")
+        tree["left"].kill()
+        sure(until(lambda: not tree.root.status()["children"][0]["connected"]), "it is there")
+        unread.begin()
+        for words in (b"<5>start root life", b"<5>connected left", b"<3>settings `no key` is no key",
+                      b"<4>closed left"):
+            sure(until(lambda: words in unread.text), words, unread.text)
+    with Tree({}) as tree:
+        Unread(tree.root)
+        sure(until(lambda: answers(tree.root)), "it does not answer")
+        # (more than a pipe takes: each reload that is refused is a line)
+        tree.root.file.write_text(f'name = "root"\nx{"y" * 600} = 1\n')
+        for at in range(400):
+            tree.root.signal(signal.SIGHUP)
+            if at % 10 == 0:
+                sure(answers(tree.root), "it does not answer after", at)
+        sure(ends(tree.root), "it does not end")
+
+
+def a_disk_that_hangs_stops_nobody():
+    """While a file waits for the disk, the agent answers and its rounds go on; then it is there."""
+    with Tree({"left": "root"}) as tree:
+        (tree.home / "slow.c").write_text(SLOW)
+        subprocess.run(["gcc", "-shared", "-fPIC", "-o", tree.home / "slow.so",
+                        tree.home / "slow.c"], check=True)
+        says = tree.home / "seconds"
+        tree.root.env = {"LD_PRELOAD": str(tree.home / "slow.so"), "SLOW_FILE": str(says)}
+        tree.root.tables["root"]["round"] = "500ms"
+        begun(tree)
+        says.write_text("12")
+        command = [tree.bin / "rignoldactl", "--json", "--socket", tree.root.socket]
+        slow = subprocess.Popen([*command, "publish", "slow", "1"], stdout=subprocess.PIPE,
+                                stderr=subprocess.PIPE)
+        time.sleep(0.5)
+        rounds = tree.root.status()["round"]
+        longest, end = 0.0, time.monotonic() + 9
+        while time.monotonic() < end:
+            asked = time.monotonic()
+            tree.root.status()
+            longest = max(longest, time.monotonic() - asked)
+            time.sleep(0.1)
+        sure(longest < PATIENCE, "it answers after", longest)
+        sure("slow" not in tree["left"].files(), "it is published before the disk has it")
+        # (a round waits for the disk, but not for ever)
+        sure(tree.root.status()["round"] > rounds, "there is no round")
+        sure(tree.root.said("the disk does not answer") == 1, tree.root.text()[-500:])
+        says.write_text("0")
+        slow.communicate(timeout=60)
+        sure(until(lambda: tree["left"].files().get("slow") == b"1"), tree["left"].files())
+        sure(tree.right(), tree.wrong())
+        sure(until(lambda: tree.root.status()["unpublished"] == 0), tree.root.status())
+
+
+def links_and_pipes_in_the_roots_folder_are_named_and_not_read():
+    with Tree({"left": "root"}) as tree:
+        begun(tree)
+        truth, secret = tree.root.truth, tree.home / "secret"
+        secret.write_text("of the agent alone")
+        (truth / "link").symlink_to(secret)
+        (truth / "zero").symlink_to("/dev/zero")
+        os.mkfifo(truth / "pipe")
+        tree.write("after", "that")
+        sure(until(lambda: "after" in tree["left"].files()), tree["left"].files())
+        found = {"link", "pipe", "zero"} & set(tree["left"].files())
+        sure(not found, "these were published:", found)
+        sure(until(lambda: tree.root.status()["unpublished"] == 3), tree.root.status())
+        faults = tree.root.status()["faults"]
+        sure([it.split(":")[0] for it in faults] == ["link", "pipe", "zero"], faults)
+        # (a file that is a pipe when it is opened)
+        done = threading.Event()
+
+        def turn():
+            while not done.is_set():
+                for name, make in (("a", pathlib.Path.touch), ("b", os.mkfifo)):
+                    with contextlib.suppress(OSError):
+                        make(truth / f".{name}")
+                        os.rename(truth / f".{name}", truth / "turns")
+        threads = [threading.Thread(target=turn) for _ in range(2)]
+        for thread in threads:
+            thread.start()
+        try:
+            for at in range(30):
+                tree.write("key1", f"again {at}")
+                sure(until(lambda: tree["left"].files().get("key1") == f"again {at}".encode()),
+                     "change", at, "does not come")
+        finally:
+            done.set()
+            for thread in threads:
+                thread.join()
+        for name in ("link", "zero", "pipe", "turns", "after"):
+            (truth / name).unlink(missing_ok=True)
+        sure(until(lambda: tree.root.status()["unpublished"] == 0), tree.root.status())
+        sure(tree.right(), tree.wrong())
+        sure(not any("alone" in agent.text() for agent in tree), "the secret is in the journal")
+
+
+def a_file_that_cannot_be_read_is_named_and_unsets_nothing():
+    """As another user than root, to whom all files are open."""
+    with Tree({"left": "root"}) as tree:
+        tree.home.chmod(0o755)
+        root, left = tree.root, tree["left"]
+        root.prefix = ["setpriv", "--reuid=65534", "--regid=65534", "--clear-groups"]
+        begun_by = lambda: subprocess.run(["chown", "-R", "65534:65534", root.home], check=True)
+        for at in range(8):
+            tree.write(f"key{at}", f"value {at}")
+        begun_by()
+        tree.start()
+        sure(tree.ready() and tree.right(), tree.wrong(), root.text()[-300:])
+        before = left.files()
+        os.chown(root.truth / "key1", 0, 0)
+        (root.truth / "key1").chmod(0o600)
+        tree.root.ask("round")
+        sure(until(lambda: root.status()["unpublished"] == 1), root.status())
+        sure("key1: Permission denied" in root.status()["faults"][0], root.status())
+        # the others change; and after a restart nothing is unset, and the file is named
+        tree.write("key2", "changed")
+        sure(until(lambda: left.files().get("key2") == b"changed"), left.files())
+        before = left.files()
+        root.kill()
+        root.start()
+        sure(until(lambda: answers(root) and root.status()["unpublished"] == 1), root.text()[-300:])
+        refused = root.ask("publish", "key3", "1", check=False)
+        sure("key1: Permission denied" in refused.get("error", ""), refused)
+        time.sleep(1)
+        sure(left.files() == before, left.files())
+        os.chown(root.truth / "key1", 65534, 65534)
+        sure(until(lambda: root.status()["unpublished"] == 0), root.status())
+        tree.write("key2", "again")
+        sure(tree.right(agents=[left]), tree.wrong([left]))
+
+
+def a_first_setting_may_be_published_and_is_for_its_group_alone():
+    with Tree({"left": "root"}) as tree:
+        (tree.root.truth / ".empty").unlink()
+        tree.start()
+        sure(until(lambda: answers(tree["left"]) and tree["left"].status()["parent"]),
+             "it is not connected")
+        sure("is a mount missing" in tree.root.status()["faults"][0], tree.root.status())
+        mask = os.umask(0o022)
+        os.umask(mask)
+        number = tree.root.ask("publish", "first", "1")["sequence"]
+        tree["left"].ask("wait", number)
+        sure(tree["left"].files() == {"first": b"1"}, tree["left"].files())
+        sure((tree.root.truth / "first").stat().st_mode & 0o777 == 0o640 & ~mask, "its mode")
+
+
+def a_file_where_a_socket_is_to_be_is_kept():
+    with Tree({}) as tree:
+        for kind, make in (("file", lambda path: path.write_text("mine")),
+                           ("link", lambda path: path.symlink_to("elsewhere")),
+                           ("pipe", os.mkfifo)):
+            tree.root.socket = tree.home / kind
+            make(tree.root.socket)
+            tree.root.start()
+            sure(until(lambda: not tree.root.alive()), kind, "it runs")
+            sure(tree.root.process.returncode == 1, kind, tree.root.process.returncode)
+            sure(tree.root.said(str(tree.root.socket)) == 1, kind, tree.root.text())
+            sure(os.path.lexists(tree.root.socket), kind, "is gone")
+        sure((tree.home / "file").read_text() == "mine")
+
+
+def a_folder_of_somebody_else_is_not_taken():
+    with Tree({"left": "root"}) as tree:
+        left = tree["left"]
+        left.settings.mkdir()
+        (left.settings / "app.conf").write_text("mine")
+        tree.start()
+        sure(until(lambda: not left.alive()), "it takes the folder")
+        sure(left.said("app.conf") == 1, left.text())
+        sure((left.settings / "app.conf").read_text() == "mine", "it is gone")
+        done = subprocess.run([tree.bin / "rignoldad", "--check", left.file], capture_output=True)
+        sure(done.returncode == 1 and b"app.conf" in done.stderr, done.stderr)
+        left.tables["apply"]["take"] = True
+        left.start()
+        sure(until(lambda: left.up() and tree.right()), tree.wrong())
+        # (from now on it is the agent's own)
+        del left.tables["apply"]["take"]
+        left.kill()
+        tree.write("after", "that")
+        left.start()
+        sure(tree.right(), tree.wrong())
+
+
+def a_store_that_drips_holds_its_child_up_for_a_while_alone():
+    """The child goes to its next parent, which it reaches by a connection."""
+    done = threading.Event()
+    listener = socket.create_server(("127.0.0.1", free_port()))
+
+    def serve(sock):
+        text = b""
+        with contextlib.suppress(OSError), sock:
+            while piece := sock.recv(1 << 16):
+                text += piece
+                # (what is set is said to be done, and each get gets a byte in four seconds)
+                for command in re.findall(rb"(SET|WATCH|MULTI|EXEC|GETRANGE)\r\n", text):
+                    if command == b"GETRANGE":
+                        sock.sendall(b"$30\r\n")
+                        while not done.wait(4):
+                            sock.sendall(b"x")
+                        return
+                    sock.sendall(b"*1\r\n+OK\r\n" if command == b"EXEC" else b"+OK\r\n")
+                text = b""
+
+    def accept():
+        with contextlib.suppress(OSError):
+            while True:
+                threading.Thread(target=serve, args=(listener.accept()[0],), daemon=True).start()
+    threading.Thread(target=accept, daemon=True).start()
+    with Tree({"left": "root", "right": "root"}) as tree:
+        right = tree["right"]
+        at = f"redis://127.0.0.1:{listener.getsockname()[1]}/tree"
+        right.top["parents"] = [f"other@{at}", *right.top["parents"]]
+        tree.start()
+        try:
+            sure(until(lambda: answers(right) and right.status()["parent"] == "root"),
+                 right.text()[-300:])
+            tree.write("after", "that")
+            sure(tree.right(), tree.wrong())
+        finally:
+            done.set()
+            listener.close()
+
+
+def a_hook_gets_no_descriptor_of_the_agent():
+    with Tree({"left": "root"}) as tree:
+        left = tree["left"]
+        hook = left.home / "hook"
+        hook.write_text(f"#!/bin/sh\nls -l /proc/self/fd >{left.home}/said\nenv >>{left.home}/said\n")
+        hook.chmod(0o755)
+        left.tables["apply"]["hook"] = str(hook)
+        # (the socket's folder is not there, so nothing is sent)
+        left.env = {**left.env, "NOTIFY_SOCKET": str(left.home / "none")}
+        begun(tree)
+        said = (left.home / "said").read_text()
+        sure("socket:" not in said and "NOTIFY_SOCKET" not in said, said)
+
+
+# (these take longest)
+LONG = [a_disk_that_hangs_stops_nobody, a_store_that_drips_holds_its_child_up_for_a_while_alone]
+TESTS = [*LONG,
+         a_standard_error_that_nobody_reads_stops_nobody,
+         an_end_waits_for_no_reader_and_lines_have_priorities,
+         links_and_pipes_in_the_roots_folder_are_named_and_not_read,
+         a_file_that_cannot_be_read_is_named_and_unsets_nothing,
+         a_first_setting_may_be_published_and_is_for_its_group_alone,
+         a_file_where_a_socket_is_to_be_is_kept,
+         a_folder_of_somebody_else_is_not_taken,
+         a_hook_gets_no_descriptor_of_the_agent]
+
+
+def main():
+    failed = 0
+    chosen = [it for it in TESTS
+              if not sys.argv[1:] or any(word in it.__name__ for word in sys.argv[1:])]
+    for function in chosen:
+        begin = time.monotonic()
+        try:
+            function()
+            result = "ok"
+        except Exception as error:
+            failed += 1
+            result = f"FAILED: {type(error).__name__}: {str(error)[:600]}"
+        print(f"{function.__name__}: {result} ({time.monotonic() - begin:.1f} s)", flush=True)
+    print(f"{len(chosen) - failed} passed, {failed} failed")
+    return 1 if failed else 0
+
+
+if __name__ == "__main__":
+    sys.exit(main())
