@@ -201,6 +201,8 @@ pub struct Table {
     pub whole: bool,
     /// The keys of all settings, and how many bytes of a whole table each takes.
     pub keys: BTreeMap<String, usize>,
+    /// The sequence number of the last body that changed something, as far as can be seen here.
+    pub changed: u64,
     /// Whether what a body said was left out, since there was no room. A whole table ends it.
     pub full: bool,
     /// Whether the last whole table made up for something: the first one, or a number was left out
@@ -249,6 +251,7 @@ impl Table {
                 self.round = sequence;
                 self.looks = std::mem::take(&mut self.in_a_round) || !self.whole;
                 self.fills = !follows || !self.whole;
+                self.changed = if self.fills { sequence } else { self.changed };
                 self.whole = true;
                 self.full = false;
                 let keys = entries.iter().map(|it| (it.0.to_owned(), entry_bytes(it)));
@@ -260,6 +263,7 @@ impl Table {
                 return false;
             }
             Meaning::Changes(entries) => entries.iter().for_each(|it| {
+                self.changed = sequence;
                 let old = match it.1 {
                     Some(_) => self.keys.insert(it.0.to_owned(), entry_bytes(it)),
                     None => self.keys.remove(it.0),
@@ -424,6 +428,11 @@ impl Publisher {
     /// Whether something waits to be published.
     pub fn waits(&self) -> bool {
         self.table_first || self.round > 0 || !self.changed.is_empty()
+    }
+
+    /// Whether a change waits, or the first table.
+    pub fn is_changed(&self) -> bool {
+        self.table_first || !self.changed.is_empty()
     }
 
     /// Whether the next body is the whole table, where `limit` items may follow one at most. Before

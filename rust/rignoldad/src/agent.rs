@@ -74,7 +74,8 @@ pub struct Agent {
     state: State,
     control: Option<control::Server>,
     metrics: Option<metrics::Server>,
-    /// Who asked for a change, of which key and in which batch, and waits for its number.
+    /// Who asked for a change, of which key and in which batch, and waits for its number; without a
+    /// key, for a look at the folder.
     asked: Vec<(Ticket, String, u64)>,
     reported: Instant,
     /// What was not taken at the last reload, and why.
@@ -91,8 +92,6 @@ struct State {
     received: u64,
     garbage: u64,
     round_at: Option<Instant>,
-    /// The number of the last body that changed something.
-    last_change: u64,
     /// Whether there is something new to say upwards.
     changed: bool,
     /// Whether files are being applied.
@@ -218,17 +217,14 @@ impl Handler for State {
             return false;
         };
         let (was_full, strays) = (self.table.full, self.table.strays);
-        let mut takes = self.table.takes(sequence, &meaning);
+        let takes = self.table.takes(sequence, &meaning);
         let is_table = matches!(meaning, Meaning::Table(_));
         // (before a line is written, so that the files wait for nothing)
         if let (true, Some(applier)) = (takes, &mut self.applier) {
-            if is_table || applier.has_room() {
-                let (looks, fills) = (self.table.looks, self.table.fills);
-                applier.take(&meaning, sequence, is_table && looks, is_table && fills);
-                self.applying = true;
-            } else {
+            let (looks, fills) = (is_table && self.table.looks, is_table && self.table.fills);
+            self.applying = true;
+            if !applier.take(&meaning, sequence, looks, fills) {
                 self.table.misses();
-                takes = false;
             }
         }
         if self.table.full && !was_full {
@@ -243,16 +239,10 @@ impl Handler for State {
         if self.table.strays > strays {
             fact!("stray", "{sequence}");
         }
-        if !takes {
-            return false;
-        }
-        if is_table {
+        if takes && is_table {
             self.round_at = Some(now);
         }
-        if matches!(meaning, Meaning::Changes(_)) || is_table && self.table.fills {
-            self.last_change = sequence;
-        }
-        is_table
+        takes && is_table
     }
 
     fn on_report(&mut self, child: &str, report: &[u8], now: Instant) -> bool {
@@ -426,6 +416,7 @@ impl Agent {
             self.report(now);
         }
         self.publish(now);
+        self.looked();
         self.stores.go_on(&mut self.peers, now, &mut self.state);
         self.peers.write(now, &mut self.state);
     }
@@ -514,7 +505,7 @@ impl Agent {
             let Some(published) = root.next(self.config.backlog / 2, now) else { return };
             self.peers.publish(&published.body, now, &mut self.state);
             if !published.keys.is_empty() {
-                self.state.last_change = self.state.table.sequence;
+                self.state.table.changed = self.state.table.sequence;
             }
             let response = Response::Published(self.state.table.sequence);
             let is_there = |key: &String, batch| batch <= written && published.keys.contains(key);
@@ -534,6 +525,17 @@ impl Agent {
         });
     }
 
+    /// Answers those who asked for a look at the folder, when all that it saw is published.
+    fn looked(&mut self) {
+        let Some(root) = self.root.as_ref().filter(|_| !self.asked.is_empty()) else { return };
+        let response = match root.is_published() {
+            Ok(false) => return,
+            Ok(true) => Response::Published(self.state.table.sequence),
+            Err(why) => Response::Refused(why),
+        };
+        self.answer(|key, _| key.is_empty(), &response);
+    }
+
     // ---- Watching and control
 
     fn reports_at(&self) -> Instant {
@@ -547,8 +549,7 @@ impl Agent {
         if self.reported >= since && now < self.reports_at() {
             return;
         }
-        let status = self.status(now);
-        let bytes = self.state.below.report(&status, now);
+        let bytes = self.state.below.report(&self.status(now), now);
         self.state.changed &= !self.peers.report(&bytes);
         self.reported = now;
     }
@@ -569,6 +570,7 @@ impl Agent {
             acknowledged: link.acknowledged(),
             ignored: link.ignored(),
             timeouts: link.timeouts,
+            clashes: link.clashes,
         });
         Status {
             name: self.config.peers.name.clone(),
@@ -578,12 +580,9 @@ impl Agent {
             connected_since: parent.map_or(0, |(_, since)| millis(since) / 1_000),
             sequence: table.sequence,
             // (the table that is lacking may bring changes of any number)
-            applied: match (table.whole, applier) {
-                (false, _) => 0,
-                (true, Some(it)) => it.applied(table.sequence),
-                (true, None) => table.sequence,
-            },
-            changed: self.state.last_change,
+            applied: applier.as_ref().map_or(table.sequence, |it| it.applied(table.sequence))
+                * u64::from(table.whole),
+            changed: table.changed,
             round: table.round,
             round_age: self.state.round_at.map_or(0, millis),
             whole: table.whole,
@@ -603,13 +602,25 @@ impl Agent {
             faults: faults.iter().flat_map(|it| it.texts.iter().take(FAULTS).cloned()).collect(),
             children: children.collect(),
             reload_failed: self.reload_failed.clone(),
+            ..Status::default()
         }
+    }
+
+    /// The same; at the root with what is known of the whole tree.
+    fn full_status(&self, now: Instant) -> Status {
+        let mut status = self.status(now);
+        if status.is_root {
+            let list = self.state.below.tree(&status, now);
+            status.agents = list.len() as u64;
+            status.away = list.iter().filter(|seen| !seen.connected).count() as u64;
+        }
+        status
     }
 
     fn serve(&mut self, fired: &HashSet<RawFd>, now: Instant) {
         let asked = self.metrics.as_mut().map(|server| server.ready(fired, now));
         for (ticket, good) in asked.into_iter().flatten() {
-            let status = good.then(|| self.status(now));
+            let status = good.then(|| self.full_status(now));
             if let Some(server) = &mut self.metrics {
                 metrics::answer(server, ticket, status.as_ref());
             }
@@ -632,11 +643,10 @@ impl Agent {
     fn request(&mut self, ticket: Ticket, request: Request, now: Instant) -> Answer {
         match (request, &mut self.root) {
             (Request::Status, _) => {
-                return Ok(Some(Response::Status(Box::new(self.status(now)))));
+                return Ok(Some(Response::Status(Box::new(self.full_status(now)))));
             }
             (Request::Tree, _) => {
-                let status = self.status(now);
-                return Ok(Some(Response::Tree(self.state.below.tree(&status, now))));
+                return Ok(Some(Response::Tree(self.state.below.tree(&self.status(now), now))));
             }
             (Request::ChildAdd { .. }, _) if self.listeners.is_empty() => {
                 return Err("nobody can connect: there is no `listen`".into());
@@ -664,6 +674,11 @@ impl Agent {
                 root.begin_round(now);
             }
             (Request::Round, Some(root)) => root.begin_round(now),
+            (Request::Look, Some(root)) => {
+                root.look_again(now);
+                self.asked.push((ticket, String::new(), 0));
+                return Ok(None);
+            }
         }
         Ok(Some(Response::Done))
     }

@@ -134,26 +134,25 @@ impl Applier {
     }
 
     /// Makes the files what this body says; where it `looks`, whatever was done to them. One that
-    /// `fills` a gap may bring older changes, so nothing counts as applied until it is.
-    pub fn take(&mut self, meaning: &Meaning<'_>, sequence: u64, looks: bool, fills: bool) {
+    /// `fills` a gap may bring older changes, so nothing counts as applied until it is. Whether
+    /// there is room: what waits has not many more keys than there may be.
+    pub fn take(&mut self, meaning: &Meaning<'_>, sequence: u64, looks: bool, fills: bool) -> bool {
         let mut state = self.shared.lock();
+        if state.files.count().max(state.hooks.count()) > 2 * SETTINGS {
+            return false;
+        }
         state.files.take(sequence, meaning);
         if fills {
             state.files.is_from_before();
         }
         state.looks |= looks;
         self.shared.files.notify_one();
+        true
     }
 
     /// What was done since it was asked last: changes, and what failed.
     pub fn done(&mut self) -> Vec<Applied> {
         std::mem::take(&mut self.shared.lock().done)
-    }
-
-    /// Whether there is room for changes: what waits has at most twice as many keys as there may be.
-    pub fn has_room(&self) -> bool {
-        let state = self.shared.lock();
-        state.files.count().max(state.hooks.count()) <= 2 * SETTINGS
     }
 
     /// Whether files wait or are written, or something was done: then ask again soon.

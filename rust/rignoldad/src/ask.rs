@@ -113,6 +113,14 @@ pub fn too_few_harmless(list: &[Seen]) -> Option<String> {
     })
 }
 
+/// A text in which nothing but ends of lines tells a terminal something: what other control
+/// characters are in it is written as in JSON.
+pub fn plain(text: &str) -> String {
+    let is_plain = |c: char| c == '\n' || !c.is_control();
+    let code = |c: char| if is_plain(c) { c.into() } else { format!("\\u{:04x}", u32::from(c)) };
+    text.chars().map(code).collect()
+}
+
 /// A table with a head, each column as wide as its widest word; numbers stand to the right.
 fn table(rows: &[Vec<String>]) -> String {
     let columns = rows.iter().map(Vec::len).max().unwrap_or(0);
@@ -221,6 +229,10 @@ pub fn status_text(status: &Status) -> String {
     if status.draining {
         fact("draining", "yes".into());
     }
+    if status.is_root {
+        fact("agents", format!("{}, and {} of them away", status.agents, status.away));
+    }
+    status.faults.iter().for_each(|why| fact("not published", why.clone()));
     if !status.children.is_empty() {
         let head = ["child", "backlog", "item for", "reconnects", "ignored", "timeouts", "state"];
         let rows: Vec<Vec<String>> =

@@ -44,6 +44,8 @@ pub enum Request {
     },
     /// At the root: a round now.
     Round,
+    /// At the root: looks at the settings' folder, and answers when all that it saw is published.
+    Look,
 }
 
 #[derive(Clone, Debug, Deserialize, PartialEq, Serialize)]
@@ -104,6 +106,10 @@ pub struct Status {
     /// At the root: what of its folder cannot be published, and the first of these with their whys.
     pub unpublished: u64,
     pub faults: Vec<String>,
+    /// At the root: how many agents are known, itself with them, and how many of them are children
+    /// of agents and connected nowhere.
+    pub agents: u64,
+    pub away: u64,
     pub children: Vec<ChildStatus>,
     /// What was not taken at the last reload, and why; empty where all was.
     pub reload_failed: String,
@@ -126,6 +132,8 @@ pub struct ChildStatus {
     pub acknowledged: u64,
     pub ignored: u64,
     pub timeouts: u64,
+    /// How often a process came back that another one of its name had replaced.
+    pub clashes: u64,
 }
 
 impl Status {

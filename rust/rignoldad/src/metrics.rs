@@ -13,14 +13,14 @@ const REQUEST_BYTES: usize = 8_192;
 /// A number of an agent: its name, its kind, what it is, and how to get it.
 type Number<T> = (&'static str, &'static str, &'static str, fn(&T) -> u64);
 
-const OF_AGENT: [Number<Status>; 19] = [
+const OF_AGENT: [Number<Status>; 22] = [
     ("connected", "gauge", "Whether the agent has its parent; 1 at the root.", |s| {
         u64::from(s.parent.is_some() || s.is_root)
     }),
     ("sequence", "gauge", "Sequence number of the last body.", |s| s.sequence),
     ("applied_sequence", "gauge", "That of the last one applied.", |s| s.applied),
     ("round_sequence", "gauge", "That of the last whole table.", |s| s.round),
-    ("round_age_milliseconds", "gauge", "How long ago that came.", |s| s.round_age),
+    ("round_age_seconds", "gauge", "How long ago that came.", |s| s.round_age),
     ("whole", "gauge", "Whether nothing is known to be missing.", |s| u64::from(s.whole)),
     ("settings", "gauge", "How many settings there are.", |s| s.settings),
     ("draining", "gauge", "Whether the root publishes nothing.", |s| u64::from(s.draining)),
@@ -34,38 +34,52 @@ const OF_AGENT: [Number<Status>; 19] = [
     ("refused_total", "counter", "Connections that were refused.", |s| s.refused),
     ("hook_failures_total", "counter", "Hooks that failed.", |s| s.hook_failures),
     ("failing", "gauge", "Settings whose file or hook failed last.", |s| s.failing),
+    ("unpublished", "gauge", "What the root cannot publish.", |s| s.unpublished),
+    ("agents", "gauge", "At the root: agents that it knows, itself with them.", |s| s.agents),
+    ("agents_away", "gauge", "At the root: those that are connected nowhere.", |s| s.away),
     ("reload_failed", "gauge", "Whether the last reload was not taken whole.", |s| {
         u64::from(!s.reload_failed.is_empty())
     }),
 ];
 
-const OF_CHILD: [Number<ChildStatus>; 8] = [
+const OF_CHILD: [Number<ChildStatus>; 9] = [
     ("connected", "gauge", "Whether the child has a connection.", |c| u64::from(c.connected)),
     ("backlog", "gauge", "Items that the child has not acknowledged.", |c| c.backlog),
-    ("item_age_milliseconds", "gauge", "How long its sender has had its item.", |c| c.oldest),
+    ("item_age_seconds", "gauge", "How long its sender has had its item.", |c| c.oldest),
     ("left_behind", "gauge", "Whether it begins anew.", |c| u64::from(c.left_behind)),
     ("reconnects_total", "counter", "Connections with the child.", |c| c.reconnects),
     ("acknowledged_total", "counter", "Acknowledgements taken.", |c| c.acknowledged),
     ("ignored_total", "counter", "Acknowledgements that changed nothing.", |c| c.ignored),
     ("timeouts_total", "counter", "Connections left for want of an answer.", |c| c.timeouts),
+    ("clashes_total", "counter", "Connections of one of two with its name.", |c| c.clashes),
 ];
 
 /// All counts of an agent.
 pub fn text(status: &Status) -> String {
     let mut text = String::new();
+    head(&mut text, "", "build_info", "gauge", "The program's version.");
+    let _ = writeln!(text, "rignolda_build_info{{version=\"{}\"}} 1", env!("CARGO_PKG_VERSION"));
     for (name, kind, help, value) in OF_AGENT {
         head(&mut text, "", name, kind, help);
-        let _ = writeln!(text, "rignolda_{name} {}", value(status));
+        let _ = writeln!(text, "rignolda_{name} {}", number(name, value(status)));
     }
     for (name, kind, help, value) in OF_CHILD {
         head(&mut text, "child_", name, kind, help);
         for child in &status.children {
             // (a name has no character that would have to be escaped)
-            let (child, value) = (&child.name, value(child));
+            let (child, value) = (&child.name, number(name, value(child)));
             let _ = writeln!(text, "rignolda_child_{name}{{child=\"{child}\"}} {value}");
         }
     }
     text
+}
+
+/// A count; a time, which is kept in milliseconds, in seconds.
+fn number(name: &str, value: u64) -> String {
+    match name.ends_with("_seconds") {
+        true => format!("{}.{:03}", value / 1_000, value % 1_000),
+        false => value.to_string(),
+    }
 }
 
 fn head(text: &mut String, whose: &str, name: &str, kind: &str, help: &str) {

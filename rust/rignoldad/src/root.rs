@@ -171,6 +171,27 @@ impl Root {
         }
     }
 
+    /// Looks at the folder for somebody who has just changed it.
+    pub fn look_again(&mut self, now: Instant) {
+        let reads = self.reads;
+        self.look(now);
+        if self.reads == reads {
+            self.reads += 1;
+            self.disk.begin(Job::Read);
+        }
+    }
+
+    /// Whether all that such looks saw is published; else why it cannot be.
+    pub fn is_published(&self) -> Result<bool, String> {
+        let some: Vec<&str> = self.faults.texts.iter().take(3).map(String::as_str).collect();
+        match self.publisher.is_changed() {
+            _ if self.reads > 0 && !self.is_late => Ok(false),
+            _ if !some.is_empty() => Err(format!("not all is published: {}", some.join("; "))),
+            true if self.draining => Err("it is draining".into()),
+            changed => Ok(!changed),
+        }
+    }
+
     /// Goes on with what the folder had, or with what is known.
     fn goes_on(&mut self, now: Instant) {
         self.until = None;

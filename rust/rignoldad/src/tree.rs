@@ -51,22 +51,7 @@ pub struct Seen {
 
 /// The last list of each child.
 #[derive(Debug, Default)]
-pub struct Below(BTreeMap<String, Heard>);
-
-#[derive(Debug)]
-struct Heard {
-    at: Instant,
-    list: Vec<Seen>,
-    /// What came too soon after it to be read at once.
-    later: Option<(Instant, Vec<u8>)>,
-}
-
-impl Heard {
-    /// Whether another list may be read now.
-    fn may_read(&self, now: Instant) -> bool {
-        now >= self.at + EACH * self.list.len() as u32
-    }
-}
+pub struct Below(BTreeMap<String, (Instant, Vec<Seen>)>);
 
 /// The list that this child sent, if it is one, with the child first. Of the others it is what
 /// agents further below say, so what cannot be of a tree is left out, and the child is not blamed
@@ -75,42 +60,37 @@ impl Heard {
 fn read(child: &str, bytes: &[u8]) -> Option<Vec<Seen>> {
     // (a list of very many would take much more memory than its bytes)
     let many = bytes.iter().filter(|byte| **byte == b'{').count();
-    if bytes.len() > REPORT_BYTES || many > AGENTS {
-        return None;
-    }
-    let mut list: Vec<Seen> = serde_json::from_slice(bytes).ok()?;
+    let is_short = bytes.len() <= REPORT_BYTES && many <= AGENTS;
+    let mut list: Vec<Seen> = serde_json::from_slice(bytes).ok().filter(|_| is_short)?;
     list.first_mut().filter(|first| first.name == child)?.parent.clear();
-    let (mut depths, mut is_deeper) = (BTreeMap::new(), false);
+    let (mut depths, mut is_deeper) = (BTreeMap::from([(String::new(), 0)]), false);
     list.retain(|seen| {
-        let depth = depths.get(&seen.parent).map_or(0, |above| above + 1);
-        let placed = depths.is_empty() || depth > 0;
-        let good = placed && crate::config::is_name(&seen.name) && !depths.contains_key(&seen.name);
-        is_deeper |= good && depth > DEPTH;
-        good && depth <= DEPTH && depths.insert(seen.name.clone(), depth).is_none()
+        let Some(depth) = depths.get(&seen.parent).map(|above| above + 1) else { return false };
+        let is_new = crate::config::is_name(&seen.name) && !depths.contains_key(&seen.name);
+        is_deeper |= is_new && depth > DEPTH;
+        // (no other one is below nobody)
+        depths.remove("");
+        is_new && depth <= DEPTH && depths.insert(seen.name.clone(), depth).is_none()
     });
-    list.first_mut()?.cut |= is_deeper;
+    list[0].cut |= is_deeper;
     Some(list)
 }
 
 impl Below {
-    /// Takes a list that this child sent. Whether it is one, as far as it is read now.
+    /// Takes a list that this child sent. Whether it is one. What comes much sooner after another
+    /// one than it is sent is left out.
     pub fn heard(&mut self, child: &str, bytes: &[u8], now: Instant) -> bool {
-        match self.0.get_mut(child) {
-            Some(heard) if !heard.may_read(now) => {
-                heard.later = Some((now, bytes.into()));
-                bytes.len() <= REPORT_BYTES
-            }
-            _ => {
-                let list = read(child, bytes);
-                let heard = list.map(|list| Heard { at: now, list, later: None });
-                heard.map(|heard| self.0.insert(child.into(), heard)).is_some()
-            }
+        let last = self.0.get(child);
+        if last.is_some_and(|(at, list)| now < *at + EACH * list.len() as u32 / 4) {
+            return bytes.len() <= REPORT_BYTES;
         }
+        let list = read(child, bytes);
+        list.map(|list| self.0.insert(child.into(), (now, list))).is_some()
     }
 
     /// How many agents they have.
     pub fn agents(&self) -> u32 {
-        self.0.values().map(|heard| heard.list.len() as u32).sum()
+        self.0.values().map(|(_, list)| list.len() as u32).sum()
     }
 
     /// Forgets a child that was removed.
@@ -123,56 +103,43 @@ impl Below {
     /// An agent that may have several parents is where it is connected: at this agent, where that
     /// has a connection with it; else where somebody says that it is connected; and where it was
     /// heard of last. What others say of it is left out.
-    pub fn tree(&mut self, status: &Status, now: Instant) -> Vec<Seen> {
-        for (child, heard) in self.0.iter_mut().filter(|(_, heard)| heard.may_read(now)) {
-            if let Some((at, bytes)) = heard.later.take() {
-                // (where it is none, what was heard before stays)
-                let list = read(child, &bytes).unwrap_or(std::mem::take(&mut heard.list));
-                (heard.at, heard.list) = (at, list);
-            }
-        }
+    pub fn tree(&self, status: &Status, now: Instant) -> Vec<Seen> {
         let children = status.children.iter();
         let lists: Vec<_> = children.map(|child| self.list(child, &status.name, now)).collect();
+        let all =
+            || lists.iter().enumerate().flat_map(|(at, list)| list.iter().map(move |it| (at, it)));
+        let is_child = |at: usize, seen: &Seen| std::ptr::eq(seen, &lists[at][0]);
         let mut best = BTreeMap::new();
-        for (at, list) in lists.iter().enumerate() {
-            for (place, seen) in list.iter().enumerate() {
-                let here = place == 0 && seen.connected;
-                let news = (seen.connected, here, seen.sequence > 0, Reverse(seen.age));
-                let best = best.entry(&*seen.name).or_insert((news, at));
-                *best = if news > best.0 { (news, at) } else { *best };
-            }
+        for (at, seen) in all() {
+            let is_here = seen.connected && is_child(at, seen);
+            let news = ((seen.connected, is_here, seen.sequence > 0, Reverse(seen.age)), at);
+            let best = best.entry(&*seen.name).or_insert(news);
+            *best = if news.0 > best.0 { news } else { *best };
         }
         // (first where it is best; and where there it has no place, anywhere)
         let mut taken = BTreeMap::from([(&*status.name, usize::MAX)]);
         for anywhere in [false, true] {
-            for (at, list) in lists.iter().enumerate() {
-                for (place, seen) in list.iter().enumerate() {
-                    let placed = place == 0 || taken.get(&*seen.parent) == Some(&at);
-                    if placed && (anywhere || best[&*seen.name].1 == at) {
-                        taken.entry(&*seen.name).or_insert(at);
-                    }
+            for (at, seen) in all().filter(|(at, it)| anywhere || best[&*it.name].1 == *at) {
+                if is_child(at, seen) || taken.get(&*seen.parent) == Some(&at) {
+                    taken.entry(&*seen.name).or_insert(at);
                 }
             }
         }
-        let all =
-            lists.iter().enumerate().flat_map(|(at, list)| list.iter().map(move |it| (at, it)));
-        let kept = all
-            .filter(|(at, seen)| taken.get(&*seen.name) == Some(at))
-            .map(|(_, seen)| seen.clone());
+        let kept = all().filter(|(at, seen)| taken.get(&*seen.name) == Some(at));
+        let kept = kept.map(|(_, seen)| seen.clone());
         share(std::iter::once(status.seen()).chain(kept).collect(), KNOWN)
     }
 
     /// What is known of a child and those below it.
     fn list(&self, child: &ChildStatus, parent: &str, now: Instant) -> Vec<Seen> {
-        let heard = self.0.get(&child.name);
-        let nothing = || vec![Seen { name: child.name.clone(), ..Seen::default() }];
-        let mut list = heard.map_or_else(nothing, |heard| heard.list.clone());
-        let age = heard.map_or(0, |it| now.saturating_duration_since(it.at).as_millis() as u64);
+        let nothing = (now, vec![Seen { name: child.name.clone(), ..Seen::default() }]);
+        let (at, mut list) = self.0.get(&child.name).cloned().unwrap_or(nothing);
+        let age = now.saturating_duration_since(at).as_millis() as u64;
         for seen in &mut list {
             seen.age = seen.age.saturating_add(age);
-            // (of who is below an agent that is away, nothing newer is known)
+            // (of who is below an agent that is away, nothing newer is known; and what it said
+            // before it connected may be of an earlier life)
             seen.connected &= child.connected;
-            // (and what it said before it connected may be of an earlier life)
             seen.applied *= u64::from(age <= child.since || !child.connected);
         }
         (list[0].parent, list[0].connected) = (parent.into(), child.connected);
@@ -180,7 +147,7 @@ impl Below {
     }
 
     /// The bytes to send to the parent: the list, cut where it would be too long.
-    pub fn report(&mut self, status: &Status, now: Instant) -> Vec<u8> {
+    pub fn report(&self, status: &Status, now: Instant) -> Vec<u8> {
         let (mut list, mut most) = (self.tree(status, now), AGENTS);
         loop {
             list = share(list, most);
@@ -197,9 +164,6 @@ impl Below {
 /// what needs less is whole: so whoever has many below it drives nobody else out. An agent that has
 /// lost a child is `cut`.
 fn share(mut list: Vec<Seen>, most: usize) -> Vec<Seen> {
-    if list.len() <= most {
-        return list;
-    }
     let places: BTreeMap<_, _> = list.iter().enumerate().map(|(at, it)| (&*it.name, at)).collect();
     let above = |seen: &Seen| places.get(&*seen.parent).copied().unwrap_or(0);
     let above: Vec<usize> = list.iter().map(above).collect();
@@ -208,15 +172,14 @@ fn share(mut list: Vec<Seen>, most: usize) -> Vec<Seen> {
         sizes[above[at]] += sizes[at];
         below[above[at]].push(at);
     }
-    let mut shares = vec![0; list.len()];
-    shares[0] = most.max(1);
+    let mut shares = vec![most.max(1); list.len()];
     for (at, mut children) in below.into_iter().enumerate() {
         children.sort_by_key(|child| sizes[*child]);
-        let (mut room, mut count) = (shares[at].saturating_sub(1), children.len());
-        for child in children {
-            shares[child] = sizes[child].min(room / count);
-            list[at].cut |= shares[child] == 0;
-            (room, count) = (room - shares[child], count - 1);
+        let mut room = shares[at].saturating_sub(1);
+        for (done, child) in children.iter().enumerate() {
+            shares[*child] = sizes[*child].min(room / (children.len() - done));
+            list[at].cut |= shares[*child] == 0;
+            room -= shares[*child];
         }
     }
     let mut shares = shares.into_iter();

@@ -57,7 +57,8 @@ pub trait Handler {
     /// A child is one no longer: what it said may be forgotten.
     fn on_gone(&mut self, child: &str);
     /// A fact for a journal: `connected`, `closed`, `refused`, `left-behind`, `evicted`, or
-    /// `parent` and `child` where one cannot be connected to; and its words.
+    /// `parent` and `child` where one cannot be connected to, and `clash` where two processes have
+    /// the name of one child, which is said once; and its words.
     fn on_fact(&mut self, fact: &'static str, words: fmt::Arguments<'_>);
 }
 
@@ -984,10 +985,18 @@ impl<L: Line, A: Clone + PartialEq + fmt::Display> Peers<L, A> {
             self.close(old, "it connected anew", now, to);
         }
         self.relay.add(name, now);
+        let clashes = |relay: &Relay| relay.child(name).map_or(0, |link| link.clashes);
+        let before = clashes(&self.relay);
         let greeted = self.relay.greeted(name, hello.life, hello.label, made, now);
         let (number, anew) = greeted.ok_or("no number is left")?;
         let count = if anew { ", a new count" } else { "" };
         to.on_fact("connected", format_args!("{name}{count}"));
+        if before == 0 && clashes(&self.relay) > 0 {
+            to.on_fact(
+                "clash",
+                format_args!("{name}: two processes have this name"),
+            );
+        }
         self.children.insert(name.into(), id);
         self.begins(id, Whom::Child(name.into()), number, now);
         let patience = self.patience(name);

@@ -10,6 +10,8 @@ const LABELS: u16 = 255;
 /// How many bytes of bodies are kept at most: room for a whole table, for as much that came since,
 /// and for the next table, twice over.
 const KEPT_BYTES: usize = 4 * BODY_BYTES;
+/// How many earlier lives of a child are remembered.
+const LIVES: usize = 8;
 
 /// The root's node has no link above it, and it alone publishes.
 enum Above {
@@ -67,6 +69,10 @@ pub struct Link {
     held: Option<Arc<Body>>,
     /// The life of the child's process with which this link began; none where it never began.
     life: Option<u64>,
+    /// Those of the processes that it had before, the last one first.
+    lives: VecDeque<u64>,
+    /// How often one of these came back: no process does, so two of them have one name.
+    pub clashes: u64,
     left: bool,
     /// Whether it lies in words of a store, and the child's is there.
     words: bool,
@@ -351,6 +357,8 @@ impl Relay {
                 connection: None,
                 held: None,
                 life: None,
+                lives: VecDeque::new(),
+                clashes: 0,
                 left: true,
                 words: false,
                 since: now,
@@ -421,7 +429,11 @@ impl Relay {
             link.ignored += before.ignored();
             link.held = None;
             link.sent = None;
-            link.life = Some(life);
+            if let Some(old) = link.life.replace(life).filter(|old| *old != life) {
+                link.clashes += u64::from(link.lives.contains(&life));
+                link.lives.push_front(old);
+                link.lives.truncate(LIVES);
+            }
             link.left = false;
             self.moved = true;
         }

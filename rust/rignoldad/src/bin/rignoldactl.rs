@@ -38,6 +38,7 @@ enum Command {
     Publish {
         key: String,
         /// The value; `-` or nothing: it is read from the standard input.
+        #[arg(allow_hyphen_values = true)]
         value: Option<String>,
     },
     /// At the root: removes a setting, and prints the sequence number of the change.
@@ -50,7 +51,8 @@ enum Command {
     Tree,
     /// Waits until all up to a sequence number is applied, its hooks included.
     Wait {
-        /// Without it: the last one that this agent has, or has published.
+        /// Without it: the last one that this agent has. The root looks at its folder first, and
+        /// publishes what it finds; where it cannot, the command says why, and ends with 1.
         sequence: Option<u64>,
         /// Waits for every agent of the tree, and not for this one alone.
         #[arg(long)]
@@ -98,7 +100,7 @@ fn main() -> ExitCode {
     let arguments = Arguments::parse();
     let done = run(&arguments).map(|text| {
         // (a reader that went away is no fault of the command)
-        let _ = std::io::stdout().write_all(text.as_bytes());
+        let _ = std::io::stdout().write_all(ask::plain(&text).as_bytes());
     });
     match done {
         Ok(()) => ExitCode::SUCCESS,
@@ -106,7 +108,7 @@ fn main() -> ExitCode {
             if arguments.json {
                 println!("{}", json!({ "error": error }));
             }
-            eprintln!("rignoldactl: {error}");
+            eprintln!("rignoldactl: {}", ask::plain(&error));
             ExitCode::from(status)
         }
     }
@@ -143,7 +145,7 @@ fn run(arguments: &Arguments) -> Result<String, Failed> {
         Command::Wait { sequence, everywhere, timeout } => {
             let sequence = match sequence {
                 Some(sequence) => *sequence,
-                None => status(&mut agent)?.sequence,
+                None => newest(&mut agent)?,
             };
             wait(&mut agent, sequence, *everywhere, *timeout)?;
             return Ok(if arguments.json {
@@ -202,6 +204,15 @@ fn status(agent: &mut Agent) -> Result<Status, Failed> {
     match asked(agent, &Request::Status)? {
         Response::Status(status) => Ok(*status),
         _ => Err(Failed(3, "the agent answers something else".into())),
+    }
+}
+
+/// The number of the last body, after the root has looked at its folder.
+fn newest(agent: &mut Agent) -> Result<u64, Failed> {
+    let status = status(agent)?;
+    match status.is_root.then(|| asked(agent, &Request::Look)).transpose()? {
+        Some(Response::Published(sequence)) => Ok(sequence),
+        _ => Ok(status.sequence),
     }
 }
 
