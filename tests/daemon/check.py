@@ -1023,9 +1023,9 @@ def counts_are_there_for_prometheus():
                 continue
             if line.startswith("#"):
                 continue
-            found = re.fullmatch(r'([a-z_]+)(\{child="([^"]+)"\})? ([0-9]+)', line)
+            found = re.fullmatch(r'([a-z_]+)(\{[a-z]+="([^"]+)"\})? ([0-9.]+)', line)
             sure(found and found[1] in typed, line)
-            values[found[1], found[3]] = int(found[4])
+            values[found[1], found[3]] = float(found[4])
         sure(values["rignolda_connected", None] == 1, values)
         sure(values["rignolda_settings", None] == 8, values)
         sure(values["rignolda_child_connected", "left"] == 1, values)
