@@ -26,6 +26,7 @@ from memory import write_over
 from relay import Relay
 from reverse import parents_may_connect_to_their_children
 import blocked
+import floods
 import hostile
 import store
 
@@ -54,6 +55,11 @@ for function in hostile.TESTS:
     test(function)
 for function in blocked.TESTS:
     (long_test if function in blocked.LONG else test)(function)
+if floods.is_there():
+    for function in floods.TESTS:
+        test(function)
+else:
+    print("floods by TLS are not tried: floods.c cannot be compiled here")
 
 
 def sure(holds, *words):
