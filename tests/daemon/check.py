@@ -29,6 +29,7 @@ import blocked
 import floods
 import hostile
 import store
+import watching
 
 TESTS = []
 LONG = []
@@ -51,7 +52,7 @@ if store.is_there():
         long_test(function)
 else:
     print("the links in a store are not tried: see tests/daemon/store.py")
-for function in hostile.TESTS:
+for function in hostile.TESTS + watching.TESTS:
     test(function)
 for function in blocked.TESTS:
     (long_test if function in blocked.LONG else test)(function)

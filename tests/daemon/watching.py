@@ -1,0 +1,340 @@
+#!/usr/bin/env python3
+"""What is said of a tree is so: where an agent is, what it has, and when a change is everywhere.
+
+    tests/daemon/watching.py [WORD..]     by itself; check.py runs it with all others
+"""
+import shutil
+import subprocess
+import sys
+import time
+import traceback
+import urllib.request
+
+from daemons import Agent, Tree, free_port, until
+from hostile import Child, Parent, body, entry, report, sure
+
+TESTS = []
+
+
+def test(function):
+    TESTS.append(function)
+    return function
+
+
+def also_below(agent, parent):
+    """From its next start on an agent has one parent more."""
+    parent.children.append(agent)
+    agent.top["parents"].append(f"{parent.name}@127.0.0.1:{parent.port}")
+
+
+def known(tree):
+    """What the root knows of each agent besides itself: its parent, and whether it is connected."""
+    return sorted((it["name"], it["parent"], it["connected"]) for it in tree.root.ask("tree")[1:])
+
+
+def slow_hook(agent):
+    """A hook that ends when the file `go` is there, and notes the key."""
+    hook = agent.home / "hook"
+    go = f"while [ -d {agent.home} ] && [ ! -e {agent.home}/go ]; do sleep 0.02; done"
+    hook.write_text(f'#!/bin/sh\n{go}\necho "$2" >>{agent.home}/calls\n')
+    hook.chmod(0o755)
+    agent.tables["apply"].update(hook=str(hook), hook_timeout="10m")
+
+
+def calls(agent):
+    path = agent.home / "calls"
+    return sorted(path.read_text().split()) if path.exists() else []
+
+
+def waits(agent, *words, seconds=1):
+    """Why `wait` was not done; nothing where it was."""
+    return agent.ask("wait", "--timeout", f"{seconds}s", *words, check=False).get("error")
+
+
+@test
+def an_agent_with_two_parents_is_where_it_is_connected():
+    with Tree({"left": "root", "right": "root", "leaf": "right", "far": "leaf"}) as tree:
+        leaf = tree["leaf"]
+        also_below(leaf, tree["left"])
+        tree.write("one", "1")
+        for agent in tree:
+            if agent.name not in ("leaf", "far"):
+                agent.start()
+        sure(until(lambda: tree["left"].up() and tree["right"].up()))
+        leaf.start()
+        tree["far"].start()
+        sure(tree.ready() and tree.right(), tree.wrong())
+        here = [("far", "leaf", True), ("leaf", "right", True), ("left", "root", True),
+                ("right", "root", True)]
+        sure(until(lambda: known(tree) == here), known(tree))
+        number = tree.root.ask("publish", "two", "2")["sequence"]
+        tree.root.ask("wait", "--everywhere", number)
+        sure(tree.root.status()["away"] == 0, tree.root.status())
+        # it moves when its parent goes, with those below it; and one that is nowhere is away once
+        tree["right"].kill()
+        there = [("far", "leaf", True), ("leaf", "left", True), ("left", "root", True),
+                 ("right", "root", False)]
+        sure(until(lambda: known(tree) == there), known(tree))
+        tree["right"].start()
+        tree["far"].kill()
+        leaf.kill()
+        nowhere = lambda: [it[0] for it in known(tree) if not it[2]]
+        sure(until(lambda: nowhere() == ["far", "leaf"]), known(tree))
+        sure(tree.root.status()["away"] == 2 and len(known(tree)) == 4, known(tree))
+
+
+@test
+def nothing_is_everywhere_before_it_is_applied():
+    """A new agent, one that was away, and one that missed a body: each has older changes to apply
+    when it already has a number that is as high."""
+    with Tree({"left": "root", "leaf": "left"}) as tree:
+        leaf = tree["leaf"]
+        slow_hook(leaf)
+        for at in range(4):
+            tree.write(f"k{at}", at)
+        for agent in (tree.root, tree["left"]):
+            agent.start()
+        sure(until(tree.root.up) and until(tree["left"].up))
+        number = tree.root.ask("publish", "k3", "new")["sequence"]
+        go = leaf.home / "go"
+        for turn, what in enumerate(("is new", "was away, and its folder is gone")):
+            if turn:
+                leaf.kill()
+                shutil.rmtree(leaf.settings)
+                go.unlink()
+                (leaf.home / "calls").unlink()
+                number = tree.root.ask("publish", "k3", "newer")["sequence"]
+            # (the table that it begins with is later than that change)
+            sure(until(lambda: tree["left"].status()["round"] > number))
+            leaf.start()
+            sure(tree.right(), tree.wrong())
+            sure(until(lambda: leaf.status()["whole"]))
+            why = waits(tree.root, "--everywhere", number)
+            sure(why and "leaf" in why, f"an agent that {what}: done, and its hooks ran for",
+                 calls(leaf))
+            sure(calls(leaf) == [], calls(leaf))
+            go.touch()
+            tree.root.ask("wait", "--everywhere", number)
+            sure(set(calls(leaf)) == {"k0", "k1", "k2", "k3"}, calls(leaf))
+
+
+@test
+def what_a_gap_left_out_is_waited_for():
+    with Tree({}) as tree:
+        leaf = tree.add("leaf", "root")
+        leaf.tables["link"] = {"ack_timeout": "1m", "evict": "10m"}
+        slow_hook(leaf)
+        parent = Parent(leaf)
+        leaf.start()
+        parent.meet()
+        parent.send(body(b"T", 100, [entry(b"a", b"1")]))
+        (leaf.home / "go").touch()
+        leaf.ask("wait", 100)
+        (leaf.home / "go").unlink()
+        # (101 set b, and does not come)
+        parent.send(body(b"C", 102, [entry(b"c", b"3")]))
+        sure("waits for a whole table" in (waits(leaf, 100) or ""), leaf.status())
+        parent.send(body(b"T", 103, [entry(b"a", b"1"), entry(b"b", b"2"), entry(b"c", b"3")]))
+        sure(until(lambda: len(leaf.files()) == 3), leaf.files())
+        sure(waits(leaf, 101), "101 is applied, and its hooks ran for", calls(leaf))
+        (leaf.home / "go").touch()
+        leaf.ask("wait", 103)
+        sure(calls(leaf) == ["a", "b", "c"], calls(leaf))
+        parent.close()
+
+
+@test
+def a_file_that_was_moved_in_is_waited_for():
+    with Tree({"left": "root", "leaf": "left"}) as tree:
+        tree.root.tables["root"]["round"] = "1h"
+        tree.start()
+        sure(tree.ready())
+        script = ('printf %s "$1" >"$2/.new"; mv "$2/.new" "$2/key"; '
+                  'exec "$3" --socket "$4" wait --everywhere')
+        early = []
+        for at in range(40):
+            subprocess.run(["sh", "-c", script, "sh", str(at), tree.root.truth,
+                            tree.bin / "rignoldactl", tree.root.socket], check=True, timeout=60)
+            # (what wait says is so at once)
+            if tree["leaf"].files().get("key") != b"%d" % at:
+                early.append(at)
+        sure(not early, "wait ended too early in", early)
+
+
+@test
+def what_cannot_be_published_is_named():
+    with Tree({"left": "root"}) as tree:
+        port = free_port()
+        tree.root.top["metrics"] = f"127.0.0.1:{port}"
+        tree.write("good", "1")
+        tree.start()
+        sure(tree.ready() and waits(tree.root, "--everywhere", seconds=20) is None)
+        counts = lambda: urllib.request.urlopen(f"http://127.0.0.1:{port}/metrics",
+                                                timeout=60).read().decode()
+        sure("\nrignolda_unpublished 0\n" in counts(), counts())
+        long = tree.root.truth / "long"
+        long.write_bytes(b"x" * ((1 << 20) + 1))
+        why = waits(tree.root) or "it was done"
+        sure("long" in why and "1048576 bytes" in why, why)
+        status = tree.root.status()
+        sure(status["unpublished"] == 1 and "long" in status["faults"][0], status)
+        sure("\nrignolda_unpublished 1\n" in counts(), counts())
+        # (what was published is everywhere all the same, and says so by its number)
+        number = tree.root.ask("publish", "good", "2")["sequence"]
+        tree.root.ask("wait", "--everywhere", number)
+        long.write_bytes(b"x")
+        tree.root.ask("wait", "--everywhere")
+        sure(tree["left"].files()["long"] == b"x" and tree.root.status()["unpublished"] == 0)
+        # more than all settings may have
+        for at in range(17):
+            tree.write(f"big{at}", b"x" * (1 << 20))
+        why = waits(tree.root) or "it was done"
+        sure("more than 16777216 bytes" in why, why)
+
+
+@test
+def invented_agents_drive_nobody_out():
+    shape = {"left": "root", "left1": "left", "liar": "left", "zeta": "left", "last": "zeta",
+             "right": "root"}
+    with Tree(shape) as tree:
+        for agent in tree:
+            agent.tables["link"] = {"ack_timeout": "20s", "evict": "10m"}
+        tree.write("one", "1")
+        honest = [agent for agent in tree if agent.name != "liar"]
+        for agent in honest:
+            agent.start()
+        sure(until(lambda: all(agent.up() for agent in honest)))
+        liar = Child(tree["left"], "liar")
+        up = {"connected": True, "whole": True, "applied": 1 << 63}
+        invented = [{"name": f"n{at}", "parent": "liar", **up} for at in range(9_999)]
+        liar.send(report([{"name": "liar", **up}, *invented]))
+        count = lambda: sum(it["name"].startswith("n") for it in tree.root.ask("tree"))
+        sure(until(lambda: count() > 1_000), "the root knows", count())
+        names = {it["name"] for it in tree.root.ask("tree")}
+        lost = {agent.name for agent in honest} - names
+        sure(not lost, "driven out:", lost)
+        number = tree.root.ask("publish", "two", "2")["sequence"]
+        lacking = lambda: [it["name"] for it in tree.root.ask("tree")
+                           if it["name"] in shape and it["name"] != "liar"
+                           and it["applied"] < number]
+        sure(until(lambda: not lacking(), 5), "the root hears late of", lacking())
+        # (who has more below it than it can report is named)
+        why = waits(tree.root, "--everywhere", number)
+        sure(why == "the time is up: liar has more agents below it than it can report", why)
+        liar.close()
+
+
+@test
+def a_chain_of_invented_agents_is_short():
+    with Tree({"liar": "root"}) as tree:
+        tree.root.tables["link"] = {"ack_timeout": "20s", "evict": "10m"}
+        tree.root.start()
+        sure(until(tree.root.up))
+        liar = Child(tree.root, "liar")
+        chain = [{"name": f"n{at}", "parent": f"n{at - 1}" if at else "liar"}
+                 for at in range(9_999)]
+        liar.send(report([{"name": "liar", "whole": True, "applied": 1 << 63}, *chain]))
+        sure(until(lambda: len(tree.root.ask("tree")) > 60))
+        done = subprocess.run([tree.bin / "rignoldactl", "--socket", tree.root.socket, "tree"],
+                              capture_output=True, text=True, timeout=60)
+        sure(len(done.stdout) < 30_000, len(done.stdout), "bytes of text")
+        sure("as at n62 needs 131" in done.stderr, done.stderr)
+        sure(until(lambda: "liar has more agents" in (waits(tree.root, "--everywhere") or "")))
+        liar.close()
+
+
+@test
+def settings_without_end_are_not_applied():
+    with Tree({}) as tree:
+        leaf = tree.add("leaf", "root")
+        leaf.tables["link"] = {"ack_timeout": "1m", "evict": "10m"}
+        parent = Parent(leaf)
+        leaf.start()
+        parent.meet()
+        parent.send(body(b"T", 100, [entry(b"a", b"1")]))
+        for at in range(40):
+            parent.send(body(b"C", 101 + at, [entry(b"k%02d" % at, bytes(1 << 20))]))
+        status = leaf.status()
+        sure(status["settings"] == 16 and not status["whole"], status)
+        sure(until(lambda: len(leaf.files()) == 16), sorted(leaf.files()))
+        sure(leaf.said("would be too much") == 1, leaf.text())
+        # (more entries than there may be settings, in one body)
+        many = [entry(b"%06d" % at) for at in range((1 << 16) + 1)]
+        parent.send(body(b"C", 200, many))
+        sure(leaf.status()["garbage"] == 1 and leaf.status()["settings"] == 16, leaf.status())
+        parent.send(body(b"T", 201, [entry(b"a", b"2")]))
+        leaf.ask("wait", 201)
+        sure(leaf.files() == {"a": b"2"} and leaf.status()["whole"], sorted(leaf.files()))
+        parent.close()
+
+
+@test
+def two_agents_of_one_name_are_counted():
+    with Tree({"left": "root", "right": "root"}) as tree:
+        left = tree["left"]
+        tree.write("one", "1")
+        tree.start()
+        sure(tree.ready())
+        clashes = lambda: [it["clashes"] for it in tree.root.status()["children"]]
+        # (one that starts again and again is none)
+        for _ in range(4):
+            left.kill()
+            left.start()
+            sure(until(left.up))
+        sure(clashes() == [0, 0], clashes())
+        twin = Agent(tree, "twin", None)
+        shutil.rmtree(twin.truth)
+        del twin.tables["root"]
+        twin.name, twin.top["parents"] = "left", left.top["parents"]
+        tree.agents["twin"] = twin
+        twin.start()
+        sure(until(lambda: clashes()[0] > 2), clashes())
+        sure(clashes()[1] == 0 and tree.root.said("clash left") == 1, clashes())
+
+
+@test
+def small_things_are_as_they_should_be():
+    with Tree({"left": "root"}) as tree:
+        tree.root.tables["root"].update(round="200ms", harmless=50)
+        tree.write("one", "1")
+        tree.start()
+        sure(tree.ready())
+        # a value that begins with a hyphen
+        number = tree.root.ask("publish", "k", "-5")["sequence"]
+        tree.root.ask("wait", "--everywhere", number)
+        sure(tree["left"].files()["k"] == b"-5", tree["left"].files())
+        tree.root.ask("unset", "--", "k")
+        tree.root.ask("wait", "--everywhere")
+        sure("k" not in tree["left"].files())
+        # (rounds begin all the time, and nothing lags)
+        lags = set()
+        text = lambda: subprocess.run([tree.bin / "rignoldactl", "--socket", tree.root.socket,
+                                       "tree"], capture_output=True, text=True).stdout
+        for _ in range(40):
+            lags |= {line.split()[1] for line in text().splitlines()[1:]}
+            time.sleep(0.02)
+        sure(lags == {"0"}, lags)
+        # what a file says does not reach a terminal as it is
+        (tree.root.truth / "bad\x1b[2J").write_text("1")
+        done = subprocess.run([tree.bin / "rignoldactl", "--socket", tree.root.socket, "wait"],
+                              capture_output=True, text=True, timeout=60)
+        sure(done.returncode == 1 and "bad\\u001b[2J" in done.stderr, done)
+        sure(tree.root.status()["unpublished"] == 1, tree.root.status())
+
+
+def main():
+    failed = 0
+    for function in TESTS:
+        if not sys.argv[1:] or any(word in function.__name__ for word in sys.argv[1:]):
+            begun = time.monotonic()
+            try:
+                function()
+                result = "ok"
+            except Exception:
+                failed, result = failed + 1, "FAILED\n" + traceback.format_exc()
+            print(f"{function.__name__}: {result} ({time.monotonic() - begun:.1f} s)", flush=True)
+    return 1 if failed else 0
+
+
+if __name__ == "__main__":
+    sys.exit(main())
