@@ -127,6 +127,8 @@ class Net(Tree):
             agent.tables["tls"] = tls[name]
             agent.tables["link"] = {"ack_timeout": "1s", "evict": "8s",
                                     "backlog": draw.choice([80, 256, 1024])}
+            # (also a folder that lost its marker is its own)
+            agent.tables["apply"]["take"] = True
             if name != "hub":
                 shutil.rmtree(agent.truth)
                 del agent.tables["root"]
@@ -541,6 +543,7 @@ class Run:
         result["early"] = lacking if result["wait"] == "ok" else []
         result.update(lost=self.circles(parents), parents=parents, ended=self.ended,
                       moves=sum(agent.said("connected the parent") for agent in net) - moves,
+                      strays=max(((it or {}).get("strays", 0) for it in said.values())),
                       most=max(memory(agent) for agent in net),
                       panics=[agent.name for agent in net if agent.said("panicked")],
                       second=sum(parents[name] != parents_of(name)[0] for name in NAMES[1:]),
