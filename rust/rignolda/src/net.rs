@@ -9,12 +9,14 @@
 //! - A [`Relay`] is a node with the bodies of its items, and with children that have names.
 //! - [`Peers`] are all the connections of an agent: who connects to whom, what each end says first,
 //!   who is waited for, and what is sent when. Its caller has the sockets, certificates and clocks.
+//! - [`parents`] is by what rule an agent chooses its parent.
 //! - A [`Store`] is where a link may lie in place of a connection.
 //! - A server of [`serve`] answers those who watch an agent or tell it what to do.
 //!
 //! Each step of a link is a call that is proved. That a body lies beside its item, and all that is
 //! done about connections and stores, is tested alone.
 mod address;
+pub mod parents;
 mod peers;
 mod relay;
 #[cfg(unix)]
@@ -23,6 +25,7 @@ mod store;
 pub mod wire;
 
 pub use address::Address;
+pub use parents::{Parents, Way};
 pub use peers::{Call, Children, Handler, Line, Parent, Peers, Setup, Whom};
 pub use relay::{Link, Relay};
 pub use store::{Store, Turn, Worker};

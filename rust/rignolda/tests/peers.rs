@@ -1,5 +1,5 @@
 //! Agents over lines in memory: who connects to whom, what is said first, and who is taken.
-use rignolda::net::wire::{self, Expect, Hello, Message};
+use rignolda::net::wire::{self, Expect, Hello, Message, OLD};
 use rignolda::net::{Body, Children, Line, Parent, Peers, Setup};
 use std::cell::RefCell;
 use std::collections::{BTreeMap, VecDeque};
@@ -105,6 +105,7 @@ fn parent(name: &str, address: Option<&str>) -> Parent<String> {
     Parent {
         name: Some(name.into()),
         address: address.map(String::from),
+        price: None,
     }
 }
 
@@ -231,6 +232,7 @@ impl Net {
 
 fn hello(from: &str, to: &str) -> Vec<u8> {
     Hello {
+        version: OLD,
         life: 99,
         label: 7,
         from: from.into(),
@@ -409,14 +411,18 @@ fn parents_are_tried_in_order() {
             .map(|(it, _)| it.to_string())
     };
     assert_eq!(name(&mut net).as_deref(), Some("second"));
-    // (a parent that comes while there is another one is refused, and calls again)
+    // (one that is better is taken once it was that twice, and the other one is told so)
     net.start(setup("first", vec![], children(&[("leaf", true)])));
-    net.steps(100);
-    assert!(net.said("leaf", "refused somewhere: another parent is connected"));
+    net.steps(1);
     assert_eq!(name(&mut net).as_deref(), Some("second"));
-    net.agents.remove("second");
-    net.steps(400);
+    net.steps(100);
     assert_eq!(name(&mut net).as_deref(), Some("first"));
+    assert!(net.said("first", "child leaf: it has another parent"));
+    assert!(net.said("second", "closed leaf: it takes another parent"));
+    assert!(net.agent("second").peers.relay().is_left_behind("leaf"));
+    net.agents.remove("first");
+    net.steps(400);
+    assert_eq!(name(&mut net).as_deref(), Some("second"));
 }
 
 #[test]
@@ -521,6 +527,7 @@ fn who_does_not_answer_is_left() {
     let end = net.stranger("root", "a", &hello("a", ""));
     net.steps(3);
     let expected = Hello {
+        version: OLD,
         life: 1,
         label: 255,
         from: "root".into(),
@@ -566,6 +573,7 @@ fn a_child_that_was_connected_to_acknowledges_first() {
     let end = net.stranger("a", "root", &hello("root", "a"));
     net.step();
     let expected = Hello {
+        version: OLD,
         life: 2,
         label: 255,
         from: "a".into(),

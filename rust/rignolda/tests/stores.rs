@@ -1,6 +1,6 @@
 //! Agents whose links lie in a store in memory: what is lost, spoiled, late or old there, and what
 //! each agent received then, judged by C, E and M of the links.
-use rignolda::net::wire::{self, Hello};
+use rignolda::net::wire::{self, Hello, OLD};
 use rignolda::net::{Body, Call, Children, Line, Parent, Peers, Setup, Turn};
 use std::collections::BTreeMap;
 use std::io::{self, Read, Write};
@@ -69,6 +69,7 @@ fn parent(name: &str) -> Parent<String> {
     Parent {
         name: Some(name.into()),
         address: Some("store".into()),
+        price: None,
     }
 }
 
@@ -143,7 +144,7 @@ impl Net {
         for (key, _) in &turn.sets {
             // (each key has one writer)
             let parts: Vec<&str> = key.split(':').collect();
-            let writer = if parts[2] == "down" {
+            let writer = if ["down", "way"].contains(&parts[2]) {
                 parts[0]
             } else {
                 parts[1]
@@ -314,6 +315,7 @@ impl Net {
             std::mem::swap(&mut from, &mut to);
         }
         let mut bytes = Hello {
+            version: OLD,
             life,
             label,
             from,
@@ -528,6 +530,7 @@ fn the_next_parent_is_tried_where_the_store_has_no_word_of_one() {
     net.agents.clear();
     let elsewhere = Parent {
         name: Some("other".into()),
+        price: None,
         address: Some("elsewhere".into()),
     };
     net.start(setup("a", vec![parent("root"), elsewhere], &[]));
@@ -573,6 +576,7 @@ fn words_that_change_their_lives_or_are_spoiled_cost_few_tables() {
             let (life, label) = (1_000 + at, (at % 200) as u16);
             let (from, to) = ("a".to_string(), "root".to_string());
             let mut word = Hello {
+                version: OLD,
                 life,
                 label,
                 from,

@@ -1,8 +1,8 @@
 //! Agents over lines in memory that delay, fill up, fall silent and break, where each agent acts
 //! only when a line of it has an event or its deadline has come, as over the sockets of a system:
 //! whoever waits for an event that never comes is not connected in the end.
-use rignolda::net::wire::{self, Expect, Hello, Message};
-use rignolda::net::{Body, Call, Children, Handler, Line, Parent, Peers, Setup};
+use rignolda::net::wire::{self, Expect, Hello, Message, OLD, VERSION};
+use rignolda::net::{Body, Call, Children, Handler, Line, Parent, Peers, Setup, Way};
 use std::cell::{Cell, RefCell};
 use std::collections::{BTreeMap, VecDeque};
 use std::fmt;
@@ -240,6 +240,7 @@ fn parent(name: &str, is_called: bool) -> Parent<String> {
     Parent {
         name: Some(name.into()),
         address: is_called.then(|| name.into()),
+        price: None,
     }
 }
 
@@ -512,55 +513,85 @@ fn all_are_connected_soon_after_the_last_fault() {
     eprintln!("{steps} steps, {longest} at most");
 }
 
-/// What a receiver remembers may be another parent's: then no link goes on.
+/// What an agent said on a line that it has made: a look or a hello.
+fn said_first(there: &mut End) -> Message {
+    let mut bytes = vec![0; 99];
+    let count = there.read(&mut bytes).unwrap();
+    bytes.truncate(count);
+    wire::take(&mut bytes, Expect::Hello).unwrap().unwrap()
+}
+
+/// What a receiver remembers may be another parent's: then no link goes on. A look tells no life,
+/// and a parent that speaks version 1 leaves without an answer to it.
 #[test]
 fn a_parent_after_another_one_is_told_another_life() {
-    let clock = Rc::default();
-    let (mut now, mut said) = (Instant::now(), Said::default());
-    let mut peers: Peers<End, String> = Peers::new(Net::new(1, (0, 0)).setup("c"), 7, 16, now);
-    let mut lives = Vec::new();
-    for greets in [true, true, false, true, false] {
-        now += Duration::from_secs(9);
-        peers.tick(now, &mut said);
-        let call = peers.next_call(now, &mut said).unwrap();
-        let (name, (here, mut there)) = (call.address.clone(), line(&clock, [0, 0]));
-        peers.called(call, Ok(here), now, &mut said);
-        peers.write(now, &mut said);
-        let mut bytes = vec![0; 99];
-        let count = there.read(&mut bytes).unwrap();
-        bytes.truncate(count);
-        let told = match wire::take(&mut bytes, Expect::Hello) {
-            Ok(Some(Message::Hello(hello))) => (name.clone(), hello.life),
-            other => panic!("{:?}", other),
-        };
-        lives.push(told);
-        if greets {
-            let (life, label, from, to) = (9, 255, name, "c".into());
-            let hello = Hello {
-                life,
-                label,
-                from,
-                to,
-            };
-            there.write_all(&hello.bytes()).unwrap();
-            let ids: Vec<u64> = peers.lines().map(|it| it.0).collect();
-            peers.read(ids, now, &mut said);
+    for version in [OLD, VERSION] {
+        let clock = Rc::default();
+        let (mut now, mut said) = (Instant::now(), Said::default());
+        let mut peers: Peers<End, String> = Peers::new(Net::new(1, (0, 0)).setup("c"), 7, 16, now);
+        let mut lives = Vec::new();
+        for greets in [true, true, false, true, false] {
             now += Duration::from_secs(9);
+            peers.tick(now, &mut said);
+            let call = peers.next_call(now, &mut said).unwrap();
+            let (name, (here, mut there)) = (call.address.clone(), line(&clock, [0, 0]));
+            let mut read = |peers: &mut Peers<End, String>, now| {
+                let ids: Vec<u64> = peers.lines().map(|it| it.0).collect();
+                peers.read(ids, now, &mut said);
+            };
+            let mut hello = Hello {
+                version,
+                life: 9,
+                label: 255,
+                from: name.clone(),
+                to: "c".into(),
+            };
+            peers.called(call, Ok(here), now, &mut Said::default());
+            peers.write(now, &mut Said::default());
+            assert!(matches!(said_first(&mut there), Message::Look(look) if look.life == 0));
+            if version == OLD {
+                drop(there);
+                read(&mut peers, now);
+                let call = peers.next_call(now, &mut Said::default()).unwrap();
+                let (here, other) = line(&clock, [0, 0]);
+                there = other;
+                peers.called(call, Ok(here), now, &mut Said::default());
+                peers.write(now, &mut Said::default());
+            } else {
+                let names = vec!["root".into(), name.clone()];
+                there.write_all(&hello.look()).unwrap();
+                there
+                    .write_all(&wire::way(&Way { cost: 1, names }))
+                    .unwrap();
+                read(&mut peers, now);
+            }
+            match said_first(&mut there) {
+                Message::Hello(hello) => {
+                    assert_eq!(hello.version, version);
+                    lives.push((name.clone(), hello.life));
+                }
+                other => panic!("{:?}", other),
+            }
+            if greets {
+                hello.from = name;
+                there.write_all(&hello.bytes()).unwrap();
+                read(&mut peers, now);
+                now += Duration::from_secs(9);
+            }
+            drop(there);
+            read(&mut peers, now);
         }
-        drop(there);
-        let ids: Vec<u64> = peers.lines().map(|it| it.0).collect();
-        peers.read(ids, now, &mut said);
+        let told = |name: &str, life| (name.to_string(), life);
+        // (the third call fails, and so the other parent is next)
+        let expected = [
+            told("a", 7),
+            told("a", 7),
+            told("a", 7),
+            told("b", 8),
+            told("a", 9),
+        ];
+        assert_eq!(lives, expected, "version {version}");
     }
-    let told = |name: &str, life| (name.to_string(), life);
-    // (the third call fails, and so the other parent is next)
-    let expected = [
-        told("a", 7),
-        told("a", 7),
-        told("a", 7),
-        told("b", 8),
-        told("a", 9),
-    ];
-    assert_eq!(lives, expected);
 }
 
 /// A line that takes three times as long as an answer may take at first.
@@ -625,6 +656,7 @@ fn children_that_come_at_once_do_not_drive_each_other_out() {
         let (from, to) = (name(at), String::new());
         here.write_all(
             &Hello {
+                version: OLD,
                 life: 9,
                 label: 255,
                 from,

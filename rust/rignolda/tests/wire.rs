@@ -1,5 +1,5 @@
 //! Messages and bodies: what is written is read again, and whatever else comes does no harm.
-use rignolda::net::wire::{ack, frame, report, take, Expect, Hello, Message, REPORT_BYTES};
+use rignolda::net::wire::{ack, frame, report, take, Expect, Hello, Message, OLD, REPORT_BYTES};
 use rignolda::net::{Body, BODY_BYTES};
 use rignolda::settings::{entry_bytes, is_key, Meaning, VALUE_BYTES};
 
@@ -8,6 +8,7 @@ use common::Random;
 
 fn hello() -> Hello {
     Hello {
+        version: OLD,
         life: 0x0102_0304_0506_0708,
         label: 255,
         from: "host31".into(),
@@ -110,9 +111,11 @@ fn a_hello_of_another_kind_is_refused() {
         Err("it is no hello")
     );
     let mut other = good.clone();
-    other[4] = 2;
-    let why = "its version of the protocol is another one";
-    assert_eq!(all(other, Expect::Hello).1, Err(why));
+    let why = "its version of the protocol is neither 1 nor 2";
+    for version in [0, 3, 255] {
+        other[4] = version;
+        assert_eq!(all(other.clone(), Expect::Hello).1, Err(why));
+    }
     for name in ["", "a/b", ".a", "-a", "\u{e9}"] {
         let bytes = Hello {
             from: name.into(),

@@ -1,5 +1,6 @@
 //! The connections of an agent: who connects to whom, what is said first, and who is waited for.
-use super::wire::{self, Expect, Hello, Message};
+use super::parents::{Parents, Way, BEAT, NONE, SILENCE};
+use super::wire::{self, Expect, Hello, Message, OLD, VERSION};
 use super::{Body, Relay};
 use crate::Connection;
 use std::collections::{BTreeMap, BTreeSet, VecDeque};
@@ -67,7 +68,8 @@ pub trait Handler {
 pub struct Setup<A> {
     /// The agent's own name.
     pub name: String,
-    /// In the order in which they are tried. Empty at the root alone.
+    /// In the order in which they are tried. Empty at the root alone. [`Parents`] says by what rule
+    /// one of several is chosen.
     pub parents: Vec<Parent<A>>,
     /// Those below.
     pub children: Children<A>,
@@ -89,6 +91,8 @@ pub struct Parent<A> {
     pub name: Option<String>,
     /// Where there is none, the parent connects to the agent.
     pub address: Option<A>,
+    /// What the way over it costs besides 1; where nothing is said, 8 for each place in the list.
+    pub price: Option<u16>,
 }
 
 /// Its name; where it has none, its address.
@@ -118,6 +122,8 @@ pub enum Whom {
     Parent,
     /// The child of this name.
     Child(String),
+    /// The parent at this place of the list, which is looked at while another one is connected.
+    Candidate(usize),
 }
 
 impl fmt::Display for Whom {
@@ -125,6 +131,7 @@ impl fmt::Display for Whom {
         to.write_str(match self {
             Whom::Parent => "the parent",
             Whom::Child(name) => name,
+            Whom::Candidate(_) => "a candidate",
         })
     }
 }
@@ -148,6 +155,20 @@ struct Dial {
     under_way: bool,
     /// How long the hello took that came last.
     took: Duration,
+    /// Whether version 1 is tried, since the other end left without a word.
+    is_old: bool,
+}
+
+/// What a connection is for before it is one of a link.
+#[derive(Clone)]
+enum Look {
+    No,
+    /// For this call the parent at this place is looked at, and its hello has come or not.
+    Asks(Whom, usize, bool),
+    /// The parent at this place has connected itself, and its way is to come.
+    Comes(usize, Hello),
+    /// It was answered. The other end goes on with a hello, or closes it.
+    Answered,
 }
 
 struct Conn<L> {
@@ -163,19 +184,45 @@ struct Conn<L> {
     output: VecDeque<Chunk>,
     /// How much of the first chunk is written.
     written: usize,
-    /// When it is closed, unless what it waits for comes.
+    /// When it is closed, unless what it waits for comes; and whether that is for the length of a
+    /// frame that is under way.
     until: Option<Instant>,
+    is_timed: bool,
+    /// Whether the other end speaks version 1, as far as is known; whether it has said anything;
+    /// and whether it left without a word.
+    is_old: bool,
+    has_said: bool,
+    is_mute: bool,
+    look: Look,
+}
+
+impl<L> Conn<L> {
+    /// Of a parent, something whole came.
+    fn is_alive(&mut self, now: Instant) {
+        self.until = (!self.is_old).then(|| now + SILENCE);
+        self.is_timed = false;
+    }
+
+    /// What is under way from a parent has its time by its length, however its bytes come.
+    fn waits_for_rest(&mut self, now: Instant) {
+        let length = wire::frame_bytes(&self.input).filter(|_| !self.is_timed);
+        self.is_timed |= length.is_some();
+        if length.is_some() || (self.until.is_none() && !self.input.is_empty()) {
+            self.until = Some(now + SILENCE + Duration::from_secs(length.unwrap_or(0) / SLOWEST));
+        }
+    }
 }
 
 enum Chunk {
     Bytes(Vec<u8>),
+    Way(Vec<u8>),
     Body(Arc<Body>),
 }
 
 impl Chunk {
     fn bytes(&self) -> &[u8] {
         match self {
-            Chunk::Bytes(bytes) => bytes,
+            Chunk::Bytes(bytes) | Chunk::Way(bytes) => bytes,
             Chunk::Body(body) => &body.bytes,
         }
     }
@@ -199,7 +246,7 @@ pub struct Peers<L, A> {
     /// The links that lie in stores.
     stores: Vec<words::Place<A>>,
     /// Which parent is tried or connected, its connection, and its life.
-    parent: usize,
+    parents: Parents,
     above: Option<u64>,
     above_life: Option<u64>,
     /// Which parent was told a life last, and how often it was another one than before.
@@ -211,6 +258,9 @@ pub struct Peers<L, A> {
     late: u32,
     /// How many connections may wait without a hello, whatever else allows more.
     waiting: usize,
+    /// When the children are told the way again, and whether those in stores are.
+    beat: Instant,
+    says_again: bool,
     /// Where what is read comes first.
     space: Box<[u8]>,
 }
@@ -220,8 +270,10 @@ impl<L: Line, A: Clone + PartialEq + fmt::Display> Peers<L, A> {
     /// how many items its list has room for.
     pub fn new(setup: Setup<A>, life: u64, room: u64, now: Instant) -> Peers<L, A> {
         let keeps = matches!(setup.children, Children::Any);
+        let prices = setup.parents.iter().map(|it| it.price);
         let mut peers = Peers {
             relay: Relay::new(setup.parents.is_empty(), room, keeps),
+            parents: Parents::new(&setup.name, prices, false),
             setup,
             life,
             conns: BTreeMap::new(),
@@ -230,7 +282,6 @@ impl<L: Line, A: Clone + PartialEq + fmt::Display> Peers<L, A> {
             dials: BTreeMap::new(),
             children: BTreeMap::new(),
             stores: Vec::new(),
-            parent: 0,
             above: None,
             above_life: None,
             told: (None, 0),
@@ -239,6 +290,8 @@ impl<L: Line, A: Clone + PartialEq + fmt::Display> Peers<L, A> {
             said_refused: None,
             late: 0,
             waiting: usize::MAX,
+            beat: now + BEAT,
+            says_again: false,
             space: vec![0; READ_BYTES].into_boxed_slice(),
         };
         peers.dial_all(now);
@@ -261,17 +314,33 @@ impl<L: Line, A: Clone + PartialEq + fmt::Display> Peers<L, A> {
         }
         let parents = &self.setup.parents;
         if old.parents != *parents {
-            let here = old.parents.get(self.parent);
-            let stays = here.is_some() && here == parents.first();
-            self.parent = 0;
-            if let (false, Some(id)) = (stays, self.above) {
+            let here = old.parents.get(self.parents.at());
+            let is = |it: &Parent<A>| {
+                here.map_or(false, |here| {
+                    (&it.name, &it.address) == (&here.name, &here.address)
+                })
+            };
+            let (at, prices) = (
+                parents.iter().position(is),
+                parents.iter().map(|it| it.price),
+            );
+            self.parents.set(prices, at);
+            // (a look is at a place of the list)
+            self.conns
+                .retain(|_, conn| !matches!(conn.look, Look::Asks(..) | Look::Comes(..)));
+            self.dials
+                .retain(|whom, _| !matches!(whom, Whom::Candidate(_)));
+            if let (None, Some(id)) = (at, self.above) {
                 self.close(id, "the parents changed", now, to);
-                self.parent = 0;
+                self.parents.tries(0);
+            }
+            if self.above.is_none() && self.stored(&Whom::Parent).is_none() {
                 self.dials.remove(&Whom::Parent);
             }
         }
         self.keep_stores(now);
         self.dial_all(now);
+        self.tell(now);
     }
 
     /// Each child of the set-up is one, and all are called who have an address.
@@ -280,6 +349,14 @@ impl<L: Line, A: Clone + PartialEq + fmt::Display> Peers<L, A> {
         if !self.setup.parents.is_empty() {
             whoms.insert(Whom::Parent);
         }
+        let all = self.setup.parents.iter().enumerate();
+        let all = all.filter(|(_, parent)| parent.address.is_some());
+        whoms.extend(all.map(|(at, _)| Whom::Candidate(at)));
+        let has_children = match &self.setup.children {
+            Children::Named(children) => !children.is_empty(),
+            Children::Any => true,
+        };
+        self.parents.set_children(has_children);
         if let Children::Named(children) = &self.setup.children {
             for (name, address) in children {
                 self.relay.add(name, now);
@@ -293,6 +370,7 @@ impl<L: Line, A: Clone + PartialEq + fmt::Display> Peers<L, A> {
                 failed: 0,
                 under_way: false,
                 took: Duration::ZERO,
+                is_old: false,
             };
             self.dials.entry(whom).or_insert(dial);
         }
@@ -371,7 +449,12 @@ impl<L: Line, A: Clone + PartialEq + fmt::Display> Peers<L, A> {
             Some(id) => self.conns.get(&id)?.greeted,
             None => self.stored(&Whom::Parent)?.since,
         };
-        Some((self.setup.parents.get(self.parent)?, since?))
+        Some((self.setup.parents.get(self.parents.at())?, since?))
+    }
+
+    /// The way from a root to the agent, as it says it itself.
+    pub fn way(&self) -> &Way {
+        self.parents.says()
     }
 
     /// The agent's own name.
@@ -412,7 +495,9 @@ impl<L: Line, A: Clone + PartialEq + fmt::Display> Peers<L, A> {
         let dials = dials.map(|(_, dial)| dial.next);
         let evicts = self.relay.evicts_at(self.setup.evict);
         let stores = self.stores.iter().filter_map(words::Place::due);
+        let beat = (!self.children.is_empty()).then_some(self.beat);
         conns
+            .chain(beat)
             .chain(dials)
             .chain(evicts)
             .chain(again)
@@ -430,8 +515,10 @@ impl<L: Line, A: Clone + PartialEq + fmt::Display> Peers<L, A> {
     /// Takes a line that was accepted. Of those whose hello has not come, one too many drives the
     /// oldest one out.
     pub fn accept(&mut self, line: L, now: Instant, to: &mut dyn Handler) {
-        self.open(line, None, now, self.setup.ack_timeout * (1 << self.late));
-        let greeting = self.conns.iter().filter(|(_, conn)| conn.whom.is_none());
+        let patience = self.setup.ack_timeout * (1 << self.late);
+        self.open(line, false, None, now, patience);
+        let is_greeting = |conn: &Conn<L>| conn.whom.is_none() && !conn.made;
+        let greeting = self.conns.iter().filter(|(_, conn)| is_greeting(conn));
         let greeting: Vec<u64> = greeting.map(|(id, _)| *id).collect();
         let children = || self.relay.children().map(|(_, link)| link);
         let away = || children().filter(|link| !link.is_connected()).count();
@@ -444,6 +531,7 @@ impl<L: Line, A: Clone + PartialEq + fmt::Display> Peers<L, A> {
     fn open(
         &mut self,
         line: L,
+        made: bool,
         whom: Option<(Whom, Connection)>,
         now: Instant,
         patience: Duration,
@@ -451,7 +539,7 @@ impl<L: Line, A: Clone + PartialEq + fmt::Display> Peers<L, A> {
         self.made += 1;
         let conn = Conn {
             line,
-            made: whom.is_some(),
+            made,
             since: now,
             whom,
             greeted: None,
@@ -459,6 +547,11 @@ impl<L: Line, A: Clone + PartialEq + fmt::Display> Peers<L, A> {
             output: VecDeque::new(),
             written: 0,
             until: Some(now + patience),
+            is_timed: false,
+            is_old: false,
+            has_said: false,
+            is_mute: false,
+            look: Look::No,
         };
         self.conns.insert(self.made, conn);
         self.made
@@ -468,23 +561,33 @@ impl<L: Line, A: Clone + PartialEq + fmt::Display> Peers<L, A> {
         let is_connected = match whom {
             Whom::Parent => self.above.is_some(),
             Whom::Child(name) => self.children.contains_key(name),
+            Whom::Candidate(at) => {
+                let above = self.above.and_then(|id| self.conns.get(&id));
+                let is_old = above.map_or(false, |conn| conn.is_old && conn.greeted.is_some());
+                !self.parents.looks_at(*at, is_old)
+            }
         };
         !dial.under_way && !is_connected
     }
 
     fn address(&self, whom: &Whom) -> Option<&A> {
         match (whom, &self.setup.children) {
-            (Whom::Parent, _) => self.setup.parents.get(self.parent)?.address.as_ref(),
+            (Whom::Parent, _) => self.candidate(self.parents.at())?.address.as_ref(),
+            (Whom::Candidate(at), _) => self.candidate(*at)?.address.as_ref(),
             (Whom::Child(name), Children::Named(children)) => children.get(name)?.as_ref(),
             (Whom::Child(_), Children::Any) => None,
         }
+    }
+
+    fn candidate(&self, at: usize) -> Option<&Parent<A>> {
+        self.setup.parents.get(at)
     }
 
     /// How many are tried in turn.
     fn all(&self, whom: &Whom) -> u32 {
         match whom {
             Whom::Parent => self.setup.parents.len().max(1) as u32,
-            Whom::Child(_) => 1,
+            Whom::Child(_) | Whom::Candidate(_) => 1,
         }
     }
 
@@ -538,53 +641,126 @@ impl<L: Line, A: Clone + PartialEq + fmt::Display> Peers<L, A> {
             Ok(line) => line,
             Err(why) => return self.failed(&call.whom, &why, now, to),
         };
-        let (number, name) = match &call.whom {
-            Whom::Parent => {
-                let parent = self.setup.parents.get(self.parent);
-                let name = parent.and_then(|parent| parent.name.clone());
-                (self.relay.made(), name.unwrap_or_default())
+        let (is_old, took) = match self.dials.get_mut(&call.whom) {
+            Some(dial) => {
+                dial.under_way = true;
+                (dial.is_old, dial.took)
             }
-            Whom::Child(name) => (self.relay.made_to(name), name.clone()),
+            None => return,
+        };
+        let patience = self.later(took, call.failed as u32);
+        let (at, name) = match &call.whom {
+            Whom::Child(name) => (None, name.clone()),
+            Whom::Candidate(at) => (Some(*at), self.name_of(*at)),
+            Whom::Parent => (Some(self.parents.at()), self.name_of(self.parents.at())),
+        };
+        let number = match (&call.whom, at) {
+            (Whom::Child(name), _) => self.relay.made_to(name),
+            (Whom::Parent, _) if is_old => self.relay.made(),
+            (whom, at) => {
+                let look = Look::Asks(whom.clone(), at.unwrap_or(0), false);
+                let id = self.open(line, true, None, now, patience);
+                self.conns
+                    .get_mut(&id)
+                    .into_iter()
+                    .for_each(|conn| conn.look = look.clone());
+                return self.say_look(id, name);
+            }
         };
         let number = match number {
             Some(number) => number,
             None => return self.failed(&call.whom, "no number is left", now, to),
         };
-        let mut took = Duration::ZERO;
-        if let Some(dial) = self.dials.get_mut(&call.whom) {
-            dial.under_way = true;
-            took = dial.took;
-        }
-        let patience = self.later(took, call.failed as u32);
-        let id = self.open(line, Some((call.whom.clone(), number)), now, patience);
+        let whom = (call.whom.clone(), number);
+        let id = self.open(line, true, Some(whom), now, patience);
+        self.conns
+            .get_mut(&id)
+            .into_iter()
+            .for_each(|conn| conn.is_old = is_old);
         if call.whom == Whom::Parent {
             self.above = Some(id);
         }
         self.say_hello(id, name);
+        if at.is_none() {
+            self.say_way(id);
+        }
+    }
+
+    /// The name of the parent at this place, if it is known.
+    fn name_of(&self, at: usize) -> String {
+        let name = self.candidate(at).and_then(|it| it.name.clone());
+        name.unwrap_or_default()
     }
 
     fn say_hello(&mut self, id: u64, to: String) {
         let conn = self.conns.get(&id);
         let to_parent = conn.map_or(false, |it| matches!(it.whom, Some((Whom::Parent, _))));
-        let life = if to_parent { self.told() } else { self.life };
-        let (label, from) = (self.relay.label(), self.setup.name.clone());
-        self.send(
-            id,
-            Hello {
-                life,
-                label,
-                from,
-                to,
+        let is_old = conn.map_or(false, |it| it.is_old);
+        let hello = Hello {
+            version: if is_old { OLD } else { VERSION },
+            life: if to_parent { self.told() } else { self.life },
+            label: self.relay.label(),
+            from: self.setup.name.clone(),
+            to,
+        };
+        self.send(id, hello.bytes());
+    }
+
+    /// Looks at a candidate, or answers a look. (No life is told by it, and no label.)
+    fn say_look(&mut self, id: u64, to: String) {
+        let from = self.setup.name.clone();
+        let hello = Hello {
+            version: VERSION,
+            life: 0,
+            label: 0,
+            from,
+            to,
+        };
+        self.send(id, hello.look());
+    }
+
+    /// Says the own way, if the other end knows what that is.
+    fn say_way(&mut self, id: u64) {
+        if let Some(conn) = self.conns.get_mut(&id).filter(|conn| !conn.is_old) {
+            let is_unsent = conn.output.len() > 1 || conn.written == 0;
+            if is_unsent && matches!(conn.output.back(), Some(Chunk::Way(_))) {
+                conn.output.pop_back();
             }
-            .bytes(),
-        );
+            let way = wire::way(self.parents.says());
+            conn.output.push_back(Chunk::Way(way));
+        }
+    }
+
+    /// Tells all children the way where it is another one, or they were told long ago. (Who has
+    /// something else to read knows that this agent is there.)
+    fn tell(&mut self, now: Instant) {
+        let (has_news, is_beat) = (self.parents.has_news(), now >= self.beat);
+        if is_beat {
+            self.beat = now + BEAT;
+        }
+        if has_news || is_beat {
+            let ids: Vec<u64> = self.children.values().copied().collect();
+            let waits = |id: &u64| self.conns.get(id).map_or(true, |it| !it.output.is_empty());
+            let ids: Vec<u64> = ids
+                .into_iter()
+                .filter(|id| has_news || !waits(id))
+                .collect();
+            ids.into_iter().for_each(|id| self.say_way(id));
+        }
+        if has_news && self.parents.says().cost >= NONE {
+            for (whom, dial) in &mut self.dials {
+                if let Whom::Candidate(at) = whom {
+                    dial.next = dial.next.min(now + self.parents.pause(*at));
+                }
+            }
+        }
     }
 
     /// The life that a parent is told. It is another one than what another parent was told before,
     /// so that the parent begins a new count: what the receiver remembers may be that parent's, and
     /// even look as if it had come from this one.
     fn told(&mut self) -> u64 {
-        let parent = self.setup.parents.get(self.parent).map(Parent::to_string);
+        let parent = self.candidate(self.parents.at()).map(Parent::to_string);
         let is_other = self.told.0.is_some() && self.told.0 != parent;
         self.told = (parent, self.told.1 + u64::from(is_other));
         self.life.wrapping_add(self.told.1)
@@ -604,7 +780,7 @@ impl<L: Line, A: Clone + PartialEq + fmt::Display> Peers<L, A> {
             None => return,
         };
         if dial.failed == 0 {
-            match (whom, self.setup.parents.get(self.parent)) {
+            match (whom, self.setup.parents.get(self.parents.at())) {
                 (Whom::Child(name), _) => to.on_fact("child", format_args!("{name}: {why}")),
                 (
                     Whom::Parent,
@@ -618,16 +794,44 @@ impl<L: Line, A: Clone + PartialEq + fmt::Display> Peers<L, A> {
                 (Whom::Parent, Some(parent)) => {
                     to.on_fact("parent", format_args!("{parent}: {why}"));
                 }
-                (Whom::Parent, None) => (),
+                (Whom::Parent, None) | (Whom::Candidate(_), _) => (),
             }
         }
+        dial.is_old = false;
         let rounds = (dial.failed / all).min(5);
         dial.failed = dial.failed.saturating_add(1);
         // (each agent at its own time, so that a parent that is back is not run over)
         let drawn = (self.life ^ self.made.wrapping_mul(0x9e37_79b9_7f4a_7c15)) % 1_000;
-        dial.next = now + Duration::from_millis((50 << rounds) * (500 + drawn) / 1_000);
-        if *whom == Whom::Parent {
-            self.parent = (self.parent + 1) % all as usize;
+        let pause = match whom {
+            Whom::Candidate(at) => self.parents.pause(*at),
+            _ => Duration::from_millis(50 << rounds),
+        };
+        dial.next = now + pause * (500 + drawn as u32) / 1_000;
+        if *whom == Whom::Parent && self.above.is_none() {
+            self.parents.tries((self.parents.at() + 1) % all as usize);
+        }
+    }
+
+    /// A look is over. Who left without a word may speak version 1 alone: then it is called so.
+    fn look_ended(
+        &mut self,
+        whom: &Whom,
+        is_mute: bool,
+        why: &str,
+        now: Instant,
+        to: &mut dyn Handler,
+    ) {
+        let (at, is_parent) = (self.parents.at(), *whom == Whom::Parent);
+        if let Some(dial) = self.dials.get_mut(whom) {
+            dial.under_way = false;
+            if is_parent && self.above.is_some() {
+                return;
+            }
+            if is_parent && is_mute && self.parents.looked(at, &self.parents.old(at)).is_ok() {
+                (dial.is_old, dial.next) = (true, now);
+                return;
+            }
+            self.failed(whom, why, now, to);
         }
     }
 
@@ -637,9 +841,13 @@ impl<L: Line, A: Clone + PartialEq + fmt::Display> Peers<L, A> {
             Some(conn) => conn,
             None => return,
         };
-        let (whom, number) = match conn.whom {
-            Some(whom) => whom,
-            None => {
+        let (whom, number) = match (conn.whom, &conn.look) {
+            (Some(whom), _) => whom,
+            (None, Look::Answered) => return,
+            (None, Look::Asks(whom, ..)) => {
+                return self.look_ended(whom, conn.is_mute, why, now, to);
+            }
+            (None, _) => {
                 self.refused += 1;
                 // (whoever can connect must not fill the journal)
                 if self
@@ -658,9 +866,15 @@ impl<L: Line, A: Clone + PartialEq + fmt::Display> Peers<L, A> {
             to.on_fact("closed", format_args!("{whom}: {why}, at {place}"));
         }
         match &whom {
+            Whom::Candidate(_) => (),
             Whom::Parent => {
                 self.relay.ended(number);
-                self.above = self.above.filter(|above| *above != id);
+                // (else another one is taken already)
+                if self.above != Some(id) {
+                    return;
+                }
+                self.above = None;
+                self.parents.tries(self.parents.at());
             }
             Whom::Child(name) => {
                 self.relay.child_ended(name, number, now);
@@ -670,6 +884,35 @@ impl<L: Line, A: Clone + PartialEq + fmt::Display> Peers<L, A> {
             }
         }
         self.redial(&whom, conn.made, conn.greeted, why, now, to);
+        // (a parent's hello of version 2 was not heard, or it was tried to speak version 1)
+        if let (Whom::Child(_), Some(dial)) = (&whom, self.dials.get_mut(&whom)) {
+            dial.is_old = conn.is_mute && !conn.is_old;
+        }
+    }
+
+    /// Leaves the parent for the one at this place, and says so.
+    fn leave(&mut self, at: usize, now: Instant, to: &mut dyn Handler) {
+        let is_same = at == self.parents.at();
+        if let Some(dial) = self.dials.get_mut(&Whom::Parent) {
+            dial.under_way = false;
+        }
+        if let Some(id) = self.above.take() {
+            let conn = self
+                .conns
+                .get(&id)
+                .filter(|it| it.greeted.is_some() && !it.is_old);
+            if conn.is_some() && !is_same {
+                self.send(id, wire::GOODBYE.into());
+                self.write_one(id, now, to);
+            }
+            let why = if is_same {
+                "it connected anew"
+            } else {
+                "another parent is taken"
+            };
+            self.close(id, why, now, to);
+        }
+        self.leave_store_of_parent(now);
     }
 
     /// Who was left is called again after a while, or the next one is.
@@ -688,11 +931,12 @@ impl<L: Line, A: Clone + PartialEq + fmt::Display> Peers<L, A> {
             None => return,
         };
         dial.under_way &= !made;
+        dial.is_old = false;
         if greeted.map_or(false, |since| now >= since + SHORT) {
             dial.failed = 0;
             dial.next = now + Duration::from_millis(self.life % 50);
             if *whom == Whom::Parent {
-                self.parent = 0;
+                self.parents.tries(0);
             }
         } else {
             // (after a short one it waits too, but never long)
@@ -716,7 +960,7 @@ impl<L: Line, A: Clone + PartialEq + fmt::Display> Peers<L, A> {
             let is_unknown = self
                 .conns
                 .get(&id)
-                .map_or(false, |conn| conn.whom.is_none());
+                .map_or(false, |conn| conn.whom.is_none() && !conn.made);
             self.late = (self.late + u32::from(is_unknown)).min(LATER);
             let whom = self.conns.get(&id).filter(|conn| conn.greeted.is_some());
             if let Some((Whom::Child(name), _)) = whom.and_then(|conn| conn.whom.clone()) {
@@ -734,6 +978,7 @@ impl<L: Line, A: Clone + PartialEq + fmt::Display> Peers<L, A> {
                 to.on_gone(&name);
             }
         }
+        self.tell(now);
     }
 
     // ---- Bytes
@@ -757,9 +1002,15 @@ impl<L: Line, A: Clone + PartialEq + fmt::Display> Peers<L, A> {
         for id in ready {
             match self.read_one(id, now, to) {
                 Ok(()) => self.write_one(id, now, to),
-                Err(why) => self.close(id, &why, now, to),
+                Err(why) => {
+                    if let Some(conn) = self.conns.get_mut(&id) {
+                        conn.is_mute = !conn.has_said && conn.output.is_empty();
+                    }
+                    self.close(id, &why, now, to);
+                }
             }
         }
+        self.tell(now);
     }
 
     fn read_one(&mut self, id: u64, now: Instant, to: &mut dyn Handler) -> Result<(), String> {
@@ -831,23 +1082,38 @@ impl<L: Line, A: Clone + PartialEq + fmt::Display> Peers<L, A> {
             if conn.output.len() > UNREAD {
                 return Err("it reads nothing");
             }
-            let expect = match (&conn.whom, conn.greeted) {
-                (Some((Whom::Parent, _)), Some(_)) => Expect::Frames,
-                (Some((Whom::Child(_), _)), Some(_)) => Expect::Acks,
+            conn.has_said = true;
+            let expect = match (&conn.whom, conn.greeted, &conn.look) {
+                (Some((Whom::Parent, _)), Some(_), _) => Expect::Frames,
+                (Some((Whom::Child(_), _)), Some(_), _) => Expect::Acks,
+                (None, _, Look::Asks(_, _, true) | Look::Comes(..)) => Expect::Way,
                 _ => Expect::Hello,
             };
-            let message = match wire::take(&mut conn.input, expect)? {
+            let message = wire::take(&mut conn.input, expect)?;
+            match (expect, &message) {
+                (Expect::Frames, Some(_)) => conn.is_alive(now),
+                (Expect::Frames, None) => conn.waits_for_rest(now),
+                _ => (),
+            }
+            let message = match message {
                 Some(message) => message,
                 None => break,
             };
             match (conn.whom.clone(), message) {
                 (_, Message::Hello(hello)) => self.greets(id, &hello, now, to)?,
+                (None, Message::Look(hello)) => self.look(id, &hello, now, to)?,
+                (Some((Whom::Child(_), _)), Message::Look(_)) => {
+                    return Err("it has another parent");
+                }
+                (None, Message::Way(way)) => self.way_came(id, way, now, to)?,
+                (Some((Whom::Parent, _)), Message::Way(way)) => self.parents.hears(way)?,
                 (Some((Whom::Parent, number)), Message::Frame(label, body)) => {
                     self.frame(id, number, label, &body, now, to);
                 }
                 (Some((Whom::Child(name), number)), Message::Ack(label)) => {
                     // (else whoever acknowledges without end would be sent to without end)
-                    if conn.until.take().is_none() || !conn.output.is_empty() {
+                    let waits = conn.output.iter().any(|it| !matches!(it, Chunk::Way(_)));
+                    if conn.until.take().is_none() || waits {
                         return Err("it acknowledges what was not sent");
                     }
                     // (the first one after a hello may be no answer)
@@ -863,6 +1129,10 @@ impl<L: Line, A: Clone + PartialEq + fmt::Display> Peers<L, A> {
                     if !to.on_report(&name, &bytes, now) {
                         return Err("it sent no report");
                     }
+                }
+                (Some((Whom::Child(name), _)), Message::Goodbye) => {
+                    self.relay.leave_behind(&name);
+                    return Err("it takes another parent");
                 }
                 _ => return Err("it is no message"),
             }
@@ -885,17 +1155,17 @@ impl<L: Line, A: Clone + PartialEq + fmt::Display> Peers<L, A> {
         let (whom, at) = match &made {
             Some((whom, _)) => {
                 let name = match whom {
-                    Whom::Parent => self
-                        .setup
-                        .parents
-                        .get(self.parent)
-                        .and_then(|parent| parent.name.as_ref()),
+                    Whom::Parent => {
+                        let parent = self.setup.parents.get(self.parents.at());
+                        parent.and_then(|parent| parent.name.as_ref())
+                    }
                     Whom::Child(name) => Some(name),
+                    Whom::Candidate(_) => None,
                 };
                 if !is_meant || name.map_or(false, |name| *name != hello.from) {
                     return Err("its hello has other names");
                 }
-                (whom.clone(), self.parent)
+                (whom.clone(), self.parents.at())
             }
             None if !is_meant && !hello.to.is_empty() => return Err("it means another agent"),
             None => self
@@ -910,9 +1180,128 @@ impl<L: Line, A: Clone + PartialEq + fmt::Display> Peers<L, A> {
             return Err("its certificate has another name");
         }
         let made = made.map(|(_, number)| number);
-        match whom {
-            Whom::Parent => self.parent_greets(id, made, at, hello, now, to),
-            Whom::Child(name) => self.child_greets(id, made, &name, hello, now, to),
+        let is_old = hello.version == OLD;
+        if let Some(conn) = self.conns.get_mut(&id) {
+            conn.is_old = is_old;
+        }
+        match (whom, made) {
+            (Whom::Parent, None) if !is_old => {
+                // (nothing has changed yet: first its way is to come)
+                let look = Look::Comes(at, hello.clone());
+                self.conns
+                    .get_mut(&id)
+                    .into_iter()
+                    .for_each(|conn| conn.look = look.clone());
+                Ok(())
+            }
+            (Whom::Parent, _) => {
+                let old = self.parents.old(at);
+                if made.is_none() {
+                    self.parents.looked(at, &old)?;
+                }
+                self.parent_greets(id, made, at, is_old.then_some(old), hello, now, to)
+            }
+            (Whom::Child(name), _) => self.child_greets(id, made, &name, hello, now, to),
+            (Whom::Candidate(_), _) => Err("it is no hello"),
+        }
+    }
+
+    /// An end looks at this one, or is a candidate that answers.
+    fn look(
+        &mut self,
+        id: u64,
+        hello: &Hello,
+        now: Instant,
+        to: &mut dyn Handler,
+    ) -> Result<(), &'static str> {
+        let own = &self.setup.name;
+        let conn = self.conns.get(&id).ok_or("it is gone")?;
+        let (may_be, is_meant) = (conn.line.may_be(&hello.from), hello.to == *own);
+        let caller = self
+            .caller(&hello.from)
+            .filter(|(whom, _)| *whom != Whom::Parent);
+        let why = match &conn.look {
+            _ if !may_be => "its certificate has another name",
+            Look::Asks(whom, at, false) => {
+                let name = self.candidate(*at).and_then(|it| it.name.as_ref());
+                if !is_meant || name.map_or(false, |name| *name != hello.from) {
+                    return Err("its hello has other names");
+                }
+                let look = Look::Asks(whom.clone(), *at, true);
+                self.conns
+                    .get_mut(&id)
+                    .into_iter()
+                    .for_each(|conn| conn.look = look.clone());
+                return Ok(());
+            }
+            Look::No if conn.made => "it is no hello",
+            Look::No if !is_meant && !hello.to.is_empty() => "it means another agent",
+            Look::No if caller.is_none() => "its name is none of a child",
+            Look::No => {
+                self.say_look(id, hello.from.clone());
+                self.say_way(id);
+                self.answered(id, now);
+                return Ok(());
+            }
+            _ => "it is no hello",
+        };
+        // (so much says which version this is, and else nothing)
+        self.send(id, [&wire::LOOK[..], &[VERSION]].concat());
+        self.write_one(id, now, to);
+        Err(why)
+    }
+
+    fn answered(&mut self, id: u64, now: Instant) {
+        let patience = self.setup.ack_timeout * (1 << self.late);
+        if let Some(conn) = self.conns.get_mut(&id) {
+            (conn.look, conn.until) = (Look::Answered, Some(now + patience));
+        }
+    }
+
+    /// A candidate says its way. It becomes the parent, or not.
+    fn way_came(
+        &mut self,
+        id: u64,
+        way: Way,
+        now: Instant,
+        to: &mut dyn Handler,
+    ) -> Result<(), &'static str> {
+        let conn = self.conns.get(&id).ok_or("it is gone")?;
+        let (since, look) = (conn.since, conn.look.clone());
+        match look {
+            Look::Asks(whom, at, true) => {
+                self.parents.looked(at, &way)?;
+                self.leave(at, now, to);
+                if whom != Whom::Parent {
+                    self.look_ended(&whom, false, "", now, to);
+                }
+                self.parents.took(at, way);
+                let number = self.relay.made().ok_or("no number is left")?;
+                let took = self.dials.get_mut(&Whom::Parent).map(|dial| {
+                    (dial.under_way, dial.failed) = (true, 0);
+                    dial.took
+                });
+                // (the hello takes as long as the look did)
+                let took = took.unwrap_or(Duration::ZERO).max(now - since);
+                let until = now + self.later(took, 0);
+                if let Some(conn) = self.conns.get_mut(&id) {
+                    (conn.look, conn.until) = (Look::No, Some(until));
+                    conn.whom = Some((Whom::Parent, number));
+                }
+                self.above = Some(id);
+                self.say_hello(id, self.name_of(at));
+                Ok(())
+            }
+            Look::Comes(at, hello) => match self.parents.looked(at, &way) {
+                Ok(()) => self.parent_greets(id, None, at, Some(way), &hello, now, to),
+                Err(_) => {
+                    // (it is to connect again later, and no other life is told)
+                    self.say_look(id, hello.from);
+                    self.answered(id, now);
+                    Ok(())
+                }
+            },
+            _ => Err("it is no message"),
         }
     }
 
@@ -937,21 +1326,18 @@ impl<L: Line, A: Clone + PartialEq + fmt::Display> Peers<L, A> {
         id: u64,
         made: Option<Connection>,
         at: usize,
+        way: Option<Way>,
         hello: &Hello,
         now: Instant,
         to: &mut dyn Handler,
     ) -> Result<(), &'static str> {
-        if made.is_none() && at != self.parent && self.parent().is_some() {
-            return Err("another parent is connected");
-        }
-        self.leave_store_of_parent(now);
-        if let (None, Some(above)) = (made, self.above) {
-            self.close(above, "it connected anew", now, to);
+        if made.is_none() {
+            self.leave(at, now, to);
         }
         let number = made
             .or_else(|| self.relay.accepted())
             .ok_or("no number is left")?;
-        self.parent = at;
+        way.into_iter().for_each(|way| self.parents.took(at, way));
         self.above = Some(id);
         self.begins(id, Whom::Parent, number, now);
         let anew = self.above_life.replace(hello.life) != Some(hello.life);
@@ -1005,6 +1391,7 @@ impl<L: Line, A: Clone + PartialEq + fmt::Display> Peers<L, A> {
             Some(conn) if made.is_some() => conn.until = Some(now + patience),
             _ => self.say_hello(id, name.into()),
         }
+        self.say_way(id);
         self.poll(name, now);
         Ok(())
     }
@@ -1014,9 +1401,13 @@ impl<L: Line, A: Clone + PartialEq + fmt::Display> Peers<L, A> {
             if let (true, Some(dial)) = (conn.made, self.dials.get_mut(&whom)) {
                 dial.took = now - conn.since;
             }
-            conn.whom = Some((whom, number));
             conn.greeted = Some(now);
             conn.until = None;
+            conn.look = Look::No;
+            if whom == Whom::Parent {
+                conn.is_alive(now);
+            }
+            conn.whom = Some((whom, number));
         }
     }
 
@@ -1050,6 +1441,7 @@ impl<L: Line, A: Clone + PartialEq + fmt::Display> Peers<L, A> {
         self.left_behind(left, now, to);
         if fresh && to.on_item(body, now) {
             self.relay.last_is_a_table();
+            self.says_again = true;
         }
         self.poll_all(now);
     }
@@ -1059,6 +1451,7 @@ impl<L: Line, A: Clone + PartialEq + fmt::Display> Peers<L, A> {
         let left = self.relay.publish(body);
         if to.on_item(body, now) {
             self.relay.last_is_a_table();
+            self.says_again = true;
         }
         self.left_behind(left, now, to);
         self.poll_all(now);

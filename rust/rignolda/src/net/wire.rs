@@ -7,6 +7,11 @@
 //! the link are the frames and the acknowledgements. Each length is bounded before anything is kept
 //! for it.
 //!
+//! Where both ends speak version 2, a parent also says its way, behind its hello and then now and
+//! again: `'W' | cost u16 | length u16 | names`, the names with a line feed between two. A child
+//! that takes another parent says so, `'G'`. And before all that an end may look at a candidate, by
+//! a hello that begins with `"RGNL"`, which is answered by another such one and the way.
+//!
 //! ```
 //! use rignolda::net::wire::{self, Expect, Message};
 //! use rignolda::net::Body;
@@ -22,19 +27,27 @@
 //! assert_eq!(wire::take(&mut stream, Expect::Frames)?, None);
 //! # Ok::<(), &'static str>(())
 //! ```
-use super::{is_name, Body, BODY_BYTES};
+use super::parents::{Way, NAMES};
+use super::{is_name, Body, BODY_BYTES, NAME_BYTES};
 use std::sync::Arc;
 
-/// The version of the protocol.
-pub const VERSION: u8 = 1;
+/// The version of the protocol, and the one before it, which is spoken to those that know no other.
+pub const VERSION: u8 = 2;
+/// See [`VERSION`].
+pub const OLD: u8 = 1;
 /// The longest report, in bytes.
 pub const REPORT_BYTES: usize = 1 << 20;
+/// The longest way, in bytes: each name with a line feed.
+pub const WAY_BYTES: usize = NAMES * (NAME_BYTES + 1);
 const MAGIC: &[u8; 4] = b"RGND";
+pub(super) const LOOK: &[u8; 4] = b"RGNL";
 pub(super) const FRAME_HEAD: usize = 11;
 
 /// What an end says first.
 #[derive(Clone, Debug, PartialEq, Eq)]
 pub struct Hello {
+    /// Which version of the protocol the end speaks here.
+    pub version: u8,
     /// A number that the process drew when it began. A parent that comes after another
     /// one is told a further one.
     pub life: u64,
@@ -51,12 +64,18 @@ pub struct Hello {
 pub enum Message {
     /// What an end says first.
     Hello(Hello),
+    /// What an end says first that looks at a candidate, or answers: no link begins.
+    Look(Hello),
+    /// A parent's way.
+    Way(Way),
     /// A frame: its label, and the body with its item.
     Frame(u16, Arc<Body>),
     /// An acknowledgement: its label.
     Ack(u16),
     /// What a child says for watching alone.
     Report(Vec<u8>),
+    /// A child takes another parent.
+    Goodbye,
 }
 
 /// What may come next on a connection.
@@ -64,7 +83,9 @@ pub enum Message {
 pub enum Expect {
     /// The first message.
     Hello,
-    /// Those of a parent.
+    /// The way of a candidate.
+    Way,
+    /// The messages of a parent.
     Frames,
     /// Those of a child.
     Acks,
@@ -74,7 +95,7 @@ impl Hello {
     /// The bytes to write.
     pub fn bytes(&self) -> Vec<u8> {
         let mut bytes = MAGIC.to_vec();
-        bytes.push(VERSION);
+        bytes.push(self.version);
         bytes.extend_from_slice(&self.life.to_be_bytes());
         bytes.extend_from_slice(&self.label.to_be_bytes());
         for name in [&self.from, &self.to] {
@@ -83,6 +104,18 @@ impl Hello {
         }
         bytes
     }
+
+    /// The same as a look.
+    pub fn look(&self) -> Vec<u8> {
+        let mut bytes = self.bytes();
+        bytes[..LOOK.len()].copy_from_slice(LOOK);
+        bytes
+    }
+}
+
+/// How long the message is that begins here, if it is a frame and its head is there.
+pub(super) fn frame_bytes(bytes: &[u8]) -> Option<u64> {
+    label(bytes).and_then(|_| number(bytes, 7, 4))
 }
 
 /// The label of the frame that begins here, if its head is there.
@@ -101,6 +134,19 @@ pub fn frame(label: u16, body: &Body) -> Vec<u8> {
     bytes.extend_from_slice(&(body.bytes.len() as u32).to_be_bytes());
     bytes
 }
+
+/// A way.
+pub fn way(way: &Way) -> Vec<u8> {
+    let names = way.names.join("\n");
+    let mut bytes = vec![b'W'];
+    bytes.extend_from_slice(&way.cost.to_be_bytes());
+    bytes.extend_from_slice(&(names.len() as u16).to_be_bytes());
+    bytes.extend_from_slice(names.as_bytes());
+    bytes
+}
+
+/// The last word of a child that takes another parent.
+pub const GOODBYE: &[u8] = b"G";
 
 /// An acknowledgement.
 pub fn ack(label: u16) -> Vec<u8> {
@@ -168,6 +214,11 @@ fn parse(input: &[u8], expect: Expect) -> Result<Option<Parsed>, &'static str> {
             let used = FRAME_HEAD + length;
             Ok((input.len() >= used).then_some(Parsed::Frame(label, item, used)))
         }
+        (Expect::Frames | Expect::Way, b'W') => match number(input, 3, 2) {
+            Some(length) if length as usize > WAY_BYTES => Err("a way is too long"),
+            length => length.map_or(Ok(None), |length| parse_way(input, 5 + length as usize)),
+        },
+        (Expect::Acks, b'G') => Ok(Some(Parsed::Whole(Message::Goodbye, 1))),
         (Expect::Acks, b'A') => {
             Ok(number(input, 1, 2).map(|label| Parsed::Whole(Message::Ack(label as u16), 3)))
         }
@@ -183,6 +234,21 @@ fn parse(input: &[u8], expect: Expect) -> Result<Option<Parsed>, &'static str> {
     }
 }
 
+fn parse_way(input: &[u8], end: usize) -> Result<Option<Parsed>, &'static str> {
+    let (cost, names) = match (number(input, 1, 2), input.get(5..end)) {
+        (Some(cost), Some(names)) => (cost as u16, names),
+        _ => return Ok(None),
+    };
+    let names = std::str::from_utf8(names).map_err(|_| "a name of a way is none")?;
+    let names: Vec<String> = names.split('\n').map(String::from).collect();
+    if names.len() > NAMES {
+        return Err("a way is too long");
+    } else if !names.iter().all(|name| is_name(name)) {
+        return Err("a name of a way is none");
+    }
+    Ok(Some(Parsed::Whole(Message::Way(Way { cost, names }), end)))
+}
+
 /// The number in `bytes` bytes from a place on, if they have come.
 fn number(input: &[u8], at: usize, bytes: usize) -> Option<u64> {
     let from = input.get(at..at + bytes)?;
@@ -194,11 +260,18 @@ fn number(input: &[u8], at: usize, bytes: usize) -> Option<u64> {
 
 fn hello(input: &[u8]) -> Result<Option<Parsed>, &'static str> {
     let known = input.len().min(MAGIC.len());
-    if input[..known] != MAGIC[..known] {
+    let is_look = input[..known] == LOOK[..known];
+    if input[..known] != MAGIC[..known] && !is_look {
         return Err("it is no hello");
     }
-    if input.get(4).map_or(false, |version| *version != VERSION) {
-        return Err("its version of the protocol is another one");
+    let least = if is_look && known == LOOK.len() {
+        VERSION
+    } else {
+        OLD
+    };
+    let version = input.get(4).copied().unwrap_or(least);
+    if !(least..=VERSION).contains(&version) {
+        return Err("its version of the protocol is neither 1 nor 2");
     }
     let mut at = 15;
     let mut names = [String::new(), String::new()];
@@ -217,18 +290,21 @@ fn hello(input: &[u8]) -> Result<Option<Parsed>, &'static str> {
         at += 1 + bytes.len();
     }
     let [from, to] = names;
-    Ok(number(input, 5, 8)
-        .zip(number(input, 13, 2))
-        .map(|(life, label)| {
-            let label = label as u16;
-            Parsed::Whole(
-                Message::Hello(Hello {
-                    life,
-                    label,
-                    from,
-                    to,
-                }),
-                at,
-            )
-        }))
+    let numbers = number(input, 5, 8).zip(number(input, 13, 2));
+    Ok(numbers.map(|(life, label)| {
+        let label = label as u16;
+        let hello = Hello {
+            version,
+            life,
+            label,
+            from,
+            to,
+        };
+        let message = if is_look {
+            Message::Look
+        } else {
+            Message::Hello
+        };
+        Parsed::Whole(message(hello), at)
+    }))
 }

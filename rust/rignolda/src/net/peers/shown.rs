@@ -62,7 +62,69 @@ impl<L: Line, A: Clone + PartialEq + fmt::Display> Peers<L, A> {
                 }
             }
         }
+        // (a call that is not under way any more has no link)
+        let dials = &self.dials;
+        let is_there = |whom: &Whom| dials.get(whom).map_or(false, |dial| dial.under_way);
+        for place in &mut places {
+            place.links.retain(|whom, _| is_there(whom));
+        }
         self.stores = places;
+        self.tell(now);
+    }
+
+    /// The place of a parent in the list.
+    pub(super) fn place_of(&self, whom: &Whom) -> usize {
+        match whom {
+            Whom::Candidate(at) => *at,
+            _ => self.parents.at(),
+        }
+    }
+
+    /// The way of a parent that is looked at, or is there.
+    fn way_shown(
+        &mut self,
+        whom: &Whom,
+        words: &mut Words,
+        mut bytes: Vec<u8>,
+        now: Instant,
+        to: &mut dyn Handler,
+    ) -> bool {
+        let way = match wire::take(&mut bytes, Expect::Way) {
+            Ok(Some(Message::Way(way))) if bytes.is_empty() => Some(way),
+            _ => None,
+        };
+        let (at, is_parent) = (self.place_of(whom), *whom == Whom::Parent);
+        if !words.looks {
+            let is_new = way.is_some() && way != words.way;
+            words.way = way.or(words.way.take());
+            let heard = words
+                .way
+                .clone()
+                .filter(|_| is_new && words.since.is_some());
+            if let Some(Err(why)) = heard.map(|way| self.parents.hears(way)) {
+                to.on_fact("closed", format_args!("{whom}: {why}"));
+                self.redial(whom, true, words.since.take(), why, now, to);
+            }
+            return is_new;
+        }
+        // (of one that speaks version 1 there is no such word)
+        let said = way
+            .clone()
+            .or_else(|| is_parent.then(|| self.parents.old(at)));
+        let taken = said.ok_or("its word is not there");
+        match taken.and_then(|said| self.parents.looked(at, &said)) {
+            Err(why) => self.look_ended(whom, false, why, now, to),
+            Ok(()) if is_parent => (words.looks, words.way) = (false, way),
+            Ok(()) => {
+                self.look_ended(whom, false, "", now, to);
+                self.leave(at, now, to);
+                self.parents.tries(at);
+                if let Some(dial) = self.dials.get_mut(&Whom::Parent) {
+                    (dial.next, dial.failed) = (now, 0);
+                }
+            }
+        }
+        true
     }
 
     /// A key shows this. Whether something changed.
@@ -96,7 +158,10 @@ impl<L: Line, A: Clone + PartialEq + fmt::Display> Peers<L, A> {
                 let _ = bytes.is_empty() || to.on_report(name, &bytes, now);
                 false
             }
-            (What::Report, Whom::Parent) => false,
+            (What::Way, Whom::Parent | Whom::Candidate(_)) => {
+                self.way_shown(whom, words, bytes, now, to)
+            }
+            _ => false,
         }
     }
 
@@ -109,6 +174,15 @@ impl<L: Line, A: Clone + PartialEq + fmt::Display> Peers<L, A> {
     ) -> Option<bool> {
         let was_look = !mem::take(&mut words.more);
         let (hello, mut rest) = word_of(bytes, &words.other, &self.setup.name)?;
+        if words.since.is_none() {
+            let at = self.parents.at();
+            let way = words.way.clone().unwrap_or_else(|| self.parents.old(at));
+            if let Err(why) = self.parents.looked(at, &way) {
+                self.redial(&Whom::Parent, true, None, why, now, to);
+                return None;
+            }
+            self.parents.took(at, way);
+        }
         if words.since.is_none() || self.above_life != Some(hello.life) {
             let anew = self.above_life.replace(hello.life) != Some(hello.life);
             words.since = words.since.or(Some(now));
@@ -201,7 +275,7 @@ impl<L: Line, A: Clone + PartialEq + fmt::Display> Peers<L, A> {
                         to.on_fact("closed", format_args!("{whom}: {why}"));
                     }
                 }
-                Whom::Parent => self.redial(whom, true, None, "its word is not there", now, to),
+                _ => self.redial(whom, true, None, "its word is not there", now, to),
             }
         }
         // (a call that is not under way any more has no link)

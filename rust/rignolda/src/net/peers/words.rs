@@ -3,7 +3,8 @@
 //! Of each link the parent alone sets `PARENT:CHILD:down`, a hello and behind it the frame of its
 //! sender; the child alone sets `PARENT:CHILD:up`, a hello with the label that its receiver
 //! remembers, the acknowledgement, and how often it has set `PARENT:CHILD:report`, which is for
-//! watching alone. What is no such word, of these two names, counts as nothing there.
+//! watching alone. What is no such word, of these two names, counts as nothing there. Beside them
+//! the parent sets `PARENT:CHILD:way`, at which a child looks before it sets anything.
 //!
 //! # Which law holds, and from when
 //!
@@ -21,8 +22,8 @@
 //! it says what to set next. Of a word that shows an old frame it takes nothing: that is a look,
 //! and no step.
 use super::shown::FIRST;
-use super::{Call, Handler, Line, Peers, Whom, SLOWEST};
-use crate::net::wire::{self, Hello, FRAME_HEAD, REPORT_BYTES};
+use super::{Call, Handler, Line, Peers, Way, Whom, SLOWEST};
+use crate::net::wire::{self, Hello, FRAME_HEAD, OLD, REPORT_BYTES, WAY_BYTES};
 use crate::net::{Turn, BODY_BYTES};
 use std::collections::BTreeMap;
 use std::time::{Duration, Instant};
@@ -49,6 +50,7 @@ pub(super) enum What {
     Own,
     Other,
     Report,
+    Way,
 }
 
 /// A link, at one of its ends.
@@ -71,6 +73,10 @@ pub(super) struct Words {
     report: Option<Vec<u8>>,
     /// From when it may begin anew again.
     calm: Instant,
+    /// Whether a parent is only looked at so far.
+    pub(super) looks: bool,
+    /// The way that the parent's word showed last, or that was set for the child.
+    pub(super) way: Option<Way>,
 }
 
 impl Words {
@@ -110,13 +116,11 @@ impl<L: Line, A: Clone + PartialEq + fmt::Display> Peers<L, A> {
             return;
         }
         let (other, keys) = match &call.whom {
-            Whom::Parent => {
-                let parent = self.setup.parents.get(self.parent);
-                let name = parent.and_then(|parent| parent.name.clone());
-                let name = name.unwrap_or_default();
+            Whom::Child(name) => (name.clone(), format!("{}:{name}", self.setup.name)),
+            whom => {
+                let name = self.name_of(self.place_of(whom));
                 (name.clone(), format!("{name}:{}", self.setup.name))
             }
-            Whom::Child(name) => (name.clone(), format!("{}:{name}", self.setup.name)),
         };
         let is_one_of_many = call.whom == Whom::Parent && self.all(&call.whom) > 1;
         let words = Words {
@@ -131,6 +135,9 @@ impl<L: Line, A: Clone + PartialEq + fmt::Display> Peers<L, A> {
             reports: 0,
             report: None,
             calm: now,
+            // (else the first turn sets the own word)
+            looks: is_one_of_many || matches!(call.whom, Whom::Candidate(_)),
+            way: None,
         };
         let at = self.stores.iter().position(|it| it.address == call.address);
         let at = at.unwrap_or_else(|| {
@@ -156,7 +163,7 @@ impl<L: Line, A: Clone + PartialEq + fmt::Display> Peers<L, A> {
         let mut places = mem::take(&mut self.stores);
         for place in &mut places {
             for (whom, words) in mem::take(&mut place.links) {
-                let parent = self.setup.parents.get(self.parent);
+                let parent = self.setup.parents.get(self.parents.at());
                 let is_other = whom == Whom::Parent
                     && parent.and_then(|it| it.name.as_ref()) != Some(&words.other);
                 if !is_other && self.address(&whom) == Some(&place.address) {
@@ -193,6 +200,9 @@ impl<L: Line, A: Clone + PartialEq + fmt::Display> Peers<L, A> {
         let mut places = mem::take(&mut self.stores);
         for place in places.iter_mut().filter(|place| place.asked.is_none()) {
             self.late(place, now, to);
+            if self.says_again {
+                place.links.values_mut().for_each(|words| words.way = None);
+            }
             let mut turn = Turn::default();
             for (whom, words) in &mut place.links {
                 self.set(whom, words, &mut turn.sets, now);
@@ -211,7 +221,11 @@ impl<L: Line, A: Clone + PartialEq + fmt::Display> Peers<L, A> {
                 };
                 let own = words.own.as_ref().map_or(0, Vec::len);
                 match whom {
-                    Whom::Parent => {
+                    Whom::Parent | Whom::Candidate(_) if words.looks => {
+                        get(What::Way, "way", WAY_BYTES + 5);
+                    }
+                    Whom::Parent | Whom::Candidate(_) => {
+                        get(What::Way, "way", WAY_BYTES + 5);
                         get(What::Own, "up", own + 1);
                         let all = if words.more { BODY_BYTES + 1 } else { LOOK };
                         get(What::Other, "down", own + FRAME_HEAD + all);
@@ -231,6 +245,7 @@ impl<L: Line, A: Clone + PartialEq + fmt::Display> Peers<L, A> {
             turns.push((place.address.clone(), turn));
         }
         self.stores = places;
+        self.says_again = false;
         turns
     }
 
@@ -242,6 +257,9 @@ impl<L: Line, A: Clone + PartialEq + fmt::Display> Peers<L, A> {
         sets: &mut Vec<(String, Vec<u8>)>,
         now: Instant,
     ) {
+        if words.looks {
+            return;
+        }
         // (a parent's word says nothing of what its own receiver remembers, which changes)
         let (life, label) = if *whom == Whom::Parent {
             (self.told(), self.relay.label())
@@ -250,6 +268,7 @@ impl<L: Line, A: Clone + PartialEq + fmt::Display> Peers<L, A> {
         };
         let (from, to) = (self.setup.name.clone(), words.other.clone());
         let mut own = Hello {
+            version: OLD,
             life,
             label,
             from,
@@ -257,7 +276,7 @@ impl<L: Line, A: Clone + PartialEq + fmt::Display> Peers<L, A> {
         }
         .bytes();
         match whom {
-            Whom::Parent => {
+            Whom::Parent | Whom::Candidate(_) => {
                 own.extend_from_slice(&words.reports.to_be_bytes());
                 sets.extend(words.report.take().map(|it| (words.key("report"), it)));
                 if words.own.as_ref() != Some(&own) {
@@ -265,25 +284,32 @@ impl<L: Line, A: Clone + PartialEq + fmt::Display> Peers<L, A> {
                     words.own = Some(own);
                 }
             }
-            Whom::Child(name) => match self.relay.poll_word(name, now) {
-                Some((label, body)) => {
-                    own.extend(wire::frame(label, &body));
-                    if words.own.as_ref() != Some(&own) {
-                        let takes = Duration::from_secs(body.bytes.len() as u64 / SLOWEST);
-                        words.until = Some(now + self.patience(name) + takes);
-                        words.waits = Some(label);
-                        words.own = Some(own.clone());
-                        own.extend_from_slice(&body.bytes);
-                        sets.push((words.key("down"), own));
+            Whom::Child(name) => {
+                let way = self.parents.says();
+                if words.way.as_ref() != Some(way) {
+                    sets.push((words.key("way"), wire::way(way)));
+                    words.way = Some(way.clone());
+                }
+                match self.relay.poll_word(name, now) {
+                    Some((label, body)) => {
+                        own.extend(wire::frame(label, &body));
+                        if words.own.as_ref() != Some(&own) {
+                            let takes = Duration::from_secs(body.bytes.len() as u64 / SLOWEST);
+                            words.until = Some(now + self.patience(name) + takes);
+                            words.waits = Some(label);
+                            words.own = Some(own.clone());
+                            own.extend_from_slice(&body.bytes);
+                            sets.push((words.key("down"), own));
+                        }
                     }
+                    None if words.own.is_none() => {
+                        words.waits = None;
+                        sets.push((words.key("down"), own.clone()));
+                        words.own = Some(own);
+                    }
+                    None => (),
                 }
-                None if words.own.is_none() => {
-                    words.waits = None;
-                    sets.push((words.key("down"), own.clone()));
-                    words.own = Some(own);
-                }
-                None => (),
-            },
+            }
         }
     }
 
