@@ -577,6 +577,8 @@ impl Agent {
             is_root: self.root.is_some(),
             failing: applier.as_ref().map_or(0, Applier::failing),
             parent: parent.map(|(parent, _)| parent.to_string()),
+            cost: self.peers.way().cost,
+            way: self.peers.way().names.clone(),
             connected_since: parent.map_or(0, |(_, since)| millis(since) / 1_000),
             sequence: table.sequence,
             // (the table that is lacking may bring changes of any number)

@@ -202,6 +202,8 @@ pub fn status_text(status: &Status) -> String {
         }
         None => fact("parent", "not connected".into()),
     }
+    let lacks = if status.is_rootless() { "no root: " } else { "" };
+    fact("way", format!("{lacks}{}, costs {}", status.way.join(" > "), status.cost));
     fact("sequence", status.sequence.to_string());
     fact("applied", status.applied.to_string());
     match status.round {

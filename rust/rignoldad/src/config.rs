@@ -19,6 +19,8 @@ use toml::value::{Table, Value};
 const FILE_BYTES: usize = 1 << 20;
 const CHILDREN: usize = 10_000;
 const ADDRESSES: usize = 64;
+/// The most that a parent may cost besides 1: of 128 and more, there would never be a way over it.
+const PRICE: u16 = 100;
 /// How much of a text is shown.
 const TEXT_CHARS: usize = 500;
 
@@ -428,6 +430,12 @@ impl<'a> Check<'a> {
     }
 
     fn parent(&mut self, own: &str, text: &str) -> Option<Parent<Address>> {
+        let (text, cost) = text.split_once(" cost=").map_or((text, None), |(it, n)| (it, Some(n)));
+        let price = cost.and_then(|cost| {
+            let price = cost.parse::<u16>().ok().filter(|price| *price <= PRICE);
+            let text = format!("a cost is a number of 0 to {PRICE}: \"NAME@ADDRESS cost=3\"");
+            self.expect("parents", price, text)
+        });
         // (no name has a colon, and each address has one)
         let (name, address) = match text.split_once('@') {
             Some((name, address)) => (Some(name), Some(address)),
@@ -445,7 +453,7 @@ impl<'a> Check<'a> {
         };
         let is_nobody = name.is_none() && matches!(address, Some(Address::Redis { .. }));
         self.refuse("parents", is_nobody, "one in a store is NAME@redis://HOST:PORT/PREFIX");
-        Some(Parent { name, address })
+        Some(Parent { name, address, price })
     }
 
     fn mode(&mut self) -> u32 {

@@ -68,6 +68,9 @@ pub struct Status {
     pub is_root: bool,
     /// The parent that it is connected to.
     pub parent: Option<String>,
+    /// What its way costs, 128 and more without a root; and whose names lie on it, its own last.
+    pub cost: u16,
+    pub way: Vec<String>,
     /// For how many seconds it has been connected to its parent.
     pub connected_since: u64,
     /// The sequence number of the last body that came, or was published.
@@ -137,6 +140,11 @@ pub struct ChildStatus {
 }
 
 impl Status {
+    /// Whether its way is none from a root.
+    pub fn is_rootless(&self) -> bool {
+        self.cost >= rignolda::net::parents::NONE
+    }
+
     /// What the agents above learn of this one.
     pub fn seen(&self) -> Seen {
         Seen {

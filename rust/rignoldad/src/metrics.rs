@@ -13,10 +13,12 @@ const REQUEST_BYTES: usize = 8_192;
 /// A number of an agent: its name, its kind, what it is, and how to get it.
 type Number<T> = (&'static str, &'static str, &'static str, fn(&T) -> u64);
 
-const OF_AGENT: [Number<Status>; 22] = [
+const OF_AGENT: [Number<Status>; 24] = [
     ("connected", "gauge", "Whether the agent has its parent; 1 at the root.", |s| {
         u64::from(s.parent.is_some() || s.is_root)
     }),
+    ("way_cost", "gauge", "Cost of the way from the root.", |s| s.cost.into()),
+    ("rootless", "gauge", "Whether there is no way from a root.", |s| u64::from(s.is_rootless())),
     ("sequence", "gauge", "Sequence number of the last body.", |s| s.sequence),
     ("applied_sequence", "gauge", "That of the last one applied.", |s| s.applied),
     ("round_sequence", "gauge", "That of the last whole table.", |s| s.round),
