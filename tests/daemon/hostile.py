@@ -142,9 +142,14 @@ class Parent:
         self.sock = None
 
     def meet(self):
-        """Takes the next connection that is kept."""
-        self.sock, _ = self.listener.accept()
-        self.sock.settimeout(USUAL * PATIENCE)
+        """Takes the next connection that is kept: of looks, version 1 knows nothing."""
+        while True:
+            self.sock, _ = self.listener.accept()
+            self.sock.settimeout(USUAL * PATIENCE)
+            if self.sock.recv(4, socket.MSG_PEEK | socket.MSG_WAITALL) != b"RGNL":
+                break
+            self.sock.recv(4096)
+            self.sock.close()
         self.sock.sendall(hello(self.name, self.agent.name, self.life, label=0))
         take_hello(self.sock)
         return self

@@ -103,16 +103,10 @@ fn a_batch_keeps_the_modes_of_the_files_that_it_replaces() {
     for path in [&secret, &open, &new] {
         batch.write(path.clone(), b"1").unwrap();
     }
-    assert_eq!(
-        beside.each_ref().map(mode),
-        [0o600, 0o666, 0o640]
-    );
+    assert_eq!(beside.each_ref().map(mode), [0o600, 0o666, 0o640]);
     assert!(batch.commit().is_empty());
     // (without one before, it is not for everybody)
-    assert_eq!(
-        [&secret, &open, &new].map(mode),
-        [0o600, 0o666, 0o640]
-    );
+    assert_eq!([&secret, &open, &new].map(mode), [0o600, 0o666, 0o640]);
     assert_eq!(text(&secret), "1");
 }
 

@@ -157,6 +157,8 @@ struct Dial {
     took: Duration,
     /// Whether version 1 is tried, since the other end left without a word.
     is_old: bool,
+    /// Why it failed last.
+    why: String,
 }
 
 /// What a connection is for before it is one of a link.
@@ -371,6 +373,7 @@ impl<L: Line, A: Clone + PartialEq + fmt::Display> Peers<L, A> {
                 under_way: false,
                 took: Duration::ZERO,
                 is_old: false,
+                why: String::new(),
             };
             self.dials.entry(whom).or_insert(dial);
         }
@@ -779,7 +782,10 @@ impl<L: Line, A: Clone + PartialEq + fmt::Display> Peers<L, A> {
             Some(dial) => dial,
             None => return,
         };
-        if dial.failed == 0 {
+        // (of several, what each says would be said for ever)
+        let is_news = dial.failed == 0 || (all == 1 && dial.why != why);
+        dial.why = why.into();
+        if is_news {
             match (whom, self.setup.parents.get(self.parents.at())) {
                 (Whom::Child(name), _) => to.on_fact("child", format_args!("{name}: {why}")),
                 (
@@ -1278,7 +1284,7 @@ impl<L: Line, A: Clone + PartialEq + fmt::Display> Peers<L, A> {
                 self.parents.took(at, way);
                 let number = self.relay.made().ok_or("no number is left")?;
                 let took = self.dials.get_mut(&Whom::Parent).map(|dial| {
-                    (dial.under_way, dial.failed) = (true, 0);
+                    dial.under_way = true;
                     dial.took
                 });
                 // (the hello takes as long as the look did)

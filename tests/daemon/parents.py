@@ -1,0 +1,207 @@
+#!/usr/bin/env python3
+"""The choice of parents in trees of processes: restarts in every order, and who is cut off.
+
+    tests/daemon/parents.py     by itself; check.py runs it with all others
+"""
+import random
+import signal
+import time
+
+from daemons import Tree, until
+
+
+def sure(holds, *words):
+    """An assertion that python -O keeps."""
+    if not holds:
+        raise AssertionError(" ".join(map(str, words)))
+
+
+def parents(agent, *names):
+    """An agent has these parents, in this order, and is a child of each."""
+    tree = agent.tree
+    agent.top["parents"] = [f"{name}@127.0.0.1:{tree[name].port}" for name in names]
+    for name in names:
+        children = tree[name].top.setdefault("children", [])
+        if agent.name not in children:
+            children.append(agent.name)
+
+
+def racks(count, further=1, leaf=()):
+    """A root, and racks with the parents root and the next rack, or further ones."""
+    names = [f"rack{at}" for at in range(count)]
+
+    def before(tree):
+        for agent in tree:
+            agent.top["children"] = []
+            agent.tables["link"] = {"ack_timeout": "500ms", "evict": "2s"}
+        for at, name in enumerate(names):
+            others = [names[(at + step) % count] for step in range(1, further + 1)]
+            parents(tree[name], "root", *others)
+        if leaf:
+            parents(tree["leaf"], *leaf)
+
+    shape = {**{name: "root" for name in names}, **({"leaf": "root"} if leaf else {})}
+    return Tree(shape, before=before)
+
+
+def below_root(tree):
+    """Whether each rack comes to have the root as its parent, and all have its settings."""
+    agents = [agent for agent in tree if agent.name.startswith("rack")]
+    at_root = lambda: all(agent.status()["parent"] == "root" for agent in agents)
+    sure(until(at_root, pause=0.1), [(agent.name, agent.status()["parent"]) for agent in agents])
+    sure(tree.right(), tree.wrong())
+
+
+def racks_that_start_before_the_root_come_to_it():
+    with racks(3) as tree:
+        tree.write("one", "1")
+        for agent in tree:
+            if agent is not tree.root:
+                agent.start()
+        time.sleep(0.3)
+        tree.root.start()
+        below_root(tree)
+        way = tree["rack1"].status()
+        sure((way["cost"], way["way"]) == (1, ["root", "rack1"]), way)
+
+
+def a_root_that_restarts_leaves_no_ring():
+    with racks(3) as tree:
+        tree.write("one", "1")
+        tree.start()
+        below_root(tree)
+        for away in (0.2, 1.5):
+            tree.root.kill(signal.SIGTERM)
+            time.sleep(away)
+            tree.root.start()
+            tree.write("away", away)
+            below_root(tree)
+        strays = [agent.status()["strays"] for agent in tree]
+        sure(sum(strays) < 50, "items went round:", strays)
+
+
+def who_has_another_parent_leaves_one_that_lost_the_root():
+    with racks(2, further=0, leaf=("rack1", "rack0")) as tree:
+        tree.write("one", "1")
+        tree.start()
+        sure(tree.ready() and tree.right(), tree.wrong())
+        sure(tree["leaf"].status()["parent"] == "rack1", tree["leaf"].status())
+        tree.root.ask("child", "remove", "rack1")
+        tree.write("two", "2")
+        sure(tree.right(agents=[tree["rack0"], tree["leaf"]]), tree.wrong())
+        leaf, lost = tree["leaf"].status(), tree["rack1"].status()
+        sure((leaf["parent"], leaf["way"]) == ("rack0", ["root", "rack0", "leaf"]), leaf)
+        sure((lost["cost"], lost["way"]) == (128, ["rack1"]), lost)
+        # (who has moved says so, and holds nothing back at its old parent)
+        sure(tree["rack1"].said("closed leaf: it takes another parent"), tree["rack1"].text())
+        sure(tree["rack1"].status()["children"][0]["left_behind"], tree["rack1"].status())
+        # (and it is back where it was once that has the root again)
+        tree.root.ask("child", "add", "rack1")
+        tree.root.ask("child", "remove", "rack0")
+        tree.write("three", "3")
+        sure(tree.right(agents=[tree["rack1"], tree["leaf"]]), tree.wrong())
+
+
+def nobody_moves_while_the_root_is_away():
+    with racks(3, leaf=("rack0", "rack1")) as tree:
+        tree.write("one", "1")
+        tree.start()
+        below_root(tree)
+        tree.root.kill()
+        below = [agent for agent in tree if agent is not tree.root]
+        lost = lambda: all(agent.status()["cost"] >= 128 for agent in below)
+        sure(until(lost, pause=0.1), [agent.status()["way"] for agent in below])
+        moves = lambda: [agent.status()["reconnects"] for agent in below]
+        before, lines = moves(), [agent.text().count("\n") for agent in below]
+        time.sleep(3)
+        sure(moves() == before, "they moved:", before, moves())
+        more = [agent.text().count("\n") for agent in below]
+        sure(sum(more) - sum(lines) < 4, "the journal grows:", lines, more)
+        tree.root.start()
+        tree.write("back", "1")
+        below_root(tree)
+        sure(tree["leaf"].status()["way"] == ["root", "rack0", "leaf"], tree["leaf"].status())
+
+
+def a_parent_that_stands_still_is_left():
+    with racks(2, further=0, leaf=("rack0", "rack1")) as tree:
+        tree.write("one", "1")
+        tree.start()
+        sure(tree.ready() and tree.right(), tree.wrong())
+        tree["rack0"].signal(signal.SIGSTOP)
+        tree.write("two", "2")
+        sure(tree.right(agents=[tree["rack1"], tree["leaf"]]), tree.wrong())
+        sure(tree["leaf"].status()["parent"] == "rack1", tree["leaf"].status())
+        # (and it comes back once that goes on, since it is the first one)
+        tree["rack0"].signal(signal.SIGCONT)
+        back = lambda: tree["leaf"].status()["parent"] == "rack0"
+        sure(until(back, pause=0.1), tree["leaf"].text())
+        sure(tree.right(), tree.wrong())
+
+
+def a_ring_of_single_parents_says_so_once():
+    def ring(tree):
+        for agent in tree:
+            agent.top["children"] = []
+        for at in range(3):
+            parents(tree[f"a{at}"], f"a{(at + 1) % 3}")
+
+    with Tree({f"a{at}": "root" for at in range(3)}, before=ring) as tree:
+        agents = [tree[f"a{at}"] for at in range(3)]
+        for agent in agents:
+            agent.start()
+        why = "its way leads over this agent"
+        heads = lambda: [agent for agent in agents if agent.status()["parent"] is None]
+        broken = lambda: len(heads()) == 1 and heads()[0].said(why)
+        sure(until(broken, pause=0.1), [agent.text() for agent in agents])
+        lines = [agent.text().count("\n") for agent in agents]
+        time.sleep(3)
+        more = [agent.text().count("\n") for agent in agents]
+        sure(broken() and more == lines, "the journal grows:", lines, more)
+        # (one of them is mended)
+        head = heads()[0]
+        parents(head, "root")
+        tree.root.start()
+        head.configure()
+        head.signal(signal.SIGHUP)
+        tree.write("one", "1")
+        sure(tree.right(), tree.wrong())
+
+
+def faults_end_in_a_tree():
+    draw = random.Random(5)
+    with racks(5, further=2) as tree:
+        tree.write("one", "1")
+        tree.start()
+        below_root(tree)
+        for turn in range(10):
+            names = [["root"], ["rack"], ["root", "rack"]][draw.randrange(3)]
+            hit = [tree.root if it == "root" else tree[f"rack{draw.randrange(5)}"] for it in names]
+            stops = draw.randrange(3) == 0
+            for agent in hit:
+                agent.signal(signal.SIGSTOP) if stops else agent.kill()
+            tree.write(f"key{turn % 3}", turn)
+            time.sleep(draw.random())
+            for agent in hit:
+                agent.signal(signal.SIGCONT) if stops else agent.start()
+            time.sleep(draw.random() / 2)
+        below_root(tree)
+        moves = lambda: [tree[f"rack{at}"].status()["reconnects"] for at in range(5)]
+        before = moves()
+        time.sleep(1)
+        sure(moves() == before, "they move on:", before, moves())
+
+
+TESTS = [racks_that_start_before_the_root_come_to_it, a_root_that_restarts_leaves_no_ring,
+         who_has_another_parent_leaves_one_that_lost_the_root, nobody_moves_while_the_root_is_away,
+         a_parent_that_stands_still_is_left, a_ring_of_single_parents_says_so_once,
+         faults_end_in_a_tree]
+
+if __name__ == "__main__":
+    import sys
+    chosen = [it for it in TESTS if not sys.argv[1:] or any(w in it.__name__ for w in sys.argv[1:])]
+    for function in chosen:
+        begun = time.monotonic()
+        function()
+        print(f"{function.__name__}: ok ({time.monotonic() - begun:.1f} s)", flush=True)
+    print(f"{len(chosen)} passed, 0 failed")
