@@ -69,17 +69,13 @@ impl Check<'_> {
 
     fn machine(&mut self, config: &Config) {
         config.tls.iter().for_each(|tls| self.tls(&config.peers.name, tls));
-        if let Some(password) = &config.store.password {
-            self.may("store.password", password, "-r -f");
-        }
-        if let Some(hook) = config.apply.as_ref().and_then(|it| it.hook.as_ref()) {
-            self.may("apply.hook", hook, "-x -f");
-        }
+        config.store.password.as_ref().map(|it| self.may("store.password", it, "-r -f"));
+        let hook = config.apply.as_ref().and_then(|it| it.hook.as_ref());
+        hook.map(|it| self.may("apply.hook", it, "-x -f"));
         if let Some(path) = config.root.as_ref().map(|it| &it.settings) {
-            let is_folder = path.is_dir();
-            let is_well =
-                self.may("root.settings", path, if is_folder { "-r -x" } else { "-r -f" });
-            if is_well && is_folder && config.control.is_some() && !self.test("-w", path) {
+            let tests = if path.is_dir() { "-r -x" } else { "-r -f" };
+            let is_well = self.may("root.settings", path, tests) && config.control.is_some();
+            if is_well && path.is_dir() && !self.test("-w", path) {
                 self.say(0, true, "root.settings", "cannot be written: `publish` is refused");
             }
         }
@@ -87,9 +83,7 @@ impl Check<'_> {
             refusal(apply).iter().for_each(|why| self.say(0, false, "apply.folder", why));
             // (what is lacking there is made, and what is above it by a unit)
             let nearest = apply.folder.ancestors().take(2).find(|it| it.is_dir());
-            if let Some(it) = nearest {
-                self.may("apply.folder", it, "-r -w -x");
-            }
+            nearest.map(|it| self.may("apply.folder", it, "-r -w -x"));
         }
         let control = config.control.iter().map(|it| ("control", Address::Unix(it.clone())));
         for (key, it) in control.chain(config.listen.iter().map(|it| ("listen", it.clone()))) {
@@ -124,24 +118,18 @@ impl Check<'_> {
     }
 
     fn tls(&mut self, name: &str, tls: &Tls) {
-        let files = [
-            ("tls.certificate", &tls.certificate),
-            ("tls.authority", &tls.authority),
-            ("tls.key", &tls.key),
-        ];
-        let may = files.map(|(key, path)| self.may(key, path, "-r -f"));
-        let read = |at: usize| read_file(files[at].1, PEM_BYTES, "it").unwrap_or_default();
-        let pems = [0, 1, 2].map(|at| if may[at] { read(at) } else { Vec::new() });
-        let certificates = |at: usize| X509::stack_from_pem(&pems[at]).unwrap_or_default();
-        let (own, authority, key) = (certificates(0), certificates(1), "tls.certificate");
+        let keys @ [key, ..] = ["tls.certificate", "tls.authority", "tls.key"];
+        let paths: [&Path; 3] = [&tls.certificate, &tls.authority, &tls.key];
+        let may = [0, 1, 2].map(|at| self.may(keys[at], paths[at], "-r -f"));
+        // (what is no file, as a pipe, is not even opened)
+        let pem = |at: usize| may[at].then(|| read_file(paths[at], PEM_BYTES, "it").ok())?;
+        let certificates = |at: usize| X509::stack_from_pem(&pem(at)?).ok();
+        let [own, authority] = [0, 1].map(|at| certificates(at).unwrap_or_default());
         // (nobody is there to be asked for a word that opens a key)
-        let private = PKey::private_key_from_pem_callback(&pems[2], |_| Ok(0));
-        for (at, is_bad) in
-            [own.is_empty(), authority.is_empty(), private.is_err()].iter().enumerate()
-        {
-            if *is_bad && may[at] {
-                self.say(0, false, files[at].0, "nothing in it can be used");
-            }
+        let private = PKey::private_key_from_pem_callback(&pem(2).unwrap_or_default(), |_| Ok(0));
+        let is_bad = [own.is_empty(), authority.is_empty(), private.is_err()];
+        for at in (0..3).filter(|at| is_bad[*at] && may[*at]) {
+            self.say(0, false, keys[at], "nothing in it can be used");
         }
         let times = (Asn1Time::days_from_now(0), Asn1Time::days_from_now(DAYS));
         let (Some(leaf), (Ok(now), Ok(soon))) = (own.first(), times) else { return };
@@ -166,12 +154,8 @@ impl Check<'_> {
                 Ok((!it.verify_cert()?).then(|| it.error().error_string()))
             })
         };
-        match verify() {
-            Ok(Some(why)) if !is_out && !authority.is_empty() => {
-                self.say(0, false, key, format!("`authority` did not sign it: {why}"));
-            }
-            _ => (),
-        }
+        let why = verify().ok().flatten().filter(|_| !is_out && !authority.is_empty());
+        why.map(|why| self.say(0, false, key, format!("`authority` did not sign it: {why}")));
         // (whatever else the daemon would refuse, as a key that is too short)
         if self.faults.iter().all(|(_, it)| it.is_warning) {
             let why = Maker::new(Some(tls), Duration::from_secs(1)).err();
@@ -185,17 +169,13 @@ impl Check<'_> {
         let (paths, mut places) = (self.paths, BTreeMap::new());
         let roots: Vec<usize> = (0..all.len()).filter(|at| all[*at].root.is_some()).collect();
         for (at, it) in all.iter().enumerate() {
-            let shown = |at: usize| paths[at].display();
             if let Some(other) = places.insert(&it.peers.name, at) {
-                self.say(at, false, "name", format!("it is that of {} too", shown(other)));
+                let text = format!("it is that of {} too", paths[other].display());
+                self.say(at, false, "name", text);
             }
-            match roots.first() {
-                None if at == 0 => self.say(0, false, "root", "no file has [root]"),
-                Some(first) if it.root.is_some() && at > *first => {
-                    self.say(at, false, "root", format!("{} is the root", shown(*first)));
-                }
-                _ => (),
-            }
+        }
+        for at in roots.iter().skip(1) {
+            self.say(*at, false, "root", format!("{} is the root", paths[roots[0]].display()));
         }
         let mut above = vec![Vec::new(); all.len()];
         for (at, it) in all.iter().enumerate() {
@@ -223,7 +203,9 @@ impl Check<'_> {
                 }
             }
         }
-        let Some(root) = roots.first() else { return };
+        let Some(root) = roots.first() else {
+            return self.say(0, false, "root", "no file has [root]");
+        };
         let mut depths: Vec<_> = all.iter().map(|it| it.root.as_ref().map(|_| 0)).collect();
         // (first by the first parents alone, then by any)
         for most in [1, usize::MAX] {
@@ -259,21 +241,16 @@ impl Check<'_> {
             let text = format!("neither it nor `{name}` has an address of the other");
             self.say(up, false, "children", text);
         }
-        for (at, key, address, other) in
-            [(low, "parents", to, upper), (up, "children", from, lower)]
-        {
+        let ends = [(low, "parents", to, upper), (up, "children", from, lower)];
+        for (at, key, address, other) in ends {
             let (Some(address), name) = (address, &other.peers.name) else { continue };
             let is_there = |unsure| match address {
                 Address::Redis { .. } => to == from,
                 _ => other.listen.iter().any(|it| leads(address, it).unwrap_or(unsure)),
             };
             if !is_there(false) {
-                self.say(
-                    at,
-                    is_there(true),
-                    key,
-                    format!("no `listen` of `{name}` is `{address}`"),
-                );
+                let text = format!("no `listen` of `{name}` is `{address}`");
+                self.say(at, is_there(true), key, text);
             }
             if matches!(address, Address::Tcp(_)) && lower.tls.is_some() != upper.tls.is_some() {
                 self.say(at, false, key, format!("one of it and `{name}` alone has [tls]"));

@@ -105,14 +105,9 @@ impl fmt::Display for Fault {
 
 /// A text for a person, of which nothing acts on a terminal, and not too long for a line.
 pub fn plain(text: &str) -> String {
-    let mut plain = String::new();
-    for c in text.chars().take(TEXT_CHARS) {
-        match c {
-            '"' | '\'' | '\\' => plain.push(c),
-            _ => plain.extend(c.escape_debug()),
-        }
-    }
-    plain
+    // (and no letter is shown behind the one after it)
+    let acts = |c: char| c.is_control() || c.escape_debug().len() > 2;
+    text.chars().take(TEXT_CHARS).map(|c| if acts(c) { '?' } else { c }).collect()
 }
 
 impl Config {
