@@ -164,6 +164,9 @@ impl Below {
 /// what needs less is whole: so whoever has many below it drives nobody else out. An agent that has
 /// lost a child is `cut`.
 fn share(mut list: Vec<Seen>, most: usize) -> Vec<Seen> {
+    if list.len() <= most {
+        return list;
+    }
     let places: BTreeMap<_, _> = list.iter().enumerate().map(|(at, it)| (&*it.name, at)).collect();
     let above = |seen: &Seen| places.get(&*seen.parent).copied().unwrap_or(0);
     let above: Vec<usize> = list.iter().map(above).collect();
