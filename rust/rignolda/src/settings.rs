@@ -31,12 +31,16 @@ mod batch;
 mod depth;
 #[cfg(unix)]
 mod folder;
+#[cfg(unix)]
+mod source;
 mod waiting;
 
 pub use batch::Batch;
 pub use depth::{too_deep, TOO_DEEP};
 #[cfg(unix)]
 pub use folder::{remove, Folder};
+#[cfg(unix)]
+pub use source::{no_key, read_folder, read_plain, too_many, write_folder, Faults, Found, Kept};
 pub use waiting::{Change, Value, Waiting};
 
 /// The longest key of a setting, in bytes.

@@ -2,23 +2,19 @@
 use crate::config::{is_key, too_deep, TOO_DEEP};
 use inotify::{Inotify, WatchMask};
 use rignolda::net::BODY_BYTES;
-use rignolda::settings::{entry_bytes, Batch, KEY_BYTES, SETTINGS, VALUE_BYTES};
-use std::collections::{BTreeMap, BTreeSet};
-use std::fs::{self, File, OpenOptions};
-use std::io::{self, ErrorKind, Read};
-use std::os::unix::fs::{MetadataExt, OpenOptionsExt};
+use rignolda::settings::{
+    no_key, read_folder, read_plain, too_many, write_folder, Faults, Found, Kept, SETTINGS,
+    VALUE_BYTES,
+};
+use std::collections::BTreeSet;
+use std::fs;
+use std::io::{self, ErrorKind};
+use std::os::unix::fs::MetadataExt;
 use std::os::unix::io::{AsRawFd, RawFd};
 use std::path::{Path, PathBuf};
 use std::sync::{mpsc, Arc};
 use std::thread;
 
-/// O_NOFOLLOW and O_NONBLOCK of Linux: what a link points to may be a secret of the agent's own,
-/// and a pipe would never end.
-const AS_IT_IS: i32 = 0o4000
-    | if cfg!(any(target_arch = "aarch64", target_arch = "arm")) { 0o100_000 } else { 0o400_000 };
-/// How many faults are named.
-const NAMED: usize = 64;
-const NO_FILE: &str = "it is no plain file, and no link is followed";
 const EMPTY: &str = "it is empty: is a mount missing, or else `.empty`?";
 
 /// What is to be done. One comes after the other.
@@ -28,35 +24,16 @@ pub enum Job {
     /// To read what changed.
     Changed,
     /// To write these files, or to remove them.
-    Write(Vec<Change>),
+    Write(Vec<Kept>),
 }
-
-/// A key, and its value; without one, it is unset.
-pub type Change = (String, Option<Vec<u8>>);
 
 /// What was done.
 pub enum Done {
     Read(Result<Found, Empty>),
     /// These alone changed.
-    Keys(Vec<Change>),
+    Keys(Vec<Kept>),
     /// Each change, and why it was not done.
-    Written(Vec<(Change, Result<(), String>)>),
-}
-
-/// What cannot be published, and why.
-#[derive(Default, PartialEq)]
-pub struct Faults {
-    pub count: u64,
-    pub texts: BTreeSet<String>,
-}
-
-/// All settings that could be read.
-#[derive(Default)]
-pub struct Found {
-    pub settings: BTreeMap<String, Vec<u8>>,
-    /// Those that are there and could not, and whether each may be a setting all the same.
-    pub unread: BTreeMap<String, bool>,
-    pub faults: Faults,
+    Written(Vec<(Kept, Result<(), String>)>),
 }
 
 /// Why there are no settings.
@@ -77,15 +54,6 @@ pub struct Disk {
 struct Place {
     settings: PathBuf,
     notify: Option<Inotify>,
-}
-
-impl Faults {
-    pub fn add(&mut self, text: String) {
-        self.count += 1;
-        if self.texts.len() < NAMED {
-            self.texts.insert(text);
-        }
-    }
 }
 
 impl Disk {
@@ -128,7 +96,7 @@ impl Place {
     }
 
     /// The settings that changed, where it is known which; else all are to be read.
-    fn changed(&mut self) -> Option<Vec<Change>> {
+    fn changed(&mut self) -> Option<Vec<Kept>> {
         let mut space = [0; 4_096];
         let (mut keys, mut came, mut all) = (BTreeSet::new(), 0, !self.settings.is_dir());
         while let Some(Ok(events)) = self.notify.as_mut().map(|it| it.read_events(&mut space)) {
@@ -146,7 +114,7 @@ impl Place {
                 break;
             }
         }
-        let value = |key: String| match read_value(&self.settings.join(&key)) {
+        let value = |key: String| match read_plain(&self.settings.join(&key), VALUE_BYTES) {
             Ok(value) => Some((key, Some(value))),
             Err(e) if e.kind() == ErrorKind::NotFound && self.settings.is_dir() => {
                 Some((key, None))
@@ -161,26 +129,12 @@ impl Place {
     }
 
     /// Writes files, and waits until the disk has them. No two are of one key.
-    fn write(&self, changes: Vec<Change>) -> Vec<(Change, Result<(), String>)> {
-        let (mut batch, path) = (Batch::default(), |key: &str| self.settings.join(key));
-        let write = |(key, value): Change| {
-            let done = match &value {
-                _ if self.settings.is_file() => Err(io::Error::other("all are kept in one file")),
-                Some(value) => batch.write(path(&key), value),
-                None => batch.remove(&path(&key)),
-            };
-            ((key, value), done)
+    fn write(&self, changes: Vec<Kept>) -> Vec<(Kept, Result<(), String>)> {
+        let done = match self.settings.is_file() {
+            true => changes.iter().map(|_| Err("all settings are in one file".into())).collect(),
+            false => write_folder(&self.settings, &changes),
         };
-        let done: Vec<_> = changes.into_iter().map(write).collect();
-        let failed = batch.commit();
-        let done = done.into_iter().map(|(change, done)| {
-            let path = path(&change.0);
-            let later = failed.iter().find(|(it, _)| *it == path).map(|(_, error)| error);
-            let error = done.as_ref().err().or(later);
-            let done = error.map_or(Ok(()), |error| Err(format!("{}: {error}", path.display())));
-            (change, done)
-        });
-        done.collect()
+        changes.into_iter().zip(done).collect()
     }
 
     /// Reads all settings, and waits for changes from before that.
@@ -210,77 +164,9 @@ impl Place {
     }
 }
 
-fn read_folder(folder: &Path) -> io::Result<Found> {
-    let (mut found, mut bytes) = (Found::default(), 0);
-    for entry in fs::read_dir(folder)? {
-        let entry = entry?;
-        let name = entry.file_name();
-        let text = name.to_string_lossy();
-        if text.starts_with('.') {
-            continue;
-        }
-        let Some(key) = name.to_str().filter(|name| is_key(name)) else {
-            found.faults.add(no_key(&text));
-            continue;
-        };
-        match read_value(&entry.path()) {
-            Ok(value) => {
-                bytes += entry_bytes(&(key, Some(&value)));
-                found.settings.insert(key.to_owned(), value);
-            }
-            Err(error) if error.kind() == ErrorKind::NotFound => (),
-            Err(error) => {
-                // (what was found to be no setting is of the kind `Other`)
-                found.unread.insert(key.to_owned(), error.kind() != ErrorKind::Other);
-                found.faults.add(format!("{key}: {error}"));
-            }
-        }
-        if bytes > BODY_BYTES || found.settings.len() > SETTINGS {
-            return Err(too_many());
-        }
-    }
-    Ok(found)
-}
-
-fn too_many() -> io::Error {
-    let text = format!("all settings have more than {BODY_BYTES} bytes, or are over {SETTINGS}");
-    io::Error::other(text)
-}
-
-/// What is said of a name that is none of a setting.
-pub fn no_key(name: &str) -> String {
-    format!(
-        "`{name}` is no key: that is 1 to {KEY_BYTES} letters, digits, `.`, `_` or `-`, the first \
-         one no dot or hyphen"
-    )
-}
-
-fn read_value(path: &Path) -> io::Result<Vec<u8>> {
-    read_file(path, VALUE_BYTES)
-}
-
-/// The bytes of a plain file, of which there are at most so many.
-fn read_file(path: &Path, most: usize) -> io::Result<Vec<u8>> {
-    let open = OpenOptions::new().read(true).custom_flags(AS_IT_IS).open(path);
-    let is_file = || fs::symlink_metadata(path).map_or(true, |it| it.is_file());
-    let file: File = match open {
-        Err(_) if !is_file() => return Err(io::Error::other(NO_FILE)),
-        file => file?,
-    };
-    if !file.metadata()?.is_file() {
-        return Err(io::Error::other(NO_FILE));
-    }
-    let mut bytes = Vec::new();
-    file.take(most as u64 + 1).read_to_end(&mut bytes)?;
-    match bytes.len() > most {
-        true => Err(io::Error::other(format!("it has more than {most} bytes"))),
-        false => Ok(bytes),
-    }
-}
-
 /// All settings in one file: JSON by its name, else TOML.
 fn read_settings(path: &Path) -> io::Result<Found> {
-    let text = io::read_to_string(&read_file(path, BODY_BYTES)?[..])?;
+    let text = io::read_to_string(&read_plain(path, BODY_BYTES)?[..])?;
     if path.extension().is_some_and(|it| it == "json") {
         let all: serde_json::Map<_, serde_json::Value> = serde_json::from_str(&text)?;
         values(all, |value| value.as_str())

@@ -4,10 +4,10 @@
 //! is of what the folder had when it was asked for; where the disk does not answer in time, it is of
 //! what was known before.
 use crate::config::{is_key, Root as Config};
-use crate::disk::{no_key, Change, Disk, Done, Empty, Faults, Found, Job};
+use crate::disk::{Disk, Done, Empty, Job};
 use crate::fact;
 use rignolda::net::BODY_BYTES;
-use rignolda::settings::{Published, Publisher};
+use rignolda::settings::{no_key, Faults, Found, Kept, Published, Publisher};
 use std::io;
 use std::os::unix::io::RawFd;
 use std::sync::Arc;
@@ -42,7 +42,7 @@ pub struct Root {
     fresh: Option<Instant>,
     /// Changes that were asked for and are not begun, each key once in a batch; whether one is
     /// under way, and how many are over.
-    asked: Vec<Vec<Change>>,
+    asked: Vec<Vec<Kept>>,
     is_writing: bool,
     written: u64,
     /// Those that could not be written: their batch and key, and why.
@@ -264,7 +264,7 @@ impl Root {
         std::mem::take(&mut self.failed)
     }
 
-    fn is_written(&mut self, all: Vec<(Change, Result<(), String>)>, now: Instant) {
+    fn is_written(&mut self, all: Vec<(Kept, Result<(), String>)>, now: Instant) {
         self.is_writing = false;
         self.written += 1;
         for ((key, value), done) in all {
@@ -280,7 +280,7 @@ impl Root {
         self.commit();
     }
 
-    fn have_changed(&mut self, changes: Vec<Change>, now: Instant) {
+    fn have_changed(&mut self, changes: Vec<Kept>, now: Instant) {
         let mut again = !self.known;
         for (key, value) in changes {
             let differs = self.publisher.settings().get(&key) != value.as_ref();
