@@ -19,6 +19,7 @@ import time
 sys.dont_write_bytecode = True
 
 from daemons import PATIENCE, USUAL, Tree, free_port, until
+from hostile import Parent
 
 # (a call that takes so many seconds, or none, as a file says)
 SLOW = r"""
@@ -369,6 +370,27 @@ def a_hook_gets_no_descriptor_of_the_agent():
         sure("socket:" not in said and "NOTIFY_SOCKET" not in said, said)
 
 
+def what_a_peer_does_at_any_rate_is_said_once_in_a_second():
+    with Tree({"left": "root"}) as tree:
+        left = tree["left"]
+        left.env = {}
+        left.tables["link"] = {"ack_timeout": "30s", "evict": "2m"}
+        parent = Parent(left)
+        left.start()
+        parent.meet()
+        begin = time.monotonic()
+        for number in range(1, 301):
+            # (a body without a meaning, and then one that is older than the one before)
+            parent.send(b"?" + struct.pack(">Q", number))
+            parent.send(b"H" + struct.pack(">Q", 1_000 - number))
+        seconds = time.monotonic() - begin
+        status = left.status()
+        sure(status["garbage"] == 300 and status["strays"] == 299, status)
+        lines = left.said("garbage ") + left.said("stray ")
+        sure(1 <= lines <= seconds + 2, lines, "lines in", seconds, "s")
+        parent.close()
+
+
 # (these take longest)
 LONG = [a_disk_that_hangs_stops_nobody, a_store_that_drips_holds_its_child_up_for_a_while_alone]
 TESTS = [*LONG,
@@ -379,7 +401,8 @@ TESTS = [*LONG,
          a_first_setting_may_be_published_and_is_for_its_group_alone,
          a_file_where_a_socket_is_to_be_is_kept,
          a_folder_of_somebody_else_is_not_taken,
-         a_hook_gets_no_descriptor_of_the_agent]
+         a_hook_gets_no_descriptor_of_the_agent,
+         what_a_peer_does_at_any_rate_is_said_once_in_a_second]
 
 
 def main():

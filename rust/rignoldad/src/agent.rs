@@ -98,6 +98,7 @@ struct State {
     applying: bool,
     /// Whether each body is a fact of the journal, for trials.
     traces: bool,
+    said: Option<Instant>,
 }
 
 /// Runs the agent that this file configures until it is told to end.
@@ -162,6 +163,7 @@ fn notify(text: &str) {
         None => std::os::unix::net::SocketAddr::from_pathname(&path),
     };
     if let (Ok(address), Ok(socket)) = (address, UnixDatagram::unbound()) {
+        let _ = socket.set_write_timeout(Some(Duration::from_secs(1)));
         let _ = socket.send_to_addr(text.as_bytes(), &address);
     }
 }
@@ -186,6 +188,13 @@ fn random() -> io::Result<u64> {
 }
 
 impl State {
+    /// Whether to say now what a peer can make happen at any rate: once in a second, but in trials.
+    fn says(&mut self, now: Instant) -> bool {
+        let may = self.traces || self.said.is_none_or(|at| now >= at + Duration::from_secs(1));
+        self.said = if may { Some(now) } else { self.said };
+        may
+    }
+
     /// Takes up what was done about settings.
     fn applied(&mut self) {
         let Some(applier) = &mut self.applier else { return };
@@ -213,7 +222,10 @@ impl Handler for State {
         self.changed = true;
         let Some((sequence, meaning)) = body.meaning() else {
             self.garbage += 1;
-            fact!("garbage", "item {:08x} with {} bytes", body.item, body.bytes.len());
+            if self.says(now) {
+                let (item, length, all) = (body.item, body.bytes.len(), self.garbage);
+                fact!("garbage", "item {item:08x} with {length} bytes ({all} in all)");
+            }
             return false;
         };
         let (was_full, strays) = (self.table.full, self.table.strays);
@@ -236,8 +248,8 @@ impl Handler for State {
             // (what a trial judges is written before anything follows from it)
             journal::flush();
         }
-        if self.table.strays > strays {
-            fact!("stray", "{sequence}");
+        if self.table.strays > strays && self.says(now) {
+            fact!("stray", "{sequence} ({} in all)", self.table.strays);
         }
         if takes && is_table {
             self.round_at = Some(now);

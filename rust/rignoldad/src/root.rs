@@ -175,7 +175,7 @@ impl Root {
     pub fn look_again(&mut self, now: Instant) {
         let reads = self.reads;
         self.look(now);
-        if self.reads == reads {
+        if self.reads == reads && !self.is_late {
             self.reads += 1;
             self.disk.begin(Job::Read);
         }
