@@ -11,6 +11,7 @@ import os
 import pathlib
 import random
 import re
+import shlex
 import shutil
 import signal
 import socket
@@ -891,11 +892,13 @@ def a_reload_that_is_not_taken_is_shown():
         def reload():
             """Does what systemd does: each line of the unit, unless the one before it fails."""
             for line in lines:
-                for old, new in [("/usr/bin/rignoldad", f"{tree.bin}/rignoldad --user root"),
+                for old, new in [(r"^[-+!@:]+", ""), (r" --user \S+", ""),
+                                 ("/usr/bin/rignoldad", f"{tree.bin}/rignoldad --user root"),
                                  ("/etc/rignolda/agent.toml", str(root.file)),
-                                 ("$MAINPID", str(root.process.pid))]:
-                    line = line.replace(old, new)
-                done = subprocess.run(line.split(), capture_output=True, text=True, timeout=60)
+                                 (r"\$MAINPID", str(root.process.pid))]:
+                    line = re.sub(old, new, line)
+                done = subprocess.run(shlex.split(line), capture_output=True, text=True,
+                                      timeout=60)
                 if done.returncode:
                     return done.returncode, done.stderr
             return 0, ""

@@ -21,6 +21,8 @@ const DAYS: u32 = 30;
 const PEM_BYTES: usize = 1 << 20;
 /// How many agents of a way are named.
 const WAY: usize = 8;
+/// How deep an agent is at most: each link costs 1 at least, and no way costs more.
+const DEPTH: u32 = 127;
 /// What `test` answers, and what is said where it says no.
 const TESTS: [(&str, &str); 4] = [
     ("-r", "cannot be read"),
@@ -155,9 +157,11 @@ impl Check<'_> {
             })
         };
         let why = verify().ok().flatten().filter(|_| !is_out && !authority.is_empty());
-        why.map(|why| self.say(0, false, key, format!("`authority` did not sign it: {why}")));
+        if let Some(why) = why {
+            self.say(0, false, key, format!("`authority` did not sign it: {why}"));
+        }
         // (whatever else the daemon would refuse, as a key that is too short)
-        if self.faults.iter().all(|(_, it)| it.is_warning) {
+        if may == [true; 3] && self.faults.iter().all(|(_, it)| it.is_warning) {
             let why = Maker::new(Some(tls), Duration::from_secs(1)).err();
             why.iter().for_each(|why| self.say(0, false, key, why));
         }
@@ -211,7 +215,7 @@ impl Check<'_> {
         for most in [1, usize::MAX] {
             while let Some((at, depth)) = (0..all.len()).find_map(|at| {
                 let mut ways = above[at].iter().take(most).filter(|_| depths[at].is_none());
-                ways.find_map(|up| Some((at, depths[*up]? + 1)))
+                ways.find_map(|up| Some((at, depths[*up].filter(|it| *it < DEPTH)? + 1)))
             }) {
                 depths[at] = Some(depth);
             }

@@ -523,6 +523,23 @@ fn says_what_does_not_fit_in_a_tree() {
     assert!(wrong.is_empty(), "{}", wrong.join("\n"));
 }
 
+/// (a way costs at most 127, and each link 1)
+#[test]
+fn no_way_is_too_long() {
+    let folder = Folder::new("deep");
+    let paths: Vec<PathBuf> = (0..130).map(|at| folder.0.join(format!("{at}.toml"))).collect();
+    for (at, path) in paths.iter().enumerate() {
+        let ends = "[root]\nsettings = \"/s\"\nharmless = 257\n[link]\nbacklog = 2000\n";
+        let parents = |up: usize| format!("parents = [\"a{up}@unix:/{up}\"]\n");
+        let above = at.checked_sub(1).map_or(ends.into(), parents);
+        let (name, child) = (format!("name = \"a{at}\"\n"), at + 1);
+        let below = format!("listen = \"unix:/{at}\"\nchildren = [\"a{child}\"]\n");
+        fs::write(path, name + if at < 129 { &below } else { "" } + &above).unwrap();
+    }
+    let said = |line| (line, "parents", "no way leads to the root", false);
+    found(&paths, &[(128, said(4)), (129, said(2))]).unwrap();
+}
+
 /// The status that it ends with, what it writes to its output, and to its errors.
 fn run(words: &[&str]) -> (Option<i32>, String, String) {
     let done = std::process::Command::new(env!("CARGO_BIN_EXE_rignoldad")).args(words).output();
