@@ -31,20 +31,20 @@ USUAL = "10m15s"
 LATE = {"RignoldaDraining": "39m"}
 # The exposure by which systemd-analyze judges the unit is at most this, times ten.
 EXPOSURE = 15
-DAY = 86_400
 # By alarm its series, with a value each 15 s: those of an agent that is well, of one that has too
 # little of the trouble when the alarm is tried, and of one that goes on having it. The alarm fires
 # then for the last one alone, and at the begin for none.
 CASES = {
     "RignoldaAway": [("connected", "1x80", "1x39 0x3 1x40", "1x10 0x70")],
-    "RignoldaChildAway": [("child_connected{child=\"c\"}", "1x80", "1x39 0x3 1x40", "1x10 0x70")],
+    "RignoldaAgentsAway": [("agents_away", "0x80", "0x39 2x3 0x40", "0x10 1x70")],
+    "RignoldaTwins": [("child_clashes_total{child=\"c\"}", "0x80", "3x80", "0x30 1x50")],
+    "RignoldaUnpublished": [("unpublished", "0x80", "0x39 1x3 0x40", "0x10 2x70")],
     "RignoldaItemWaits": [
-        ("child_item_age_milliseconds{child=\"c\"}", "200x80", "0x39 40000x1 0x40", "0+15000x80")],
+        ("child_item_age_seconds{child=\"c\"}", "0.2x80", "0x39 40x1 0x40", "0+15x80")],
     "RignoldaBacklog": [
         ("child_backlog{child=\"c\"}", "810x80", "0x80", "0x1 900x79"),
         ("backlog_limit", "1024x80", "8x80", "1024x80")],
-    "RignoldaRoundLate": [
-        ("round_age_milliseconds", "30000x80", "0x39 91000x1 0x40", "0+15000x80")],
+    "RignoldaRoundLate": [("round_age_seconds", "30x80", "0x39 91x1 0x40", "0+15x80")],
     "RignoldaIncomplete": [("whole", "1x80", "1x38 0x3 1x40", "1x10 0x70")],
     "RignoldaGaps": [("gaps_total", "0x80", "0x20 30x60", "0+1x80")],
     "RignoldaIgnoredAcknowledgements": [
@@ -63,7 +63,7 @@ def expanded(values):
     for word in values.split():
         first, _, count = word.partition("x")
         begin, _, step = first.partition("+")
-        yield from (int(begin) + int(step or 0) * at for at in range(int(count)))
+        yield from (float(begin) + float(step or 0) * at for at in range(int(count)))
 
 
 def trial(alarm, summary):
