@@ -175,6 +175,16 @@ fn says_what_cannot_work_on_this_machine() {
             &[(8, "tls.key", "nothing in it can be used", false)],
         ),
         (
+            "a key that a start puts there",
+            |at| {
+                let path = at.join("agent.toml");
+                let (text, key) = (fs::read_to_string(&path).unwrap(), at.join("key"));
+                fs::write(path, text.replace(key.to_str().unwrap(), "/run/rignolda-no/key"))
+                    .unwrap();
+            },
+            &[(8, "tls.key", "`/run/rignolda-no/key` is not there", true)],
+        ),
+        (
             "the key of another certificate",
             |at| {
                 let other = certificate(["", "c"], None, [-1, 40]).1;
