@@ -1,6 +1,6 @@
 //! Changes that wait: what is left of them, and from which number on.
 #![cfg(feature = "net")]
-use rignolda::settings::{Meaning, Waiting};
+use rignolda::settings::{Change, Meaning, Waiting};
 
 type Left<'a> = (&'a str, Option<&'a [u8]>, u64, u64);
 
@@ -140,4 +140,34 @@ fn a_table_from_before_keeps_all_back_until_it_is_applied() {
     let of = |key: &str, first, last| (key.to_string(), first, last);
     let expected = [of("a", 1, 7), of("b", 1, 8), of("c", 1, 7), of("d", 8, 8)];
     assert_eq!(firsts, expected);
+}
+
+/// Whoever keeps a small change of a large table does not keep the table.
+#[test]
+fn a_change_alone_keeps_no_table() {
+    let large = vec![7; 1 << 20];
+    let mut kept = Waiting::default();
+    for sequence in 1..=200 {
+        let mut waiting = Waiting::default();
+        let (key, small) = (format!("a{}", sequence), sequence.to_string());
+        let entries = [
+            (key.as_str(), Some(small.as_bytes())),
+            ("b", Some(&large[..])),
+        ];
+        waiting.take(sequence, &Meaning::Table(entries.to_vec()));
+        let (key, change) = waiting.pop().expect("two wait");
+        kept.put(&key, change.alone());
+        assert!(kept.has(&key));
+    }
+    let all = kept.in_order();
+    let of =
+        |(key, change): &(String, Change)| key[1..].as_bytes() == &**change.value.as_ref().unwrap();
+    assert!(all.len() == 200 && all.iter().all(of));
+    #[cfg(target_os = "linux")]
+    {
+        let text = std::fs::read_to_string("/proc/self/status").unwrap();
+        let line = text.lines().find(|line| line.starts_with("VmRSS")).unwrap();
+        let kilobytes: u64 = line.split_whitespace().nth(1).unwrap().parse().unwrap();
+        assert!(kilobytes < 100 << 10, "{}", line);
+    }
 }

@@ -304,7 +304,7 @@ fn keep_file(
             shared.report(&mut state, key, change.last, Outcome::Done);
         }
         Ok(()) => {
-            state.hooks.put(key, change);
+            state.hooks.put(key, change.alone());
             shared.hooks.notify_one();
         }
     }

@@ -38,6 +38,16 @@ pub struct Change {
     pub last: u64,
 }
 
+impl Change {
+    /// The same with the bytes of its value alone: for what may wait long, since else those of the
+    /// whole table that it came with would wait with it.
+    pub fn alone(mut self) -> Change {
+        let alone = |value: Value| Value(Arc::new(value.to_vec()), 0..value.len());
+        self.value = self.value.map(alone);
+        self
+    }
+}
+
 /// The bytes of a value. Those of a whole table are kept together, and given back together.
 #[derive(Clone, Debug)]
 pub struct Value(Arc<Vec<u8>>, Range<usize>);
