@@ -1,0 +1,2 @@
+pub mod Parents
+pub mod Ways
