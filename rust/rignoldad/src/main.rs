@@ -65,7 +65,9 @@ fn checked(words: &Words) -> Vec<(usize, Fault)> {
         (None, true) => "root, as there is no such user",
         (None, false) => "who runs this",
     };
-    println!("checked for {}", plain(who));
+    if words.files.len() == 1 {
+        println!("checked for {}", plain(who));
+    }
     let act = group.map_or(Vec::new(), |group| {
         let group = format!("--regid={}", String::from_utf8_lossy(&group).trim());
         vec!["setpriv".into(), "--init-groups".into(), format!("--reuid={}", words.user), group]

@@ -585,6 +585,11 @@ fn the_status_says_whether_it_works() {
     for words in [&["--other"][..], &[file, file], &["--user", "root", file]] {
         assert_eq!(run(words).0, Some(2), "{words:?}");
     }
+    // (nobody ever writes to it)
+    fs::write(&path, "").unwrap();
+    fifo(path.clone());
+    let (status, _, faults) = run(&["--check", file]);
+    assert_eq!((status, faults), (Some(1), format!("{file}: it is no file\n")));
     let (status, _, faults) = run(&["--check", "/rignolda-no/agent.toml"]);
     assert_eq!(status, Some(1));
     assert!(faults.starts_with("/rignolda-no/agent.toml: No such file"), "{faults}");
