@@ -29,6 +29,7 @@ from reverse import parents_may_connect_to_their_children
 import blocked
 import floods
 import hostile
+import parents
 import store
 import watching
 
@@ -57,6 +58,8 @@ for function in hostile.TESTS + watching.TESTS:
     test(function)
 for function in blocked.TESTS:
     (long_test if function in blocked.LONG else test)(function)
+for function in parents.TESTS:
+    long_test(function)
 if floods.is_there():
     for function in floods.TESTS:
         test(function)

@@ -24,9 +24,9 @@ pub const CIRCLE: u16 = 256;
 /// How many names a way has at most.
 pub const NAMES: usize = 128;
 /// How often a parent says its way again.
-pub const BEAT: Duration = Duration::from_secs(3);
+pub const BEAT: Duration = Duration::from_secs(2);
 /// A parent of which nothing whole came for so long is left.
-pub const SILENCE: Duration = Duration::from_secs(12);
+pub const SILENCE: Duration = Duration::from_secs(8);
 /// The price of each place in the list.
 const PLACE: u16 = 8;
 /// How often in turn a candidate has to be better.
