@@ -334,6 +334,16 @@ holds("another release leaves them as they are", same(work / "release", release)
 said("they are what is built of the sources", 0, "", "--check")
 said("where another compiler built them they are not compared, which is no success", 4,
      "rignoldactl is NOT COMPARED: rustc 1.0 built it, not rustc 2.0", "--check", RUSTC="2.0")
+house.bring("tests/check_daemon.py")
+for script in re.findall('"(check[a-z_]*.py)"', (top / "tests/check_daemon.py").read_text()):
+    command(f"tests/daemon/{script}", "echo '0 passed, 0 failed'")
+counts = []
+for compiler in "1.0", "2.0":
+    ended = house.run(top / "tests/check_daemon.py", RUSTC=compiler)
+    found = re.fullmatch("([0-9]+) passed, ([0-9]+) failed", ended.last)
+    counts.append([*map(int, found.groups())])
+holds("the gate says so too, and does not count it", "NOT COMPARED" in ended.out
+      and counts[0] == [counts[1][0] + 1, counts[1][1]])
 # Somebody puts another program there, with its digest, and names another compiler.
 (release / "rignoldad.gz").write_bytes(gzip.compress(b"another\n"))
 said("another program is found by its digest", 1, "rignoldad.gz is not what its MANIFEST says",
