@@ -1053,6 +1053,8 @@ def counts_are_there_for_prometheus():
         # each name that an alarm uses is one that is counted
         alarms = pathlib.Path(__file__).resolve().parents[2] / "rust/rignoldad/packaging/alarms.yml"
         names = set(re.findall(r"rignolda_[a-z_]+", alarms.read_text()))
+        # (there is no TLS here; floods.py looks at that one)
+        names.discard("rignolda_certificate_expires_timestamp_seconds")
         sure(names and names <= {name for name, _ in values}, names - {n for n, _ in values})
 
 

@@ -16,6 +16,7 @@ import pathlib
 import resource
 import shutil
 import socket
+import ssl
 import statistics
 import struct
 import subprocess
@@ -34,9 +35,9 @@ WATCHDOG = 30
 # More than anything but a handshake with a large group, or hundreds of certificates, costs the
 # agent in seconds of its processor, on a slow machine too.
 CHEAP = 0.03
-# The most memory that connections without a hello may cost an agent, in MiB: 64 and one for each
-# child that is away, each of which has 16 KiB of a handshake and what OpenSSL keeps for it.
-WAITING = 24
+# The most memory that connections without a hello may cost an agent, in MiB: four times the 60 KiB
+# of each of the 64, and one for each child that is away.
+WAITING = 16
 
 
 def test(function):
@@ -283,10 +284,12 @@ def connections_that_wait_have_little_memory():
         begun(tree)
         before, kept = forget(tree.root), []
         for _ in range(150):
-            sock = socket.create_connection(("127.0.0.1", tree.root.port))
-            # (a record of a handshake, of which the rest never comes)
-            sock.sendall(b"\x16\x03\x01\x40\x00\x01\x01\xff\xfc\x03\x03" + bytes(16_000))
+            sock = socket.create_connection(("127.0.0.1", tree.root.port), timeout=USUAL * PATIENCE)
             kept.append(sock)
+            sock.sendall(first_hello("X25519"))
+            sure(sock.recv(1 << 14), "no answer")
+            # (a record of which the rest never comes)
+            sock.sendall(b"\x17\x03\x03\x3f\x00" + bytes(14_000))
         reaches(tree, tree["left"])
         grew = memory(tree.root) - before
         sure(grew <= WAITING, f"{grew} MiB")
@@ -340,21 +343,68 @@ def both_ends_say_why_they_are_not_connected():
         reaches(tree, tree["left"])
 
 
+@test
+def the_end_of_a_certificate_is_seen():
+    def counted(tree):
+        secure(tree)
+        tree.root.top["metrics"] = f"127.0.0.1:{tree['left'].port}"
+
+    with Tree({"left": "root"}, before=counted) as tree:
+        begun(tree)
+        command = ["openssl", "x509", "-noout", "-enddate", "-in", tree.home / "root.crt"]
+        end = subprocess.run(command, capture_output=True, text=True, check=True).stdout
+        end = ssl.cert_time_to_seconds(end.strip().partition("=")[2])
+        with socket.create_connection(("127.0.0.1", tree["left"].port)) as sock:
+            sock.sendall(b"GET /metrics HTTP/1.0\r\n\r\n")
+            text = b"".join(iter(lambda: sock.recv(1 << 16), b"")).decode()
+        sure(f"\nrignolda_certificate_expires_timestamp_seconds {end}\n" in text, end, text)
+        sure(tree.root.status()["certificate_expires"] == end)
+
+
+@test
+def an_agent_whose_certificate_lacks_its_name_says_so():
+    def nameless(tree):
+        secure(tree)
+        tree["left"].tables["tls"] = certify(tree.home, "other")
+
+    with Tree({"left": "root"}, before=nameless) as tree:
+        begun(tree, without=["left"])
+        tree["left"].start()
+        sure(until(lambda: tree["left"].said("certificate no DNS name of its SAN is `left`")))
+        why = "by its certificate other, which calls itself left: its certificate has another name"
+        sure(until(lambda: tree.root.said(why)), tree.root.text())
+        sure(tree["left"].files() == {}, "it was served")
+
+
+@test
+def a_socket_of_listen_has_its_mode():
+    with Tree({"left": "root"}) as tree:
+        path = tree.root.home / "socket"
+        tree.root.top["listen"] = f"unix:{path}"
+        tree["left"].top["parents"] = [f"root@unix:{path}"]
+        tree.root.prefix = ["sh", "-c", 'umask 077; exec "$@"', "sh"]
+        begun(tree)
+        sure(path.stat().st_mode & 0o777 == 0o660, oct(path.stat().st_mode))
+
+
 # ---- What is measured by hand
 
 def ask(agent):
-    """The status of an agent, by one question of this process."""
-    with socket.socket(socket.AF_UNIX) as sock:
-        sock.settimeout(USUAL * PATIENCE)
-        sock.connect(str(agent.socket))
-        sock.sendall(b'{"do":"status"}\n')
-        text = b""
-        while not text.endswith(b"\n"):
-            piece = sock.recv(1 << 20)
-            if not piece:
-                break
-            text += piece
-    return json.loads(text)["status"]
+    """The status of an agent, by one question of this process; nothing where it does not answer."""
+    try:
+        with socket.socket(socket.AF_UNIX) as sock:
+            sock.settimeout(USUAL)
+            sock.connect(str(agent.socket))
+            sock.sendall(b'{"do":"status"}\n')
+            text = b""
+            while not text.endswith(b"\n"):
+                piece = sock.recv(1 << 20)
+                if not piece:
+                    return {}
+                text += piece
+        return json.loads(text)["status"]
+    except OSError:
+        return {}
 
 
 class Watched:
@@ -425,13 +475,9 @@ def measured(kind, seconds):
             tree["right"].kill()
             tree["right"].start()
             began = time.monotonic()
-            connected = lambda: any(it["name"] == "right" and it["connected"]
-                                    for it in ask(tree.root)["children"])
             back = "after the flood"
-            while time.monotonic() < began + seconds:
-                if not flood.goes_on():
-                    break
-                if connected():
+            while flood.goes_on():
+                if ask(tree["right"]).get("parent"):
                     back = f"{time.monotonic() - began:.1f} s"
                     break
                 time.sleep(0.05)
@@ -449,7 +495,8 @@ def measured(kind, seconds):
 def long(words):
     seconds = float(os.environ.get("SECONDS", 60))
     print(f"flood of {seconds:.0f} s | median of a change without, ms | with | most | changes | "
-          "oldest round, s (of 1) | longest without a sign, s | a child that begins anew is in after | "
+          "oldest round, s (of 1) | longest without a sign, s | a child that begins anew is in after"
+          " | "
           "processor, s | MiB | what was sent")
     for kind in KINDS:
         if not words or any(word in kind for word in words):

@@ -362,8 +362,12 @@ fn whoever_is_somebody_else_is_refused() {
         net.agents.remove(if to == "a" { "b" } else { "a" });
         let stranger = net.stranger(to, certificate, &says);
         net.step();
+        let says = match wire::take(&mut says.clone(), Expect::Hello) {
+            Ok(Some(Message::Hello(hello))) => format!(", which calls itself {}", hello.from),
+            _ => String::new(),
+        };
         assert!(
-            net.said(to, &format!("refused somewhere: {why}")),
+            net.said(to, &format!("refused somewhere{says}: {why} (1 in all)")),
             "{why}: {:?}",
             net.agent(to).said.facts
         );
@@ -485,6 +489,20 @@ fn slow_hellos_and_too_many_are_dropped() {
     assert_eq!(closed(&ends), 71);
     ends.clear();
     assert_eq!(net.agent("root").peers.refused(), 71);
+}
+
+#[test]
+fn whoever_waits_is_read_although_others_are_always_ready() {
+    let mut net = path([false, false]);
+    net.agents.remove("a");
+    let waits: Vec<End> = (0..40).map(|_| net.stranger("root", "a", b"RGN")).collect();
+    let child = net.stranger("root", "a", &hello("a", "root"));
+    // (more than 40 of these are read in as many steps, but not in one)
+    net.steps(2);
+    assert!(!net.said("root", "connected a"));
+    net.steps(10);
+    assert!(net.said("root", "connected a"));
+    drop((waits, child));
 }
 
 /// The next message that an end has from an agent.

@@ -5,7 +5,7 @@ use crate::config::{plain, Address, Config, Fault};
 use crate::control::{self, ChildStatus, Request, Response, Status};
 use crate::fact;
 use crate::journal;
-use crate::line::{Line, Listener, Maker};
+use crate::line::{names, unix_time, Line, Listener, Maker};
 use crate::metrics;
 use crate::root::Root;
 use crate::serve::Ticket;
@@ -106,7 +106,8 @@ pub fn run(path: &Path, config: Config) -> Result<(), String> {
     let signals = Signals::new().map_err(|e| format!("signals: {e}"))?;
     let mut agent = Agent::new(path, config)?;
     let watchdog = std::env::var("WATCHDOG_USEC").ok().and_then(|text| text.parse().ok());
-    let watchdog = watchdog.map(|micros: u64| Duration::from_micros(micros / 3));
+    // (a sign so often that one which is late by a few is in time)
+    let watchdog = watchdog.map(|micros: u64| Duration::from_micros(micros / 10));
     let mut watched = Instant::now();
     notify("READY=1");
     fact!("start", "{} life {:016x}", agent.config.peers.name, agent.peers.life());
@@ -278,7 +279,7 @@ impl Agent {
         let now = Instant::now();
         let life = random().map_err(|e| format!("/dev/urandom: {e}"))?;
         let listen = |address: &Address| {
-            Listener::new(address, None).map_err(|e| format!("listen: {address}: {e}"))
+            Listener::new(address, Some(0o660)).map_err(|e| format!("listen: {address}: {e}"))
         };
         let control = config.control.as_ref().map(|path| {
             control::server(path).map_err(|e| format!("control: {}: {e}", path.display()))
@@ -616,6 +617,10 @@ impl Agent {
             faults: faults.iter().flat_map(|it| it.texts.iter().take(FAULTS).cloned()).collect(),
             children: children.collect(),
             reload_failed: self.reload_failed.clone(),
+            certificate_expires: self
+                .maker
+                .certificate()
+                .map_or(0, |it| u64::try_from(unix_time(it.not_after())).unwrap_or(0)),
             ..Status::default()
         }
     }
@@ -735,5 +740,10 @@ fn silence(config: &Config) -> Duration {
 }
 
 fn maker(config: &Config) -> Result<Maker, String> {
-    Maker::new(config.tls.as_ref(), silence(config)).map_err(|e| format!("tls: {e}"))
+    let (name, tls) = (&config.peers.name, config.tls.as_ref());
+    let maker = Maker::new(tls, silence(config)).map_err(|e| format!("tls: {e}"))?;
+    if maker.certificate().is_some_and(|it| !names(it).contains(name)) {
+        fact!("certificate", "no DNS name of its SAN is `{name}`: others refuse this agent");
+    }
+    Ok(maker)
 }

@@ -7,7 +7,7 @@ use std::fmt::Write as _;
 use std::io::{self, BufRead, BufReader, Write};
 use std::os::unix::net::UnixStream;
 use std::path::Path;
-use std::time::Duration;
+use std::time::{Duration, SystemTime, UNIX_EPOCH};
 
 /// A connection to an agent. It may ask one thing after the other.
 pub struct Agent {
@@ -224,6 +224,11 @@ pub fn status_text(status: &Status) -> String {
         ("refused", status.refused),
     ] {
         fact(name, count.to_string());
+    }
+    if status.certificate_expires > 0 {
+        let now = SystemTime::now().duration_since(UNIX_EPOCH).map_or(0, |it| it.as_secs());
+        let left = status.certificate_expires.saturating_sub(now);
+        fact("certificate", format!("expires in {}", age(left * 1_000)));
     }
     if !status.reload_failed.is_empty() {
         fact("reload", status.reload_failed.clone());

@@ -116,6 +116,8 @@ pub struct Status {
     pub children: Vec<ChildStatus>,
     /// What was not taken at the last reload, and why; empty where all was.
     pub reload_failed: String,
+    /// When its own certificate expires, in seconds since 1970; 0 without TLS.
+    pub certificate_expires: u64,
 }
 
 /// A child, as its parent sees it.

@@ -98,7 +98,7 @@ fn priority(fact: &str, words: &str) -> &'static str {
     };
     match fact {
         _ if !IS_READ.get_or_init(|| is_read() == Some(true)) => "",
-        "failed" | "settings" => "<3>",
+        "certificate" | "failed" | "settings" => "<3>",
         "reload" if words != "done" => "<3>",
         "child" | "closed" | "evicted" | "garbage" | "journal" | "left-behind" | "parent"
         | "refused" | "stray" => "<4>",

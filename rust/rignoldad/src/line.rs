@@ -2,11 +2,14 @@
 use crate::config::{Address, Tls};
 use crate::serve;
 use openssl::asn1::{Asn1Time, Asn1TimeRef};
+use openssl::error::ErrorStack;
+use openssl::pkey::PKey;
 use openssl::ssl::{
-    Error, ErrorCode, Ssl, SslContext, SslFiletype, SslMethod, SslMode, SslOptions,
-    SslSessionCacheMode, SslStream, SslVerifyMode, SslVersion,
+    Error, ErrorCode, Ssl, SslContext, SslMethod, SslMode, SslOptions, SslSessionCacheMode,
+    SslStream, SslVerifyMode, SslVersion,
 };
 use openssl::x509::{X509Ref, X509VerifyResult};
+use rignolda::net::is_name;
 use socket2::{Domain, SockAddr, Socket, TcpKeepalive, Type};
 use std::fs::{self, Permissions};
 use std::io::{self, ErrorKind, Read, Write};
@@ -32,13 +35,17 @@ pub struct Secure {
     waits: [bool; 2],
 }
 
-/// The most bytes of the other end's handshake: a few certificates, each of which takes time.
+/// The most bytes of the other end's handshake: a few certificates, each of which takes time. With
+/// what OpenSSL keeps, a connection without a hello has some 60 KiB, and 64 of them have 4 MiB.
 const HANDSHAKE_BYTES: usize = 16 << 10;
 /// The most bytes that may come without any data after it: a record of data has fewer. (A stream of
 /// messages of TLS itself, as for new keys, would never let go of the loop.)
 const IDLE_BYTES: usize = 20 << 10;
 /// How many of these each record of data may bring again, besides its own.
 const RECORD_BYTES: usize = 64;
+
+/// How many names of a certificate are said at most.
+const NAMES: usize = 3;
 
 /// A socket of which no more is read than this, until data came.
 struct Bounded {
@@ -129,9 +136,9 @@ impl Maker {
         Ok(Line::Tls(Box::new(Secure { stream, greeted, expires, waits: [false; 2] })))
     }
 
-    /// When the agent's own certificate expires, in seconds since 1970.
-    pub fn expires(&self) -> Option<i64> {
-        self.tls.as_ref()?.certificate().map(|it| unix_time(it.not_after()))
+    /// The agent's own certificate, where there is TLS.
+    pub fn certificate(&self) -> Option<&X509Ref> {
+        self.tls.as_ref()?.certificate()
     }
 }
 
@@ -142,11 +149,14 @@ pub fn unix_time(time: &Asn1TimeRef) -> i64 {
 }
 
 fn context(tls: &Tls) -> Result<SslContext, String> {
+    let say = |path: &Path, why: &str| format!("{}: {why}", path.display());
     let with = |path: &Path| {
-        let path = path.display().to_string();
-        move |e: openssl::error::ErrorStack| format!("{path}: {e}")
+        let why = say(path, "");
+        move |e: ErrorStack| why + reason(&e).unwrap_or("nothing in it can be used")
     };
-    let make = || -> Result<_, openssl::error::ErrorStack> {
+    // (what cannot be read is said in the words of the system)
+    let read = |path: &Path| fs::read(path).map_err(|e| say(path, &e.to_string()));
+    let make = || -> Result<_, ErrorStack> {
         let mut context = SslContext::builder(SslMethod::tls())?;
         context.set_min_proto_version(Some(SslVersion::TLS1_2))?;
         // (the groups of finite fields cost whoever accepts a hundred times as much)
@@ -166,11 +176,20 @@ fn context(tls: &Tls) -> Result<SslContext, String> {
         Ok(context)
     };
     let mut context = make().map_err(|e| e.to_string())?;
+    read(&tls.authority).and_then(|_| read(&tls.certificate))?;
     context.set_ca_file(&tls.authority).map_err(with(&tls.authority))?;
     context.set_certificate_chain_file(&tls.certificate).map_err(with(&tls.certificate))?;
-    context.set_private_key_file(&tls.key, SslFiletype::PEM).map_err(with(&tls.key))?;
-    context.check_private_key().map_err(with(&tls.key))?;
+    // (nobody is there to be asked for a word that opens a key)
+    let key = PKey::private_key_from_pem_callback(&read(&tls.key)?, |_| Ok(0));
+    let key = key.map_err(with(&tls.key))?;
+    let done = context.set_private_key(&key).and_then(|()| context.check_private_key());
+    done.map_err(with(&tls.key))?;
     Ok(context.build())
+}
+
+/// What OpenSSL found wrong last, without the places in its sources.
+fn reason(errors: &ErrorStack) -> Option<&'static str> {
+    errors.errors().last()?.reason()
 }
 
 impl Listener {
@@ -228,10 +247,7 @@ impl Drop for Listener {
 
 impl AsRawFd for Line {
     fn as_raw_fd(&self) -> RawFd {
-        match self {
-            Line::Plain(socket) => socket.as_raw_fd(),
-            Line::Tls(secure) => secure.stream.get_ref().socket.as_raw_fd(),
-        }
+        self.socket().as_raw_fd()
     }
 }
 
@@ -239,32 +255,34 @@ impl rignolda::net::Line for Line {
     /// By TLS, whether its certificate has this name.
     fn may_be(&self, name: &str) -> bool {
         match self {
-            Line::Tls(secure) => secure
-                .stream
-                .ssl()
-                .peer_certificate()
-                .is_some_and(|certificate| names(&certificate).iter().any(|it| it == name)),
+            Line::Tls(secure) => secure.names().is_some_and(|all| all.iter().any(|it| it == name)),
             _ => true,
         }
     }
 
     fn place(&self) -> String {
-        let socket = match self {
-            Line::Plain(socket) => socket,
-            Line::Tls(secure) => &secure.stream.get_ref().socket,
-        };
-        let address = socket.peer_addr().ok().and_then(|it| it.as_socket());
+        let address = self.socket().peer_addr().ok().and_then(|it| it.as_socket());
         let address = address.map_or("a local socket".into(), |it| it.to_string());
         let Line::Tls(secure) = self else { return address };
-        match secure.stream.ssl().peer_certificate().map(|it| names(&it)) {
-            None => address,
-            Some(all) if all.is_empty() => format!("{address}, whose certificate has no DNS name"),
-            Some(all) => format!("{address}, by its certificate {}", all.join(" or ")),
+        let Some(mut all) = secure.names() else { return address };
+        // (whatever a certificate has, the journal gets little of it, and names alone)
+        all.retain(|it| is_name(it));
+        all.truncate(NAMES);
+        match all.is_empty() {
+            true => format!("{address}, whose certificate has no name of an agent"),
+            false => format!("{address}, by its certificate {}", all.join(" or ")),
         }
     }
 }
 
 impl Line {
+    fn socket(&self) -> &Socket {
+        match self {
+            Line::Plain(socket) => socket,
+            Line::Tls(secure) => &secure.stream.get_ref().socket,
+        }
+    }
+
     /// When it has to be left, since the certificate of one of its ends has expired then: in
     /// seconds since 1970.
     pub fn expires(&self) -> i64 {
@@ -301,6 +319,11 @@ pub fn unverified(why: X509VerifyResult) -> &'static str {
 }
 
 impl Secure {
+    /// The names of the other end's certificate, once it was verified.
+    fn names(&self) -> Option<Vec<String>> {
+        self.stream.ssl().peer_certificate().map(|it| names(&it))
+    }
+
     /// Goes on with the handshake, and then does an act.
     fn act(
         &mut self,
@@ -314,10 +337,10 @@ impl Secure {
             if done.is_ok() {
                 self.greeted = true;
                 self.stream.get_mut().left = IDLE_BYTES;
-                let (own, other) = (self.stream.ssl().certificate(), self.stream.ssl());
-                let ends = own.map(|it| unix_time(it.not_after())).into_iter();
-                let ends = ends.chain(other.peer_certificate().map(|it| unix_time(it.not_after())));
-                self.expires = ends.min().unwrap_or(i64::MAX);
+                let ssl = self.stream.ssl();
+                let own = ssl.certificate().map(|it| unix_time(it.not_after()));
+                let other = ssl.peer_certificate().map(|it| unix_time(it.not_after()));
+                self.expires = own.into_iter().chain(other).min().unwrap_or(i64::MAX);
             }
         }
         let done = done.and_then(|()| act(&mut self.stream));
@@ -354,8 +377,7 @@ impl Secure {
         if let Some(error) = error.io_error() {
             return error.to_string();
         }
-        let last = error.ssl_error().and_then(|all| all.errors().last());
-        match last.and_then(|it| it.reason()).unwrap_or("unexpected eof while reading") {
+        match error.ssl_error().and_then(reason).unwrap_or("unexpected eof while reading") {
             "certificate verify failed" => {
                 format!("its certificate {}", unverified(self.stream.ssl().verify_result()))
             }

@@ -65,6 +65,11 @@ pub fn text(status: &Status) -> String {
         head(&mut text, "", name, kind, help);
         let _ = writeln!(text, "rignolda_{name} {}", number(name, value(status)));
     }
+    if status.certificate_expires > 0 {
+        let name = "certificate_expires_timestamp_seconds";
+        head(&mut text, "", name, "gauge", "When the agent's own certificate expires.");
+        let _ = writeln!(text, "rignolda_{name} {}", status.certificate_expires);
+    }
     for (name, kind, help, value) in OF_CHILD {
         head(&mut text, "child_", name, kind, help);
         for child in &status.children {

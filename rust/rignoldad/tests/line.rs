@@ -11,11 +11,12 @@ use openssl::x509::extension::{BasicConstraints, SubjectAlternativeName};
 use openssl::x509::{X509Builder, X509NameBuilder, X509};
 use rignolda::net::Line as _;
 use rignoldad::config::{Address, Tls};
-use rignoldad::line::{Line, Listener, Maker};
+use rignoldad::line::{unix_time, Line, Listener, Maker};
 use socket2::SockAddr;
 use std::fs;
 use std::io::{ErrorKind, Read, Write};
 use std::net::{SocketAddr, TcpStream};
+use std::os::unix::fs::PermissionsExt;
 use std::path::{Path, PathBuf};
 use std::time::{Duration, Instant};
 
@@ -177,6 +178,14 @@ fn a_socket_of_a_path_is_a_line_too() {
     let mut down = maker.connect(&SockAddr::unix(path).unwrap()).unwrap();
     let mut up = accept(&maker, &listener);
     exchange([&mut up, &mut down], 100_000).unwrap();
+    drop(listener);
+    // (its mode is what is asked for, whatever the mask of the process)
+    for mode in [0o660, 0o600, 0o666] {
+        let listener = Listener::new(&Address::Unix(folder.0.join("moded")), Some(mode)).unwrap();
+        let file = fs::metadata(folder.0.join("moded")).unwrap();
+        assert_eq!(file.permissions().mode() & 0o777, mode);
+        drop(listener);
+    }
 }
 
 #[test]
@@ -210,7 +219,7 @@ fn by_tls_each_end_is_who_its_certificate_names() {
     let nameless = maker(&folder.0, "nameless", &sign("leaf", &[], 9), &authority.0);
     let [up, _down] = connected(&root, &nameless).unwrap();
     assert!(!up.may_be("leaf"), "{}", up.place());
-    assert!(up.place().ends_with(", whose certificate has no DNS name"), "{}", up.place());
+    assert!(up.place().ends_with(", whose certificate has no name of an agent"), "{}", up.place());
 }
 
 /// What the two ends of a connection say that cannot be made: whoever accepted it first.
@@ -271,17 +280,19 @@ fn a_line_knows_when_a_certificate_of_its_ends_expires() {
     let authority = certificate("authority", &[], None, 9);
     let make = |name: &str, days| {
         let pair = certificate(name, &[name], Some(&authority), days);
-        let end = rignoldad::line::unix_time(pair.0.not_after());
+        let end = unix_time(pair.0.not_after());
         (maker(&folder.0, name, &pair, &authority.0), end)
     };
     let ((root, last), (leaf, first)) = (make("root", 5), make("leaf", 3));
-    assert_eq!((root.expires(), leaf.expires()), (Some(last), Some(first)));
+    for (maker, end) in [(&root, last), (&leaf, first)] {
+        assert_eq!(unix_time(maker.certificate().unwrap().not_after()), end);
+    }
     assert_eq!(last - first, 2 * 86_400);
     let [up, down] = connected(&root, &leaf).unwrap();
     assert_eq!((up.expires(), down.expires()), (first, first));
     let plain = Maker::new(None, TIMEOUT).unwrap();
     let [up, _down] = connected(&plain, &plain).unwrap();
-    assert_eq!((up.expires(), plain.expires()), (i64::MAX, None));
+    assert!(up.expires() == i64::MAX && plain.certificate().is_none());
 }
 
 /// Whether an agent talks with a client that was set up so, and what it says.
@@ -398,8 +409,17 @@ fn a_key_that_does_not_belong_to_the_certificate_is_named() {
     fs::write(path("key"), two.1.private_key_to_pem_pkcs8().unwrap()).unwrap();
     fs::write(path("ca"), authority.0.to_pem().unwrap()).unwrap();
     let mut tls = Tls { certificate: path("crt"), key: path("key"), authority: path("ca") };
-    let said = Maker::new(Some(&tls), TIMEOUT).err().unwrap();
-    assert!(said.contains("key"), "{said}");
+    let said = |tls: &Tls| Maker::new(Some(tls), TIMEOUT).err().unwrap();
+    let begins = |file: &str| path(file).display().to_string();
+    assert_eq!(said(&tls), format!("{}: key values mismatch", begins("key")));
+    fs::write(path("key"), "no key").unwrap();
+    assert_eq!(said(&tls), format!("{}: unsupported", begins("key")));
+    // (nobody is asked for a word that opens it)
+    let cipher = openssl::symm::Cipher::aes_128_cbc();
+    let locked = one.1.private_key_to_pem_pkcs8_passphrase(cipher, b"word").unwrap();
+    fs::write(path("key"), locked).unwrap();
+    assert!(said(&tls).starts_with(&begins("key")) && !said(&tls).contains("error:"));
     tls.authority = path("absent");
-    assert!(Maker::new(Some(&tls), TIMEOUT).err().unwrap().contains("absent"));
+    let why = "No such file or directory (os error 2)";
+    assert_eq!(said(&tls), format!("{}: {why}", begins("absent")));
 }

@@ -196,9 +196,16 @@ struct Conn<L> {
     has_said: bool,
     is_mute: bool,
     look: Look,
+    /// The name that its hello had, right or not.
+    says: String,
 }
 
 impl<L> Conn<L> {
+    /// Whether it was accepted, and nobody knows whose it is.
+    fn is_greeting(&self) -> bool {
+        self.whom.is_none() && !self.made
+    }
+
     /// Of a parent, something whole came.
     fn is_alive(&mut self, now: Instant) {
         self.until = (!self.is_old).then(|| now + SILENCE);
@@ -520,8 +527,7 @@ impl<L: Line, A: Clone + PartialEq + fmt::Display> Peers<L, A> {
     pub fn accept(&mut self, line: L, now: Instant, to: &mut dyn Handler) {
         let patience = self.setup.ack_timeout * (1 << self.late);
         self.open(line, false, None, now, patience);
-        let is_greeting = |conn: &Conn<L>| conn.whom.is_none() && !conn.made;
-        let greeting = self.conns.iter().filter(|(_, conn)| is_greeting(conn));
+        let greeting = self.conns.iter().filter(|(_, conn)| conn.is_greeting());
         let greeting: Vec<u64> = greeting.map(|(id, _)| *id).collect();
         let children = || self.relay.children().map(|(_, link)| link);
         let away = || children().filter(|link| !link.is_connected()).count();
@@ -555,6 +561,7 @@ impl<L: Line, A: Clone + PartialEq + fmt::Display> Peers<L, A> {
             has_said: false,
             is_mute: false,
             look: Look::No,
+            says: String::new(),
         };
         self.conns.insert(self.made, conn);
         self.made
@@ -862,7 +869,14 @@ impl<L: Line, A: Clone + PartialEq + fmt::Display> Peers<L, A> {
                 {
                     self.said_refused = Some(now);
                     let (place, all) = (conn.line.place(), self.refused);
-                    to.on_fact("refused", format_args!("{place}: {why} ({all} in all)"));
+                    let says = match &*conn.says {
+                        "" => String::new(),
+                        name => format!(", which calls itself {name}"),
+                    };
+                    to.on_fact(
+                        "refused",
+                        format_args!("{place}{says}: {why} ({all} in all)"),
+                    );
                 }
                 return;
             }
@@ -997,11 +1011,12 @@ impl<L: Line, A: Clone + PartialEq + fmt::Display> Peers<L, A> {
         now: Instant,
         to: &mut dyn Handler,
     ) {
-        let mut ready: Vec<u64> = ready.into_iter().chain(self.again.drain(..)).collect();
-        ready.sort_unstable();
-        ready.dedup();
-        let waits = |id: &u64| self.conns.get(id).map_or(false, |conn| conn.whom.is_none());
-        let (waiting, mut ready): (Vec<u64>, Vec<u64>) = ready.into_iter().partition(waits);
+        // (those that were put off come first: else a few that are always ready would come alone)
+        let mut seen = BTreeSet::new();
+        let all = std::mem::take(&mut self.again).into_iter().chain(ready);
+        let all = all.filter(|id| seen.insert(*id));
+        let waits = |id: &u64| self.conns.get(id).map_or(false, Conn::is_greeting);
+        let (waiting, mut ready): (Vec<u64>, Vec<u64>) = all.partition(waits);
         let (first, later) = waiting.split_at(waiting.len().min(TURN_GREETINGS));
         ready.extend_from_slice(first);
         self.again.extend_from_slice(later);
@@ -1105,6 +1120,9 @@ impl<L: Line, A: Clone + PartialEq + fmt::Display> Peers<L, A> {
                 Some(message) => message,
                 None => break,
             };
+            if let Message::Hello(hello) | Message::Look(hello) = &message {
+                conn.says = hello.from.clone();
+            }
             match (conn.whom.clone(), message) {
                 (_, Message::Hello(hello)) => self.greets(id, &hello, now, to)?,
                 (None, Message::Look(hello)) => self.look(id, &hello, now, to)?,
