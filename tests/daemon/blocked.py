@@ -247,20 +247,22 @@ def a_file_that_cannot_be_read_is_named_and_unsets_nothing():
         tree.root.ask("round")
         sure(until(lambda: root.status()["unpublished"] == 1), root.status())
         sure("key1: Permission denied" in root.status()["faults"][0], root.status())
-        # the others change; and after a restart nothing is unset, and the file is named
-        tree.write("key2", "changed")
-        sure(until(lambda: left.files().get("key2") == b"changed"), left.files())
-        before = left.files()
-        root.kill()
-        root.start()
-        sure(until(lambda: answers(root) and root.status()["unpublished"] == 1), root.text()[-300:])
-        refused = root.ask("publish", "key3", "1", check=False)
-        sure("key1: Permission denied" in refused.get("error", ""), refused)
-        time.sleep(1)
-        sure(left.files() == before, left.files())
+        # the others change, and after a restart too; and nothing is unset
+        for turn in range(2):
+            tree.write("key2", f"changed {turn}")
+            sure(until(lambda: left.files().get("key2") == b"changed %d" % turn), left.files())
+            sure({**before, "key2": b""} == {**left.files(), "key2": b""}, left.files())
+            if turn == 0:
+                root.kill()
+                root.start()
+                sure(until(lambda: answers(root) and root.status()["unpublished"] == 1),
+                     root.text()[-300:])
+                sure(until(lambda: root.status()["children"][0]["connected"]), root.status())
+        # (by a table alone it is known that all is there)
+        sure(not left.status()["whole"] and not root.status()["whole"], left.status())
         os.chown(root.truth / "key1", 65534, 65534)
-        sure(until(lambda: root.status()["unpublished"] == 0), root.status())
-        tree.write("key2", "again")
+        sure(until(lambda: root.status()["unpublished"] == 0 and left.status()["whole"]),
+             root.status())
         sure(tree.right(agents=[left]), tree.wrong([left]))
 
 

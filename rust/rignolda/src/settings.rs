@@ -318,6 +318,8 @@ pub struct Publisher {
     /// Items of the round under way that are still to come, its table with them.
     round: u64,
     table_first: bool,
+    /// Whether no table may be published.
+    holds: bool,
 }
 
 /// A body to publish.
@@ -344,6 +346,7 @@ impl Publisher {
             table_bytes: 0,
             round: 0,
             table_first: true,
+            holds: false,
         }
     }
 
@@ -429,9 +432,16 @@ impl Publisher {
         self.round > 0
     }
 
+    /// Publishes no table from now on, or does again: as long as a setting is there whose value is
+    /// not known, a table would unset it. Changes alone are published then, and no round.
+    pub fn hold(&mut self, holds: bool) {
+        self.holds = holds;
+    }
+
     /// Whether something waits to be published.
     pub fn waits(&self) -> bool {
-        self.table_first || self.round > 0 || !self.changed.is_empty()
+        let is_due = self.table_first || self.round > 0;
+        (is_due && !self.holds) || !self.changed.is_empty()
     }
 
     /// Whether a change waits, or the first table.
@@ -447,7 +457,7 @@ impl Publisher {
         // (tables never take more than the changes between them, but where these are very many)
         let is_long = bytes > self.table_bytes && (items >= MANY || bytes > VALUE_BYTES);
         let is_due = self.table_first || (self.changed.is_empty() && self.round == 1);
-        self.waits() && (is_due || is_long || items >= limit)
+        !self.holds && self.waits() && (is_due || is_long || items >= limit)
     }
 
     /// The next body to publish. `limit`: how many items may follow a table at most.

@@ -87,3 +87,26 @@ fn there_are_no_more_settings_than_an_agent_takes() {
     publisher.set("last", Vec::new());
     assert!(!publisher.has_room("another", b"") && publisher.has_room("last", b"changed"));
 }
+
+#[test]
+fn one_that_holds_publishes_changes_alone() {
+    let mut publisher = Publisher::new(1);
+    publisher.hold(true);
+    assert!(!publisher.waits() && publisher.next(4).is_none());
+    publisher.begin_round(3);
+    for at in 0..9 {
+        publisher.set("a", vec![at]);
+        // (more than may follow a table, and in a round)
+        assert!(!publisher.is_table_next(4));
+        let next = publisher.next(4).unwrap();
+        assert!(!next.is_table && next.keys.contains("a"));
+        assert!(!publisher.waits() && publisher.next(4).is_none());
+    }
+    publisher.hold(false);
+    let kinds = std::iter::from_fn(|| publisher.next(4)).map(|it| it.is_table);
+    assert_eq!(
+        kinds.collect::<Vec<_>>(),
+        [true, false, false, false, true],
+        "the table, and then the round"
+    );
+}

@@ -27,6 +27,8 @@ pub struct Root {
     pub draining: bool,
     /// Whether all settings were read once. Before that a table would unset what it does not name.
     known: bool,
+    /// Whether a setting was there at the start whose value is not known yet: no table is published.
+    holds: bool,
     /// Whether the folder is empty, and the first setting may be published.
     is_new: bool,
     next_round: Instant,
@@ -67,6 +69,7 @@ impl Root {
             publisher: Publisher::new(clock.as_micros() as u64),
             draining: false,
             known: false,
+            holds: false,
             is_new: false,
             next_round: now,
             next_scan: None,
@@ -308,15 +311,20 @@ impl Root {
             }
             Ok(mut found) => {
                 faults = found.faults;
-                for key in found.unread.keys() {
-                    let old = self.publisher.settings().get_key_value(key);
-                    found.settings.extend(old.map(|(key, value)| (key.clone(), value.clone())));
+                // (of one that came since the last table, no agent knows)
+                let (may_hold, mut holds) = (self.holds || !self.known, false);
+                for (key, may_be) in found.unread {
+                    match self.publisher.settings().get(&key).cloned() {
+                        Some(old) => drop(found.settings.insert(key, old)),
+                        None => holds |= may_be && may_hold,
+                    }
                 }
                 if Publisher::bytes_of(&found.settings) > BODY_BYTES {
                     faults.add(format!("all settings have more than {BODY_BYTES} bytes"));
-                } else if self.known || !found.unread.values().any(|may_be| *may_be) {
-                    self.known = true;
+                } else {
+                    (self.known, self.holds) = (true, holds);
                     self.publisher.replace(found.settings);
+                    self.publisher.hold(holds);
                 }
             }
         }
