@@ -607,13 +607,21 @@ def odd_things_in_the_roots_folder_hold_nobody_up():
         truth = tree.root.truth
         secret = tree.home / "secret"
         secret.write_text("of the agent alone")
+
+        def sparse(path):
+            # (it would be a setting as long as it is empty)
+            beside = path.with_name(".sparse")
+            beside.touch()
+            os.truncate(beside, 1 << 40)
+            beside.rename(path)
+
         made = {"link": lambda path: path.symlink_to(secret),
                 "self": lambda path: path.symlink_to("/proc/self/environ"),
                 "zero": lambda path: path.symlink_to("/dev/zero"),
                 "loop": lambda path: path.symlink_to(path),
                 "pipe": os.mkfifo, "folder": pathlib.Path.mkdir,
                 "listens": lambda path: socket.socket(socket.AF_UNIX).bind(str(path)),
-                "sparse": lambda path: (path.touch(), os.truncate(path, 1 << 40))}
+                "sparse": sparse}
         for name, make in made.items():
             make(truth / name)
             reaches(tree, tree["left"])
