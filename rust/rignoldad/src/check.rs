@@ -2,7 +2,7 @@
 //! machine, and, of the files of a whole tree, which agents do not fit.
 use crate::apply::refusal;
 use crate::config::{leads, line_of, read_file, read_text, Address, Children, Config, Fault, Tls};
-use crate::line::Maker;
+use crate::line::{Maker, PEM_BYTES};
 use openssl::asn1::Asn1Time;
 use openssl::error::ErrorStack;
 use openssl::pkey::PKey;
@@ -18,7 +18,6 @@ use std::time::Duration;
 
 /// From how many days before its end on a certificate is warned of.
 const DAYS: u32 = 30;
-const PEM_BYTES: usize = 1 << 20;
 /// How many agents of a way are named.
 const WAY: usize = 8;
 /// How deep an agent is at most: each link costs 1 at least, and no way costs more.

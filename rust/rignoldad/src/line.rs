@@ -1,5 +1,5 @@
 //! A connection that never makes its caller wait: TCP, a Unix socket, or TLS over TCP.
-use crate::config::{Address, Tls};
+use crate::config::{read_file, Address, Tls};
 use crate::serve;
 use openssl::asn1::{Asn1Time, Asn1TimeRef};
 use openssl::error::ErrorStack;
@@ -19,6 +19,9 @@ use std::os::unix::io::{AsRawFd, RawFd};
 use std::os::unix::net::UnixStream;
 use std::path::{Path, PathBuf};
 use std::time::Duration;
+
+/// The longest file of certificates or of a key.
+pub const PEM_BYTES: usize = 1 << 20;
 
 pub enum Line {
     Plain(Socket),
@@ -155,7 +158,8 @@ fn context(tls: &Tls) -> Result<SslContext, String> {
         move |e: ErrorStack| why + reason(&e).unwrap_or("nothing in it can be used")
     };
     // (what cannot be read is said in the words of the system)
-    let read = |path: &Path| fs::read(path).map_err(|e| say(path, &e.to_string()));
+    let read =
+        |path: &Path| read_file(path, PEM_BYTES, "it").map_err(|e| say(path, &e.to_string()));
     let make = || -> Result<_, ErrorStack> {
         let mut context = SslContext::builder(SslMethod::tls())?;
         context.set_min_proto_version(Some(SslVersion::TLS1_2))?;

@@ -9,11 +9,13 @@ use openssl::symm::Cipher;
 use openssl::x509::extension::{BasicConstraints, SubjectAlternativeName};
 use openssl::x509::{X509Builder, X509NameBuilder, X509};
 use rignoldad::check::check;
+use rignoldad::config::Tls;
+use rignoldad::line::Maker;
 use std::fs::{self, Permissions};
 use std::os::unix::fs::{MetadataExt, PermissionsExt};
 use std::os::unix::net::UnixListener;
 use std::path::{Path, PathBuf};
-use std::time::{SystemTime, UNIX_EPOCH};
+use std::time::{Duration, SystemTime, UNIX_EPOCH};
 
 type Pair = (X509, PKey<Private>);
 /// What is done in a folder before the check.
@@ -317,6 +319,19 @@ fn says_what_cannot_work_on_this_machine() {
         }
     }
     assert!(wrong.is_empty(), "{}", wrong.join("\n"));
+}
+
+/// (it would be waited for by the loop of an agent that reads its configuration again)
+#[test]
+fn no_pipe_in_the_place_of_a_certificate_is_waited_for() {
+    for name in ["own", "key", "authority"] {
+        let (folder, _) = whole("pipe");
+        fifo(folder.0.join(name));
+        let path = |name: &str| folder.0.join(name);
+        let tls = Tls { certificate: path("own"), key: path("key"), authority: path("authority") };
+        let why = Maker::new(Some(&tls), Duration::from_secs(1)).err().unwrap();
+        assert_eq!(why, format!("{}: it is no file", path(name).display()));
+    }
 }
 
 #[test]
