@@ -62,7 +62,7 @@ for function in parents.TESTS:
     long_test(function)
 if floods.is_there():
     for function in floods.TESTS:
-        test(function)
+        (long_test if function in floods.LONG else test)(function)
 else:
     print("floods by TLS are not tried: floods.c cannot be compiled here")
 

@@ -26,10 +26,13 @@ import threading
 import time
 
 from daemons import PATIENCE, USUAL, Tree, until
-from hostile import begun, certify, exactly, forget, memory, patient, reaches, run, sure
+from hostile import (begun, certify, exactly, forget, hello, memory, patient, reaches, run,
+                     sure)
 
 HERE = pathlib.Path(__file__).resolve()
 TESTS = []
+# Those that take longest.
+LONG = []
 # How long a watchdog waits, as the unit says: the longest time without a sign is a third of it.
 WATCHDOG = 30
 # More than anything but a handshake with a large group, or hundreds of certificates, costs the
@@ -43,6 +46,11 @@ WAITING = 16
 def test(function):
     TESTS.append(function)
     return function
+
+
+def long_test(function):
+    LONG.append(function)
+    return test(function)
 
 
 @functools.cache
@@ -311,24 +319,26 @@ def few_descriptors_and_many_silent_clients_stop_nobody():
             sock.close()
 
 
-@test
+@long_test
 def both_ends_say_why_they_are_not_connected():
     """In one line each: the parent says the address too, and the child that of its parent."""
     def some(tree):
         secure(tree)
         tree["late"].tables["tls"] = certify(tree.home, "late", seconds=-60)
+        tree["early"].tables["tls"] = certify(tree.home, "early", begins=3_600)
         (tree.home / "other").mkdir()
         tree["foreign"].tables["tls"] = {**certify(tree.home / "other", "foreign"),
                                          "authority": str(tree.home / "ca.crt")}
         tree["plain"].tables.pop("tls")
         tree["plain"].top["insecure"] = True
 
-    names = ["left", "late", "foreign", "plain"]
+    names = ["left", "late", "early", "foreign", "plain"]
     with Tree(dict.fromkeys(names, "root"), before=some) as tree:
         begun(tree, without=names[1:])
         lines = lambda agent, begins: [line for line in agent.text().splitlines()
                                        if line.lstrip("<0123456789>").startswith(begins)]
-        for name, above, below in [("late", "expired", "expired"),
+        for name, above, below in [("late", "has expired", "certificate expired"),
+                                   ("early", "is not yet valid", "bad certificate"),
                                    ("foreign", "another authority", "unknown ca"),
                                    ("plain", "no TLS", "")]:
             tree[name].start()
@@ -339,6 +349,31 @@ def both_ends_say_why_they_are_not_connected():
                                    for line in lines(tree[name], "parent"))),
                  name, tree[name].text())
             tree[name].kill()
+        # those that say nothing more themselves: without a certificate, or with a name of no child
+        for name, why in [(None, "it has no certificate"),
+                          ("stranger", "by its certificate stranger, which calls itself stranger: "
+                                       "its name is none of a child"),
+                          ("evil", "by its certificate evil, which calls itself left: "
+                                   "its certificate has another name")]:
+            context = ssl.SSLContext(ssl.PROTOCOL_TLS_CLIENT)
+            context.check_hostname = False
+            context.load_verify_locations(tree.home / "ca.crt")
+            if name:
+                context.load_cert_chain(tree.home / f"{name}.crt", tree.home / f"{name}.key")
+            says = hello("left" if name == "evil" else "stranger", "root")
+
+            def is_said():
+                with socket.create_connection(("127.0.0.1", tree.root.port)) as plain:
+                    plain.settimeout(USUAL * PATIENCE)
+                    try:
+                        with context.wrap_socket(plain) as sock:
+                            sock.sendall(says)
+                            sock.recv(100)
+                    except OSError:
+                        pass
+                return any(why in line for line in lines(tree.root, "refused 127.0.0.1:"))
+
+            sure(until(is_said, pause=0.3), why, lines(tree.root, "refused"))
         sure(not any("SslStream" in agent.text() or "Error(" in agent.text() for agent in tree))
         reaches(tree, tree["left"])
 

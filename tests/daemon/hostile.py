@@ -651,7 +651,7 @@ def odd_things_in_the_roots_folder_hold_nobody_up():
 
 # ---- Certificates
 
-def certify(home, name, seconds=86_400, file=None):
+def certify(home, name, seconds=86_400, file=None, begins=-3_600):
     """A certificate of one authority that ends in so many seconds: the table of a configuration."""
     def run(*words):
         subprocess.run(["openssl", *words], check=True, capture_output=True, cwd=home)
@@ -670,7 +670,7 @@ def certify(home, name, seconds=86_400, file=None):
     run("req", *key, "-subj", f"/CN={name}", "-addext", f"subjectAltName=DNS:{name}", "-keyout",
         f"{file}.key", "-out", f"{file}.csr")
     run("ca", "-batch", "-config", "ca.cnf", "-cert", "ca.crt", "-keyfile", "ca.key", "-in",
-        f"{file}.csr", "-out", f"{file}.crt", "-startdate", when(-3_600), "-enddate", when(seconds),
+        f"{file}.csr", "-out", f"{file}.crt", "-startdate", when(begins), "-enddate", when(seconds),
         "-notext")
     return {"certificate": str(home / f"{file}.crt"), "key": str(home / f"{file}.key"),
             "authority": str(home / "ca.crt")}
