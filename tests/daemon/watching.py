@@ -4,13 +4,14 @@
     tests/daemon/watching.py [WORD..]     by itself; check.py runs it with all others
 """
 import shutil
+import signal
 import subprocess
 import sys
 import time
 import traceback
 import urllib.request
 
-from daemons import Agent, Tree, free_port, until
+from daemons import PATIENCE, Agent, Tree, free_port, until
 from hostile import Child, Parent, body, entry, report, sure
 
 TESTS = []
@@ -190,6 +191,29 @@ def what_cannot_be_published_is_named():
             tree.write(f"big{at}", b"x" * (1 << 20))
         why = waits(tree.root) or "it was done"
         sure("more than 16777216 bytes" in why, why)
+
+
+@test
+def a_wait_ends_in_its_time():
+    with Tree({"left": "root"}) as tree:
+        tree.root.tables["link"] = {"ack_timeout": "1m", "evict": "10m"}
+        tree.write("one", "1")
+        tree.start()
+        sure(tree.ready())
+        # (where no child takes anything, the root publishes no more)
+        tree["left"].signal(signal.SIGSTOP)
+
+        def is_full():
+            tree.write("one", time.monotonic())
+            return "not all of its folder is published" in (waits(tree.root) or "")
+
+        sure(until(is_full), "it publishes all the time")
+        begun = time.monotonic()
+        waits(tree.root)
+        sure(time.monotonic() - begun < 3 * PATIENCE, time.monotonic() - begun)
+        tree["left"].signal(signal.SIGCONT)
+        tree.root.ask("wait", "--everywhere")
+        sure(tree["left"].files() == tree.truth())
 
 
 @test

@@ -9,6 +9,9 @@ use std::os::unix::net::UnixStream;
 use std::path::Path;
 use std::time::{Duration, SystemTime, UNIX_EPOCH};
 
+/// How long the answer to most may take.
+const ANSWER: Duration = Duration::from_secs(10);
+
 /// A connection to an agent. It may ask one thing after the other.
 pub struct Agent {
     reader: BufReader<UnixStream>,
@@ -17,9 +20,17 @@ pub struct Agent {
 impl Agent {
     pub fn connect(path: &Path) -> io::Result<Agent> {
         let stream = UnixStream::connect(path)?;
-        stream.set_read_timeout(Some(Duration::from_secs(10)))?;
+        stream.set_read_timeout(Some(ANSWER))?;
         stream.set_write_timeout(Some(Duration::from_secs(10)))?;
         Ok(Agent { reader: BufReader::new(stream) })
+    }
+
+    /// Asks for what may be answered after a while, but within this time.
+    pub fn ask_within(&mut self, time: Duration, request: &Request) -> io::Result<Response> {
+        self.reader.get_ref().set_read_timeout(Some(time.max(Duration::from_millis(1))))?;
+        let answer = self.ask(request);
+        self.reader.get_ref().set_read_timeout(Some(ANSWER))?;
+        answer
     }
 
     pub fn ask(&mut self, request: &Request) -> io::Result<Response> {

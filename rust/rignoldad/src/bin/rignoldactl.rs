@@ -143,11 +143,12 @@ fn run(arguments: &Arguments) -> Result<String, Failed> {
             });
         }
         Command::Wait { sequence, everywhere, timeout } => {
+            let begun = Instant::now();
             let sequence = match sequence {
                 Some(sequence) => *sequence,
-                None => newest(&mut agent)?,
+                None => newest(&mut agent, *timeout)?,
             };
-            wait(&mut agent, sequence, *everywhere, *timeout)?;
+            wait(&mut agent, sequence, *everywhere, timeout.saturating_sub(begun.elapsed()))?;
             return Ok(if arguments.json {
                 json(&json!({ "applied": sequence }))
             } else {
@@ -208,11 +209,13 @@ fn status(agent: &mut Agent) -> Result<Status, Failed> {
 }
 
 /// The number of the last body, after the root has looked at its folder.
-fn newest(agent: &mut Agent) -> Result<u64, Failed> {
+fn newest(agent: &mut Agent, timeout: Duration) -> Result<u64, Failed> {
     let status = status(agent)?;
-    match status.is_root.then(|| asked(agent, &Request::Look)).transpose()? {
-        Some(Response::Published(sequence)) => Ok(sequence),
-        _ => Ok(status.sequence),
+    match status.is_root.then(|| agent.ask_within(timeout, &Request::Look)) {
+        None => Ok(status.sequence),
+        Some(Ok(Response::Published(sequence))) => Ok(sequence),
+        Some(Ok(Response::Refused(why))) => Err(Failed(1, why)),
+        Some(_) => Err(Failed(1, "the time is up: not all of its folder is published".into())),
     }
 }
 
