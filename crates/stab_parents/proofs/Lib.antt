@@ -1,2 +1,4 @@
 pub mod Parents
 pub mod Ways
+mod Rings
+mod Paths

@@ -98,9 +98,9 @@ over_right net t k s after v c fits lawful agent right member says is =
         let told = exact_of_said net.none t (s.said c.agent) (distance net c.agent) (omega (arith, sum, near, fits, in_net.1)) (omega (arith, sum, some)) (right c.agent in_net.0).says in
         omega (arith, sum, told)
 
-none_right : (net : Net) (k : ℕ) (after : State) (v : ℕ) → SaysNone net after v
+none_right : (net : Net) (k : ℕ) (s after : State) (v : ℕ) → SaysNone net s after v
     → (distance net v < k → distance net v < net.none → ⊥) → Right net k after v
-none_right net k after v says never =
+none_right net k s after v says never =
     let most = all_bounded net net.none v in
     record {
       says =
@@ -175,7 +175,7 @@ looked_right net t s after v lawful agent below right (inl (c, free, nearest, st
     over_right net t (suc t) s after v c (omega arith) lawful agent right free.member says
     (λ near some. nearest_is net t s v c lawful agent below right free nearest near some)
 looked_right net t s after v lawful agent below right (inr (none_open, says)) =
-    none_right net (suc t) after v says (λ near some.
+    none_right net (suc t) s after v says (λ near some.
     let (p, free) = some_open net t s v lawful agent below right near some in none_open p free)
 
 -- who has a parent that is right says its distance, and has no reason to leave
@@ -205,7 +205,7 @@ followed_right net t k s after v fits lawful agent below has right before (inl (
     let told = exact net.none t (s.said c.agent) (distance net c.agent) (omega (arith, over, near, fits, in_net.1)) (omega (arith, over, some, in_net.1)) (right c.agent in_net.0).says in
     omega (arith, told, over))
 followed_right net t k s after v fits lawful agent below has right before (inr (leaves, says)) =
-    none_right net k after v says (λ near some.
+    none_right net k s after v says (λ near some.
     parent_stays net t k s v (s.parent v) fits lawful agent right (has v agent below) leaves near some (before.over below near some))
 
 weaker_right : (net : Net) (t : ℕ) (s : State) (v : ℕ) → Right net (suc t) s v → Right net t s v
@@ -240,7 +240,7 @@ own_right net t s after turn lawful agent has right is due =
     by_looks below (inr follows) (inr further) =
         followed_right net t (suc t) s after turn.agent (omega arith) lawful agent below has right further (is.followed below follows)
 
-turn_right : (net : Net) (t : ℕ) (s after : State) (turn : Turn) → IsNet net → HasCandidates net s → AllRight net t s → IsAfter net s turn after → AllRight net t after
+pub turn_right : (net : Net) (t : ℕ) (s after : State) (turn : Turn) → IsNet net → HasCandidates net s → AllRight net t s → IsAfter net s turn after → AllRight net t after
 turn_right net t s after turn lawful has right is v agent =
     elim (cases_eq v turn.agent) [
       | inl same ↦ subst (Right net t after) (sym same) (own (subst (λ u. u < net.agents) same agent) (decide (net.is_root turn.agent)) (decide turn.looks))
@@ -256,22 +256,23 @@ turn_right net t s after turn lawful has right is v agent =
         followed_right net t t s after turn.agent (omega arith) lawful in_net below has right (right turn.agent in_net) (is.followed below follows)
 
 -- the parent of whoever has had its turn is one of its candidates
-looked_has : (net : Net) (s after : State) (v : ℕ) (c : Candidate) → Looked net s after v → after.parent v ≡ Some c → Contains (net.candidates v) c
-looked_has net s after v c (inl (d, free, nearest, steady, says)) is =
+looked_has : (net : Net) (s after : State) (v : ℕ) (c : Candidate) → ((d : Candidate) → s.parent v ≡ Some d → Contains (net.candidates v) d)
+    → Looked net s after v → after.parent v ≡ Some c → Contains (net.candidates v) c
+looked_has net s after v c has (inl (d, free, nearest, steady, says)) is =
     let same : Some d ≡ Some c = sym says.parent ∙ is in
     subst (Contains (net.candidates v)) (some_same d c same) free.member
   where
     some_same : (d c : Candidate) → Some d ≡ Some c → d ≡ c
     some_same d c same = cc
-looked_has net s after v c (inr (none_open, says)) is = says.candidate c is
+looked_has net s after v c has (inr (none_open, says)) is = has c (says.stays c is).0
 
 followed_has : (net : Net) (s after : State) (v : ℕ) (c : Candidate) → ((d : Candidate) → s.parent v ≡ Some d → Contains (net.candidates v) d)
     → Followed net s after v → after.parent v ≡ Some c → Contains (net.candidates v) c
 followed_has net s after v c has (inl (d, kept, apart, says)) is =
     let same : s.parent v ≡ Some c = kept ∙ (sym says.parent ∙ is) in has c same
-followed_has net s after v c has (inr (leaves, says)) is = says.candidate c is
+followed_has net s after v c has (inr (leaves, says)) is = has c (says.stays c is).0
 
-turn_has : (net : Net) (s after : State) (turn : Turn) → HasCandidates net s → IsAfter net s turn after → HasCandidates net after
+pub turn_has : (net : Net) (s after : State) (turn : Turn) → HasCandidates net s → IsAfter net s turn after → HasCandidates net after
 turn_has net s after turn has is v agent below c its =
     elim (cases_eq v turn.agent) [
       | inl same ↦ own same (decide turn.looks)
@@ -281,7 +282,8 @@ turn_has net s after turn has is v agent below c its =
     own : v ≡ turn.agent → (turn.looks ≡ true) ⊎ (turn.looks ≡ false) → Contains (net.candidates v) c
     own same (inl looks) =
         subst (λ u. Contains (net.candidates u) c) (sym same)
-        (looked_has net s after turn.agent c (is.looked (sym (ap net.is_root same) ∙ below) looks) (sym (ap after.parent same) ∙ its))
+        (looked_has net s after turn.agent c (subst (λ u. (d : Candidate) → s.parent u ≡ Some d → Contains (net.candidates u) d) same (has v agent below))
+        (is.looked (sym (ap net.is_root same) ∙ below) looks) (sym (ap after.parent same) ∙ its))
     own same (inr follows) =
         subst (λ u. Contains (net.candidates u) c) (sym same)
         (followed_has net s after turn.agent c (subst (λ u. (d : Candidate) → s.parent u ≡ Some d → Contains (net.candidates u) d) same (has v agent below))
@@ -309,7 +311,7 @@ still_due net t s after turn turns v lawful agent has right is (inl member) =
       | inr there ↦ inl there
     ]
 
-turns_right : (net : Net) (t : ℕ) (s end : State) (turns : List Turn) → IsNet net → HasCandidates net s → AllRight net t s → Turns net s turns end
+pub turns_right : (net : Net) (t : ℕ) (s end : State) (turns : List Turn) → IsNet net → HasCandidates net s → AllRight net t s → Turns net s turns end
     → HasCandidates net end × ((v : ℕ) → v < net.agents → Due net t s turns v → Right net (suc t) end v)
 turns_right net t s end [] lawful has right same =
     (subst (HasCandidates net) same has, λ v agent due. subst (λ e. Right net (suc t) e v) same (none_left v due))

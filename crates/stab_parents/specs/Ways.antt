@@ -1,14 +1,14 @@
 -- Agents that say ways: what it costs to come to a root, and the names from there to themselves.
 -- Each keeps a parent and mostly hears it alone. Now and then it looks at all its candidates, and
 -- takes the nearest of those that are open to it: the way over it costs less than the bound, and the
--- agent is not on that way itself. Where none is open, it stays with a parent that has no way, or
--- has none; then it says any cost from the bound on.
+-- agent is not on that way itself. Where none is open, it stays with a parent that has no way, and
+-- says the way over it, or has none, and says itself alone: at a cost from the bound on.
 -- Example: The bound is 128. Agent 1 has the candidates 0, a root, and 2, each at cost 1, and agent
 -- 2 says cost 5 and the names 0, 1, 2. Then 2 is not open to 1, and 0 is: after a look agent 1 has
 -- the parent 0, says cost 1 and the names 0, 1. If 0 says cost 130, none is open; 1 may keep 0 for
 -- its parent, and says 131.
 -- Source: S. Dolev, Self-Stabilization, chapter 2; names, costs and the stay are this project's.
-use Rattle.std.specs.Prelude.{◌≡◌, ℕ, ◌+◌, ◌≤◌, ◌<◌, ◌⊎◌, Bool, true, false, List, [], ◌∷◌, ◌++◌, Contains, Option, Some, None}
+use Rattle.std.specs.Prelude.{◌≡◌, ℕ, zero, suc, ◌+◌, ◌≤◌, ◌<◌, ◌⊎◌, Bool, true, false, List, [], ◌∷◌, ◌++◌, Contains, Option, Some, None}
 use Rattle.stab_parents.specs.Parents.{Candidate, Net, Said}
 
 -- the cost and the names that each agent says, and its parent, where it has one
@@ -39,10 +39,13 @@ pub record SaysOver (s after : State) (v : ℕ) (c : Candidate) : Type 0 where
   pub cost : after.said v ≡ s.said c.agent + c.cost
   pub way : after.names v ≡ s.names c.agent ++ (v ∷ [])
 
--- the agent says that it has no way, whatever parent it keeps
-pub record SaysNone (net : Net) (after : State) (v : ℕ) : Type 0 where
+-- the agent says that it has no way: it has stayed with its parent, on whose way it is not, and
+-- says the way over it; or it has none, and says itself alone
+pub record SaysNone (net : Net) (s after : State) (v : ℕ) : Type 0 where
   pub cost : net.none ≤ after.said v
-  pub candidate : (c : Candidate) → after.parent v ≡ Some c → Contains (net.candidates v) c
+  pub stays : (c : Candidate) → after.parent v ≡ Some c
+      → (s.parent v ≡ Some c) × (Contains (s.names c.agent) v → ⊥) × SaysOver s after v c
+  pub alone : after.parent v ≡ None → after.names v ≡ v ∷ []
 
 pub record SaysRoot (after : State) (v : ℕ) : Type 0 where
   pub cost : after.said v ≡ 0
@@ -64,7 +67,7 @@ abbrev pub Looked : Net → State → State → ℕ → Type 0
 Looked net s after v =
     ((c : Candidate) × IsOpen net s v c × IsNearest net s v c × IsSteady net s v c
     × SaysOver s after v c)
-    ⊎ (((c : Candidate) → IsOpen net s v c → ⊥) × SaysNone net after v)
+    ⊎ (((c : Candidate) → IsOpen net s v c → ⊥) × SaysNone net s after v)
 
 -- the agent has no parent, is on the way that its parent says, or has no way over it
 abbrev pub MayLeave : Net → State → ℕ → Type 0
@@ -76,7 +79,7 @@ abbrev pub Followed : Net → State → State → ℕ → Type 0
 Followed net s after v =
     ((c : Candidate) × (s.parent v ≡ Some c) × (Contains (s.names c.agent) v → ⊥)
     × SaysOver s after v c)
-    ⊎ (MayLeave net s v × SaysNone net after v)
+    ⊎ (MayLeave net s v × SaysNone net s after v)
 
 -- the state after a turn: nothing changes but what the agent says and its parent
 pub record IsAfter (net : Net) (s : State) (turn : Turn) (after : State) : Type 0 where
@@ -110,3 +113,16 @@ IsOver said far (Some c) = said c.agent + c.cost ≡ far
 -- each agent of a way is as near as its end, or nearer
 abbrev pub IsWithin : Said → ℕ → List ℕ → Type 0
 IsWithin said far names = (u : ℕ) → Contains names u → said u ≤ far
+
+-- so many steps, each from an agent to its parent, lead from the one to the other; a root has none
+abbrev pub Follows : Net → State → ℕ → ℕ → ℕ → Type 0
+Follows net s zero v u = v ≡ u
+Follows net s (suc steps) v u = (c : Candidate) × (net.is_root v ≡ false)
+    × (s.parent v ≡ Some c) × Follows net s steps c.agent u
+
+-- the names of a way of the net to the agent: each is a candidate of the next, and none comes twice
+abbrev pub IsPath : Net → ℕ → ℕ → List ℕ → Type 0
+IsPath net zero v names = names ≡ v ∷ []
+IsPath net (suc hops) v names = (c : Candidate) × (before : List ℕ)
+    × Contains (net.candidates v) c × IsPath net hops c.agent before
+    × (Contains before v → ⊥) × (names ≡ before ++ (v ∷ []))

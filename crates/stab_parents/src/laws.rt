@@ -1,7 +1,7 @@
 //! Laws of the choice of parents. Each is a function with an empty body; its contract is the law.
 
-ghost use Rattle.std.specs.Prelude.{◌≡◌, ℕ, ◌+◌, ◌≤◌, ◌<◌, false, List, length, Contains, IsTrue};
-ghost use Rattle.stab_parents.specs.Ways.{HasCandidates, IsOver, IsWithin, Rounds, State, Turn, Turns};
+ghost use Rattle.std.specs.Prelude.{◌≡◌, ℕ, suc, ◌+◌, ◌≤◌, ◌<◌, false, List, length, Contains, IsTrue};
+ghost use Rattle.stab_parents.specs.Ways.{Follows, HasCandidates, IsOver, IsPath, IsWithin, Rounds, State, Turn, Turns};
 ghost use Rattle.stab_parents.specs.Parents.{AreRounds, Candidate, IsNet, IsQuiet, Net, Said, Way, after_rounds, after_turns, distance};
 
 /// From any state, once there were more fair rounds than an agent is far from a root, the agent says
@@ -73,4 +73,28 @@ pub fn agents_without_a_way_say_so()
         → Turns net middle further end
         → v < net.agents → distance net v ≡ net.none → net.none < length rounds
         → net.none ≤ end.said v }
+{}
+
+/// Parents make no ring, whoever has a way or none: once there were more rounds than the bound, the
+/// agents and one together, no steps from agents to their parents, at most as many as there are
+/// agents, lead back to where they began, whatever turns come further. So whoever follows parents
+/// comes to a root or to an agent without a parent.
+pub fn parents_make_no_ring()
+    ensures { (net : Net) (start middle end : State) (rounds : List (List Turn))
+        (further : List Turn) (v steps : ℕ)
+        → IsNet net → HasCandidates net start → Rounds net start rounds middle
+        → Turns net middle further end
+        → v < net.agents → steps < net.agents → suc (net.none + net.agents) < length rounds
+        → Follows net end (suc steps) v v → ⊥ }
+{}
+
+/// The way that an agent says is one of the net after more rounds than there are agents, from any
+/// state, then and for ever, whether it leads to a root or not: each name is that of an agent which
+/// the next may have as its parent, none comes twice, and the first one said that it had no parent.
+pub fn said_ways_are_real()
+    ensures { (net : Net) (start middle end : State) (rounds : List (List Turn))
+        (further : List Turn) (v : ℕ)
+        → IsNet net → HasCandidates net start → Rounds net start rounds middle
+        → Turns net middle further end → v < net.agents → net.agents < length rounds
+        → (hops : ℕ) × IsPath net hops v (end.names v) }
 {}
