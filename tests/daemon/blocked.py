@@ -8,6 +8,7 @@ import contextlib
 import os
 import pathlib
 import re
+import shutil
 import signal
 import socket
 import struct
@@ -154,9 +155,12 @@ def an_end_waits_for_no_reader_and_lines_have_priorities():
 
 def a_disk_that_hangs_stops_nobody():
     """While a file waits for the disk, the agent answers and its rounds go on; then it is there."""
+    if not shutil.which("cc"):
+        print("a disk that hangs is not tried: there is no cc")
+        return
     with Tree({"left": "root"}) as tree:
         (tree.home / "slow.c").write_text(SLOW)
-        subprocess.run(["gcc", "-shared", "-fPIC", "-o", tree.home / "slow.so",
+        subprocess.run(["cc", "-shared", "-fPIC", "-o", tree.home / "slow.so",
                         tree.home / "slow.c"], check=True)
         says = tree.home / "seconds"
         tree.root.env = {"LD_PRELOAD": str(tree.home / "slow.so"), "SLOW_FILE": str(says)}
@@ -231,6 +235,9 @@ def links_and_pipes_in_the_roots_folder_are_named_and_not_read():
 
 def a_file_that_cannot_be_read_is_named_and_unsets_nothing():
     """As another user than root, to whom all files are open."""
+    if os.geteuid() != 0 or not shutil.which("setpriv"):
+        print("a file that cannot be read is not tried: only root may be another user")
+        return
     with Tree({"left": "root"}) as tree:
         tree.home.chmod(0o755)
         root, left = tree.root, tree["left"]
