@@ -2,7 +2,7 @@
 """A kill trial by hand, as a stranger would do it: 15 agents in rings, faults of all kinds, TLS.
 
     tests/daemon/trial.py [--runs 4] [--jobs 1] [--seed 1] [--faults 20] [--loss 5]
-        [--round 2] [--keep FOLDER]
+        [--round 2] [--keep FOLDER] [--old FOLDER]
 
 The agents are a hub, four racks whose parents are the hub and the next rack, and ten leaves whose
 parents are their own rack, the next one and the hub; one of them is dialled by its rack alone.
@@ -15,7 +15,9 @@ After the last fault all folders are compared with the hub's: the time until the
 rounds, and how many differ two rounds later, and how many for ever. Then a change is published,
 `wait --everywhere` has to end well and all folders must have it; no agent may have ended by itself,
 and parents must make no circle. With --runs each run has the next seed; --keep keeps the folders of
-runs that failed. The last line is 'N passed, M failed'.
+runs that failed. With --old leaves, and in every other run the hub, are at each start drawn to be
+of the programs in another folder, as in an upgrade or on the way back; then what `wait` says is not
+judged. The last line is 'N passed, M failed'.
 """
 import argparse
 import collections
@@ -113,22 +115,41 @@ def certify(home):
                    "authority": str(home / "ca.crt")} for name in NAMES}
 
 
+class Node(Agent):
+    """An agent that may be of older programs at some of its starts."""
+
+    def start(self):
+        programs = self.tree.bin
+        if self.tree.old and self.name in self.tree.mixed and self.tree.draw.random() < 0.5:
+            self.tree.bin = self.tree.old
+            self.tables["apply"].pop("take", None)
+        else:
+            # (also a folder that lost its marker is its own)
+            self.tables["apply"]["take"] = True
+        try:
+            super().start()
+        finally:
+            self.tree.bin = programs
+
+
 class Net(Tree):
     """The tree of the trial: agents with several parents each."""
 
-    def __init__(self, network, tls, period, draw):
+    def __init__(self, network, tls, period, draw, old=None):
         super().__init__(shape={})
-        self.network = network
+        self.network, self.draw = network, draw
+        self.old = old and pathlib.Path(old)
+        self.mixed = [name for name in NAMES if name.startswith("leaf")]
+        if old and draw.random() < 0.5:
+            self.mixed.append("hub")
         self.agents = {}
         for name in NAMES:
-            agent = Agent(self, name, None)
+            agent = Node(self, name, None)
             self.agents[name] = agent
             agent.env = {}
             agent.tables["tls"] = tls[name]
             agent.tables["link"] = {"ack_timeout": "1s", "evict": "8s",
                                     "backlog": draw.choice([80, 256, 1024])}
-            # (also a folder that lost its marker is its own)
-            agent.tables["apply"]["take"] = True
             if name != "hub":
                 shutil.rmtree(agent.truth)
                 del agent.tables["root"]
@@ -423,7 +444,8 @@ class Run:
             def again():
                 victim.start()
                 self.down.discard(victim.name)
-            self.later(0.2 if kind == "hub" else draw.choice([0, 0.1, 0.5, 2.0]), again)
+            away = draw.choice([0, 0.1, 0.1, 0.5, 0.5, 2.0, 10.0])
+            self.later(0.2 if kind == "hub" else away, again)
         elif kind == "stop":
             victim.signal(signal.SIGSTOP)
             self.stopped.add(victim.name)
@@ -442,7 +464,7 @@ class Run:
                     def mend(link=link):
                         net.network.cut(*link, how="delete")
                         self.cuts.discard(link)
-                    self.later(draw.choice([0.3, 1.0, 3.0, 5.0]), mend)
+                    self.later(draw.choice([0.3, 1.0, 3.0, 10.0]), mend)
         else:
             victim = draw.choice([agent for agent in net if agent is not net.root])
             if kind == "copy" and self.copies:
@@ -565,10 +587,12 @@ def work(chosen):
     for seed in range(chosen.seed + chosen.job, chosen.seed + chosen.runs, chosen.jobs):
         draw = random.Random(seed)
         began = time.monotonic()
-        with Net(network, tls, chosen.round, draw) as net:
+        with Net(network, tls, chosen.round, draw, chosen.old) as net:
             run = Run(net, draw, chosen.round)
             try:
                 result = run.go(chosen.faults)
+                if chosen.old:
+                    result.update(wait="ok", early=[])
             except Exception as error:
                 result = {"broken": repr(error)[:300]}
             if chosen.keep and ("broken" in result or failed(result)):
@@ -628,6 +652,7 @@ def main():
     words.add_argument("--loss", type=float, default=5)
     words.add_argument("--round", type=float, default=2)
     words.add_argument("--keep")
+    words.add_argument("--old")
     words.add_argument("--job", type=int, help=argparse.SUPPRESS)
     chosen = words.parse_args()
     if chosen.job is not None:
