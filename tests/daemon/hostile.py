@@ -60,6 +60,22 @@ def hello(sender, to, life=None, label=255):
     return b"RGND" + struct.pack(">BQH", 1, life, label) + name(sender) + name(to)
 
 
+def look(sender, to):
+    """A hello of version 2 that begins no count: it asks for the way."""
+    greeting = hello(sender, to, label=0)
+    return b"RGNL" + bytes([2]) + greeting[5:]
+
+
+def second(greeting):
+    """The same hello, of version 2, behind which ways are said."""
+    return greeting[:4] + bytes([2]) + greeting[5:]
+
+
+def way(cost, names, length=None):
+    names = names if isinstance(names, bytes) else "\n".join(names).encode()
+    return b"W" + struct.pack(">HH", cost, len(names) if length is None else length) + names
+
+
 def frame(label, body, item=None):
     item = zlib.crc32(body) if item is None else item
     return b"F" + struct.pack(">HII", label, item, len(body)) + body
@@ -469,6 +485,103 @@ def over(sock):
         return True
     except TimeoutError:
         return False
+
+
+@test
+def looks_and_ways_by_the_thousand_harm_nobody():
+    """Of a child: what asks for ways, says ways where none belongs, says goodbye, and stays."""
+    with Tree({"evil": "root", "left": "root"}, before=patient) as tree:
+        begun(tree, without=["evil"])
+        reaches(tree, tree["left"])
+        most = forget(tree.root) + 32
+        greeting = second(hello("evil", "root", life=5))
+        kinds = [look("evil", "root"), look("evil", "root") * 50, look("nobody", "root"),
+                 look("evil", "other"), b"RGNL\x01" + hello("evil", "root")[5:],
+                 greeting + b"G", greeting + b"G" * 5_000, greeting + way(0, ["evil"]) * 500,
+                 greeting + way(0xffff, ["root"] * 128), look("evil", "root") + greeting]
+        for at in range(1_500):
+            try:
+                with socket.create_connection(("127.0.0.1", tree.root.port), timeout=60) as sock:
+                    sock.sendall(kinds[at % len(kinds)])
+                    if at % 10 == 0:
+                        sock.settimeout(0.01)
+                        sock.recv(100)
+            except OSError:
+                pass
+            if at % 150 == 0:
+                reaches(tree, tree["left"])
+        # (and many that stay, each after its answer)
+        staying = []
+        for _ in range(200):
+            sock = socket.create_connection(("127.0.0.1", tree.root.port), timeout=60)
+            sock.sendall(look("evil", "root"))
+            staying.append(sock)
+        reaches(tree, tree["left"])
+        sure(until(lambda: len(os.listdir(f"/proc/{tree.root.process.pid}/fd")) < 120),
+             "connections that asked for the way are kept")
+        for sock in staying:
+            sock.close()
+        sure(memory(tree.root) < most, "its memory is", memory(tree.root), "of", most)
+        tree["evil"].start()
+        sure(tree.right() and tree.ready(), tree.wrong())
+
+
+@test
+def a_parent_whose_way_lies_or_never_rests_is_bounded():
+    with Tree({"left": "root", "leaf": "left"}, before=patient) as tree:
+        left, leaf = tree["left"], tree["leaf"]
+        listener = socket.create_server(("127.0.0.1", left.parent.port))
+        listener.settimeout(USUAL * PATIENCE)
+        left.start()
+        leaf.start()
+        life = random.getrandbits(64)
+
+        def serve(text=b""):
+            """Answers a look with a way, and the hello behind it with one and with a text."""
+            while True:
+                sock, _ = listener.accept()
+                sock.settimeout(USUAL * PATIENCE)
+                try:
+                    while True:
+                        kind = exactly(sock, 4)
+                        exactly(sock, 11)
+                        for _ in range(2):
+                            exactly(sock, exactly(sock, 1)[0])
+                        if kind == b"RGND":
+                            break
+                        sock.sendall(look("root", "left") + way(0, ["root"]))
+                    sock.sendall(second(hello("root", "left", life, label=0)) + text)
+                    return sock
+                except (OSError, EOFError):
+                    sock.close()
+
+        # what is no way: the line is closed
+        for bad in (way(0, b"\xff\xfe"), way(0, b""), way(0, ["x" * 65]), way(0, ["root"] * 129),
+                    way(0, b"a\n\x1b[2J"), way(0, b"a" * 70_000, length=0xffff),
+                    way(3, ["left", "root"]), way(0xffff, ["root"])):
+            sock = serve(bad)
+            sure(over(sock), "it was kept:", bad[:30])
+            sock.close()
+        # another way each time, as fast as it goes
+        before = forget(left)
+        sock = serve(way(0, ["root"]))
+        end, times = time.monotonic() + 3, 0
+        while time.monotonic() < end:
+            texts = [way(cost % 100, ["root"] + [f"n{cost}"] * (cost % 120))
+                     for cost in range(times, times + 50)]
+            sock.sendall(b"".join(texts))
+            times += 50
+            if times % 5_000 == 0:
+                sure(left.status()["name"] == "left")
+        sock.sendall(way(0, ["root"]))
+        sock.sendall(frame(1, body(b"T", 1, [entry(b"a", b"1")])))
+        sure(until(lambda: leaf.files() == {"a": b"1"}), leaf.files())
+        sure(memory(left) < before + 32, "its memory is", memory(left), "and was", before)
+        sock.close()
+        listener.close()
+        tree.write("one", "1")
+        tree.root.start()
+        sure(tree.right(), tree.wrong())
 
 
 # ---- Local clients
