@@ -365,7 +365,7 @@ def many_keys(first, count):
     return b"".join([head + bytes(key) + b"\0\0\0\0" for key in keys])
 
 
-def mibs(bodies=6, count=1_270_000):
+def millions(bodies, count=1_270_000):
     """Bodies of nearly 14 MiB, each with more than a million settings that no other one has."""
     for at in range(bodies):
         text = many_keys(bytes([97 + at]), count)
@@ -374,6 +374,15 @@ def mibs(bodies=6, count=1_270_000):
 
 @test
 def a_parent_that_sends_millions_of_settings_is_bounded():
+    send_millions(3)
+
+
+@long_test
+def a_parent_that_sends_12_millions_of_settings_is_bounded():
+    send_millions(10)
+
+
+def send_millions(bodies):
     with Tree({"left": "root"}) as tree:
         left = tree["left"]
         del left.tables["apply"]
@@ -383,7 +392,7 @@ def a_parent_that_sends_millions_of_settings_is_bounded():
         parent.meet()
         parent.send(body(b"T", 999, [entry(b"a", b"1")]))
         before = forget(left)
-        for text in mibs():
+        for text in millions(bodies):
             parent.send(text)
             sure(memory(left) < before + MOST, "its memory is", memory(left), "and was", before)
             sure(left.alive(), "it ended")
