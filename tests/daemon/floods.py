@@ -530,7 +530,7 @@ def measured(kind, seconds):
 def long(words):
     seconds = float(os.environ.get("SECONDS", 60))
     print(f"flood of {seconds:.0f} s | median of a change without, ms | with | most | changes | "
-          "oldest round, s (of 1) | longest without a sign, s | a child that begins anew is in after"
+          "oldest round, s (of 1) | longest without a sign, s | who begins anew is in after"
           " | "
           "processor, s | MiB | what was sent")
     for kind in KINDS:
