@@ -651,48 +651,47 @@ impl<L: Line, A: Clone + PartialEq + fmt::Display> Peers<L, A> {
             Ok(line) => line,
             Err(why) => return self.failed(&call.whom, &why, now, to),
         };
+        let (at, is_parent) = (self.place_of(&call.whom), call.whom == Whom::Parent);
         let (is_old, took) = match self.dials.get_mut(&call.whom) {
-            Some(dial) => {
-                dial.under_way = true;
-                (dial.is_old, dial.took)
-            }
+            Some(dial) => (dial.is_old, dial.took),
             None => return,
         };
+        let looks = matches!(call.whom, Whom::Candidate(_)) || (is_parent && !is_old);
+        let (number, name) = match &call.whom {
+            Whom::Child(name) => (self.relay.made_to(name), name.clone()),
+            _ if looks => (None, self.name_of(at)),
+            _ => (self.relay.made(), self.name_of(at)),
+        };
+        if number.is_none() && !looks {
+            return self.failed(&call.whom, "no number is left", now, to);
+        }
+        self.dial_with(&call.whom, |dial| dial.under_way = true);
         let patience = self.later(took, call.failed as u32);
-        let (at, name) = match &call.whom {
-            Whom::Child(name) => (None, name.clone()),
-            Whom::Candidate(at) => (Some(*at), self.name_of(*at)),
-            Whom::Parent => (Some(self.parents.at()), self.name_of(self.parents.at())),
-        };
-        let number = match (&call.whom, at) {
-            (Whom::Child(name), _) => self.relay.made_to(name),
-            (Whom::Parent, _) if is_old => self.relay.made(),
-            (whom, at) => {
-                let look = Look::Asks(whom.clone(), at.unwrap_or(0), false);
-                let id = self.open(line, true, None, now, patience);
-                self.conns
-                    .get_mut(&id)
-                    .into_iter()
-                    .for_each(|conn| conn.look = look.clone());
-                return self.say_look(id, name);
-            }
-        };
-        let number = match number {
-            Some(number) => number,
-            None => return self.failed(&call.whom, "no number is left", now, to),
-        };
-        let whom = (call.whom.clone(), number);
-        let id = self.open(line, true, Some(whom), now, patience);
-        self.conns
-            .get_mut(&id)
-            .into_iter()
-            .for_each(|conn| conn.is_old = is_old);
-        if call.whom == Whom::Parent {
+        let whom = number.map(|number| (call.whom.clone(), number));
+        let id = self.open(line, true, whom, now, patience);
+        if looks {
+            self.conn_with(id, |conn| conn.look = Look::Asks(call.whom, at, false));
+            return self.say(id, name, true);
+        }
+        self.conn_with(id, |conn| conn.is_old = is_old);
+        if is_parent {
             self.above = Some(id);
         }
-        self.say_hello(id, name);
-        if at.is_none() {
+        self.say(id, name, false);
+        if !is_parent {
             self.say_way(id);
+        }
+    }
+
+    fn conn_with(&mut self, id: u64, change: impl FnOnce(&mut Conn<L>)) {
+        if let Some(conn) = self.conns.get_mut(&id) {
+            change(conn);
+        }
+    }
+
+    fn dial_with(&mut self, whom: &Whom, change: impl FnOnce(&mut Dial)) {
+        if let Some(dial) = self.dials.get_mut(whom) {
+            change(dial);
         }
     }
 
@@ -702,31 +701,24 @@ impl<L: Line, A: Clone + PartialEq + fmt::Display> Peers<L, A> {
         name.unwrap_or_default()
     }
 
-    fn say_hello(&mut self, id: u64, to: String) {
+    /// Says a hello, or looks at a candidate or answers that: by that no life is told, and no label.
+    fn say(&mut self, id: u64, to: String, is_look: bool) {
         let conn = self.conns.get(&id);
         let to_parent = conn.map_or(false, |it| matches!(it.whom, Some((Whom::Parent, _))));
-        let is_old = conn.map_or(false, |it| it.is_old);
+        let is_old = conn.map_or(false, |it| it.is_old) && !is_look;
         let hello = Hello {
             version: if is_old { OLD } else { VERSION },
-            life: if to_parent { self.told() } else { self.life },
-            label: self.relay.label(),
+            life: match is_look {
+                true => 0,
+                false if to_parent => self.told(),
+                false => self.life,
+            },
+            label: if is_look { 0 } else { self.relay.label() },
             from: self.setup.name.clone(),
             to,
         };
-        self.send(id, hello.bytes());
-    }
-
-    /// Looks at a candidate, or answers a look. (No life is told by it, and no label.)
-    fn say_look(&mut self, id: u64, to: String) {
-        let from = self.setup.name.clone();
-        let hello = Hello {
-            version: VERSION,
-            life: 0,
-            label: 0,
-            from,
-            to,
-        };
-        self.send(id, hello.look());
+        let bytes = if is_look { hello.look() } else { hello.bytes() };
+        self.send(id, bytes);
     }
 
     /// Says the own way, if the other end knows what that is.
@@ -750,12 +742,12 @@ impl<L: Line, A: Clone + PartialEq + fmt::Display> Peers<L, A> {
         }
         if has_news || is_beat {
             let ids: Vec<u64> = self.children.values().copied().collect();
-            let waits = |id: &u64| self.conns.get(id).map_or(true, |it| !it.output.is_empty());
-            let ids: Vec<u64> = ids
-                .into_iter()
-                .filter(|id| has_news || !waits(id))
-                .collect();
-            ids.into_iter().for_each(|id| self.say_way(id));
+            for id in ids {
+                let waits = self.conns.get(&id).map_or(true, |it| !it.output.is_empty());
+                if has_news || !waits {
+                    self.say_way(id);
+                }
+            }
         }
         if has_news && self.parents.says().cost >= NONE {
             for (whom, dial) in &mut self.dials {
@@ -793,21 +785,16 @@ impl<L: Line, A: Clone + PartialEq + fmt::Display> Peers<L, A> {
         let is_news = dial.failed == 0 || (all == 1 && dial.why != why);
         dial.why = why.into();
         if is_news {
+            let place = |it: &Parent<A>| match &it.address {
+                Some(address) => address.to_string(),
+                None => it.to_string(),
+            };
             match (whom, self.setup.parents.get(self.parents.at())) {
                 (Whom::Child(name), _) => to.on_fact("child", format_args!("{name}: {why}")),
-                (
-                    Whom::Parent,
-                    Some(Parent {
-                        address: Some(address),
-                        ..
-                    }),
-                ) => {
-                    to.on_fact("parent", format_args!("{address}: {why}"));
+                (Whom::Parent, Some(it)) => {
+                    to.on_fact("parent", format_args!("{}: {why}", place(it)));
                 }
-                (Whom::Parent, Some(parent)) => {
-                    to.on_fact("parent", format_args!("{parent}: {why}"));
-                }
-                (Whom::Parent, None) | (Whom::Candidate(_), _) => (),
+                _ => (),
             }
         }
         dial.is_old = false;
@@ -913,9 +900,7 @@ impl<L: Line, A: Clone + PartialEq + fmt::Display> Peers<L, A> {
     /// Leaves the parent for the one at this place, and says so.
     fn leave(&mut self, at: usize, now: Instant, to: &mut dyn Handler) {
         let is_same = at == self.parents.at();
-        if let Some(dial) = self.dials.get_mut(&Whom::Parent) {
-            dial.under_way = false;
-        }
+        self.dial_with(&Whom::Parent, |dial| dial.under_way = false);
         if let Some(id) = self.above.take() {
             let conn = self
                 .conns
@@ -1205,17 +1190,12 @@ impl<L: Line, A: Clone + PartialEq + fmt::Display> Peers<L, A> {
         }
         let made = made.map(|(_, number)| number);
         let is_old = hello.version == OLD;
-        if let Some(conn) = self.conns.get_mut(&id) {
-            conn.is_old = is_old;
-        }
+        self.conn_with(id, |conn| conn.is_old = is_old);
         match (whom, made) {
             (Whom::Parent, None) if !is_old => {
                 // (nothing has changed yet: first its way is to come)
                 let look = Look::Comes(at, hello.clone());
-                self.conns
-                    .get_mut(&id)
-                    .into_iter()
-                    .for_each(|conn| conn.look = look.clone());
+                self.conn_with(id, |conn| conn.look = look);
                 Ok(())
             }
             (Whom::Parent, _) => {
@@ -1252,17 +1232,14 @@ impl<L: Line, A: Clone + PartialEq + fmt::Display> Peers<L, A> {
                     return Err("its hello has other names");
                 }
                 let look = Look::Asks(whom.clone(), *at, true);
-                self.conns
-                    .get_mut(&id)
-                    .into_iter()
-                    .for_each(|conn| conn.look = look.clone());
+                self.conn_with(id, |conn| conn.look = look);
                 return Ok(());
             }
             Look::No if conn.made => "it is no hello",
             Look::No if !is_meant && !hello.to.is_empty() => "it means another agent",
             Look::No if caller.is_none() => "its name is none of a child",
             Look::No => {
-                self.say_look(id, hello.from.clone());
+                self.say(id, hello.from.clone(), true);
                 self.say_way(id);
                 self.answered(id, now);
                 return Ok(());
@@ -1313,14 +1290,14 @@ impl<L: Line, A: Clone + PartialEq + fmt::Display> Peers<L, A> {
                     conn.whom = Some((Whom::Parent, number));
                 }
                 self.above = Some(id);
-                self.say_hello(id, self.name_of(at));
+                self.say(id, self.name_of(at), false);
                 Ok(())
             }
             Look::Comes(at, hello) => match self.parents.looked(at, &way) {
                 Ok(()) => self.parent_greets(id, None, at, Some(way), &hello, now, to),
                 Err(_) => {
                     // (it is to connect again later, and no other life is told)
-                    self.say_look(id, hello.from);
+                    self.say(id, hello.from, true);
                     self.answered(id, now);
                     Ok(())
                 }
@@ -1373,7 +1350,7 @@ impl<L: Line, A: Clone + PartialEq + fmt::Display> Peers<L, A> {
         );
         if made.is_none() {
             // (the end that accepted has the first turn)
-            self.say_hello(id, hello.from.clone());
+            self.say(id, hello.from.clone(), false);
             let label = self.relay.ack();
             label
                 .into_iter()
@@ -1413,7 +1390,7 @@ impl<L: Line, A: Clone + PartialEq + fmt::Display> Peers<L, A> {
         match self.conns.get_mut(&id) {
             // (a child that accepted has the first turn)
             Some(conn) if made.is_some() => conn.until = Some(now + patience),
-            _ => self.say_hello(id, name.into()),
+            _ => self.say(id, name.into(), false),
         }
         self.say_way(id);
         self.poll(name, now);

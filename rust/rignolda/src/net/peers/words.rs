@@ -221,11 +221,11 @@ impl<L: Line, A: Clone + PartialEq + fmt::Display> Peers<L, A> {
                 };
                 let own = words.own.as_ref().map_or(0, Vec::len);
                 match whom {
-                    Whom::Parent | Whom::Candidate(_) if words.looks => {
-                        get(What::Way, "way", WAY_BYTES + 5);
-                    }
                     Whom::Parent | Whom::Candidate(_) => {
                         get(What::Way, "way", WAY_BYTES + 5);
+                        if words.looks {
+                            continue;
+                        }
                         get(What::Own, "up", own + 1);
                         let all = if words.more { BODY_BYTES + 1 } else { LOOK };
                         get(What::Other, "down", own + FRAME_HEAD + all);
