@@ -1,6 +1,6 @@
 //! Agents over lines in memory: who connects to whom, what is said first, and who is taken.
-use rignolda::net::wire::{self, Expect, Hello, Message, OLD};
-use rignolda::net::{Body, Children, Line, Parent, Peers, Setup};
+use rignolda::net::wire::{self, Expect, Hello, Message, OLD, VERSION};
+use rignolda::net::{Body, Children, Line, Parent, Peers, Setup, Way};
 use std::cell::RefCell;
 use std::collections::{BTreeMap, VecDeque};
 use std::io::{self, Error, ErrorKind, Read, Write};
@@ -600,4 +600,130 @@ fn a_child_that_was_connected_to_acknowledges_first() {
     assert_eq!(next(&end, Expect::Hello), Some(Message::Hello(expected)));
     assert_eq!(next(&end, Expect::Acks), Some(Message::Ack(255)));
     assert_eq!(next(&end, Expect::Acks), None);
+}
+
+/// A hello of version 2, or a look.
+fn hello_2(from: &str, to: &str, life: u64) -> Hello {
+    Hello {
+        version: VERSION,
+        life,
+        label: 7,
+        from: from.into(),
+        to: to.into(),
+    }
+}
+
+fn way(cost: u16, names: &[&str]) -> Way {
+    let names = names.iter().map(|name| name.to_string()).collect();
+    Way { cost, names }
+}
+
+#[test]
+fn a_look_is_answered_with_the_way_and_changes_no_link() {
+    let mut net = path([false, false]);
+    net.publish("root", "T0");
+    net.steps(100);
+    let before = net.agent("a").peers.relay().child("b").unwrap().connections;
+    let end = net.stranger("a", "b", &hello_2("b", "a", 0).look());
+    net.steps(2);
+    let answer = Hello {
+        label: 0,
+        ..hello_2("a", "b", 0)
+    };
+    assert_eq!(next(&end, Expect::Hello), Some(Message::Look(answer)));
+    assert_eq!(
+        next(&end, Expect::Way),
+        Some(Message::Way(way(1, &["root", "a"])))
+    );
+    drop(end);
+    net.steps(2);
+    let relay = net.agent("a").peers.relay();
+    assert_eq!(relay.child("b").unwrap().connections, before);
+    assert!(relay.child("b").unwrap().is_connected());
+    assert_eq!(net.agent("a").peers.refused(), 0);
+    // (who is refused learns the version, and no name)
+    let end = net.stranger("a", "x", &hello_2("x", "a", 0).look());
+    net.steps(2);
+    let said: Vec<u8> = end.from.borrow_mut().bytes.drain(..).collect();
+    assert_eq!(said, b"RGNL\x02");
+    assert!(net.said("a", "refused somewhere: its name is none of a child"));
+}
+
+/// A parent that connects itself is compared with the one that there is, before anything changes.
+#[test]
+fn a_parent_that_connects_itself_is_compared() {
+    let mut net = Net::new(vec![
+        setup("root", vec![], children(&[("leaf", false)])),
+        setup(
+            "leaf",
+            vec![parent("root", Some("root")), parent("other", None)],
+            children(&[]),
+        ),
+    ]);
+    net.publish("root", "T0");
+    net.steps(100);
+    let greeting = hello_2("other", "leaf", 9).bytes();
+    for cost in [0, 1, 128] {
+        let says = [greeting.clone(), wire::way(&way(cost, &["other"]))].concat();
+        let end = net.stranger("leaf", "other", &says);
+        net.steps(2);
+        assert!(
+            matches!(next(&end, Expect::Hello), Some(Message::Look(_))),
+            "{cost}"
+        );
+        assert!(!end.from.borrow().closed, "it is told, and closes itself");
+        let (parent, _) = net.agent("leaf").peers.parent().unwrap();
+        assert_eq!(parent.to_string(), "root");
+    }
+    // (one of version 1 says no way: it is taken where there is no parent, as ever)
+    net.agents.remove("root");
+    net.steps(2);
+    let end = net.stranger("leaf", "other", &hello("other", "leaf"));
+    net.steps(2);
+    match next(&end, Expect::Hello) {
+        Some(Message::Hello(hello)) => assert_eq!((hello.version, hello.life), (OLD, 3)),
+        other => panic!("{:?}", other),
+    }
+}
+
+/// A parent that stands still is left after a bounded time, however its bytes come.
+#[test]
+fn a_parent_that_stands_still_or_drips_is_left() {
+    let frame = wire::frame(3, &Body::of(vec![7; 1 << 20]));
+    // (whole, what comes of a further frame at once, and then in each second; and after how long it
+    // is left: a frame of 1 MiB has 16 seconds more)
+    for (at_once, each_second, least, most) in [
+        (&b""[..], &b""[..], 8, 9),
+        (&frame[..5], &b""[..], 8, 9),
+        (&frame[..], &b"x"[..], 24, 25),
+    ] {
+        let mut net = path([true, true]);
+        net.agents.remove("root");
+        let says = [
+            hello_2("root", "a", 9).bytes(),
+            wire::way(&way(0, &["root"])),
+            at_once.to_vec(),
+        ];
+        let end = net.stranger("a", "root", &says.concat());
+        net.steps(10);
+        assert!(net.agent("a").peers.parent().is_some());
+        let mut seconds = 0;
+        while net.agent("a").peers.parent().is_some() && seconds < 60 {
+            end.to.borrow_mut().bytes.extend(each_second);
+            net.steps(100);
+            seconds += 1;
+        }
+        assert!(
+            (least..=most).contains(&seconds),
+            "{seconds} s, {least} to {most}"
+        );
+        assert!(net.said("a", "closed the parent: nothing came in time"));
+    }
+    // (one that says its way now and again is alive)
+    let mut net = path([false, false]);
+    net.publish("root", "T0");
+    net.steps(100);
+    let before = net.agent("b").peers.reconnects();
+    net.steps(3_000);
+    assert_eq!(net.agent("b").peers.reconnects(), before);
 }

@@ -1,6 +1,7 @@
 //! Messages and bodies: what is written is read again, and whatever else comes does no harm.
-use rignolda::net::wire::{ack, frame, report, take, Expect, Hello, Message, OLD, REPORT_BYTES};
-use rignolda::net::{Body, BODY_BYTES};
+use rignolda::net::wire::{ack, frame, report, take, way, Expect, Hello, Message};
+use rignolda::net::wire::{GOODBYE, OLD, REPORT_BYTES, VERSION, WAY_BYTES};
+use rignolda::net::{Body, Way, BODY_BYTES};
 use rignolda::settings::{entry_bytes, is_key, Meaning, VALUE_BYTES};
 
 mod common;
@@ -51,6 +52,63 @@ fn the_bytes_are_these() {
         },
     );
     assert_eq!(head, b"F\x00\x03\x0a\x0b\x0c\x0d\x00\x00\x00\x05");
+}
+
+fn long_way(names: usize) -> Way {
+    let names = (0..names).map(|at| format!("{at:0>64}")).collect();
+    Way { cost: 258, names }
+}
+
+#[test]
+fn a_way_is_bounded_and_has_names() {
+    let names = vec!["hub".into(), "rack1".into()];
+    let usual = Way { cost: 258, names };
+    assert_eq!(way(&usual), b"W\x01\x02\x00\x09hub\nrack1");
+    for expect in [Expect::Frames, Expect::Way] {
+        assert_eq!(all(way(&usual), expect).0, [Message::Way(usual.clone())]);
+    }
+    // (a frame is none of a candidate's)
+    assert!(all(b"F".to_vec(), Expect::Way).1.is_err());
+    assert!(all(way(&usual), Expect::Acks).1.is_err());
+    assert_eq!(way(&long_way(128)).len(), 5 + WAY_BYTES - 1);
+    assert_eq!(
+        all(way(&long_way(128)), Expect::Way).0,
+        [Message::Way(long_way(128))]
+    );
+    let head = |length: u16| [b"W\x00\x01", &length.to_be_bytes()[..]].concat();
+    let many = [
+        head(2 * 129 - 1),
+        "a\n".repeat(128).into_bytes(),
+        b"a".to_vec(),
+    ]
+    .concat();
+    for (bytes, why) in [
+        (head(WAY_BYTES as u16 + 1), "a way is too long"),
+        (way(&long_way(129)), "a way is too long"),
+        (many, "a way is too long"),
+        (head(0), "a name of a way is none"),
+        (
+            [head(3), b"a\n\n".to_vec()].concat(),
+            "a name of a way is none",
+        ),
+        (
+            [head(1), b"\xff".to_vec()].concat(),
+            "a name of a way is none",
+        ),
+    ] {
+        assert_eq!(all(bytes, Expect::Way).1, Err(why));
+    }
+    let look = Hello {
+        version: VERSION,
+        ..hello()
+    };
+    assert_eq!(&look.look()[..5], b"RGNL\x02");
+    assert_eq!(all(look.look(), Expect::Hello).0, [Message::Look(look)]);
+    assert!(
+        all(hello().look(), Expect::Hello).1.is_err(),
+        "of looks, version 1 knows nothing"
+    );
+    assert_eq!(all(GOODBYE.to_vec(), Expect::Acks).0, [Message::Goodbye]);
 }
 
 const CRC_OF_HARMLESS: u32 = 0xf444_8527;
@@ -151,6 +209,10 @@ fn drawn_bytes_do_no_harm() {
         .concat(),
         ack(3),
         report(b"[]"),
+        way(&Way {
+            cost: 3,
+            names: vec!["hub".into(), "rack1".into()],
+        }),
         Body::new(
             5,
             &Meaning::Table(vec![("a", Some(b"1")), ("b", Some(b"2"))]),
@@ -172,7 +234,7 @@ fn drawn_bytes_do_no_harm() {
                 bytes[at] = random.number() as u8;
             }
         }
-        for expect in [Expect::Hello, Expect::Frames, Expect::Acks] {
+        for expect in [Expect::Hello, Expect::Way, Expect::Frames, Expect::Acks] {
             if let (messages, Ok(left)) = all(bytes.clone(), expect) {
                 assert!(messages.len() <= bytes.len() && left.len() <= bytes.len());
             }
