@@ -1,7 +1,7 @@
 //! Agents whose links lie in a store in memory: what is lost, spoiled, late or old there, and what
 //! each agent received then, judged by C, E and M of the links.
 use rignolda::net::wire::{self, Hello, OLD};
-use rignolda::net::{Body, Call, Children, Line, Parent, Peers, Setup, Turn};
+use rignolda::net::{Body, Call, Children, Line, Parent, Peers, Setup, Turn, Way};
 use std::collections::BTreeMap;
 use std::io::{self, Read, Write};
 use std::sync::Arc;
@@ -606,4 +606,40 @@ fn words_that_change_their_lives_or_are_spoiled_cost_few_tables() {
         net.settle();
         assert_eq!(net.items("b").last().unwrap(), "1", "{spoils}");
     }
+}
+
+/// In a store too a parent says its way: one that has no root is passed over, and comes to be the
+/// parent once it has one.
+#[test]
+fn a_parent_without_a_root_is_passed_over_in_a_store_too() {
+    let mut net = Net::new(3);
+    net.agents.clear();
+    net.start(setup("root", vec![], &["a", "b"]));
+    net.start(setup("a", vec![parent("ghost")], &["leaf"]));
+    net.start(setup("b", vec![parent("root")], &["leaf"]));
+    net.publish("T0");
+    net.steps(300);
+    net.start(setup("leaf", vec![parent("a"), parent("b")], &[]));
+    net.steps(300);
+    let names = |net: &mut Net| net.agent("leaf").peers.way().names.join(" ");
+    assert_eq!(names(&mut net), "root b leaf");
+    assert_eq!(net.items("leaf"), ["T0"]);
+    assert_eq!(net.agent("a").peers.way().cost, 128);
+    net.start(setup("a", vec![parent("root")], &["leaf"]));
+    net.steps(2_500);
+    assert_eq!(names(&mut net), "root a leaf");
+    net.publish("1");
+    net.steps(300);
+    assert_eq!(net.items("leaf").last().unwrap(), "1");
+    // (whose way leads over this agent is left)
+    let way = wire::way(&Way {
+        cost: 2,
+        names: vec!["leaf".into(), "a".into()],
+    });
+    net.keys.insert("a:leaf:way".into(), way);
+    net.steps(50);
+    assert_eq!(
+        net.said("leaf", "closed the parent: its way leads over this agent"),
+        1
+    );
 }
