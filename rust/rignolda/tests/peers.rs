@@ -646,7 +646,8 @@ fn a_look_is_answered_with_the_way_and_changes_no_link() {
     net.steps(2);
     let said: Vec<u8> = end.from.borrow_mut().bytes.drain(..).collect();
     assert_eq!(said, b"RGNL\x02");
-    assert!(net.said("a", "refused somewhere: its name is none of a child"));
+    let why = "refused somewhere, which calls itself x: its name is none of a child";
+    assert!(net.said("a", why));
 }
 
 /// A parent that connects itself is compared with the one that there is, before anything changes.

@@ -49,8 +49,9 @@ fn reads_every_key() {
 
 #[test]
 fn either_end_may_connect() {
-    let child = "name = \"c\"\nlisten = \"[::1]:1\"\nparents = [\"hub\", \"b@[::1]:2\"]";
+    let child = "name = \"c\"\nlisten = \"[::1]:1\"\nparents = [\"hub cost=0\", \"b@[::1]:2\"]";
     let parents = Config::parse(child).unwrap().peers.parents;
+    assert_eq!([parents[0].price, parents[1].price], [Some(0), None]);
     let all: Vec<_> = parents.iter().map(|it| (it.to_string(), it.address.is_some())).collect();
     assert_eq!(all, [("hub".into(), false), ("b".into(), true)]);
     // (nobody connects to this root, so it listens nowhere)
@@ -91,6 +92,9 @@ fn says_each_fault_with_its_line_and_key() {
         ("name = \"a\"\nparents = [\"b@127.0.0.1:0\"]", 2, "parents", "from 1 to 65535"),
         ("name = \"a\"\nparents = [\"b@::1:7464\"]", 2, "parents", "needs brackets"),
         ("name = \"a\"\nparents = [\"b\"]", 2, "parents", "one of `listen`"),
+        ("name = \"a\"\nparents = [\"b@[::1]:2 cost=101\"]", 2, "parents", "of 0 to 100"),
+        ("name = \"a\"\nparents = [\"b@[::1]:2 cost=\"]", 2, "parents", "of 0 to 100"),
+        ("name = \"a\"\nparents = [\"b@[::1]:2 price=1\"]", 2, "parents", "from 1 to 65535"),
         ("name = \"a\"\nlisten = \"[::1]:1\"\nparents = [\"b/c\"]", 3, "parents", "1 to 64"),
         (
             "name = \"a\"\nchildren = [\"b@10.0.0.1:1\"]\n[root]\nsettings = \"/s\"",

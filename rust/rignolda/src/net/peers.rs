@@ -1202,8 +1202,12 @@ impl<L: Line, A: Clone + PartialEq + fmt::Display> Peers<L, A> {
                 let old = self.parents.old(at);
                 if made.is_none() {
                     self.parents.looked(at, &old)?;
+                    self.leave(at, now, to);
                 }
-                self.parent_greets(id, made, at, is_old.then_some(old), hello, now, to)
+                if is_old {
+                    self.parents.took(at, old);
+                }
+                self.parent_greets(id, made, hello, now, to)
             }
             (Whom::Child(name), _) => self.child_greets(id, made, &name, hello, now, to),
             (Whom::Candidate(_), _) => Err("it is no hello"),
@@ -1294,7 +1298,11 @@ impl<L: Line, A: Clone + PartialEq + fmt::Display> Peers<L, A> {
                 Ok(())
             }
             Look::Comes(at, hello) => match self.parents.looked(at, &way) {
-                Ok(()) => self.parent_greets(id, None, at, Some(way), &hello, now, to),
+                Ok(()) => {
+                    self.leave(at, now, to);
+                    self.parents.took(at, way);
+                    self.parent_greets(id, None, &hello, now, to)
+                }
                 Err(_) => {
                     // (it is to connect again later, and no other life is told)
                     self.say(id, hello.from, true);
@@ -1326,19 +1334,13 @@ impl<L: Line, A: Clone + PartialEq + fmt::Display> Peers<L, A> {
         &mut self,
         id: u64,
         made: Option<Connection>,
-        at: usize,
-        way: Option<Way>,
         hello: &Hello,
         now: Instant,
         to: &mut dyn Handler,
     ) -> Result<(), &'static str> {
-        if made.is_none() {
-            self.leave(at, now, to);
-        }
         let number = made
             .or_else(|| self.relay.accepted())
             .ok_or("no number is left")?;
-        way.into_iter().for_each(|way| self.parents.took(at, way));
         self.above = Some(id);
         self.begins(id, Whom::Parent, number, now);
         let anew = self.above_life.replace(hello.life) != Some(hello.life);
