@@ -161,7 +161,7 @@ fn a_change_alone_keeps_no_table() {
     }
     let all = kept.in_order();
     let of =
-        |(key, change): &(String, Change)| key[1..].as_bytes() == &**change.value.as_ref().unwrap();
+        |(key, change): &(String, Change)| key.as_bytes()[1..] == **change.value.as_ref().unwrap();
     assert!(all.len() == 200 && all.iter().all(of));
     #[cfg(target_os = "linux")]
     {
