@@ -3,9 +3,9 @@ use Rattle.std.proofs.Common.{◌≡◌, ◌⊎◌, ℕ, zero, suc, ◌+◌, ◌
 use Rattle.std.specs.Prelude.{min, Option}
 use Rattle.std.proofs.lemmas.Bool.{cases_lt, cases_eq}
 use Rattle.stab_parents.specs.Parents.{Candidate, Net, IsNet, distance}
-use Rattle.stab_parents.specs.Ways.{State, Turn, HasCandidates, SaysOver, SaysNone, Looked, Followed, IsAfter, Turns, Rounds, IsOver, Follows}
+use Rattle.stab_parents.specs.Ways.{State, Turn, HasCandidates, SaysOver, SaysNone, Looked, Followed, IsLeaf, MayStay, IsAfter, Turns, Rounds, IsOver, Follows}
 use Rattle.stab_parents.proofs.Parents.{reached, later, member_of, no_member, decide, all_bounded}
-use Rattle.stab_parents.proofs.Ways.{AllRight, turn_right, turn_has, turns_right}
+use Rattle.stab_parents.proofs.Ways.{AllRight, may_have, turn_right, turn_has, turns_right}
 
 -- ---- names
 
@@ -29,7 +29,7 @@ Named net s after v = (after.names v ≡ v ∷ [])
 none_named : (net : Net) (s after : State) (v : ℕ) (p : Option Candidate) → ((d : Candidate) → s.parent v ≡ Some d → Contains (net.candidates v) d)
     → SaysNone net s after v → after.parent v ≡ p → Named net s after v
 none_named net s after v None has says is = inl (says.alone is)
-none_named net s after v (Some c) has says is = let stays = says.stays c is in inr (c, has c stays.0, stays.1, stays.2.way)
+none_named net s after v (Some c) has says is = let stays = says.stays c is in inr (c, may_have net s v c has stays.0, stays.1, stays.2.way)
 
 pub turn_named : (net : Net) (s after : State) (turn : Turn) → turn.agent < net.agents → HasCandidates net s → IsAfter net s turn after → Named net s after turn.agent
 turn_named net s after turn agent has is =
@@ -59,34 +59,38 @@ own_name net s after v (inr (c, member, apart, way)) = subst (λ names. Contains
 -- so many steps lead over agents without a way
 abbrev pub Lost : Net → State → ℕ → ℕ → ℕ → Type 0
 Lost net s zero v u = v ≡ u
-Lost net s (suc steps) v u = (c : Candidate) × (net.is_root v ≡ false) × (distance net v ≡ net.none) × (s.parent v ≡ Some c) × Lost net s steps c.agent u
+Lost net s (suc steps) v u = (c : Candidate) × (IsLeaf net v → ⊥) × (net.is_root v ≡ false) × (distance net v ≡ net.none) × (s.parent v ≡ Some c) × Lost net s steps c.agent u
 
 abbrev Stays : State → State → ℕ → Candidate → Type 0
 Stays s after v c = (s.parent v ≡ Some c) × (Contains (s.names c.agent) v → ⊥) × SaysOver s after v c
 
 abbrev Kept : Net → State → State → ℕ → Type 0
-Kept net s after v = (c : Candidate) → net.is_root v ≡ false → distance net v ≡ net.none → after.parent v ≡ Some c → Stays s after v c
+Kept net s after v = (c : Candidate) → (IsLeaf net v → ⊥) → net.is_root v ≡ false → distance net v ≡ net.none → after.parent v ≡ Some c → Stays s after v c
 
 some_same : (d c : Candidate) → Some d ≡ Some c → d ≡ c
 some_same d c same = cc
 
 turn_kept : (net : Net) (t : ℕ) (s after : State) (turn : Turn) → IsNet net → turn.agent < net.agents → net.none < t → AllRight net t after
     → IsAfter net s turn after → Kept net s after turn.agent
-turn_kept net t s after turn lawful agent late right is c below none its = own (decide turn.looks)
+turn_kept net t s after turn lawful agent late right is c some below none its = own (decide turn.looks)
   where
     says_none : net.none ≤ after.said turn.agent
     says_none =
         let least = reached t (min net.none (after.said turn.agent)) (distance net turn.agent) (omega (arith, none, late)) (right turn.agent agent).says in
         omega (arith, least, none)
 
+    kept_so : MayStay net s turn.agent c → s.parent turn.agent ≡ Some c
+    kept_so (inl kept) = kept
+    kept_so (inr leaf) = absurd (some leaf.0)
+
     looked : Looked net s after turn.agent → Stays s after turn.agent c
     looked (inl (d, free, nearest, steady, says)) = absurd (omega (arith, free.costs, says.cost, says_none))
-    looked (inr (none_open, says)) = says.stays c its
+    looked (inr (none_open, says)) = let stays = says.stays c its in (kept_so stays.0, stays.1, stays.2)
 
     followed : Followed net s after turn.agent → Stays s after turn.agent c
     followed (inl (d, kept, apart, says)) =
         subst (Stays s after turn.agent) (some_same d c (sym says.parent ∙ its)) (kept, apart, says)
-    followed (inr (leaves, says)) = says.stays c its
+    followed (inr (leaves, says)) = let stays = says.stays c its in (kept_so stays.0, stays.1, stays.2)
 
     own : (turn.looks ≡ true) ⊎ (turn.looks ≡ false) → Stays s after turn.agent c
     own (inl looks) = looked (is.looked below looks)
@@ -96,8 +100,9 @@ turn_kept net t s after turn lawful agent late right is c below none its = own (
 lost_before : (net : Net) (s after : State) (turn : Turn) → IsNet net → HasCandidates net after → IsAfter net s turn after
     → (turn.agent < net.agents → Kept net s after turn.agent) → (steps v u : ℕ) → v < net.agents → Lost net after steps v u → Lost net s steps v u
 lost_before net s after turn lawful has is kept zero v u agent lost = lost
-lost_before net s after turn lawful has is kept (suc steps) v u agent (c, below, none, its, rest) = (
+lost_before net s after turn lawful has is kept (suc steps) v u agent (c, some, below, none, its, rest) = (
   c,
+  some,
   below,
   none,
   before (cases_eq v turn.agent),
@@ -107,7 +112,7 @@ lost_before net s after turn lawful has is kept (suc steps) v u agent (c, below,
     before : (v ≡ turn.agent) ⊎ (v ≡ turn.agent → ⊥) → s.parent v ≡ Some c
     before (inl same) =
         ap s.parent same
-        ∙ (kept (subst (λ w. w < net.agents) same agent) c (sym (ap net.is_root same) ∙ below) (sym (ap (distance net) same) ∙ none) (sym (ap after.parent same) ∙ its)).0
+        ∙ (kept (subst (λ w. w < net.agents) same agent) c (subst (λ w. IsLeaf net w → ⊥) same some) (sym (ap net.is_root same) ∙ below) (sym (ap (distance net) same) ∙ none) (sym (ap after.parent same) ∙ its)).0
     before (inr other) = sym (is.others v other).2 ∙ its
 
 -- ---- what is said names whom agents without a way follow, over more steps in each round
@@ -146,14 +151,14 @@ own_deep net t s after turn lawful agent has right deep is = record {
     named : (steps u : ℕ) → steps + suc net.none < suc t → Lost net after steps turn.agent u → Contains (after.names turn.agent) u
     named zero u few lost =
         subst (Contains (after.names turn.agent)) lost (own_name net s after turn.agent (turn_named net s after turn agent has is))
-    named (suc steps) u few (c, below, none, its, rest) =
-        let stays = kept (omega (arith, few)) c below none its in
+    named (suc steps) u few (c, some, below, none, its, rest) =
+        let stays = kept (omega (arith, few)) c some below none its in
         subst (λ names. Contains names u) (sym stays.2.way)
         (kept_before (s.names c.agent) turn.agent u (over steps u c (omega (arith, few)) stays below rest))
 
     apart : (steps : ℕ) → suc steps + suc net.none < suc t → Lost net after (suc steps) turn.agent turn.agent → ⊥
-    apart steps few (c, below, none, its, rest) =
-        let stays = kept (omega (arith, few)) c below none its in
+    apart steps few (c, some, below, none, its, rest) =
+        let stays = kept (omega (arith, few)) c some below none its in
         stays.1 (over steps turn.agent c (omega (arith, few)) stays below rest)
 
 -- of the others, each stays as deep
@@ -249,16 +254,29 @@ nearer net t s lawful has late right (suc steps) v u agent some (c, below, its, 
     omega (arith, next, over, in_net.1)
 
 lost : (net : Net) (t : ℕ) (s : State) → IsNet net → HasCandidates net s → net.none < t → AllRight net t s → (steps v u : ℕ) → v < net.agents
-    → distance net u ≡ net.none → Follows net s steps v u → Lost net s steps v u
-lost net t s lawful has late right zero v u agent none follows = follows
-lost net t s lawful has late right (suc steps) v u agent none (c, below, its, rest) =
-    let in_net = lawful v agent c (has v agent below c its) in
-    (c, below, far (cases_lt (distance net v) net.none), its, lost net t s lawful has late right steps c.agent u in_net.0 none rest)
+    → (IsLeaf net v → ⊥) → distance net u ≡ net.none → Follows net s steps v u → Lost net s steps v u
+lost net t s lawful has late right zero v u agent inner none follows = follows
+lost net t s lawful has late right (suc steps) v u agent inner none (c, below, its, rest) =
+    let in_net = lawful v agent c (has v agent below c its) in (
+      c,
+      inner,
+      below,
+      far (cases_lt (distance net v) net.none),
+      its,
+      lost net t s lawful has late right steps c.agent u in_net.0
+          (λ leaf. leaf v agent c (has v agent below c its) refl) none rest,
+    )
   where
     far : (distance net v < net.none) ⊎ (net.none ≤ distance net v) → distance net v ≡ net.none
     far (inl some) =
         absurd (omega (arith, none, some, nearer net t s lawful has late right (suc steps) v u agent some (c, below, its, rest)))
     far (inr enough) = omega (arith, enough, all_bounded net net.none v)
+
+-- whom somebody follows is no leaf
+followed_inner : (net : Net) (s : State) → IsNet net → HasCandidates net s → (steps v u : ℕ) → v < net.agents → Follows net s (suc steps) v u → IsLeaf net u → ⊥
+followed_inner net s lawful has zero v u agent (c, below, its, last) leaf = leaf v agent c (has v agent below c its) last
+followed_inner net s lawful has (suc steps) v u agent (c, below, its, rest) leaf =
+    followed_inner net s lawful has steps c.agent u (lawful v agent c (has v agent below c its)).0 rest leaf
 
 pub no_ring : (net : Net) (t : ℕ) (s : State) (v steps : ℕ) → IsNet net → HasCandidates net s → AllRight net t s → AllDeep net t s → v < net.agents
     → suc steps + suc net.none < t → Follows net s (suc steps) v v → ⊥
@@ -267,5 +285,5 @@ no_ring net t s v steps lawful has right deep agent few follows =
       | inl some ↦ omega (arith, nearer net t s lawful has (omega (arith, few)) right (suc steps) v v agent some follows)
       | inr far ↦
           let none : distance net v ≡ net.none = omega (arith, far, all_bounded net net.none v) in
-          (deep v agent).apart steps few (lost net t s lawful has (omega (arith, few)) right (suc steps) v v agent none follows)
+          (deep v agent).apart steps few (lost net t s lawful has (omega (arith, few)) right (suc steps) v v agent (followed_inner net s lawful has steps v v agent follows) none follows)
     ]

@@ -3,7 +3,7 @@ use Rattle.std.proofs.Common.{◌≡◌, ◌⊎◌, ℕ, suc, ◌+◌, ◌<◌, 
 use Rattle.std.specs.Prelude.{min, Option}
 use Rattle.std.proofs.lemmas.Bool.{cases_lt, cases_eq}
 use Rattle.stab_parents.specs.Parents.{Candidate, Net, IsNet, nearest, distance}
-use Rattle.stab_parents.specs.Ways.{State, Turn, HasCandidates, IsOpen, SaysOver, SaysNone, SaysRoot, IsNearest, IsSteady, Looked, Followed, IsAfter, Turns, Rounds, IsOver, IsWithin}
+use Rattle.stab_parents.specs.Ways.{State, Turn, HasCandidates, IsOpen, MayStay, SaysOver, SaysNone, SaysRoot, IsNearest, IsSteady, Looked, Followed, IsAfter, Turns, Rounds, IsOver, IsWithin}
 use Rattle.stab_parents.proofs.Parents.{AgreesTo, same_left, weaker, nearest_least, zero_below, later, member_of, no_member, decide, quiet, all_bounded, parent, chosen}
 
 -- what an agent that is nearer than the bound says is right, and so is its parent
@@ -255,6 +255,11 @@ turn_right net t s after turn lawful has right is v agent =
     own in_net (inr below) (inr follows) =
         followed_right net t t s after turn.agent (omega arith) lawful in_net below has right (right turn.agent in_net) (is.followed below follows)
 
+pub may_have : (net : Net) (s : State) (v : ℕ) (c : Candidate) → ((d : Candidate) → s.parent v ≡ Some d → Contains (net.candidates v) d)
+    → MayStay net s v c → Contains (net.candidates v) c
+may_have net s v c has (inl kept) = has c kept
+may_have net s v c has (inr leaf) = leaf.1
+
 -- the parent of whoever has had its turn is one of its candidates
 looked_has : (net : Net) (s after : State) (v : ℕ) (c : Candidate) → ((d : Candidate) → s.parent v ≡ Some d → Contains (net.candidates v) d)
     → Looked net s after v → after.parent v ≡ Some c → Contains (net.candidates v) c
@@ -264,13 +269,13 @@ looked_has net s after v c has (inl (d, free, nearest, steady, says)) is =
   where
     some_same : (d c : Candidate) → Some d ≡ Some c → d ≡ c
     some_same d c same = cc
-looked_has net s after v c has (inr (none_open, says)) is = has c (says.stays c is).0
+looked_has net s after v c has (inr (none_open, says)) is = may_have net s v c has (says.stays c is).0
 
 followed_has : (net : Net) (s after : State) (v : ℕ) (c : Candidate) → ((d : Candidate) → s.parent v ≡ Some d → Contains (net.candidates v) d)
     → Followed net s after v → after.parent v ≡ Some c → Contains (net.candidates v) c
 followed_has net s after v c has (inl (d, kept, apart, says)) is =
     let same : s.parent v ≡ Some c = kept ∙ (sym says.parent ∙ is) in has c same
-followed_has net s after v c has (inr (leaves, says)) is = has c (says.stays c is).0
+followed_has net s after v c has (inr (leaves, says)) is = may_have net s v c has (says.stays c is).0
 
 pub turn_has : (net : Net) (s after : State) (turn : Turn) → HasCandidates net s → IsAfter net s turn after → HasCandidates net after
 turn_has net s after turn has is v agent below c its =

@@ -39,12 +39,21 @@ pub record SaysOver (s after : State) (v : ℕ) (c : Candidate) : Type 0 where
   pub cost : after.said v ≡ s.said c.agent + c.cost
   pub way : after.names v ≡ s.names c.agent ++ (v ∷ [])
 
--- the agent says that it has no way: it has stayed with its parent, on whose way it is not, and
--- says the way over it; or it has none, and says itself alone
+-- no agent may have it as its parent
+abbrev pub IsLeaf : Net → ℕ → Type 0
+IsLeaf net v = (u : ℕ) → u < net.agents → (c : Candidate) → Contains (net.candidates u) c
+    → c.agent ≡ v → ⊥
+
+-- whom an agent may have as its parent that has no way: the one of before, or any if it is a leaf
+abbrev pub MayStay : Net → State → ℕ → Candidate → Type 0
+MayStay net s v c = (s.parent v ≡ Some c) ⊎ (IsLeaf net v × Contains (net.candidates v) c)
+
+-- the agent says that it has no way: it has a parent all the same, on whose way it is not, and says
+-- the way over it; or it has none, and says itself alone
 pub record SaysNone (net : Net) (s after : State) (v : ℕ) : Type 0 where
   pub cost : net.none ≤ after.said v
   pub stays : (c : Candidate) → after.parent v ≡ Some c
-      → (s.parent v ≡ Some c) × (Contains (s.names c.agent) v → ⊥) × SaysOver s after v c
+      → MayStay net s v c × (Contains (s.names c.agent) v → ⊥) × SaysOver s after v c
   pub alone : after.parent v ≡ None → after.names v ≡ v ∷ []
 
 pub record SaysRoot (after : State) (v : ℕ) : Type 0 where
