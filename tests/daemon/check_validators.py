@@ -136,9 +136,29 @@ def package(cases, room):
     cases.holds("lintian finds no error in the package", status == 0, said)
 
 
+def threats(cases):
+    """Whether each cell of Threats is that of a row of tests which exist."""
+    cells = lambda page: {row[1]: row[2:4] for row in (
+        [cell.strip() for cell in line.split("|")] for line in
+        (TOP / page).read_text().partition("## Threats")[2].splitlines()) if len(row) == 5}
+    said, tried = cells("docs/DAEMON.md"), cells("tests/README.md")
+    cases.holds("each threat has its tests", said.keys() == tried.keys(),
+                said.keys() ^ tried.keys())
+    files = [*HERE.iterdir(), *TOP.glob("rust/*/tests/*.rs"), *TOP.glob("rust/*/src/*.rs")]
+    text = "\n".join(file.read_text() for file in files if file.is_file())
+    for who in list(said)[2:]:
+        for cell, names in zip(said[who], tried.get(who, ["", ""])):
+            tests = re.findall("`(.*?)`", names)
+            lacking = [it for it in tests if not re.search(rf"\b(def|fn) {it}\b|^{it}\(\)", text,
+                                                           re.MULTILINE)]
+            cases.holds(f"what is said of who is {who} is tried", bool(cell) == bool(tests)
+                        and not lacking, f"{cell} {lacking}", quiet=True)
+
+
 def main():
     os.chdir(HERE)
     cases = Cases()
+    threats(cases)
     missing = [name for name in PROGRAMS if not shutil.which(name)]
     if missing and os.getuid() == 0 and shutil.which("apt-get"):
         packages = [PROGRAMS[name] for name in missing]
