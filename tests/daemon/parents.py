@@ -55,6 +55,12 @@ def below_root(tree):
     sure(tree.right(), tree.wrong())
 
 
+def at_first(name, tree):
+    """Waits until the leaf has its first parent, which may have begun after the other one."""
+    leaf = tree["leaf"]
+    sure(until(lambda: leaf.status()["parent"] == name, pause=0.1), leaf.status())
+
+
 def racks_that_start_before_the_root_come_to_it():
     with racks(3) as tree:
         tree.write("one", "1")
@@ -88,7 +94,7 @@ def who_has_another_parent_leaves_one_that_lost_the_root():
         tree.write("one", "1")
         tree.start()
         sure(tree.ready() and tree.right(), tree.wrong())
-        sure(tree["leaf"].status()["parent"] == "rack1", tree["leaf"].status())
+        at_first("rack1", tree)
         tree.root.ask("child", "remove", "rack1")
         tree.write("two", "2")
         sure(tree.right(agents=[tree["rack0"], tree["leaf"]]), tree.wrong())
@@ -133,6 +139,7 @@ def a_parent_that_stands_still_is_left():
         tree.write("one", "1")
         tree.start()
         sure(tree.ready() and tree.right(), tree.wrong())
+        at_first("rack0", tree)
         tree["rack0"].signal(signal.SIGSTOP)
         tree.write("two", "2")
         sure(tree.right(agents=[tree["rack1"], tree["leaf"]]), tree.wrong())
