@@ -304,19 +304,27 @@ def a_file_where_a_socket_is_to_be_is_kept():
 
 
 def a_folder_of_somebody_else_is_not_taken():
-    with Tree({"left": "root"}) as tree:
-        left = tree["left"]
+    with Tree({"left": "root", "leaf": "left"}) as tree:
+        left, leaf = tree["left"], tree["leaf"]
         left.settings.mkdir()
         (left.settings / "app.conf").write_text("mine")
+        tree.write("key", "value")
         tree.start()
-        sure(until(lambda: not left.alive()), "it takes the folder")
+        # (it hands everything on, and says once why it applies nothing)
+        sure(tree.right(agents=[leaf]), tree.wrong([leaf]))
+        sure(until(lambda: left.status()["failing"] == 1), left.status())
+        round = left.status()["round"]
+        sure(until(lambda: left.status()["round"] > round), "there is no round")
         sure(left.said("app.conf") == 1, left.text())
+        sure(sorted(os.listdir(left.settings)) == ["app.conf"], os.listdir(left.settings))
         sure((left.settings / "app.conf").read_text() == "mine", "it is gone")
         done = subprocess.run([tree.bin / "rignoldad", "--check", left.file], capture_output=True)
         sure(done.returncode == 1 and b"app.conf" in done.stderr, done.stderr)
         left.tables["apply"]["take"] = True
+        left.kill()
         left.start()
         sure(until(lambda: left.up() and tree.right()), tree.wrong())
+        sure(left.status()["failing"] == 0, left.status())
         # (from now on it is the agent's own)
         del left.tables["apply"]["take"]
         left.kill()

@@ -112,7 +112,6 @@ impl Applier {
     /// Starts the threads. Where one cannot be started, the others end, and nothing was done.
     pub fn new(config: &Apply, wake: Wake) -> io::Result<Applier> {
         let folder = config.folder.clone();
-        refusal(config).map_or(Ok(()), |why| Err(io::Error::other(why)))?;
         let due = Folder::new(folder.join(PENDING)).names();
         let due = due.into_iter().filter(|name| is_key(name)).collect();
         let state = Mutex::new(State { config: config.clone(), due, ..State::default() });
@@ -229,7 +228,24 @@ fn keep_files(shared: &Shared) {
         Some((files, due, looks, state.config.clone()))
     };
     let (mut folder, mut others) = (Folder::new(shared.folder.clone()), Vec::new());
+    let mut is_taken = false;
     while let Some((mut files, mut due, looks, config)) = shared.next(&shared.files, take) {
+        // (until it is the agent's, nothing in it is touched; the next table sets all then. It is
+        // also where a table names all that is in it, so that nothing would go)
+        let there = || folder.names().into_iter().chain(folder.others()).filter(|it| is_key(it));
+        let is_known = is_taken || files.is_whole() && there().all(|name| files.has(&name));
+        let refused = refusal(&config).filter(|_| !is_known);
+        is_taken = refused.is_none();
+        let outcome = refused.map_or(Outcome::Done, Outcome::File);
+        if !is_taken || shared.lock().failing.contains_key(MARKER) {
+            let (mut state, sequence) = (shared.lock(), files.first().unwrap_or(0));
+            shared.report(&mut state, MARKER, sequence, outcome);
+            if !is_taken {
+                state.due.append(&mut due);
+                (state.looks, state.writing) = (true, None);
+                continue;
+            }
+        }
         if looks {
             let _ = folder.mend().and_then(|()| mark(&shared.folder));
         }

@@ -345,7 +345,6 @@ fn a_hook_gets_nothing_that_is_the_agents_alone() {
 fn a_folder_that_may_be_somebody_elses_is_not_taken() {
     let place = Place::new();
     let config = place.config();
-    let refused = |config: &Apply| Applier::new(config, Arc::new(|| ())).err();
     assert!(refusal(&config).is_none(), "it is not there");
     fs::create_dir(place.folder()).unwrap();
     for name in [".gitkeep", "lost+found"] {
@@ -359,7 +358,7 @@ fn a_folder_that_may_be_somebody_elses_is_not_taken() {
         } else {
             fs::write(&path, "mine").unwrap();
         }
-        let why = refused(&config).expect("it may be somebody else's").to_string();
+        let why = refusal(&config).expect("it may be somebody else's");
         assert!(why.contains("`app.conf`") && why.contains("settings"), "{why}");
         // (a marker, what 0.5.0 left there, or consent)
         for marker in [".rignolda", ".pending"] {
@@ -367,8 +366,24 @@ fn a_folder_that_may_be_somebody_elses_is_not_taken() {
             assert!(refusal(&config).is_none());
             fs::remove_file(place.folder().join(marker)).unwrap();
         }
-        assert!(refusal(&Apply { take: true, ..config.clone() }).is_none());
-        assert!(path.exists());
+        let taken = Apply { take: true, ..config.clone() };
+        assert!(refusal(&taken).is_none());
+        // (the agent runs, and says so once; with consent the next table sets all)
+        let mut applier = start(&config);
+        for sequence in [1, 2] {
+            applier.table([("a", b"1")], sequence);
+            let said = applied(&mut applier, sequence);
+            assert_eq!(said.len(), usize::from(sequence == 1), "{said:?}");
+        }
+        assert!(path.exists() && !place.folder().join("a").exists());
+        assert_eq!(applier.failing(), 1);
+        applier.reload(&taken);
+        applier.table([("a", b"1")], 3);
+        applied(&mut applier, 3);
+        assert_eq!((applier.failing(), place.folder().join("a").exists()), (0, true));
+        drop(applier);
+        fs::remove_dir_all(place.folder()).unwrap();
+        fs::create_dir(place.folder()).unwrap();
         let _ = fs::remove_dir(&path).or_else(|_| fs::remove_file(&path));
     }
     // (one that was taken is known again, though its marker was lost while the agent ran)
@@ -379,7 +394,24 @@ fn a_folder_that_may_be_somebody_elses_is_not_taken() {
     applier.table([("a", b"1")], 2);
     applied(&mut applier, 2);
     drop(applier);
-    assert!(refused(&config).is_none());
+    assert!(refusal(&config).is_none());
+    // (or while it did not run, as long as a table names all that is there)
+    fs::remove_file(place.folder().join(".rignolda")).unwrap();
+    assert!(refusal(&config).is_some());
+    let mut applier = start(&config);
+    applier.set("a", b"2", 3);
+    applied(&mut applier, 3);
+    assert_eq!(
+        (applier.failing(), fs::read(place.folder().join("a")).unwrap()),
+        (1, b"1".to_vec())
+    );
+    applier.table([("a", b"2"), ("b", b"3")], 4);
+    applied(&mut applier, 4);
+    assert_eq!(
+        (applier.failing(), fs::read(place.folder().join("a")).unwrap()),
+        (0, b"2".to_vec())
+    );
+    assert!(refusal(&config).is_none());
 }
 
 #[test]
