@@ -169,7 +169,7 @@ def main():
             ran(*words, **quiet)
     for name, package_of in PROGRAMS.items():
         if not shutil.which(name):
-            print(f"{name} is not there, so nothing is counted for it: apt-get install {package_of}")
+            print(f"{name} is not there, so nothing is counted: apt-get install {package_of}")
     with tempfile.TemporaryDirectory() as room:
         room = Path(room)
         if shutil.which("promtool"):
