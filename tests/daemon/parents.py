@@ -50,7 +50,7 @@ def racks(count, further=1, leaf=()):
 def below_root(tree):
     """Whether each rack comes to have the root as its parent, and all have its settings."""
     agents = [agent for agent in tree if agent.name.startswith("rack")]
-    at_root = lambda: all(agent.status()["parent"] == "root" for agent in agents)
+    at_root = lambda: all(agent.up() and agent.status()["parent"] == "root" for agent in agents)
     sure(until(at_root, pause=0.1), [(agent.name, agent.status()["parent"]) for agent in agents])
     sure(tree.right(), tree.wrong())
 
