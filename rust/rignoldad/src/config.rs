@@ -175,7 +175,7 @@ impl Config {
 }
 
 /// All keys that there are, those of a table behind its name.
-const KEYS: &str = "name listen children parents insecure control metrics \
+const KEYS: &str = "name listen children parents insecure control metrics metrics_open \
     root.settings root.round root.harmless link.ack_timeout link.backlog link.evict \
     store.user store.password store.database store.poll \
     tls.certificate tls.key tls.authority apply.folder apply.take apply.mode apply.hook \
@@ -296,7 +296,7 @@ impl<'a> Check<'a> {
     }
 
     fn address(&mut self, key: &str, text: &str) -> Option<Address> {
-        let (insecure, tls) = (self.insecure(), self.has("tls"));
+        let (insecure, tls) = (self.is_set("insecure"), self.has("tls"));
         let address = Address::parse(text).and_then(|it| match &it {
             Address::Redis { .. } if key == "listen" => Err("nobody can listen in a store".into()),
             Address::Redis { .. } if !insecure && !it.is_local() => {
@@ -310,13 +310,13 @@ impl<'a> Check<'a> {
         address.map_err(|why| self.fault(key, why)).ok()
     }
 
-    fn insecure(&self) -> bool {
-        self.get("insecure").and_then(Value::as_bool) == Some(true)
+    fn is_set(&self, key: &str) -> bool {
+        self.get(key).and_then(Value::as_bool) == Some(true)
     }
 
     fn config(&mut self) -> Config {
         self.expect("name", self.get("name"), "it is missing");
-        for key in ["insecure", "apply.take"] {
+        for key in ["insecure", "metrics_open", "apply.take"] {
             let is_wrong = self.get(key).is_some_and(|value| !value.is_bool());
             self.refuse(key, is_wrong, "true or false is expected");
         }
@@ -357,7 +357,7 @@ impl<'a> Check<'a> {
                 password: self.path("store.password"),
                 database: self.number("store.database", 0, 0..=65_535) as u32,
             },
-            insecure: self.insecure(),
+            insecure: self.is_set("insecure"),
             control: self.path("control"),
             metrics: self.metrics(),
         };
@@ -463,9 +463,9 @@ impl<'a> Check<'a> {
     fn metrics(&mut self) -> Option<SocketAddr> {
         let address = self.text("metrics")?.parse::<SocketAddr>().ok();
         let address = self.expect("metrics", address, "ADDRESS:PORT is expected, in numbers")?;
-        let is_open = !self.insecure() && !address.ip().is_loopback();
-        let text = "anybody may read it: a loopback address, or `insecure`";
-        self.refuse("metrics", is_open, text);
+        let may_be_open = self.is_set("metrics_open") || self.is_set("insecure");
+        let text = "anybody may read it: a loopback address, or `metrics_open`";
+        self.refuse("metrics", !may_be_open && !address.ip().is_loopback(), text);
         Some(address)
     }
 }

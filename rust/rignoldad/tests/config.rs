@@ -241,6 +241,13 @@ fn plain_tcp_stays_on_the_machine_unless_it_is_asked_for() {
         assert!(Config::parse(&text(address)).is_err(), "{address}");
         assert!(Config::parse(&(text(address) + "insecure = true")).is_ok(), "{address}");
     }
+    // (counts may be read on the network where nothing else may be plain there)
+    for address in ["0.0.0.0:9464", "10.0.0.1:9464", "[::]:9464"] {
+        let counts = text("127.0.0.1:1") + &format!("metrics = \"{address}\"\n");
+        assert!(Config::parse(&counts).is_err(), "{address}");
+        assert!(Config::parse(&(counts.clone() + "metrics_open = true")).is_ok(), "{address}");
+        assert!(Config::parse(&(counts + "metrics_open = 1")).is_err(), "{address}");
+    }
 }
 
 #[test]
