@@ -122,7 +122,8 @@ def a_standard_error_that_nobody_reads_stops_nobody():
         # what did not fit is counted, once somebody reads it, and each line is a whole one
         unread.begin()
         sure(until(lambda: b"lines are left out" in unread.text), unread.text[-300:])
-        whole = rf"(start|connected|closed|journal|settings|refused|end|published|report|parent) .*"
+        facts = "start applied connected closed journal settings refused end published report parent"
+        whole = f"({'|'.join(facts.split())}) .*"
         odd = [line for line in unread.text.decode().splitlines()[:-1]
                if not re.fullmatch(whole, line)]
         sure(not odd, odd[:3])
