@@ -12,8 +12,8 @@ const FAULTS: usize = 1_000;
 
 /// Carries settings down a tree of machines.
 ///
-/// It ends with 0 where it was told to end, or --check found warnings at most; with 1 where something
-/// is wrong, and with 2 where it was called wrongly.
+/// It ends with 0 where it was told to end, or --check found warnings at most; with 1 where
+/// something is wrong, and with 2 where it was called wrongly.
 #[derive(Parser)]
 #[command(name = "rignoldad", version)]
 struct Words {
@@ -21,7 +21,8 @@ struct Words {
     /// this machine, but ports that others have; of several as the agents of a whole tree.
     #[arg(long)]
     check: bool,
-    /// Whose agent it is, where root checks it: what this user may read, write and run is looked at.
+    /// Whose agent it is, where root checks it: what this user may read, write and run is looked
+    /// at.
     #[arg(long, requires = "check", default_value = "rignolda")]
     user: String,
     /// The configuration of this agent, in TOML.

@@ -1,8 +1,8 @@
 //! The root's settings: a folder is the truth, and what differs from it is published.
 //!
 //! Nothing here waits for the disk: [`Disk`] does, and says what it found. A round, and each table,
-//! is of what the folder had when it was asked for; where the disk does not answer in time, it is of
-//! what was known before.
+//! is of what the folder had when it was asked for; where the disk does not answer in time, it is
+//! of what was known before.
 use crate::config::{is_key, Root as Config};
 use crate::disk::{Disk, Done, Empty, Job};
 use crate::fact;
@@ -27,7 +27,8 @@ pub struct Root {
     pub draining: bool,
     /// Whether all settings were read once. Before that a table would unset what it does not name.
     known: bool,
-    /// Whether a setting was there at the start whose value is not known yet: no table is published.
+    /// Whether a setting was there at the start whose value is not known yet: no table is
+    /// published.
     holds: bool,
     /// Whether the folder is empty, and the first setting may be published.
     is_new: bool,

@@ -17,7 +17,7 @@ fn server(answer: impl Fn(&str, &mut TcpStream) + Send + 'static) -> String {
         let (mut input, mut space) = (String::new(), [0; 4_096]);
         while let Ok(count @ 1..) = socket.read(&mut space) {
             input += &String::from_utf8_lossy(&space[..count]);
-            // (each command begins with how many words it has, and its first word is the third line)
+            // (a command begins with how many words it has, and its first word is the third line)
             while let Some(lines) = input.split_once("\r\n").and_then(|(head, _)| {
                 let count: usize = head.strip_prefix('*')?.parse().ok()?;
                 (input.matches("\r\n").count() > 2 * count).then_some(1 + 2 * count)
