@@ -728,3 +728,86 @@ fn a_parent_that_stands_still_or_drips_is_left() {
     net.steps(3_000);
     assert_eq!(net.agent("b").peers.reconnects(), before);
 }
+
+/// Where any child may connect, one that takes another parent is a child no longer: else those that
+/// came and went would be kept for ever, until no further one may connect.
+#[test]
+fn who_takes_another_parent_is_forgotten_where_any_may_connect() {
+    let mut net = Net::new(vec![setup("root", vec![], Children::Any)]);
+    net.publish("root", "T0");
+    let says = [hello_2("pod", "root", 9).bytes(), wire::GOODBYE.to_vec()].concat();
+    let end = net.stranger("root", "pod", &says);
+    net.steps(2);
+    assert!(net.said("root", "closed pod: it takes another parent"));
+    assert_eq!(net.agent("root").peers.relay().children().count(), 0);
+    assert!(net.said("root", "gone pod"));
+    // (it may come back)
+    drop(end);
+    let end = net.stranger("root", "pod", &hello_2("pod", "root", 9).bytes());
+    net.steps(2);
+    let relay = net.agent("root").peers.relay();
+    assert!(relay.child("pod").unwrap().is_connected());
+    drop(end);
+}
+
+/// Looks that were answered do not lengthen the time of a later one that is not.
+#[test]
+fn a_look_that_hangs_ends_soon_although_many_were_answered() {
+    let mut net = Net::new(vec![
+        setup("a", vec![parent("c", None)], children(&[("leaf", false)])),
+        setup("b", vec![], children(&[("leaf", true)])),
+        setup(
+            "leaf",
+            vec![parent("a", Some("a")), parent("b", None)],
+            children(&[]),
+        ),
+    ]);
+    net.steps(10_000);
+    let way = net.agent("leaf").peers.way().clone();
+    assert_eq!((way.cost, &*way.names[0]), (9, "b"));
+    net.slow.insert("a".into(), u64::MAX);
+    let looks = |net: &mut Net| net.agent("leaf").peers.lines().count() > 1;
+    while !looks(&mut net) {
+        net.step();
+    }
+    let mut steps = 0;
+    while looks(&mut net) {
+        net.step();
+        steps += 1;
+    }
+    assert!(STEP * steps <= 3 * ACK_TIMEOUT, "{steps} steps");
+}
+
+/// A child that closes a connection once without a word need not speak version 1: it may end at
+/// that moment. One that does so twice in turn is called so.
+#[test]
+fn a_child_is_called_in_version_1_where_it_left_twice_without_a_word() {
+    for times in [1, 2] {
+        let mut net = Net::new(vec![setup("root", vec![], children(&[("a", true)]))]);
+        let version = |net: &mut Net| {
+            let (here, there) = line("root", "a");
+            net.now += Duration::from_secs(1);
+            let (now, root) = (net.now, net.agent("root"));
+            let call = root.peers.next_call(now, &mut root.said).unwrap();
+            root.peers.called(call, Ok(here), now, &mut root.said);
+            root.peers.write(now, &mut root.said);
+            let hello = next(&there, Expect::Hello);
+            drop(there);
+            let ids: Vec<u64> = root.peers.lines().map(|(id, ..)| id).collect();
+            root.peers.read(ids, now, &mut root.said);
+            match hello {
+                Some(Message::Hello(hello)) => hello.version,
+                other => panic!("{:?}", other),
+            }
+        };
+        (0..times).for_each(|_| assert_eq!(version(&mut net), VERSION));
+        if times == 2 {
+            assert_eq!(version(&mut net), OLD);
+            continue;
+        }
+        let parents = vec![parent("root", None)];
+        net.start(setup("a", parents, children(&[("b", false)])));
+        net.steps(100);
+        assert_eq!(net.agent("a").peers.way(), &way(1, &["root", "a"]));
+    }
+}

@@ -155,8 +155,10 @@ struct Dial {
     under_way: bool,
     /// How long the hello took that came last.
     took: Duration,
-    /// Whether version 1 is tried, since the other end left without a word.
+    /// Whether version 1 is tried, since the other end left without a word; a child is to do so
+    /// twice in turn, since nobody would find out later that it speaks more.
     is_old: bool,
+    is_mute: bool,
     /// Why it failed last.
     why: String,
 }
@@ -380,6 +382,7 @@ impl<L: Line, A: Clone + PartialEq + fmt::Display> Peers<L, A> {
                 under_way: false,
                 took: Duration::ZERO,
                 is_old: false,
+                is_mute: false,
                 why: String::new(),
             };
             self.dials.entry(whom).or_insert(dial);
@@ -797,7 +800,7 @@ impl<L: Line, A: Clone + PartialEq + fmt::Display> Peers<L, A> {
                 _ => (),
             }
         }
-        dial.is_old = false;
+        (dial.is_old, dial.is_mute) = (false, false);
         let rounds = (dial.failed / all).min(5);
         dial.failed = dial.failed.saturating_add(1);
         // (each agent at its own time, so that a parent that is back is not run over)
@@ -845,6 +848,11 @@ impl<L: Line, A: Clone + PartialEq + fmt::Display> Peers<L, A> {
             (Some(whom), _) => whom,
             (None, Look::Answered) => return,
             (None, Look::Asks(whom, ..)) => {
+                // (who answered was not late: the next look gets its time by how long this one took)
+                if conn.has_said && *whom != Whom::Parent {
+                    let took = now - conn.since;
+                    self.dial_with(whom, |dial| (dial.failed, dial.took) = (0, took));
+                }
                 return self.look_ended(whom, conn.is_mute, why, now, to);
             }
             (None, _) => {
@@ -890,10 +898,12 @@ impl<L: Line, A: Clone + PartialEq + fmt::Display> Peers<L, A> {
                 }
             }
         }
+        let was_mute = self.dials.get(&whom).map_or(false, |dial| dial.is_mute);
         self.redial(&whom, conn.made, conn.greeted, why, now, to);
         // (a parent's hello of version 2 was not heard, or it was tried to speak version 1)
         if let (Whom::Child(_), Some(dial)) = (&whom, self.dials.get_mut(&whom)) {
-            dial.is_old = conn.is_mute && !conn.is_old;
+            dial.is_mute = conn.is_mute && !conn.is_old;
+            dial.is_old = dial.is_mute && was_mute;
         }
     }
 
@@ -978,12 +988,17 @@ impl<L: Line, A: Clone + PartialEq + fmt::Display> Peers<L, A> {
         }
         for name in self.relay.evict(self.setup.evict, now) {
             to.on_fact("evicted", format_args!("{name}"));
-            if self.setup.children == Children::Any {
-                self.relay.remove(&name);
-                to.on_gone(&name);
-            }
+            self.forget_any(&name, to);
         }
         self.tell(now);
+    }
+
+    /// Where any child may connect, one that is gone is a child no longer.
+    fn forget_any(&mut self, name: &str, to: &mut dyn Handler) {
+        if self.setup.children == Children::Any {
+            self.relay.remove(name);
+            to.on_gone(name);
+        }
     }
 
     // ---- Bytes
@@ -1141,6 +1156,7 @@ impl<L: Line, A: Clone + PartialEq + fmt::Display> Peers<L, A> {
                 }
                 (Some((Whom::Child(name), _)), Message::Goodbye) => {
                     self.relay.leave_behind(&name);
+                    self.forget_any(&name, to);
                     return Err("it takes another parent");
                 }
                 _ => return Err("it is no message"),
