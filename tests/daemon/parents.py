@@ -159,6 +159,7 @@ def a_ring_of_single_parents_says_so_once():
         agents = [tree[f"a{at}"] for at in range(3)]
         for agent in agents:
             agent.start()
+        sure(until(lambda: all(agent.socket.exists() for agent in agents), pause=0.05))
         why = "its way leads over this agent"
         heads = lambda: [agent for agent in agents if agent.status()["parent"] is None]
         broken = lambda: len(heads()) == 1 and heads()[0].said(why)
