@@ -1369,10 +1369,7 @@ impl<L: Line, A: Clone + PartialEq + fmt::Display> Peers<L, A> {
         if made.is_none() {
             // (the end that accepted has the first turn)
             self.say(id, hello.from.clone(), false);
-            let label = self.relay.ack();
-            label
-                .into_iter()
-                .for_each(|label| self.send(id, wire::ack(label)));
+            self.acknowledge(id);
         }
         Ok(())
     }
@@ -1443,10 +1440,13 @@ impl<L: Line, A: Clone + PartialEq + fmt::Display> Peers<L, A> {
     ) {
         let came = self.relay.on_frame(number, label, body);
         self.came(came, body, now, to);
-        let label = self.relay.ack();
-        label
-            .into_iter()
-            .for_each(|label| self.send(id, wire::ack(label)));
+        self.acknowledge(id);
+    }
+
+    fn acknowledge(&mut self, id: u64) {
+        if let Some(label) = self.relay.ack() {
+            self.send(id, wire::ack(label));
+        }
     }
 
     /// A frame came from above, and brought an item or not; and who was left behind for it.

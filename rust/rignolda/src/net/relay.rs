@@ -19,6 +19,15 @@ enum Above {
     Below(Session<Node>),
 }
 
+impl Above {
+    fn node(&self) -> &Node {
+        match self {
+            Above::Root(node) => node,
+            Above::Below(session) => session.end(),
+        }
+    }
+}
+
 /// A node of the tree with the bodies of its items, and with children that have names.
 ///
 /// Each step of a link is a call that is proved. What is done here beside it: the body of each item
@@ -159,9 +168,14 @@ impl Relay {
     }
 
     fn node(&self) -> &Node {
-        match &self.above {
-            Above::Root(node) => node,
-            Above::Below(session) => session.end(),
+        self.above.node()
+    }
+
+    /// The link above.
+    fn below(&mut self) -> Option<&mut Session<Node>> {
+        match &mut self.above {
+            Above::Root(_) => None,
+            Above::Below(session) => Some(session),
         }
     }
 
@@ -187,23 +201,17 @@ impl Relay {
 
     /// Begins a connection to the parent. The one that there was is left.
     pub fn made(&mut self) -> Option<Connection> {
-        match &mut self.above {
-            Above::Root(_) => None,
-            Above::Below(session) => session.made(),
-        }
+        self.below()?.made()
     }
 
     /// The same for a connection that the parent made. An acknowledgement is to be sent first.
     pub fn accepted(&mut self) -> Option<Connection> {
-        match &mut self.above {
-            Above::Root(_) => None,
-            Above::Below(session) => session.accepted(),
-        }
+        self.below()?.accepted()
     }
 
     /// Leaves the connection to the parent.
     pub fn ended(&mut self, connection: Connection) {
-        if let Above::Below(session) = &mut self.above {
+        if let Some(session) = self.below() {
             session.ended(connection);
         }
     }
@@ -237,10 +245,7 @@ impl Relay {
             label,
             item: body.item,
         };
-        let fresh = match &mut self.above {
-            Above::Root(_) => false,
-            Above::Below(session) => give(session, frame),
-        };
+        let fresh = self.below().map_or(false, |session| give(session, frame));
         if fresh {
             self.keep(body);
         }
@@ -249,10 +254,7 @@ impl Relay {
 
     /// The label to acknowledge now.
     pub fn ack(&mut self) -> Option<u16> {
-        match &mut self.above {
-            Above::Root(_) => None,
-            Above::Below(session) => session.ack(),
-        }
+        self.below()?.ack()
     }
 
     // ---- The list
@@ -292,10 +294,7 @@ impl Relay {
             Above::Root(node) => node.forget(lacking),
             Above::Below(session) => session.forget(lacking),
         }
-        let node = match &self.above {
-            Above::Root(node) => node,
-            Above::Below(session) => session.end(),
-        };
+        let node = self.above.node();
         let kept = (node.length() - node.forgotten()) as usize;
         let dropped = self.bodies.drain(..self.bodies.len() - kept);
         self.bytes -= dropped.map(|body| body.bytes.len()).sum::<usize>();
@@ -454,13 +453,18 @@ impl Relay {
 
     /// The frame to write to a child now, and its body.
     pub fn poll(&mut self, name: &str, now: Instant) -> Option<(u16, Arc<Body>)> {
-        let link = self.children.get_mut(name)?;
-        let node = match &self.above {
-            Above::Root(node) => node,
-            Above::Below(session) => session.end(),
-        };
+        self.give(name, now, Session::<Child>::poll)
+    }
+
+    fn give(
+        &mut self,
+        name: &str,
+        now: Instant,
+        poll: impl FnOnce(&mut Session<Child>, &Node) -> Option<Frame>,
+    ) -> Option<(u16, Arc<Body>)> {
+        let (link, node) = (self.children.get_mut(name)?, self.above.node());
         let before = link.session.offered();
-        let frame = link.session.poll(node)?;
+        let frame = poll(&mut link.session, node)?;
         self.moved |= link.session.offered() != before;
         link.hold(frame, before, node, &self.bodies, now)
     }
@@ -510,15 +514,8 @@ impl Relay {
 
     /// The frame to set for a child now, and its body: as [`Relay::poll`].
     pub fn poll_word(&mut self, name: &str, now: Instant) -> Option<(u16, Arc<Body>)> {
-        let link = self.children.get_mut(name).filter(|link| !link.left)?;
-        let node = match &self.above {
-            Above::Root(node) => node,
-            Above::Below(session) => session.end(),
-        };
-        let before = link.session.offered();
-        let frame = link.session.poll_word(node)?;
-        self.moved |= link.session.offered() != before;
-        link.hold(frame, before, node, &self.bodies, now)
+        self.children.get(name).filter(|link| !link.left)?;
+        self.give(name, now, Session::<Child>::poll_word)
     }
 
     /// Takes an acknowledgement that a child's word shows: whether it is that of the sender's item.
