@@ -549,7 +549,8 @@ def what_a_child_reports_of_others_harms_nobody():
         sure(until(lambda: all(agent.up() for agent in others)), "the tree is not ready")
         of_others = ["left2", "left", "root", "right"]
         report = [{"name": "left1", "strays": 77}]
-        report += [{"name": name, "parent": "left1", "strays": 78} for name in of_others]
+        report += [{"name": name, "parent": "left1", "connected": True, "strays": 78}
+                   for name in of_others]
         said = json.dumps(report).encode()
         with socket.create_connection(("127.0.0.1", tree["left"].port)) as sock:
             sock.sendall(hello("left1", "left"))
