@@ -20,7 +20,7 @@ import time
 sys.dont_write_bytecode = True
 
 from daemons import PATIENCE, USUAL, Tree, free_port, until
-from hostile import Parent
+from hostile import Parent, memory
 
 # (a call that takes so many seconds, or none, as a file says)
 SLOW = r"""
@@ -42,6 +42,28 @@ int fsync(int file)
     return syscall(SYS_fsync, file);
 }
 int fsync64(int file) { return fsync(file); }
+"""
+
+
+# (while a file is there, a mark of a hook is not removed, and another file says so)
+SLOW_UNLINK = r"""
+#include <fcntl.h>
+#include <stdlib.h>
+#include <stdio.h>
+#include <string.h>
+#include <sys/syscall.h>
+#include <unistd.h>
+int unlink(const char *path)
+{
+    char began[4096];
+    const char *slow = getenv("SLOW_FILE");
+    while (strstr(path, "/.pending/") && !access(slow, F_OK)) {
+        snprintf(began, sizeof began, "%s.began", slow);
+        close(open(began, O_CREAT | O_WRONLY, 0600));
+        usleep(10000);
+    }
+    return syscall(SYS_unlinkat, AT_FDCWD, path, 0);
+}
 """
 
 
@@ -388,6 +410,65 @@ def a_hook_gets_no_descriptor_of_the_agent():
         sure("socket:" not in said and "NOTIFY_SOCKET" not in said, said)
 
 
+def a_hooks_mark_that_cannot_go_yet_stops_nobody():
+    """The disk of the applied settings hangs where a hook has ended: the agent answers."""
+    if not shutil.which("cc"):
+        print("a mark that cannot go is not tried: there is no cc")
+        return
+    with Tree({"left": "root"}) as tree:
+        left = tree["left"]
+        (tree.home / "slow.c").write_text(SLOW_UNLINK)
+        subprocess.run(["cc", "-shared", "-fPIC", "-o", tree.home / "slow.so",
+                        tree.home / "slow.c"], check=True)
+        (left.home / "hook").write_text("#!/bin/sh\nexit 0\n")
+        (left.home / "hook").chmod(0o755)
+        left.tables["apply"]["hook"] = str(left.home / "hook")
+        left.env = {"LD_PRELOAD": str(tree.home / "slow.so"), "SLOW_FILE": str(tree.home / "slow")}
+        begun(tree)
+        (tree.home / "slow").write_text("")
+        tree.write("late", "1")
+        sure(until(lambda: (tree.home / "slow.began").exists()), "no mark is removed")
+        is_answered = answers(left)
+        (tree.home / "slow").unlink()
+        sure(is_answered, "it waits for the disk")
+        sure(tree.right(), tree.wrong())
+
+
+def files_that_come_together_are_not_all_read():
+    """400 files of 1 MiB come to the root's folder at once: more than may be published."""
+    with Tree({"left": "root"}) as tree:
+        begun(tree)
+        new = tree.home / "new"
+        new.mkdir()
+        for at in range(400):
+            with open(new / f"many{at}", "wb") as file:
+                file.truncate(1 << 20)
+        folder = pathlib.Path(tree.root.tables["root"]["settings"])
+        for path in list(new.iterdir()):
+            path.rename(folder / path.name)
+        sure(until(lambda: tree.root.status()["unpublished"] > 0), tree.root.status())
+        most = memory(tree.root)
+        sure(most < 100, most, "MiB")
+
+
+def an_agent_that_ends_while_it_is_waited_for_does_not_answer():
+    """Then the command ends with 3, and says nothing of a time that is up."""
+    with Tree({"left": "root"}) as tree:
+        path = tree.home / "ends"
+        with socket.socket(socket.AF_UNIX) as server:
+            server.bind(str(path))
+            server.listen(1)
+            wait = subprocess.Popen([tree.bin / "rignoldactl", "--socket", path, "wait"],
+                                    stderr=subprocess.PIPE)
+            client = server.accept()[0]
+            with client, client.makefile("rb") as lines:
+                lines.readline()
+                client.sendall(b'{"status": {"is_root": true}}\n')
+                lines.readline()
+            said = wait.communicate(timeout=USUAL)[1]
+            sure(wait.returncode == 3 and b"time is up" not in said, wait.returncode, said)
+
+
 def what_a_peer_does_at_any_rate_is_said_once_in_a_second():
     with Tree({"left": "root"}) as tree:
         left = tree["left"]
@@ -420,6 +501,9 @@ TESTS = [*LONG,
          a_file_where_a_socket_is_to_be_is_kept,
          a_folder_of_somebody_else_is_not_taken,
          a_hook_gets_no_descriptor_of_the_agent,
+         a_hooks_mark_that_cannot_go_yet_stops_nobody,
+         files_that_come_together_are_not_all_read,
+         an_agent_that_ends_while_it_is_waited_for_does_not_answer,
          what_a_peer_does_at_any_rate_is_said_once_in_a_second]
 
 

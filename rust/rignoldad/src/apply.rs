@@ -84,6 +84,8 @@ struct Shared {
     files: Condvar,
     hooks: Condvar,
     wake: Wake,
+    /// Held while the mark of a hook goes, or the key of a file is taken: never by the loop.
+    marks: Mutex<()>,
 }
 
 #[derive(Default)]
@@ -116,7 +118,7 @@ impl Applier {
         let due = due.into_iter().filter(|name| is_key(name)).collect();
         let state = Mutex::new(State { config: config.clone(), due, ..State::default() });
         let (files, hooks) = (Condvar::new(), Condvar::new());
-        let shared = Arc::new(Shared { folder, state, files, hooks, wake });
+        let shared = Arc::new(Shared { folder, state, files, hooks, wake, marks: Mutex::new(()) });
         let applier = Applier { shared };
         let hooks = [("hooks", run_hooks as fn(&Shared)); HOOKS];
         for (name, work) in hooks.into_iter().chain([("files", keep_files as fn(&Shared))]) {
@@ -235,8 +237,10 @@ fn keep_files(shared: &Shared) {
         let there = || folder.names().into_iter().chain(folder.others()).filter(|it| is_key(it));
         let is_known = is_taken || files.is_whole() && there().all(|name| files.has(&name));
         let refused = refusal(&config).filter(|_| !is_known);
-        is_taken = refused.is_none();
-        let outcome = refused.map_or(Outcome::Done, Outcome::File);
+        // (what came while it was refused was dropped, so a change alone is not enough)
+        let lacks = shared.lock().failing.get(MARKER).cloned().filter(|_| !files.is_whole());
+        let outcome = refused.map(Outcome::File).or(lacks).unwrap_or(Outcome::Done);
+        is_taken = outcome == Outcome::Done;
         if !is_taken || shared.lock().failing.contains_key(MARKER) {
             let (mut state, sequence) = (shared.lock(), files.first().unwrap_or(0));
             shared.report(&mut state, MARKER, sequence, outcome);
@@ -302,7 +306,9 @@ fn keep_file(
     change: Change,
     differs: bool,
 ) {
+    let marks = shared.marks.lock().unwrap_or_else(PoisonError::into_inner);
     shared.lock().key = Some(key.into());
+    drop(marks);
     let kept = if differs {
         let announced = config.hook.as_ref().map_or(Ok(()), |_| announce(shared, key));
         announced.and_then(|()| folder.put(key, change.value.as_deref(), config.mode))
@@ -350,18 +356,22 @@ fn run_hooks(shared: &Shared) {
     };
     while let Some((key, change, config)) = shared.next(&shared.hooks, take) {
         let status = run_hook(&shared.folder, &config, &key, &change);
+        if status.is_ok() {
+            // (the disk may hang: so the lock that the loop takes is not held)
+            let _marks = shared.marks.lock().unwrap_or_else(PoisonError::into_inner);
+            let state = shared.lock();
+            let again = state.hooks.has(&key) || state.key.as_ref() == Some(&key);
+            drop(state);
+            if !again {
+                let _ = fs::remove_file(shared.folder.join(PENDING).join(&key));
+            }
+        }
         let mut state = shared.lock();
         state.running.remove(&key);
         // (a change of the same key may have waited for this)
         shared.hooks.notify_one();
         let outcome = match status {
-            Ok(()) => {
-                let again = state.hooks.has(&key) || state.key.as_ref() == Some(&key);
-                if !again {
-                    let _ = fs::remove_file(shared.folder.join(PENDING).join(&key));
-                }
-                Outcome::Done
-            }
+            Ok(()) => Outcome::Done,
             Err(error) => {
                 state.failures += 1;
                 state.due.insert(key.clone());

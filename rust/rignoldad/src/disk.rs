@@ -114,8 +114,12 @@ impl Place {
                 break;
             }
         }
+        let mut bytes = 0;
         let value = |key: String| match read_plain(&self.settings.join(&key), VALUE_BYTES) {
-            Ok(value) => Some((key, Some(value))),
+            Ok(value) => {
+                bytes += value.len();
+                (bytes <= BODY_BYTES).then_some((key, Some(value)))
+            }
             Err(e) if e.kind() == ErrorKind::NotFound && self.settings.is_dir() => {
                 Some((key, None))
             }

@@ -3,6 +3,7 @@
 use clap::{error::ErrorKind, CommandFactory, Parser};
 use rignoldad::check::check;
 use rignoldad::config::{plain, Config, Fault};
+use std::io::{stderr, stdout, Write};
 use std::os::unix::fs::MetadataExt;
 use std::path::PathBuf;
 use std::process::{Command, ExitCode};
@@ -40,7 +41,7 @@ fn main() -> ExitCode {
                 Ok(()) => Vec::new(),
                 Err(why) => {
                     rignoldad::journal::flush();
-                    eprintln!("rignoldad: {why}");
+                    let _ = writeln!(stderr(), "rignoldad: {}", plain(&why));
                     return ExitCode::FAILURE;
                 }
             },
@@ -48,10 +49,11 @@ fn main() -> ExitCode {
         _ => Words::command().error(ErrorKind::TooManyValues, "it runs one FILE").exit(),
     };
     for (at, fault) in faults.iter().take(FAULTS) {
-        eprintln!("{}: {fault}", plain(&words.files[*at].to_string_lossy()));
+        // (a reader that went away is no fault of the files)
+        let _ = writeln!(stderr(), "{}: {fault}", plain(&words.files[*at].to_string_lossy()));
     }
     if faults.len() > FAULTS {
-        eprintln!("rignoldad: and {} more", faults.len() - FAULTS);
+        let _ = writeln!(stderr(), "rignoldad: and {} more", faults.len() - FAULTS);
     }
     ExitCode::from(u8::from(faults.iter().any(|(_, fault)| !fault.is_warning)))
 }
@@ -67,7 +69,7 @@ fn checked(words: &Words) -> Vec<(usize, Fault)> {
         (None, false) => "who runs this",
     };
     if words.files.len() == 1 {
-        println!("checked for {}", plain(who));
+        let _ = writeln!(stdout(), "checked for {}", plain(who));
     }
     let act = group.map_or(Vec::new(), |group| {
         let group = format!("--regid={}", String::from_utf8_lossy(&group).trim());

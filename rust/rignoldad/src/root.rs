@@ -7,7 +7,9 @@ use crate::config::{is_key, Root as Config};
 use crate::disk::{Disk, Done, Empty, Job};
 use crate::fact;
 use rignolda::net::BODY_BYTES;
-use rignolda::settings::{no_key, Faults, Found, Kept, Published, Publisher};
+use rignolda::settings::{
+    entry_bytes, no_key, Faults, Found, Kept, Published, Publisher, SETTINGS,
+};
 use std::io;
 use std::os::unix::io::RawFd;
 use std::sync::Arc;
@@ -48,6 +50,8 @@ pub struct Root {
     asked: Vec<Vec<Kept>>,
     is_writing: bool,
     written: u64,
+    /// How many changes are not written yet, and their bytes.
+    waiting: (usize, usize),
     /// Those that could not be written: their batch and key, and why.
     failed: Vec<(u64, String, String)>,
     /// Whether it was time for a round while one was under way.
@@ -83,6 +87,7 @@ impl Root {
             asked: Vec::new(),
             is_writing: false,
             written: 0,
+            waiting: (0, 0),
             failed: Vec::new(),
             overdue: false,
             faults: Faults::default(),
@@ -233,6 +238,7 @@ impl Root {
     /// removes it. The number of its batch.
     pub fn ask(&mut self, key: &str, value: Option<Vec<u8>>) -> Result<u64, String> {
         let settings = self.config.settings.display();
+        let bytes = entry_bytes(&(key, value.as_deref()));
         match &value {
             _ if self.draining => Err("it is draining".into()),
             _ if !self.known && !self.is_new => {
@@ -241,13 +247,25 @@ impl Root {
             }
             _ if !is_key(key) => Err(no_key(key)),
             Some(value) if !self.publisher.has_room(key, value) => Err("it is too long".into()),
+            _ if !self.has_room_beside(bytes) => {
+                Err("too much waits for the disk: try again".into())
+            }
             _ => Ok(()),
         }?;
+        self.waiting = (self.waiting.0 + 1, self.waiting.1 + bytes);
         if self.asked.last().is_none_or(|batch| batch.iter().any(|it| it.0 == key)) {
             self.asked.push(Vec::new());
         }
         self.asked.last_mut().into_iter().for_each(|it| it.push((key.into(), value.clone())));
         Ok(self.written + u64::from(self.is_writing) + self.asked.len() as u64)
+    }
+
+    /// Whether there is room beside what waits, as if each of it were a new setting.
+    fn has_room_beside(&self, bytes: usize) -> bool {
+        let (count, all) = self.waiting;
+        let settings = self.publisher.settings();
+        let has_room = || Publisher::bytes_of(settings) + all + bytes <= BODY_BYTES;
+        count == 0 || settings.len() + count < SETTINGS && has_room()
     }
 
     /// Has what was asked for written, one batch after the other.
@@ -272,6 +290,8 @@ impl Root {
         self.is_writing = false;
         self.written += 1;
         for ((key, value), done) in all {
+            let bytes = entry_bytes(&(&key, value.as_deref()));
+            self.waiting = (self.waiting.0 - 1, self.waiting.1 - bytes);
             match done {
                 // (also where it is as it was: whoever asked for it is told a number)
                 Ok(()) => self.publisher.put(&key, value),

@@ -538,3 +538,23 @@ fn a_table_that_fills_a_gap_is_applied_as_a_whole() {
     calls.sort();
     assert_eq!(calls, ["a", "b", "c"]);
 }
+
+#[test]
+fn nothing_counts_as_applied_until_a_table_follows_what_a_refused_folder_dropped() {
+    let place = Place::new();
+    let config = place.config();
+    fs::create_dir(place.folder()).unwrap();
+    fs::write(place.folder().join("app.conf"), "mine").unwrap();
+    let mut applier = start(&config);
+    applier.table([("a", b"1"), ("b", b"2")], 1);
+    applied(&mut applier, 1);
+    assert_eq!(applier.failing(), 1);
+    // (consent comes, and then a change alone: the settings of the table are not there yet)
+    applier.reload(&Apply { take: true, ..config });
+    applier.set("c", b"3", 2);
+    applied(&mut applier, 2);
+    assert!(place.folder().join("a").exists() || applier.failing() > 0, "`a` is not applied");
+    applier.table([("a", b"1"), ("b", b"2"), ("c", b"3")], 3);
+    applied(&mut applier, 3);
+    assert_eq!((applier.failing(), place.files().len()), (0, 3));
+}

@@ -568,3 +568,28 @@ fn the_checksum_is_that_of_another_program() {
         }
     }
 }
+
+#[test]
+fn what_is_asked_for_together_has_room_together() {
+    let folder = Folder::new("room");
+    let value = vec![0; VALUE_BYTES];
+    for at in 0..15 {
+        fs::write(folder.0.join(format!("old{at}")), &value).unwrap();
+    }
+    let (mut root, _) = root(&folder.0, true);
+    let asked = ["a", "b", "c"].map(|key| root.ask(key, Some(&value[1_000..])).is_ok());
+    root.commit();
+    let longest = std::iter::from_fn(|| root.next(100)).map(|it| it.body.bytes.len()).max();
+    let bytes: u64 =
+        fs::read_dir(&folder.0).unwrap().map(|it| it.unwrap().metadata().unwrap().len()).sum();
+    assert!(bytes <= 16 << 20, "{asked:?}: the folder has {bytes} bytes, a body {longest:?}");
+}
+
+#[test]
+fn what_is_asked_for_while_the_disk_is_busy_is_bounded() {
+    let folder = Folder::new("asks");
+    let (mut root, _) = root(&folder.0, true);
+    let value = vec![0; VALUE_BYTES];
+    let taken = (0..100).filter(|_| root.ask("a", Some(&value)).is_ok()).count();
+    assert!(taken <= 16, "{taken} values of 1 MiB wait");
+}

@@ -6,7 +6,7 @@ use rignoldad::config::milliseconds;
 use rignoldad::control::{Request, Response, Status};
 use rignoldad::tree::Seen;
 use serde_json::json;
-use std::io::{Read, Write};
+use std::io::{ErrorKind, Read, Write};
 use std::path::PathBuf;
 use std::process::ExitCode;
 use std::time::{Duration, Instant};
@@ -106,9 +106,9 @@ fn main() -> ExitCode {
         Ok(()) => ExitCode::SUCCESS,
         Err(Failed(status, error)) => {
             if arguments.json {
-                println!("{}", json!({ "error": error }));
+                let _ = writeln!(std::io::stdout(), "{}", json!({ "error": error }));
             }
-            eprintln!("rignoldactl: {}", ask::plain(&error));
+            let _ = writeln!(std::io::stderr(), "rignoldactl: {}", ask::plain(&error));
             ExitCode::from(status)
         }
     }
@@ -215,7 +215,11 @@ fn newest(agent: &mut Agent, timeout: Duration) -> Result<u64, Failed> {
         None => Ok(status.sequence),
         Some(Ok(Response::Published(sequence))) => Ok(sequence),
         Some(Ok(Response::Refused(why))) => Err(Failed(1, why)),
-        Some(_) => Err(Failed(1, "the time is up: not all of its folder is published".into())),
+        Some(Err(e)) if matches!(e.kind(), ErrorKind::WouldBlock | ErrorKind::TimedOut) => {
+            Err(Failed(1, "the time is up: not all of its folder is published".into()))
+        }
+        Some(Err(error)) => Err(error.into()),
+        Some(_) => Err(Failed(3, "the agent answers something else".into())),
     }
 }
 
