@@ -6,21 +6,18 @@ store; and files that are not its own.
 """
 import contextlib
 import os
-import pathlib
 import re
 import shutil
 import signal
 import socket
-import struct
 import subprocess
 import sys
 import threading
 import time
 
-sys.dont_write_bytecode = True
-
-from daemons import PATIENCE, USUAL, Tree, free_port, until
-from hostile import Parent, memory
+from daemons import PATIENCE, USUAL, Tree, flips, free_port, meanwhile, memory, running, until
+from protocol import Parent, body, hello
+from runner import main, sure, test
 
 # (a call that takes so many seconds, or none, as a file says)
 SLOW = r"""
@@ -67,27 +64,22 @@ int unlink(const char *path)
 """
 
 
-def sure(holds, *words):
-    """An assertion that python -O keeps."""
-    if not holds:
-        raise AssertionError(" ".join(map(str, words)))
+def lacking():
+    return None if shutil.which("cc") else "disks that hang: there is no cc"
 
 
-def begun(tree):
-    for at in range(8):
-        tree.write(f"key{at}", f"value {at}")
-    tree.start()
-    sure(tree.ready() and tree.right(), tree.wrong(), [agent.text()[-300:] for agent in tree])
+def preload(agent, source):
+    """From its next start on an agent has these functions. It answers which file they look at."""
+    home = agent.tree.home
+    (home / "slow.c").write_text(source)
+    subprocess.run(["cc", "-shared", "-fPIC", "-o", home / "slow.so", home / "slow.c"], check=True)
+    agent.env = {"LD_PRELOAD": str(home / "slow.so"), "SLOW_FILE": str(home / "slow")}
+    return home / "slow"
 
 
-def answers(agent, seconds=3):
-    """Whether it says its status within a time."""
-    command = [agent.tree.bin / "rignoldactl", "--json", "--socket", agent.socket, "status"]
-    try:
-        done = subprocess.run(command, capture_output=True, timeout=seconds * PATIENCE)
-        return done.returncode == 0
-    except subprocess.TimeoutExpired:
-        return False
+def answers(agent):
+    """Whether it says its status soon."""
+    return "status" in agent.request(3 * PATIENCE, do="status")
 
 
 def ends(agent):
@@ -124,6 +116,7 @@ class Unread:
             self.text += piece
 
 
+@test
 def a_standard_error_that_nobody_reads_stops_nobody():
     """2,000 connections, of each of which two lines are said."""
     name = "evil" + 56 * "x"
@@ -132,11 +125,9 @@ def a_standard_error_that_nobody_reads_stops_nobody():
         unread = Unread(tree.root)
         tree["left"].start()
         sure(until(lambda: answers(tree.root) and tree["left"].up()), "the tree is not ready")
-        text = lambda words: bytes([len(words)]) + words.encode()
         for life in range(2_000):
-            hello = b"RGND" + struct.pack(">BQH", 1, life, 255) + text(name) + text("root")
-            with socket.create_connection(("127.0.0.1", tree.root.port), timeout=USUAL) as sock:
-                sock.sendall(hello)
+            with tree.root.connect() as sock:
+                sock.sendall(hello(name, "root", life))
                 sure(len(sock.recv(4)) == 4, "no answer to connection", life)
         sure(answers(tree.root), "it does not answer")
         tree.write("after", "that")
@@ -144,14 +135,15 @@ def a_standard_error_that_nobody_reads_stops_nobody():
         # what did not fit is counted, once somebody reads it, and each line is a whole one
         unread.begin()
         sure(until(lambda: b"lines are left out" in unread.text), unread.text[-300:])
-        facts = "start applied connected closed journal settings refused end published report parent"
-        whole = f"({'|'.join(facts.split())}) .*"
+        whole = ("(start|applied|connected|closed|journal|settings|refused|end|published|report"
+                 "|parent) .*")
         odd = [line for line in unread.text.decode().splitlines()[:-1]
                if not re.fullmatch(whole, line)]
         sure(not odd, odd[:3])
         sure(ends(tree.root), "it does not end")
 
 
+@test
 def an_end_waits_for_no_reader_and_lines_have_priorities():
     with Tree({"left": "root"}) as tree:
         (tree.root.truth / "no key").touch()
@@ -161,8 +153,8 @@ def an_end_waits_for_no_reader_and_lines_have_priorities():
         tree["left"].kill()
         sure(until(lambda: not tree.root.status()["children"][0]["connected"]), "it is there")
         unread.begin()
-        for words in (b"<5>start root life", b"<5>connected left", b"<3>settings `no key` is no key",
-                      b"<4>closed left"):
+        for words in (b"<5>start root life", b"<5>connected left", b"<4>closed left",
+                      b"<3>settings `no key` is no key"):
             sure(until(lambda: words in unread.text), words, unread.text)
     with Tree({}) as tree:
         Unread(tree.root)
@@ -176,19 +168,13 @@ def an_end_waits_for_no_reader_and_lines_have_priorities():
         sure(ends(tree.root), "it does not end")
 
 
+@test(begins=True, needs=lacking)
 def a_disk_that_hangs_stops_nobody():
     """While a file waits for the disk, the agent answers and its rounds go on; then it is there."""
-    if not shutil.which("cc"):
-        print("a disk that hangs is not tried: there is no cc")
-        return
     with Tree({"left": "root"}) as tree:
-        (tree.home / "slow.c").write_text(SLOW)
-        subprocess.run(["cc", "-shared", "-fPIC", "-o", tree.home / "slow.so",
-                        tree.home / "slow.c"], check=True)
-        says = tree.home / "seconds"
-        tree.root.env = {"LD_PRELOAD": str(tree.home / "slow.so"), "SLOW_FILE": str(says)}
+        says = preload(tree.root, SLOW)
         tree.root.tables["root"]["round"] = "500ms"
-        begun(tree)
+        tree.begin()
         says.write_text("12")
         command = [tree.bin / "rignoldactl", "--json", "--socket", tree.root.socket]
         slow = subprocess.Popen([*command, "publish", "slow", "1"], stdout=subprocess.PIPE,
@@ -213,9 +199,9 @@ def a_disk_that_hangs_stops_nobody():
         sure(until(lambda: tree.root.status()["unpublished"] == 0), tree.root.status())
 
 
+@test
 def links_and_pipes_in_the_roots_folder_are_named_and_not_read():
-    with Tree({"left": "root"}) as tree:
-        begun(tree)
+    with running({"left": "root"}) as tree:
         truth, secret = tree.root.truth, tree.home / "secret"
         secret.write_text("of the agent alone")
         (truth / "link").symlink_to(secret)
@@ -228,34 +214,17 @@ def links_and_pipes_in_the_roots_folder_are_named_and_not_read():
         sure(until(lambda: tree.root.status()["unpublished"] == 3), tree.root.status())
         faults = tree.root.status()["faults"]
         sure([it.split(":")[0] for it in faults] == ["link", "pipe", "zero"], faults)
-        # (a file that is a pipe when it is opened)
-        done = threading.Event()
-
-        def turn():
-            while not done.is_set():
-                for name, make in (("a", pathlib.Path.touch), ("b", os.mkfifo)):
-                    with contextlib.suppress(OSError):
-                        make(truth / f".{name}")
-                        os.rename(truth / f".{name}", truth / "turns")
-        threads = [threading.Thread(target=turn) for _ in range(2)]
-        for thread in threads:
-            thread.start()
-        try:
-            for at in range(30):
-                tree.write("key1", f"again {at}")
-                sure(until(lambda: tree["left"].files().get("key1") == f"again {at}".encode()),
-                     "change", at, "does not come")
-        finally:
-            done.set()
-            for thread in threads:
-                thread.join()
-        for name in ("link", "zero", "pipe", "turns", "after"):
+        with meanwhile(*2 * [lambda: flips(truth)]):
+            for _ in range(30):
+                tree.reaches("left")
+        for name in ("link", "zero", "pipe", "flips", "after"):
             (truth / name).unlink(missing_ok=True)
         sure(until(lambda: tree.root.status()["unpublished"] == 0), tree.root.status())
         sure(tree.right(), tree.wrong())
         sure(not any("alone" in agent.text() for agent in tree), "the secret is in the journal")
 
 
+@test
 def a_file_that_cannot_be_read_is_named_and_unsets_nothing():
     """As another user than root, to whom all files are open."""
     if os.geteuid() != 0 or not shutil.which("setpriv"):
@@ -265,12 +234,8 @@ def a_file_that_cannot_be_read_is_named_and_unsets_nothing():
         tree.home.chmod(0o755)
         root, left = tree.root, tree["left"]
         root.prefix = ["setpriv", "--reuid=65534", "--regid=65534", "--clear-groups"]
-        begun_by = lambda: subprocess.run(["chown", "-R", "65534:65534", root.home], check=True)
-        for at in range(8):
-            tree.write(f"key{at}", f"value {at}")
-        begun_by()
-        tree.start()
-        sure(tree.ready() and tree.right(), tree.wrong(), root.text()[-300:])
+        subprocess.run(["chown", "-R", "65534:65534", root.home], check=True)
+        tree.begin()
         before = left.files()
         os.chown(root.truth / "key1", 0, 0)
         (root.truth / "key1").chmod(0o600)
@@ -283,8 +248,7 @@ def a_file_that_cannot_be_read_is_named_and_unsets_nothing():
             sure(until(lambda: left.files().get("key2") == b"changed %d" % turn), left.files())
             sure({**before, "key2": b""} == {**left.files(), "key2": b""}, left.files())
             if turn == 0:
-                root.kill()
-                root.start()
+                root.restart()
                 sure(until(lambda: answers(root) and root.status()["unpublished"] == 1),
                      root.text()[-300:])
                 sure(until(lambda: root.status()["children"][0]["connected"]), root.status())
@@ -296,6 +260,7 @@ def a_file_that_cannot_be_read_is_named_and_unsets_nothing():
         sure(tree.right(agents=[left]), tree.wrong([left]))
 
 
+@test
 def a_first_setting_may_be_published_and_is_for_its_group_alone():
     with Tree({"left": "root"}) as tree:
         (tree.root.truth / ".empty").unlink()
@@ -311,6 +276,7 @@ def a_first_setting_may_be_published_and_is_for_its_group_alone():
         sure((tree.root.truth / "first").stat().st_mode & 0o777 == 0o640 & ~mask, "its mode")
 
 
+@test
 def a_file_where_a_socket_is_to_be_is_kept():
     with Tree({}) as tree:
         for kind, make in (("file", lambda path: path.write_text("mine")),
@@ -326,6 +292,7 @@ def a_file_where_a_socket_is_to_be_is_kept():
         sure((tree.home / "file").read_text() == "mine")
 
 
+@test
 def a_folder_of_somebody_else_is_not_taken():
     with Tree({"left": "root", "leaf": "left"}) as tree:
         left, leaf = tree["left"], tree["leaf"]
@@ -344,8 +311,7 @@ def a_folder_of_somebody_else_is_not_taken():
         done = subprocess.run([tree.bin / "rignoldad", "--check", left.file], capture_output=True)
         sure(done.returncode == 1 and b"app.conf" in done.stderr, done.stderr)
         left.tables["apply"]["take"] = True
-        left.kill()
-        left.start()
+        left.restart()
         sure(until(lambda: left.up() and tree.right()), tree.wrong())
         sure(left.status()["failing"] == 0, left.status())
         # (from now on it is the agent's own)
@@ -356,6 +322,7 @@ def a_folder_of_somebody_else_is_not_taken():
         sure(tree.right(), tree.wrong())
 
 
+@test(begins=True)
 def a_store_that_drips_holds_its_child_up_for_a_while_alone():
     """The child goes to its next parent, which it reaches by a connection."""
     done = threading.Event()
@@ -396,61 +363,53 @@ def a_store_that_drips_holds_its_child_up_for_a_while_alone():
             listener.close()
 
 
+@test
 def a_hook_gets_no_descriptor_of_the_agent():
     with Tree({"left": "root"}) as tree:
         left = tree["left"]
-        hook = left.home / "hook"
-        hook.write_text(f"#!/bin/sh\nls -l /proc/self/fd >{left.home}/said\nenv >>{left.home}/said\n")
-        hook.chmod(0o755)
-        left.tables["apply"]["hook"] = str(hook)
+        left.hook(f"ls -l /proc/self/fd >{left.home}/said\nenv >>{left.home}/said")
         # (the socket's folder is not there, so nothing is sent)
         left.env = {**left.env, "NOTIFY_SOCKET": str(left.home / "none")}
-        begun(tree)
+        tree.begin()
+        tree.root.ask("wait", "--everywhere")
         said = (left.home / "said").read_text()
         sure("socket:" not in said and "NOTIFY_SOCKET" not in said, said)
 
 
+@test(needs=lacking)
 def a_hooks_mark_that_cannot_go_yet_stops_nobody():
     """The disk of the applied settings hangs where a hook has ended: the agent answers."""
-    if not shutil.which("cc"):
-        print("a mark that cannot go is not tried: there is no cc")
-        return
     with Tree({"left": "root"}) as tree:
         left = tree["left"]
-        (tree.home / "slow.c").write_text(SLOW_UNLINK)
-        subprocess.run(["cc", "-shared", "-fPIC", "-o", tree.home / "slow.so",
-                        tree.home / "slow.c"], check=True)
-        (left.home / "hook").write_text("#!/bin/sh\nexit 0\n")
-        (left.home / "hook").chmod(0o755)
-        left.tables["apply"]["hook"] = str(left.home / "hook")
-        left.env = {"LD_PRELOAD": str(tree.home / "slow.so"), "SLOW_FILE": str(tree.home / "slow")}
-        begun(tree)
-        (tree.home / "slow").write_text("")
+        slow = preload(left, SLOW_UNLINK)
+        left.hook("exit 0")
+        tree.begin()
+        slow.touch()
         tree.write("late", "1")
-        sure(until(lambda: (tree.home / "slow.began").exists()), "no mark is removed")
+        sure(until((tree.home / "slow.began").exists), "no mark is removed")
         is_answered = answers(left)
-        (tree.home / "slow").unlink()
+        slow.unlink()
         sure(is_answered, "it waits for the disk")
         sure(tree.right(), tree.wrong())
 
 
+@test
 def files_that_come_together_are_not_all_read():
     """400 files of 1 MiB come to the root's folder at once: more than may be published."""
-    with Tree({"left": "root"}) as tree:
-        begun(tree)
+    with running({"left": "root"}) as tree:
         new = tree.home / "new"
         new.mkdir()
         for at in range(400):
             with open(new / f"many{at}", "wb") as file:
                 file.truncate(1 << 20)
-        folder = pathlib.Path(tree.root.tables["root"]["settings"])
         for path in list(new.iterdir()):
-            path.rename(folder / path.name)
+            path.rename(tree.root.truth / path.name)
         sure(until(lambda: tree.root.status()["unpublished"] > 0), tree.root.status())
         most = memory(tree.root)
         sure(most < 100, most, "MiB")
 
 
+@test
 def an_agent_that_ends_while_it_is_waited_for_does_not_answer():
     """Then the command ends with 3, and says nothing of a time that is up."""
     with Tree({"left": "root"}) as tree:
@@ -469,59 +428,23 @@ def an_agent_that_ends_while_it_is_waited_for_does_not_answer():
             sure(wait.returncode == 3 and b"time is up" not in said, wait.returncode, said)
 
 
+@test
 def what_a_peer_does_at_any_rate_is_said_once_in_a_second():
     with Tree({"left": "root"}) as tree:
         left = tree["left"]
         left.env = {}
-        left.tables["link"] = {"ack_timeout": "30s", "evict": "2m"}
         parent = Parent(left)
-        left.start()
-        parent.meet()
         begin = time.monotonic()
         for number in range(1, 301):
             # (a body without a meaning, and then one that is older than the one before)
-            parent.send(b"?" + struct.pack(">Q", number))
-            parent.send(b"H" + struct.pack(">Q", 1_000 - number))
+            parent.send(body(b"?", number))
+            parent.send(body(b"H", 1_000 - number))
         seconds = time.monotonic() - begin
         status = left.status()
         sure(status["garbage"] == 300 and status["strays"] == 299, status)
         lines = left.said("garbage ") + left.said("stray ")
         sure(1 <= lines <= seconds + 2, lines, "lines in", seconds, "s")
         parent.close()
-
-
-# (these take longest)
-LONG = [a_disk_that_hangs_stops_nobody, a_store_that_drips_holds_its_child_up_for_a_while_alone]
-TESTS = [*LONG,
-         a_standard_error_that_nobody_reads_stops_nobody,
-         an_end_waits_for_no_reader_and_lines_have_priorities,
-         links_and_pipes_in_the_roots_folder_are_named_and_not_read,
-         a_file_that_cannot_be_read_is_named_and_unsets_nothing,
-         a_first_setting_may_be_published_and_is_for_its_group_alone,
-         a_file_where_a_socket_is_to_be_is_kept,
-         a_folder_of_somebody_else_is_not_taken,
-         a_hook_gets_no_descriptor_of_the_agent,
-         a_hooks_mark_that_cannot_go_yet_stops_nobody,
-         files_that_come_together_are_not_all_read,
-         an_agent_that_ends_while_it_is_waited_for_does_not_answer,
-         what_a_peer_does_at_any_rate_is_said_once_in_a_second]
-
-
-def main():
-    failed = 0
-    chosen = [it for it in TESTS
-              if not sys.argv[1:] or any(word in it.__name__ for word in sys.argv[1:])]
-    for function in chosen:
-        begin = time.monotonic()
-        try:
-            function()
-            result = "ok"
-        except Exception as error:
-            failed += 1
-            result = f"FAILED: {type(error).__name__}: {str(error)[:600]}"
-        print(f"{function.__name__}: {result} ({time.monotonic() - begin:.1f} s)", flush=True)
-    print(f"{len(chosen) - failed} passed, {failed} failed")
-    return 1 if failed else 0
 
 
 if __name__ == "__main__":

@@ -5,6 +5,8 @@
     tests/daemon/check.py NAME..     the tests whose names contain a word
 """
 import concurrent.futures
+import contextlib
+import importlib
 import itertools
 import json
 import os
@@ -19,76 +21,25 @@ import struct
 import subprocess
 import sys
 import time
-import traceback
-import zlib
 
-from daemons import PATIENCE, USUAL, Agent, Tree, binaries, chain, free_port, until
+import runner
+from daemons import (Tree, by_tls, certify, certify_foreign, chain, counted, memory, patient,
+                     running, until, very_patient)
 from memory import write_over
+from protocol import Child, Parent, body, closed, entry, frame, hello, report
 from relay import Relay
-from reverse import parents_may_connect_to_their_children
-import blocked
-import floods
-import hostile
-import parents
-import store
-import watching
+from runner import sure, test
 
-TESTS = []
-LONG = []
+# (each of them tells its tests)
+for name in ("blocked", "floods", "hostile", "parents", "reverse", "store", "watching"):
+    importlib.import_module(name)
 
-
-def test(function):
-    TESTS.append(function)
-    return function
-
-
-def long_test(function):
-    LONG.append(function)
-    return test(function)
-
-
-long_test(parents_may_connect_to_their_children)
-# (by hand store.py installs what these need)
-if store.is_there():
-    for function in store.TESTS:
-        long_test(function)
-else:
-    print("the links in a store are not tried: see tests/daemon/store.py")
-for function in hostile.TESTS + watching.TESTS:
-    test(function)
-for function in blocked.TESTS:
-    (long_test if function in blocked.LONG else test)(function)
-for function in parents.TESTS:
-    long_test(function)
-if floods.is_there():
-    for function in floods.TESTS:
-        (long_test if function in floods.LONG else test)(function)
-else:
-    print("floods by TLS are not tried: floods.c cannot be compiled here")
-
-
-def sure(holds, *words):
-    """An assertion that python -O keeps."""
-    if not holds:
-        raise AssertionError(" ".join(map(str, words)))
-
-
-def fill(tree, count=8):
-    for at in range(count):
-        tree.write(f"key{at}", f"value {at}")
-
-
-def usual(tree):
-    fill(tree)
-    tree.start()
-    sure(tree.ready(), "the tree is not ready")
-    sure(tree.right(), "not the root's settings:", tree.wrong())
+PACKAGING = pathlib.Path(__file__).resolve().parents[2] / "rust/rignoldad/packaging"
 
 
 @test
 def settings_reach_all_and_what_is_removed_is_gone():
-    with Tree() as tree:
-        usual(tree)
+    with running() as tree:
         tree.write("by_editor", "one")
         sure(tree.right(), tree.wrong())
         number = tree.root.ask("publish", "by_command", "two")["sequence"]
@@ -111,11 +62,10 @@ def settings_reach_all_and_what_is_removed_is_gone():
         sure(not any(agent.said("panicked") for agent in tree))
 
 
-@long_test
+@test(begins=True)
 def kills_do_no_lasting_harm():
     draw = random.Random(7)
-    with Tree() as tree:
-        usual(tree)
+    with running() as tree:
         for turn in range(12):
             count = 7 if turn == 6 else draw.choice([1, 1, 2, 3])
             victims = draw.sample(list(tree), count)
@@ -132,7 +82,7 @@ def kills_do_no_lasting_harm():
         sure(tree.ready(), "the tree is not ready")
 
 
-@long_test
+@test(begins=True)
 def connections_that_break_lose_nothing():
     relays = []
 
@@ -145,7 +95,6 @@ def connections_that_break_lose_nothing():
             tree.root.tables["root"]["round"] = "1h"
 
     with Tree(before=between) as tree:
-        fill(tree)
         tree.start()
         changes = itertools.count()
 
@@ -198,8 +147,7 @@ def spoiled_folders_are_right_after_two_rounds():
     def by_hand(tree):
         tree.root.tables["root"]["round"] = "1h"
 
-    with Tree(before=by_hand) as tree:
-        usual(tree)
+    with running(before=by_hand) as tree:
         for turn in range(6):
             for agent in tree:
                 spoil(agent.settings, draw)
@@ -221,15 +169,14 @@ def spoiled_folders_are_right_after_two_rounds():
         sure(tree.right(), tree.wrong())
 
 
-@long_test
+@test(begins=True)
 def a_dead_leaf_harms_nobody_and_is_served_when_it_is_back():
     def slow_rounds(tree):
         tree.root.tables["root"]["round"] = "1h"
         for agent in tree:
             agent.tables["link"]["backlog"] = 100
 
-    with Tree(before=slow_rounds) as tree:
-        usual(tree)
+    with running(before=slow_rounds) as tree:
         dead = tree["left1"]
         dead.kill()
         others = [agent for agent in tree if agent is not dead]
@@ -253,8 +200,7 @@ def a_dead_leaf_harms_nobody_and_is_served_when_it_is_back():
 
 @test
 def a_stopped_agent_harms_nobody():
-    with Tree() as tree:
-        usual(tree)
+    with running() as tree:
         stopped = [tree["right1"], tree["left"]]
         for agent in stopped:
             agent.signal(signal.SIGSTOP)
@@ -268,47 +214,18 @@ def a_stopped_agent_harms_nobody():
 
 # ---- Security
 
-def certificates(home):
-    """An authority, and certificates of it and of another one."""
-    def run(*words):
-        subprocess.run(["openssl", *words], check=True, capture_output=True, cwd=home)
-
-    for authority in ("good", "other"):
-        run("req", "-x509", "-newkey", "ec", "-pkeyopt", "ec_paramgen_curve:P-256", "-nodes",
-            "-days", "2", "-subj", f"/CN={authority} authority", "-keyout", f"{authority}.key",
-            "-out", f"{authority}.crt")
-
-    def certificate(name, authority="good", of=None, file=None):
-        file = file or name
-        (home / f"{file}.ext").write_text(f"subjectAltName=DNS:{of or name}\n")
-        run("req", "-newkey", "ec", "-pkeyopt", "ec_paramgen_curve:P-256", "-nodes", "-subj",
-            f"/CN={of or name}", "-keyout", f"{file}.key", "-out", f"{file}.csr")
-        run("x509", "-req", "-in", f"{file}.csr", "-CA", f"{authority}.crt", "-CAkey",
-            f"{authority}.key", "-CAcreateserial", "-days", "2", "-extfile", f"{file}.ext", "-out",
-            f"{file}.crt")
-        return {"certificate": str(home / f"{file}.crt"), "key": str(home / f"{file}.key"),
-                "authority": str(home / "good.crt")}
-
-    return certificate
-
-
-@long_test
+@test(begins=True)
 def only_the_right_certificate_is_let_in():
     shape = {"inner": "root", "leaf": "inner", "strange": "root", "liar": "root", "plain": "root"}
 
     def secure(tree):
-        make = certificates(tree.home)
-        for name in ("root", "inner", "leaf"):
-            tree[name].tables["tls"] = make(name)
-        tree["strange"].tables["tls"] = make("strange", authority="other")
-        tree["liar"].tables["tls"] = make("liar", of="inner2")
+        by_tls(tree)
+        tree["strange"].tables["tls"] = certify_foreign(tree, "strange")
+        tree["liar"].tables["tls"] = certify(tree.home, "inner2")
+        del tree["plain"].tables["tls"]
 
-    with Tree(shape, before=secure) as tree:
-        fill(tree)
+    with running(shape, secure, without=["strange", "liar", "plain"]) as tree:
         good = [tree["root"], tree["inner"], tree["leaf"]]
-        for agent in good:
-            agent.start()
-        sure(tree.right(agents=good), tree.wrong(good))
         bad = [tree["strange"], tree["liar"], tree["plain"]]
         for agent in bad:
             agent.start()
@@ -343,53 +260,12 @@ def only_the_right_certificate_is_let_in():
 
 # ---- What a stranger sends
 
-def hello(sender, to, life=7, label=255, version=1):
-    name = lambda text: bytes([len(text)]) + text.encode()
-    return b"RGND" + struct.pack(">BQH", version, life, label) + name(sender) + name(to)
-
-
-def body(kind, sequence, rest=b""):
-    return kind + struct.pack(">Q", sequence) + rest
-
-
-def frame(label, text, item=None, length=None):
-    item = zlib.crc32(text) if item is None else item
-    return b"F" + struct.pack(">HII", label, item, len(text) if length is None else length) + text
-
-
-def closed(sock):
-    """Whether the other end closes."""
-    end = time.monotonic() + USUAL * PATIENCE
-    try:
-        while time.monotonic() < end:
-            sock.settimeout(max(0.01, end - time.monotonic()))
-            if not sock.recv(4096):
-                return True
-    except ConnectionError:
-        return True
-    except TimeoutError:
-        pass
-    return False
-
-
-def memory(agent):
-    """The kilobytes that a process has in memory."""
-    text = pathlib.Path(f"/proc/{agent.process.pid}/status").read_text()
-    return int(re.search(r"VmRSS:\s+(\d+)", text)[1])
-
-
 @test
 def a_hello_of_garbage_is_refused():
     draw = random.Random(5)
 
-    def patient(tree):
-        # (what is said here at once is to come in time)
-        tree.root.tables["link"] = {"ack_timeout": "5s", "evict": "10s"}
-
-    with Tree({"left": "root"}, before=patient) as tree:
-        usual(tree)
-        before = memory(tree.root)
-        connect = lambda: socket.create_connection(("127.0.0.1", tree.root.port), timeout=60)
+    with running({"left": "root"}, patient) as tree:
+        before, connect = memory(tree.root, "VmRSS"), tree.root.connect
         greetings = [b"GET / HTTP/1.1\r\n\r\n", hello("stranger", "root"), hello("left", "other"),
                      hello("left", "root", version=3), b"RGND" + b"\xff" * 300,
                      hello("root", "root"), hello("../x", "root"), b"\x16\x03\x01\x02\x00"]
@@ -409,76 +285,33 @@ def a_hello_of_garbage_is_refused():
         # a slow one is dropped, and so are too many
         slow = [connect() for _ in range(150)]
         for sock in slow:
-            try:
+            with contextlib.suppress(OSError):
                 sock.sendall(b"RGN")
-            except OSError:
-                pass
         tree.write("meanwhile", "1")
         sure(tree.right(), tree.wrong())
         sure(all(closed(sock) for sock in slow), "a slow hello was kept")
         for sock in slow:
             sock.close()
         sure(tree.root.status()["refused"] >= 150)
-        sure(memory(tree.root) < before + 4_000, "its memory grew:", before, memory(tree.root))
+        grew = memory(tree.root, "VmRSS") - before
+        sure(grew < 3.9, "its memory grew by", grew, "MiB")
         sure(tree.right() and tree.root.alive() and tree.ready())
 
 
 @test
 def what_a_false_parent_sends_is_bounded_and_checked():
-    """The bytes of the protocol, written here a second time."""
-    with Tree({}) as tree:
-        leaf = tree.add("leaf", "root")
-        # (what is said here at once is to come in time)
-        leaf.tables["link"] = {"ack_timeout": "1m", "evict": "10m"}
-        listener = socket.create_server(("127.0.0.1", leaf.parent.port))
-        listener.settimeout(60)
-        leaf.start()
-
-        def parent():
-            while True:
-                sock, _ = listener.accept()
-                sock.settimeout(60)
-                greeting = sock.recv(4096)
-                if greeting[:5] != b"RGNL\x02":
-                    break
-                # (of looks, version 1 knows nothing)
-                sock.close()
-            sock.sendall(hello("root", "leaf", label=0))
-            sure(greeting[:5] == b"RGND\x01", greeting)
-            return sock
-
-        def acknowledged(sock, label):
-            got = b""
-            while b"A" + struct.pack(">H", label) not in got:
-                piece = sock.recv(4096)
-                sure(piece, "it closed")
-                got += piece
-
-        def entries(*all):
-            text = struct.pack(">I", len(all))
-            for key, value in all:
-                text += (b"U" if value is None else b"S") + bytes([len(key)]) + key
-                text += b"" if value is None else struct.pack(">I", len(value)) + value
-            return text
-
-        sock = parent()
-        before = memory(leaf)
-        sock.close()
+    with Tree({"leaf": "root"}) as tree:
+        leaf = tree["leaf"]
+        parent = Parent(leaf)
+        send, before = parent.send, memory(leaf, "VmRSS")
         for bad in (frame(0, b"", length=0xffff_ffff), frame(0, b"", length=(16 << 20) + 1),
                     b"X" * 50, b"R" + struct.pack(">I", 5) + b"[...]"):
-            sock = parent()
-            sock.sendall(bad)
-            sure(closed(sock), "it was kept:", bad[:20])
-        sure(memory(leaf) < before + 4_000, "its memory grew")
-        sock = parent()
+            parent.meet().sock.sendall(bad)
+            sure(closed(parent.sock), "it was kept:", bad[:20])
+        sure(memory(leaf, "VmRSS") < before + 3.9, "its memory grew")
+        parent.meet()
         draw = random.Random(9)
-        numbers = iter(range(1, 10_000))
-
-        def send(text, item=None):
-            label = next(numbers) % 255
-            sock.sendall(frame(label, text, item))
-            acknowledged(sock, label)
-
+        entries = lambda *all: struct.pack(">I", len(all)) + b"".join(entry(*it) for it in all)
         one = (b"a", b"1")
         odd = [b"", b"T", b"?" * 40, body(b"H", 1, b"x"), body(b"C", 1, b"\xff"),
                body(b"T", 1, b"\xff" * 30), body(b"T", 1, entries((b"../a", b"1"))),
@@ -520,44 +353,31 @@ def what_a_false_parent_sends_is_bounded_and_checked():
         sure(until(lambda: leaf.files() == {"a": b"2"}), leaf.files())
         # a frame that comes again is acknowledged again, and not taken again
         received = leaf.status()["received"]
-        text = body(b"C", 117, entries((b"a", b"3")))
-        label = next(numbers) % 255
+        label = None
         for _ in range(3):
-            sock.sendall(frame(label, text))
-            acknowledged(sock, label)
+            label = send(body(b"C", 117, entries((b"a", b"3"))), label=label)
         sure(leaf.status()["received"] == received + 1, leaf.status())
         sure(not leaf.said("panicked"))
-        sock.close()
-        listener.close()
+        parent.close()
         # and then its real parent has to come through
-        fill(tree)
+        tree.write("one", "1")
         tree.root.start()
         sure(tree.right(), tree.wrong())
 
 
 @test
 def what_a_child_reports_of_others_harms_nobody():
-    def patient(tree):
-        for agent in tree:
-            agent.tables["link"] = {"ack_timeout": "5s", "evict": "10m"}
-
-    with Tree(before=patient) as tree:
-        fill(tree)
-        others = [agent for agent in tree if agent.name != "left1"]
-        for agent in others:
-            agent.start()
-        sure(until(lambda: all(agent.up() for agent in others)), "the tree is not ready")
+    with running(before=patient, without=["left1"]) as tree:
         of_others = ["left2", "left", "root", "right"]
-        report = [{"name": "left1", "strays": 77}]
-        report += [{"name": name, "parent": "left1", "connected": True, "strays": 78}
+        said = [{"name": "left1", "strays": 77}]
+        said += [{"name": name, "parent": "left1", "connected": True, "strays": 78}
                    for name in of_others]
-        said = json.dumps(report).encode()
-        with socket.create_connection(("127.0.0.1", tree["left"].port)) as sock:
-            sock.sendall(hello("left1", "left"))
-            sock.sendall(b"R" + struct.pack(">I", len(said)) + said)
-            # (what it says of itself comes up to the root, over the agent between)
-            sure(until(lambda: any(it["strays"] == 77 for it in tree.root.ask("tree"))),
-                 tree.root.ask("tree"))
+        child = Child(tree["left"], "left1")
+        child.send(report(said))
+        # (what it says of itself comes up to the root, over the agent between)
+        sure(until(lambda: any(it["strays"] == 77 for it in tree.root.ask("tree"))),
+             tree.root.ask("tree"))
+        child.close()
         sure(not tree.root.said("closed left:"), "the root closed an honest agent's connection")
         seen = lambda: sorted((it["name"], it["parent"], it["strays"])
                               for it in tree.root.ask("tree"))
@@ -568,21 +388,18 @@ def what_a_child_reports_of_others_harms_nobody():
 
 @test
 def who_acknowledges_without_end_is_closed():
-    with Tree({"left": "root"}) as tree:
-        usual(tree)
+    with running({"left": "root"}) as tree:
         tree["left"].kill()
-        before = memory(tree.root)
+        before = memory(tree.root, "VmRSS")
         for text in (b"A\x00\x00" * 200_000, b"R" + struct.pack(">I", 2) + b"[]",
                      b"R" + struct.pack(">I", 0xffff_ffff), b"F" * 100):
-            with socket.create_connection(("127.0.0.1", tree.root.port), timeout=60) as sock:
+            with tree.root.connect() as sock:
                 sock.sendall(hello("left", "root", life=9))
-                try:
-                    # (nothing of what comes is read)
+                # (nothing of what comes is read)
+                with contextlib.suppress(OSError):
                     sock.sendall(text)
-                except OSError:
-                    pass
                 sure(closed(sock), "it was kept:", text[:10])
-        sure(memory(tree.root) < before + 8_000, before, memory(tree.root))
+        sure(memory(tree.root, "VmRSS") < before + 7.8, before, memory(tree.root, "VmRSS"))
         tree["left"].start()
         tree.write("after", "that")
         sure(tree.right(), tree.wrong())
@@ -590,14 +407,8 @@ def who_acknowledges_without_end_is_closed():
 
 @test
 def two_agents_of_one_name_do_not_connect_without_end():
-    with Tree({"left": "root"}) as tree:
-        usual(tree)
-        left = tree["left"]
-        twin = Agent(tree, "twin", None)
-        shutil.rmtree(twin.home / "truth")
-        del twin.tables["root"]
-        twin.name, twin.top["parents"] = "left", left.top["parents"]
-        tree.agents["twin"] = twin
+    with running({"left": "root"}) as tree:
+        twin = tree.twin("left")
         twin.start()
         before = tree.root.said("connected left")
         begun = time.monotonic()
@@ -613,47 +424,32 @@ def two_agents_of_one_name_do_not_connect_without_end():
 @test
 def the_control_socket_is_bounded():
     draw = random.Random(11)
-    with Tree({"left": "root"}) as tree:
-        usual(tree)
+    with running({"left": "root"}) as tree:
         mode = tree.root.socket.stat().st_mode & 0o777
         sure(mode == 0o660, oct(mode))
-        before = memory(tree.root)
+        before = memory(tree.root, "VmRSS")
         for text in [b"\n", b"{}\n", b"[1]\n", b'{"do":"drop-all"}\n',
                      b'{"do":"publish","key":"a"}\n',
                      b'{"do":"publish","key":"a","value":"abc"}\n', b'{"do":"status","x":1}\n',
                      b'{"do":"publish","key":"../a","value":"00"}\n', b"\xff\xfe\n",
                      b"[" * 100_000 + b"\n"] + [draw.randbytes(99) + b"\n" for _ in range(30)]:
-            with socket.socket(socket.AF_UNIX) as sock:
-                sock.settimeout(60)
-                sock.connect(str(tree.root.socket))
+            with tree.root.client() as sock:
                 sock.sendall(text)
                 answer = sock.makefile("rb").readline()
                 sure(b"refused" in answer, text[:40], answer)
-        with socket.socket(socket.AF_UNIX) as sock:
-            sock.settimeout(60)
-            sock.connect(str(tree.root.socket))
-            try:
+        with tree.root.client() as sock:
+            with contextlib.suppress(OSError):
                 for _ in range(100):
                     sock.sendall(b"x" * 100_000)
-            except OSError:
-                pass
             sure(closed(sock), "a request without an end was kept")
-        many = []
-        for _ in range(40):
-            sock = socket.socket(socket.AF_UNIX)
-            sock.connect(str(tree.root.socket))
-            many.append(sock)
-        for sock in many:
+        for sock in [tree.root.client() for _ in range(40)]:
             sock.close()
         sure(until(lambda: tree.root.ask("status", check=False).get("name") == "root"))
-        sure(memory(tree.root) < before + 8_000, before, memory(tree.root))
+        sure(memory(tree.root, "VmRSS") < before + 7.8, before, memory(tree.root, "VmRSS"))
 
 
 @test
 def a_client_that_waits_or_has_gone_costs_nothing():
-    slow = lambda tree: [agent.tables["link"].update(ack_timeout="20s", evict="60s")
-                         for agent in tree]
-
     def busy():
         # (for so many nanoseconds it had a processor, or waited for one)
         stat = pathlib.Path(f"/proc/{tree.root.process.pid}/schedstat").read_text().split()
@@ -663,12 +459,9 @@ def a_client_that_waits_or_has_gone_costs_nothing():
         tree.write("a", time.monotonic())
         return tree.root.status()["children"][0]["backlog"] > 1
 
-    with Tree({"left": "root"}, before=slow) as tree, socket.socket(socket.AF_UNIX) as sock:
-        usual(tree)
+    with running({"left": "root"}, very_patient) as tree, tree.root.client() as sock:
         tree["left"].signal(signal.SIGSTOP)
         sure(until(behind), "the root does not wait for the child")
-        sock.settimeout(20)
-        sock.connect(str(tree.root.socket))
         sock.sendall(b'{"do":"publish","key":"b","value":"00"}\n{"do":"status"}\n')
         time.sleep(0.2)
         sock.shutdown(socket.SHUT_WR)
@@ -682,8 +475,7 @@ def a_client_that_waits_or_has_gone_costs_nothing():
 
 @test
 def a_root_without_its_settings_unsets_nothing():
-    with Tree({"left": "root"}) as tree:
-        usual(tree)
+    with running({"left": "root"}) as tree:
         before = tree["left"].files()
         tree.root.kill()
         away = tree.root.truth.rename(tree.home / "away")
@@ -699,8 +491,7 @@ def a_root_without_its_settings_unsets_nothing():
             away = tree.root.truth.rename(tree.home / "away")
             tree.root.truth.mkdir()
             if starts:
-                tree.root.kill()
-                tree.root.start()
+                tree.root.restart()
                 sure(until(lambda: tree["left"].status()["parent"]), "it is not connected")
             else:
                 tree.root.ask("round")
@@ -734,8 +525,7 @@ def what_is_wrong_in_the_roots_memory_gets_nowhere():
             agent.start()
         sure(tree.right(agents=old), tree.wrong(old))
         sure(write_over(tree.root.process.pid, over) > 8, "it does not remember them")
-        with socket.socket(socket.AF_UNIX) as sock:
-            sock.connect(str(tree.root.socket))
+        with tree.root.client() as sock:
             lines = sock.makefile("rb")
             words = {"do": "publish", "key": "k0", "value": values["k0"].encode().hex()}
             for _ in range(150):
@@ -772,10 +562,9 @@ def what_is_answered_is_in_the_folder():
         for turn in range(6):
             root.start()
             sure(until(root.up), "the root does not start")
-            socks = [socket.socket(socket.AF_UNIX) for _ in asked]
+            socks = [root.client() for _ in asked]
             with concurrent.futures.ThreadPoolExecutor(len(asked)) as threads:
                 for at, sock in enumerate(socks):
-                    sock.connect(str(root.socket))
                     threads.submit(ask, at, sock)
                 enough = sum(answered.values()) + draw.randrange(8, 80)
                 came = until(lambda: sum(answered.values()) >= enough)
@@ -794,12 +583,10 @@ def what_is_answered_is_in_the_folder():
 
 @test
 def commands_say_what_they_did():
-    with Tree({"left": "root", "leaf": "left"}) as tree:
-        usual(tree)
+    with running({"left": "root", "leaf": "left"}) as tree:
 
         def run(agent, *words):
-            command = [tree.bin / "rignoldactl", "--socket", agent.socket, *words]
-            done = subprocess.run(command, capture_output=True, text=True, timeout=120)
+            done = agent.run(*words)
             return done.returncode, done.stdout, done.stderr
 
         sure(run(tree["left"], "publish", "a", "b")[0] == 1, "an inner agent publishes")
@@ -816,12 +603,12 @@ def commands_say_what_they_did():
         sure(found == {"root": (0, 0, 0), "left": (1, 3, 3), "leaf": (2, 6, 5)}, found)
         tree["leaf"].kill()
         number = tree.root.ask("publish", "a", "b")["sequence"]
-        late = lambda: run(tree.root, "wait", "--everywhere", "--timeout", "300ms", str(number))
+        late = lambda: run(tree.root, "wait", "--everywhere", "--timeout", "300ms", number)
         sure(until(lambda: "leaf is not connected" in late()[2]), late())
         sure(late()[0] == 1, late())
-        sure(run(tree.root, "wait", str(number))[0] == 0)
+        sure(run(tree.root, "wait", number)[0] == 0)
         tree["leaf"].start()
-        sure(run(tree.root, "wait", "--everywhere", str(number))[0] == 0)
+        sure(run(tree.root, "wait", "--everywhere", number)[0] == 0)
         tree.root.ask("drain")
         sure(run(tree.root, "publish", "a", "c")[0] == 1, "it publishes while it drains")
         tree.root.ask("resume")
@@ -835,10 +622,8 @@ def a_root_with_too_few_harmless_items_is_told():
     def few(tree):
         tree.root.tables["root"]["harmless"] = 4
 
-    with Tree(chain(3), before=few) as tree:
-        usual(tree)
-        said = lambda: subprocess.run([tree.bin / "rignoldactl", "--socket", tree.root.socket,
-                                       "tree"], capture_output=True, text=True).stderr
+    with running(chain(3), few) as tree:
+        said = lambda: tree.root.run("tree").stderr
         # (2 * 3 + 1 can be missing at depth 3, and two more are for an agent's own numbers)
         sure(until(lambda: "needs 9" in said()), said())
 
@@ -846,16 +631,13 @@ def a_root_with_too_few_harmless_items_is_told():
 @test
 def a_reload_changes_children_and_parents():
     shape = {"left": "root", "right": "root", "leaf": "left"}
-    with Tree(shape) as tree:
-        usual(tree)
+    with running(shape) as tree:
         # a leaf moves to another parent
         leaf, right = tree["leaf"], tree["right"]
         right.top.update(children=["leaf"], listen=f"127.0.0.1:{right.port}")
-        right.kill()
-        right.start()
+        right.restart()
         leaf.top["parents"] = [f"right@127.0.0.1:{right.port}"]
-        leaf.configure()
-        leaf.signal(signal.SIGHUP)
+        leaf.reload()
         sure(until(lambda: leaf.status()["parent"] == "right"), leaf.status())
         tree["left"].children.clear()
         # a child is added, and one removed
@@ -885,13 +667,10 @@ def a_reload_changes_children_and_parents():
 
 @test
 def a_reload_that_is_not_taken_is_shown():
-    unit = pathlib.Path(__file__).resolve().parents[2] / "rust/rignoldad/packaging/rignoldad.service"
+    unit = PACKAGING / "rignoldad.service"
     lines = re.findall("^ExecReload=(.*)$", unit.read_text(), re.M)
-    with Tree({}) as tree:
+    with running({}, counted) as tree:
         root = tree.root
-        port = free_port()
-        root.top["metrics"] = f"127.0.0.1:{port}"
-        usual(tree)
 
         def reload():
             """Does what systemd does: each line of the unit, unless the one before it fails."""
@@ -908,10 +687,7 @@ def a_reload_that_is_not_taken_is_shown():
             return 0, ""
 
         def metric():
-            with socket.create_connection(("127.0.0.1", port), timeout=60) as sock:
-                sock.sendall(b"GET /metrics HTTP/1.1\r\n\r\n")
-                text = b"".join(iter(lambda: sock.recv(65536), b"")).decode()
-            return re.search("^rignolda_reload_failed ([01])$", text, re.M)[1]
+            return re.search("^rignolda_reload_failed ([01])$", root.counts()[1], re.M)[1]
 
         def shows(text):
             is_one = metric() == "1"
@@ -946,11 +722,7 @@ def the_next_parent_is_tried():
         tree["right"].children.append(leaf)
         leaf.top["parents"].append(f"right@127.0.0.1:{tree['right'].port}")
         # (where the first one does not listen yet, the next one is its parent)
-        fill(tree)
-        above = [agent for agent in tree if agent is not leaf]
-        for agent in above:
-            agent.start()
-        sure(until(lambda: all(agent.up() for agent in above)), "the tree is not ready")
+        tree.begin(without=["leaf"])
         leaf.start()
         sure(tree.ready() and tree.right(), tree.wrong())
         sure(leaf.status()["parent"] == "left", leaf.status())
@@ -961,20 +733,17 @@ def the_next_parent_is_tried():
         sure(tree.right(agents=here), tree.wrong(here))
 
 
-@long_test
+@test(begins=True)
 def hooks_run_beside_the_link():
     def hooks(tree):
         for agent in tree:
-            hook = agent.home / "hook"
             # (that of one agent lasts until it may end, for each key)
             go = f"{agent.home}/go_$2"
             waits = f"while [ -d {agent.home} ] && [ ! -e {go} ]; do sleep 0.02; done"
             slow = waits if agent.name == "left" else ""
             fails = f"[ ! -e {agent.home}/fail ]"
-            hook.write_text(f'#!/bin/sh\n{slow}\nv=$(cat)\n'
-                            f'echo "$1 $2 $v" >>{agent.home}/calls\n{fails}\n')
-            hook.chmod(0o755)
-            agent.tables["apply"].update(hook=str(hook), hook_timeout="10m")
+            agent.hook(f'{slow}\nv=$(cat)\necho "$1 $2 $v" >>{agent.home}/calls\n{fails}',
+                       hook_timeout="10m")
 
     with Tree({"left": "root", "leaf": "left"}, before=hooks) as tree:
         tree.write("a", "1")
@@ -1014,26 +783,10 @@ def hooks_run_beside_the_link():
 
 @test
 def counts_are_there_for_prometheus():
-    ports = {}
-
-    def watched(tree):
-        for agent in tree:
-            ports[agent.name] = free_port()
-            agent.top["metrics"] = f"127.0.0.1:{ports[agent.name]}"
-
-    def get(agent, path="/metrics", method="GET"):
-        with socket.create_connection(("127.0.0.1", ports[agent.name]), timeout=60) as sock:
-            sock.sendall(f"{method} {path} HTTP/1.1\r\nHost: x\r\n\r\n".encode())
-            text = b""
-            while piece := sock.recv(65536):
-                text += piece
-            head, _, rest = text.decode().partition("\r\n\r\n")
-            return head.splitlines()[0], rest
-
-    with Tree({"left": "root"}, before=watched) as tree:
-        usual(tree)
-        sure(until(lambda: 'rignolda_child_connected{child="left"} 1' in get(tree.root)[1]))
-        head, text = get(tree.root)
+    with running({"left": "root"}, counted) as tree:
+        counts = tree.root.counts
+        sure(until(lambda: 'rignolda_child_connected{child="left"} 1' in counts()[1]))
+        head, text = counts()
         sure("200" in head, head)
         values, typed = {}, set()
         for line in text.splitlines():
@@ -1049,11 +802,10 @@ def counts_are_there_for_prometheus():
         sure(values["rignolda_settings", None] == 8, values)
         sure(values["rignolda_child_connected", "left"] == 1, values)
         tree["left"].kill()
-        sure(until(lambda: 'rignolda_child_connected{child="left"} 0' in get(tree.root)[1]))
-        sure("404" in get(tree.root, "/other")[0] and "404" in get(tree.root, method="POST")[0])
+        sure(until(lambda: 'rignolda_child_connected{child="left"} 0' in counts()[1]))
+        sure("404" in counts("/other")[0] and "404" in counts(method="POST")[0])
         # each name that an alarm uses is one that is counted
-        alarms = pathlib.Path(__file__).resolve().parents[2] / "rust/rignoldad/packaging/alarms.yml"
-        names = set(re.findall(r"rignolda_[a-z_]+", alarms.read_text()))
+        names = set(re.findall(r"rignolda_[a-z_]+", (PACKAGING / "alarms.yml").read_text()))
         # (there is no TLS here; floods.py looks at that one)
         names.discard("rignolda_certificate_expires_timestamp_seconds")
         sure(names and names <= {name for name, _ in values}, names - {n for n, _ in values})
@@ -1077,10 +829,9 @@ def check_names_the_line_and_the_key():
 
 @test
 def it_is_installed_packed_and_removed():
-    packaging = pathlib.Path(__file__).resolve().parents[2] / "rust/rignoldad/packaging"
     with Tree({}) as tree:
         def make(*words):
-            subprocess.run(["make", "-s", "-C", packaging, f"BIN={tree.bin}", *words], check=True,
+            subprocess.run(["make", "-s", "-C", PACKAGING, f"BIN={tree.bin}", *words], check=True,
                            capture_output=True, timeout=100,
                            env={**os.environ, "DPKG_DEB_COMPRESSOR_TYPE": "none"})
 
@@ -1107,7 +858,7 @@ def it_is_installed_packed_and_removed():
         listed = subprocess.run(["dpkg-deb", "-c", tree.home / "rignoldad.deb"], check=True,
                                 capture_output=True, text=True,
                                 env={**os.environ, "TZ": "UTC"}).stdout
-        changes = (packaging.parents[2] / "CHANGELOG.md").read_text()
+        changes = (PACKAGING.parents[2] / "CHANGELOG.md").read_text()
         day = re.search(r"^## [0-9.]+, ([0-9-]+)", changes, re.M)[1]
         for line in listed.splitlines():
             mode, owner, _, date, hour = line.split()[:5]
@@ -1121,14 +872,13 @@ def it_is_installed_packed_and_removed():
 
 @test
 def manuals_and_completions_name_everything():
-    home = pathlib.Path(__file__).resolve().parents[2] / "rust/rignoldad"
     with Tree({}) as tree:
         help_of = lambda *words: subprocess.run([tree.bin / words[0], *words[1:], "-h"],
                                                 capture_output=True, text=True, check=True).stdout
         whole = help_of("rignoldactl")
         commands = re.findall(r"^  ([a-z]+) +", whole, re.MULTILINE)
         sure(len(commands) == 11, commands)
-        pages = {name: (home / "packaging" / name).read_text().replace("\\-", "-") for name in (
+        pages = {name: (PACKAGING / name).read_text().replace("\\-", "-") for name in (
             "rignoldactl.1", "rignoldactl.bash", "_rignoldactl", "rignoldactl.fish", "rignoldad.8",
             "rignoldad.toml.5")}
         options = set()
@@ -1144,39 +894,11 @@ def manuals_and_completions_name_everything():
                 sure(any(word + option in pages[name] for word in words), name, "has no", option)
         for option in set(re.findall(r"--([a-z]+)", help_of("rignoldad"))):
             sure("--" + option in pages["rignoldad.8"], option)
-        source = (home / "src/config.rs").read_text()
+        source = (PACKAGING.parent / "src/config.rs").read_text()
         keys = re.search(r'const KEYS: &str = "(.*?)";', source, re.DOTALL)
         for key in keys[1].replace("\\", " ").split():
             sure(re.search(rf"\.B.* {key.split('.')[-1]}\b", pages["rignoldad.toml.5"]), key)
 
 
-def run(function):
-    """Runs a test: whether it passed."""
-    started = time.monotonic()
-    try:
-        function()
-        result = "ok"
-    except Exception:
-        result = "FAILED\n" + traceback.format_exc()
-    print(f"{function.__name__}: {result} ({time.monotonic() - started:.1f} s)", flush=True)
-    return result == "ok"
-
-
-def main():
-    words = sys.argv[1:]
-    begun = time.monotonic()
-    chosen = [function for function in TESTS
-              if not words or any(word in function.__name__ for word in words)]
-    binaries()
-    # (most of them wait most of the time; those that take longest begin)
-    with concurrent.futures.ThreadPoolExecutor(4) as pool:
-        results = list(pool.map(run, sorted(chosen, key=lambda it: it not in LONG)))
-    passed, failed = results.count(True), results.count(False)
-    print(f"in {time.monotonic() - begun:.0f} s")
-    print(f"{passed} passed, {failed} failed")
-    return 1 if failed else 0
-
-
 if __name__ == "__main__":
-    os.chdir(pathlib.Path(__file__).resolve().parent)
-    sys.exit(main())
+    sys.exit(runner.main(of_all=True))

@@ -12,13 +12,12 @@ import shutil
 import subprocess
 import sys
 import tempfile
-import urllib.request
 from pathlib import Path
 
 HERE = Path(__file__).resolve().parent
 TOP = HERE.parents[1]
 sys.path.insert(0, str(TOP / "tools"))
-from daemons import Tree, free_port, until  # noqa: E402
+from daemons import Tree, counted  # noqa: E402
 from programs import Cases, ran  # noqa: E402
 
 PACKAGING = TOP / "rust/rignoldad/packaging"
@@ -101,29 +100,22 @@ def alarms(cases, room):
 
 def counts(cases):
     """Whether Prometheus likes what a root and its child count, and the alarms are of that."""
-    ports, texts = {}, {}
-
-    def watched(tree):
-        for agent in tree:
-            ports[agent.name] = free_port()
-            agent.top["metrics"] = f"127.0.0.1:{ports[agent.name]}"
-
-    with Tree({"left": "root"}, before=watched) as tree:
+    texts = []
+    with Tree({"left": "root"}, counted) as tree:
         tree.write("colour", "green")
         tree.start()
         cases.holds("a tree is ready", tree.ready())
-        for name, port in ports.items():
-            with urllib.request.urlopen(f"http://127.0.0.1:{port}/metrics", timeout=60) as page:
-                texts[name] = page.read()
-            said = subprocess.run(["promtool", "check", "metrics"], input=texts[name],
+        for agent in tree:
+            texts.append(agent.counts()[1])
+            said = subprocess.run(["promtool", "check", "metrics"], input=texts[-1], text=True,
                                   capture_output=True)
-            cases.holds(f"Prometheus likes the counts of {name}", said.returncode == 0,
-                        (said.stdout + said.stderr).decode())
-    counted = set(re.findall(r"^# TYPE (\w+)", b"".join(texts.values()).decode(), re.MULTILINE))
+            cases.holds(f"Prometheus likes the counts of {agent.name}", said.returncode == 0,
+                        said.stdout + said.stderr)
+    counts = set(re.findall(r"^# TYPE (\w+)", "".join(texts), re.MULTILINE))
     named = set(re.findall(r"\brignolda_\w+", ALARMS.read_text()))
     # (these agents have no certificate)
-    counted.add("rignolda_certificate_expires_timestamp_seconds")
-    cases.holds("each alarm is of what is counted", named <= counted, named - counted)
+    counts.add("rignolda_certificate_expires_timestamp_seconds")
+    cases.holds("each alarm is of what is counted", named <= counts, named - counts)
 
 
 def package(cases, room):

@@ -4,17 +4,25 @@ Each agent has a folder of its own under one temporary folder: its configuration
 control socket and its log. An agent is known by a name such as `root`, `left`, `left1`.
 """
 import atexit
+import contextlib
 import functools
+import itertools
 import json
 import os
 import pathlib
 import random
+import re
 import shutil
 import signal
 import socket
+import ssl
+import stat
 import subprocess
 import tempfile
+import threading
 import time
+
+from runner import sure
 
 HOME = pathlib.Path(__file__).resolve().parents[2]
 SEVEN = {"left": "root", "right": "root", "left1": "left", "left2": "left", "right1": "right",
@@ -140,8 +148,58 @@ class Agent:
     def signal(self, number):
         self.process.send_signal(number)
 
+    def restart(self):
+        self.kill()
+        self.start()
+
+    def reload(self):
+        """Has its configuration written and read anew."""
+        self.configure()
+        self.signal(signal.SIGHUP)
+
     def alive(self):
         return self.process is not None and self.process.poll() is None
+
+    def hook(self, text, **more):
+        """From its next start on it has this hook, and more about it."""
+        hook = self.home / "hook"
+        hook.write_text(f"#!/bin/sh\n{text}\n")
+        hook.chmod(0o755)
+        self.tables["apply"].update(hook=str(hook), **more)
+
+    def connect(self):
+        """A connection to where it listens."""
+        return socket.create_connection(("127.0.0.1", self.port), timeout=USUAL * PATIENCE)
+
+    def client(self, seconds=USUAL * PATIENCE):
+        """A connection to its control socket."""
+        sock = socket.socket(socket.AF_UNIX)
+        sock.settimeout(seconds)
+        sock.connect(str(self.socket))
+        return sock
+
+    def request(self, seconds=5.0, **words):
+        """What it answers to one request of this process; nothing where it does not answer."""
+        try:
+            with self.client(seconds) as sock:
+                sock.sendall(json.dumps(words).encode() + b"\n")
+                return json.loads(sock.makefile("rb").readline())
+        except (OSError, ValueError):
+            return {}
+
+    def run(self, *words):
+        """How rignoldactl ends, and what it prints as text."""
+        command = [self.tree.bin / "rignoldactl", "--socket", self.socket, *map(str, words)]
+        return subprocess.run(command, capture_output=True, text=True, timeout=120)
+
+    def counts(self, path="/metrics", method="GET"):
+        """What is answered there: the first line, and the text."""
+        at = "127.0.0.1", self.metrics
+        with socket.create_connection(at, timeout=USUAL * PATIENCE) as sock:
+            sock.sendall(f"{method} {path} HTTP/1.1\r\nHost: x\r\n\r\n".encode())
+            said = b"".join(iter(lambda: sock.recv(1 << 16), b"")).decode()
+        head, _, text = said.partition("\r\n\r\n")
+        return head.splitlines()[0], text
 
     def ask(self, *words, value=None, check=True):
         """What rignoldactl prints, as JSON; where it is refused, `error`."""
@@ -182,25 +240,30 @@ class Agent:
 
 
 def read(folder):
-    """The files of a folder, and what else is there."""
-    found = {}
-    try:
-        for path in folder.iterdir():
-            if not path.name.startswith("."):
-                try:
-                    found[path.name] = path.read_bytes() if path.is_file() else None
-                except FileNotFoundError:
-                    pass
-    except (FileNotFoundError, NotADirectoryError):
-        pass
+    """The regular files of a folder; what else is there has no bytes."""
+    found, names = {}, []
+    with contextlib.suppress(OSError):
+        names = [name for name in os.listdir(folder) if not name.startswith(".")]
+    for name in names:
+        try:
+            file = os.open(folder / name, os.O_RDONLY | os.O_NOFOLLOW | os.O_NONBLOCK)
+        except OSError as error:
+            if not isinstance(error, FileNotFoundError):
+                found[name] = None
+            continue
+        try:
+            is_file = stat.S_ISREG(os.fstat(file).st_mode)
+            found[name] = open(file, "rb", closefd=False).read() if is_file else None
+        finally:
+            os.close(file)
     return found
 
 
 class Tree:
     """Agents on this machine. As a context it ends them, and removes their folders."""
 
-    def __init__(self, shape=None, binary=None, before=None):
-        self.bin = pathlib.Path(binary) if binary else binaries()
+    def __init__(self, shape=None, before=None):
+        self.bin = binaries()
         self.home = pathlib.Path(tempfile.mkdtemp(prefix="rignolda-"))
         self.agents = {"root": Agent(self, "root", None)}
         for name, parent in (SEVEN if shape is None else shape).items():
@@ -229,9 +292,30 @@ class Tree:
             agent.start()
         return self
 
+    def begin(self, without=()):
+        """Starts all but some agents, and waits until they have the settings of the root."""
+        for at in range(8):
+            self.write(f"key{at}", f"value {at}")
+        there = [agent for agent in self if agent.name not in without]
+        for agent in there:
+            agent.start()
+        sure(until(lambda: all(agent.up() for agent in there), pause=0.05), "the tree is not ready",
+             [agent.text()[-300:] for agent in there])
+        sure(self.right(agents=there), "not the root's settings:", self.wrong(there))
+        return there
+
     def add(self, name, parent):
         self.agents[name] = Agent(self, name, self.agents[parent])
         return self.agents[name]
+
+    def twin(self, name):
+        """A second agent with a name and its parents."""
+        twin = Agent(self, "twin", None)
+        shutil.rmtree(twin.truth)
+        del twin.tables["root"]
+        twin.name, twin.top["parents"] = name, self[name].top["parents"]
+        self.agents["twin"] = twin
+        return twin
 
     def ready(self, seconds=USUAL):
         """Whether each agent comes to have its parent and a whole table."""
@@ -255,6 +339,150 @@ class Tree:
         new.write_bytes(value if isinstance(value, bytes) else str(value).encode())
         new.rename(self.root.truth / key)
 
+
+    def reaches(self, *names):
+        """Has a change reach these agents: after how many seconds."""
+        value = f"probe {next(NUMBERS)}"
+        begun = time.monotonic()
+        self.write("probe", value)
+        for name in names:
+            file = self[name].settings / "probe"
+            sure(until(lambda: file.exists() and file.read_text() == value),
+                 "a change does not reach", name)
+        return time.monotonic() - begun
+
+
+NUMBERS = itertools.count()
+
+
+@contextlib.contextmanager
+def running(shape=None, before=None, without=()):
+    """A tree whose agents, but for some, are there and have their settings."""
+    with Tree(shape, before) as tree:
+        tree.begin(without)
+        yield tree
+
+
+def patient(tree, **times):
+    """What a test says at once is to come in time."""
+    for agent in tree:
+        agent.tables["link"] = {"ack_timeout": "5s", "evict": "1m", **times}
+
+
+def very_patient(tree):
+    patient(tree, ack_timeout="1m", evict="10m")
+
+
+def counted(tree):
+    """Counts of all agents are there for Prometheus."""
+    for agent in tree:
+        agent.metrics = free_port()
+        agent.top["metrics"] = f"127.0.0.1:{agent.metrics}"
+
+
+@contextlib.contextmanager
+def meanwhile(*acts):
+    """Does each of these again and again, in a thread of its own, until the block ends."""
+    done = threading.Event()
+
+    def go_on(act):
+        while not done.is_set():
+            with contextlib.suppress(OSError):
+                act()
+    threads = [threading.Thread(target=go_on, args=(act,)) for act in acts]
+    for thread in threads:
+        thread.start()
+    try:
+        yield
+    finally:
+        done.set()
+        for thread in threads:
+            thread.join()
+
+
+def flips(folder):
+    """Makes a file a pipe, and a file again: it may be another one when it is opened."""
+    for kind, make in (("file", pathlib.Path.touch), ("pipe", os.mkfifo)):
+        new = folder / f".{kind}{threading.get_ident()}"
+        with contextlib.suppress(FileExistsError):
+            make(new)
+        new.rename(folder / "flips")
+
+
+# ---- What is measured of a process
+
+def memory(agent, what="VmHWM"):
+    """The MiB that it had in memory at most since `forget`, or, as `VmRSS`, that it has."""
+    text = pathlib.Path(f"/proc/{agent.process.pid}/status").read_text()
+    return int(re.search(rf"{what}:\s+(\d+)", text)[1]) / 1024
+
+
+def forget(agent):
+    """Begins to measure anew."""
+    pathlib.Path(f"/proc/{agent.process.pid}/clear_refs").write_text("5")
+    return memory(agent)
+
+
+def descriptors(agent):
+    """How many of them it has."""
+    return len(os.listdir(f"/proc/{agent.process.pid}/fd"))
+
+
+# ---- Certificates
+
+def certify(home, name, seconds=86_400, file=None, begins=-3_600):
+    """A certificate of one authority that ends in so many seconds: the table of a configuration."""
+    def run(*words):
+        subprocess.run(["openssl", *words], check=True, capture_output=True, cwd=home)
+
+    key = ["-newkey", "ec", "-pkeyopt", "ec_paramgen_curve:P-256", "-nodes"]
+    if not (home / "ca.crt").exists():
+        home.mkdir(exist_ok=True)
+        run("req", "-x509", *key, "-days", "90", "-subj", "/CN=authority", "-keyout", "ca.key",
+            "-out", "ca.crt")
+        (home / "index").touch()
+        (home / "ca.cnf").write_text(
+            "[ca]\ndefault_ca = d\n[d]\nnew_certs_dir = .\ndatabase = index\ndefault_md = sha256\n"
+            "policy = p\nrand_serial = yes\nunique_subject = no\ncopy_extensions = copy\n[p]\n"
+            "commonName = supplied\n")
+    file = file or name
+    when = lambda add: time.strftime("%Y%m%d%H%M%SZ", time.gmtime(time.time() + add))
+    run("req", *key, "-subj", f"/CN={name}", "-addext", f"subjectAltName=DNS:{name}", "-keyout",
+        f"{file}.key", "-out", f"{file}.csr")
+    run("ca", "-batch", "-config", "ca.cnf", "-cert", "ca.crt", "-keyfile", "ca.key", "-in",
+        f"{file}.csr", "-out", f"{file}.crt", "-startdate", when(begins), "-enddate", when(seconds),
+        "-notext")
+    return {"certificate": str(home / f"{file}.crt"), "key": str(home / f"{file}.key"),
+            "authority": str(home / "ca.crt")}
+
+
+def certify_foreign(tree, name):
+    """The same, of an authority that nobody knows."""
+    return {**certify(tree.home / "other", name), "authority": str(tree.home / "ca.crt")}
+
+
+def by_tls(tree):
+    for agent in tree:
+        agent.tables["tls"] = certify(tree.home, agent.name)
+
+
+def secure(tree):
+    """All agents are patient, and speak TLS."""
+    patient(tree)
+    by_tls(tree)
+
+
+def tls(home, name=None):
+    """A client's side of TLS, by the certificate of this name."""
+    context = ssl.SSLContext(ssl.PROTOCOL_TLS_CLIENT)
+    context.check_hostname = False
+    context.load_verify_locations(home / "ca.crt")
+    if name:
+        context.load_cert_chain(home / f"{name}.crt", home / f"{name}.key")
+    return context
+
+
+# ---- Shapes
 
 def chain(depth):
     """A tree of one path."""

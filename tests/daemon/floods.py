@@ -9,8 +9,8 @@ It compiles floods.c, which takes a C compiler and the headers of OpenSSL (Debia
 """
 import atexit
 import collections
+import contextlib
 import functools
-import json
 import os
 import pathlib
 import resource
@@ -25,14 +25,14 @@ import tempfile
 import threading
 import time
 
-from daemons import PATIENCE, USUAL, Tree, until
-from hostile import (begun, certify, exactly, forget, hello, memory, patient, reaches, run,
-                     sure)
+import daemons
+import runner
+from daemons import (PATIENCE, USUAL, Tree, certify, certify_foreign, counted, forget, memory,
+                     running, tls, until)
+from protocol import exactly, hello
+from runner import sure
 
 HERE = pathlib.Path(__file__).resolve()
-TESTS = []
-# Those that take longest.
-LONG = []
 # How long a watchdog waits, as the unit says: the longest time without a sign is a third of it.
 WATCHDOG = 30
 # More than anything but a handshake with a large group, or hundreds of certificates, costs the
@@ -41,16 +41,6 @@ CHEAP = 0.03
 # The most memory that connections without a hello may cost an agent, in MiB: four times the 60 KiB
 # of each of the 64, and one for each child that is away.
 WAITING = 16
-
-
-def test(function):
-    TESTS.append(function)
-    return function
-
-
-def long_test(function):
-    LONG.append(function)
-    return test(function)
 
 
 @functools.cache
@@ -67,8 +57,11 @@ def program():
     return None if done.returncode else f"{folder}/floods"
 
 
-def is_there():
-    return program() is not None
+def lacking():
+    return None if program() else "floods by TLS: floods.c needs cc and the headers of OpenSSL"
+
+
+test = functools.partial(runner.test, needs=lacking)
 
 
 # ---- Who floods
@@ -182,12 +175,10 @@ class Flood:
         return self.process.communicate()[0].strip()
 
 
-def secure(tree, more=("stranger", "evil")):
-    patient(tree)
-    for name in [*tree.agents, *more]:
-        table = certify(tree.home, name)
-        if name in tree.agents:
-            tree[name].tables["tls"] = table
+def secure(tree):
+    daemons.secure(tree)
+    for name in ("stranger", "evil"):
+        certify(tree.home, name)
     tree.root.top["children"] = [it.name for it in tree.root.children] + ["evil"]
     for agent in tree:
         agent.env = {}
@@ -201,16 +192,14 @@ def used(agent):
 
 def goes_through(kind, changes=5):
     """Under a flood, changes reach an honest child, and another one gets in that begins anew."""
-    with Tree({"left": "root", "right": "root"}, before=secure) as tree:
-        begun(tree)
+    with running({"left": "root", "right": "root"}, secure) as tree:
         with Flood(kind, tree) as flood, Flood(kind, tree):
             time.sleep(0.5)
             for _ in range(changes):
-                reaches(tree, tree["left"], tree["right"])
-            tree["right"].kill()
-            tree["right"].start()
+                tree.reaches("left", "right")
+            tree["right"].restart()
             sure(until(tree["right"].up, pause=0.1), "a child that begins anew does not get in")
-            reaches(tree, tree["left"], tree["right"])
+            tree.reaches("left", "right")
             sure(flood.goes_on(), kind, "ended by itself")
         sure(tree.right(), tree.wrong())
         sure(not tree.root.said("panicked"))
@@ -218,27 +207,27 @@ def goes_through(kind, changes=5):
 
 # ---- What is tried in seconds
 
-@test
+@test()
 def updates_of_keys_hold_nobody_up():
     goes_through("keys")
 
 
-@test
+@test()
 def updates_of_keys_by_a_child_hold_nobody_up():
     goes_through("keys of a child")
 
 
-@test
+@test()
 def records_of_one_byte_hold_nobody_up():
     goes_through("records of a byte")
 
 
-@test
+@test()
 def whole_sessions_hold_nobody_up():
     goes_through("sessions")
 
 
-@test
+@test()
 def slow_handshakes_from_a_thousand_addresses_hold_nobody_up():
     goes_through("slow")
 
@@ -252,89 +241,83 @@ def cost(agent, count, act):
     return (used(agent) - before) / count
 
 
-def answer(port, text):
+def answer(agent, text):
     """The kind of the first record that comes for this one: 22 is a handshake, 21 an alert."""
-    with socket.create_connection(("127.0.0.1", port), timeout=USUAL * PATIENCE) as sock:
+    with agent.connect() as sock:
         sock.sendall(text)
         return (sock.recv(1) or b"\0")[0]
 
 
-@test
+@test()
 def a_hello_without_a_certificate_costs_little():
-    with Tree({"left": "root"}, before=secure) as tree:
-        begun(tree)
+    with running({"left": "root"}, secure) as tree:
         for groups, kind in [("X25519", 22), ("P-256", 22), ("ffdhe8192", 21), ("P-521", 21)]:
             kinds = set()
             seconds = cost(tree.root, 30,
-                           lambda: kinds.add(answer(tree.root.port, first_hello(groups))))
+                           lambda: kinds.add(answer(tree.root, first_hello(groups))))
             sure(kinds == {kind} and seconds < CHEAP, groups, kinds, seconds)
-        reaches(tree, tree["left"])
+        tree.reaches("left")
 
 
-@test
+@test()
 def hundreds_of_certificates_are_refused_before_they_are_looked_at():
-    with Tree({"left": "root"}, before=secure) as tree:
-        begun(tree)
+    with running({"left": "root"}, secure) as tree:
         refused = lambda: tree.root.status()["refused"]
         before, spent = refused(), used(tree.root)
         with Flood("chains", tree):
             sure(until(lambda: refused() >= before + 20), "they are not refused")
             seconds = (used(tree.root) - spent) / (refused() - before)
             sure(seconds < CHEAP, seconds)
-            reaches(tree, tree["left"])
+            tree.reaches("left")
         sure(tree.root.said("it sends too much") > 0, tree.root.text())
 
 
-@test
+@test()
 def connections_that_wait_have_little_memory():
     """Each stops where it sends its certificate, which is a long one."""
-    with Tree({"left": "root"}, before=secure) as tree:
-        begun(tree)
+    with running({"left": "root"}, secure) as tree:
         before, kept = forget(tree.root), []
         for _ in range(150):
-            sock = socket.create_connection(("127.0.0.1", tree.root.port), timeout=USUAL * PATIENCE)
+            sock = tree.root.connect()
             kept.append(sock)
             sock.sendall(first_hello("X25519"))
             sure(sock.recv(1 << 14), "no answer")
             # (a record of which the rest never comes)
             sock.sendall(b"\x17\x03\x03\x3f\x00" + bytes(14_000))
-        reaches(tree, tree["left"])
+        tree.reaches("left")
         grew = memory(tree.root) - before
         sure(grew <= WAITING, f"{grew} MiB")
         for sock in kept:
             sock.close()
 
 
-@test
+@test()
 def few_descriptors_and_many_silent_clients_stop_nobody():
     with Tree({"left": "root", "right": "root"}, before=secure) as tree:
         tree.root.prefix = ["prlimit", "--nofile=40"]
-        begun(tree, without=["right"])
-        silent = [socket.create_connection(("127.0.0.1", tree.root.port)) for _ in range(100)]
+        tree.begin(without=["right"])
+        silent = [tree.root.connect() for _ in range(100)]
         tree["right"].start()
         sure(until(tree["right"].up, pause=0.1), "a child does not get in")
-        reaches(tree, tree["left"], tree["right"])
+        tree.reaches("left", "right")
         sure(tree.root.alive() and tree.root.status()["name"] == "root")
         for sock in silent:
             sock.close()
 
 
-@long_test
+@test(begins=True)
 def both_ends_say_why_they_are_not_connected():
     """In one line each: the parent says the address too, and the child that of its parent."""
     def some(tree):
         secure(tree)
         tree["late"].tables["tls"] = certify(tree.home, "late", seconds=-60)
         tree["early"].tables["tls"] = certify(tree.home, "early", begins=3_600)
-        (tree.home / "other").mkdir()
-        tree["foreign"].tables["tls"] = {**certify(tree.home / "other", "foreign"),
-                                         "authority": str(tree.home / "ca.crt")}
+        tree["foreign"].tables["tls"] = certify_foreign(tree, "foreign")
         tree["plain"].tables.pop("tls")
         tree["plain"].top["insecure"] = True
 
     names = ["left", "late", "early", "foreign", "plain"]
-    with Tree(dict.fromkeys(names, "root"), before=some) as tree:
-        begun(tree, without=names[1:])
+    with running(dict.fromkeys(names, "root"), some, without=names[1:]) as tree:
         lines = lambda agent, begins: [line for line in agent.text().splitlines()
                                        if line.lstrip("<0123456789>").startswith(begins)]
         for name, above, below in [("late", "has expired", "certificate expired"),
@@ -355,55 +338,39 @@ def both_ends_say_why_they_are_not_connected():
                                        "its name is none of a child"),
                           ("evil", "by its certificate evil, which calls itself left: "
                                    "its certificate has another name")]:
-            context = ssl.SSLContext(ssl.PROTOCOL_TLS_CLIENT)
-            context.check_hostname = False
-            context.load_verify_locations(tree.home / "ca.crt")
-            if name:
-                context.load_cert_chain(tree.home / f"{name}.crt", tree.home / f"{name}.key")
+            context = tls(tree.home, name)
             says = hello("left" if name == "evil" else "stranger", "root")
 
             def is_said():
-                with socket.create_connection(("127.0.0.1", tree.root.port)) as plain:
-                    plain.settimeout(USUAL * PATIENCE)
-                    try:
-                        with context.wrap_socket(plain) as sock:
-                            sock.sendall(says)
-                            sock.recv(100)
-                    except OSError:
-                        pass
+                with (tree.root.connect() as plain, contextlib.suppress(OSError),
+                      context.wrap_socket(plain) as sock):
+                    sock.sendall(says)
+                    sock.recv(100)
                 return any(why in line for line in lines(tree.root, "refused 127.0.0.1:"))
 
             sure(until(is_said, pause=0.3), why, lines(tree.root, "refused"))
         sure(not any("SslStream" in agent.text() or "Error(" in agent.text() for agent in tree))
-        reaches(tree, tree["left"])
+        tree.reaches("left")
 
 
-@test
+@test()
 def the_end_of_a_certificate_is_seen():
-    def counted(tree):
-        secure(tree)
-        tree.root.top["metrics"] = f"127.0.0.1:{tree['left'].port}"
-
-    with Tree({"left": "root"}, before=counted) as tree:
-        begun(tree)
+    with running({"left": "root"}, lambda tree: (secure(tree), counted(tree))) as tree:
         command = ["openssl", "x509", "-noout", "-enddate", "-in", tree.home / "root.crt"]
         end = subprocess.run(command, capture_output=True, text=True, check=True).stdout
         end = ssl.cert_time_to_seconds(end.strip().partition("=")[2])
-        with socket.create_connection(("127.0.0.1", tree["left"].port)) as sock:
-            sock.sendall(b"GET /metrics HTTP/1.0\r\n\r\n")
-            text = b"".join(iter(lambda: sock.recv(1 << 16), b"")).decode()
+        text = tree.root.counts()[1]
         sure(f"\nrignolda_certificate_expires_timestamp_seconds {end}\n" in text, end, text)
         sure(tree.root.status()["certificate_expires"] == end)
 
 
-@test
+@test()
 def an_agent_whose_certificate_lacks_its_name_says_so():
     def nameless(tree):
         secure(tree)
         tree["left"].tables["tls"] = certify(tree.home, "other")
 
-    with Tree({"left": "root"}, before=nameless) as tree:
-        begun(tree, without=["left"])
+    with running({"left": "root"}, nameless, without=["left"]) as tree:
         tree["left"].start()
         sure(until(lambda: tree["left"].said("certificate no DNS name of its SAN is `left`")))
         why = "by its certificate other, which calls itself left: its certificate has another name"
@@ -411,36 +378,18 @@ def an_agent_whose_certificate_lacks_its_name_says_so():
         sure(tree["left"].files() == {}, "it was served")
 
 
-@test
+@test()
 def a_socket_of_listen_has_its_mode():
     with Tree({"left": "root"}) as tree:
         path = tree.root.home / "socket"
         tree.root.top["listen"] = f"unix:{path}"
         tree["left"].top["parents"] = [f"root@unix:{path}"]
         tree.root.prefix = ["sh", "-c", 'umask 077; exec "$@"', "sh"]
-        begun(tree)
+        tree.begin()
         sure(path.stat().st_mode & 0o777 == 0o660, oct(path.stat().st_mode))
 
 
 # ---- What is measured by hand
-
-def ask(agent):
-    """The status of an agent, by one question of this process; nothing where it does not answer."""
-    try:
-        with socket.socket(socket.AF_UNIX) as sock:
-            sock.settimeout(USUAL)
-            sock.connect(str(agent.socket))
-            sock.sendall(b'{"do":"status"}\n')
-            text = b""
-            while not text.endswith(b"\n"):
-                piece = sock.recv(1 << 20)
-                if not piece:
-                    return {}
-                text += piece
-        return json.loads(text)["status"]
-    except OSError:
-        return {}
-
 
 class Watched:
     """What a watchdog hears of an agent: the longest time without a sign."""
@@ -473,6 +422,10 @@ class Watched:
         return max(self.worst, time.monotonic() - self.last)
 
 
+def status(agent):
+    return agent.request(USUAL, do="status").get("status", {})
+
+
 def changes(tree, seconds):
     """How long each change took to an honest child, and how old its last round was at most."""
     file, delays, ages = tree["left"].settings / "probe", [], []
@@ -484,8 +437,7 @@ def changes(tree, seconds):
         while not (file.exists() and file.read_text() == value) and time.monotonic() < end + 60:
             time.sleep(0.003)
         delays.append(time.monotonic() - began)
-        age = ask(tree["left"])
-        ages.append(age.get("round_age", 0) / 1_000)
+        ages.append(status(tree["left"]).get("round_age", 0) / 1_000)
         time.sleep(0.2)
     return delays, ages
 
@@ -498,8 +450,7 @@ def measured(kind, seconds):
         secure(tree)
         watched.append(Watched(tree.root))
 
-    with Tree({"left": "root", "right": "root"}, before=before) as tree:
-        begun(tree)
+    with running({"left": "root", "right": "root"}, before) as tree:
         calm, _ = changes(tree, min(10, seconds))
         watched[0].begin()
         forget(tree.root)
@@ -507,12 +458,11 @@ def measured(kind, seconds):
         with Flood(kind, tree, seconds) as flood:
             time.sleep(0.5)
             delays, ages = changes(tree, seconds / 2)
-            tree["right"].kill()
-            tree["right"].start()
+            tree["right"].restart()
             began = time.monotonic()
             back = "after the flood"
             while flood.goes_on():
-                if ask(tree["right"]).get("parent"):
+                if status(tree["right"]).get("parent"):
                     back = f"{time.monotonic() - began:.1f} s"
                     break
                 time.sleep(0.05)
@@ -523,11 +473,13 @@ def measured(kind, seconds):
         print(f"| {kind} | {1000 * statistics.median(calm):.0f} | "
               f"{1000 * statistics.median(delays):.0f} | {1000 * max(delays):.0f} | "
               f"{len(delays)} | {max(ages):.1f} | {watched[0].longest():.1f} | {back} | "
-              f"{used(tree.root) - spent:.1f} | {memory(tree.root)} | {said} |", flush=True)
+              f"{used(tree.root) - spent:.1f} | {memory(tree.root):.0f} | {said} |", flush=True)
         watched[0].sock.close()
 
 
 def long(words):
+    if lacking():
+        raise SystemExit(lacking())
     seconds = float(os.environ.get("SECONDS", 60))
     print(f"flood of {seconds:.0f} s | median of a change without, ms | with | most | changes | "
           "oldest round, s (of 1) | longest without a sign, s | who begins anew is in after"
@@ -544,16 +496,10 @@ def main():
     if "--flood" in sys.argv:
         MAKES[words[0]](*words[1:])
         return 0
-    if not is_there():
-        raise SystemExit("floods.c cannot be compiled: it needs cc and the headers of OpenSSL")
     if "--long" in sys.argv:
         return long(words)
-    results = [run(function) for function in TESTS
-               if not words or any(word in function.__name__ for word in words)]
-    print(f"{results.count(True)} passed, {results.count(False)} failed")
-    return 0 if all(results) else 1
+    return runner.main()
 
 
 if __name__ == "__main__":
-    os.chdir(HERE.parent)
     sys.exit(main())

@@ -4,8 +4,8 @@
     tests/daemon/long.py [--runs 1] [--kills 50] [--nodes 15] [--seed 1] [--stops] [--relays]
         [--loss PERCENT]
 
-With --loss each agent has a network of its own (ip netns), and nft drops PERCENT percent of the
-packets each way; that needs root. Each agent's log says what it received. Between two moments at
+With --loss the agents have a network of their own (unshare), where nft drops PERCENT percent of
+the packets; that needs root. Each agent's log says what it received. Between two moments at
 which all processes were stopped at once, of each agent whose links were begun before the first
 one, this must hold: it received at most C + E bodies of before, and then published ones in their
 order, each once, and of those before its last one only some among the first M are missing. At the
@@ -14,70 +14,22 @@ the next seed. What a run that failed has judged is kept in a file that it names
 'N passed, M failed'.
 """
 import argparse
-import atexit
 import json
 import os
 import pathlib
 import random
 import re
 import signal
-import subprocess
 import sys
 import tempfile
 import threading
 import time
 
 from daemons import Tree, fan, until
-from relay import Relay
+from memory import stands_still
+from relay import Relay, lose
 
 LIMIT = 60
-
-
-class Network:
-    """Agents in networks of their own, on one bridge, whose packets are lost now and then."""
-
-    def __init__(self, tree, percent):
-        self.made = []
-        self.run("ip", "link", "add", "rgn-br", "type", "bridge")
-        atexit.register(self.close)
-        self.run("ip", "link", "set", "rgn-br", "up")
-        limit = round(percent * 10_000)
-        for at, agent in enumerate(tree):
-            name, address = f"rgn{at}", f"10.99.{at // 250}.{at % 250 + 1}"
-            self.run("ip", "netns", "add", name)
-            self.made.append(name)
-            self.run("ip", "link", "add", f"rgnv{at}", "type", "veth", "peer", "name", "eth0",
-                     "netns", name)
-            self.run("ip", "link", "set", f"rgnv{at}", "master", "rgn-br", "up")
-            for words in (("addr", "add", f"{address}/16", "dev", "eth0"),
-                          ("link", "set", "eth0", "up"), ("link", "set", "lo", "up")):
-                self.run("ip", "-n", name, *words)
-            rules = ("add table inet lossy; "
-                     "add chain inet lossy out { type filter hook output priority 0 ; }; "
-                     'add rule inet lossy out oifname "eth0" '
-                     f"numgen random mod 1000000 < {limit} drop")
-            self.run("ip", "netns", "exec", name, "nft", rules)
-            agent.address, agent.prefix = address, ["ip", "netns", "exec", name]
-            agent.top["insecure"] = True
-        for agent in tree:
-            if agent.parent:
-                above = agent.parent
-                agent.top["parents"] = [f"{above.name}@{above.address}:{above.port}"]
-            if agent.children:
-                agent.top["listen"] = f"{agent.address}:{agent.port}"
-
-    def run(self, *words):
-        subprocess.run(words, check=True, capture_output=True)
-
-    def close(self):
-        for name in self.made:
-            subprocess.run(["ip", "netns", "del", name], capture_output=True)
-        subprocess.run(["ip", "link", "del", "rgn-br"], capture_output=True)
-
-
-def stopped(process):
-    state = pathlib.Path(f"/proc/{process.pid}/stat").read_text().rsplit(") ", 1)[1][0]
-    return state in "TZ"
 
 
 class Trial:
@@ -101,7 +53,7 @@ class Trial:
         for agent in living:
             agent.signal(signal.SIGSTOP)
         for agent in living:
-            until(lambda: stopped(agent.process), 5, 0.0005)
+            until(lambda: not agent.alive() or stands_still(agent.process.pid), 5, 0.0005)
         return living
 
     def cut(self, victims=()):
@@ -251,29 +203,26 @@ def judge_one(got, place, depth, backlogs):
 def run(chosen, seed):
     """One trial: whether nothing was wrong."""
     draw = random.Random(seed)
-    opened = []         # what is to be closed at the end
+    relays = []
 
     def before(tree):
         for agent in tree:
             agent.tables["link"] = {"ack_timeout": "500ms", "evict": "30s", "backlog": LIMIT}
         tree.root.tables["root"]["harmless"] = 11
-        if chosen.loss:
-            opened.append(Network(tree, chosen.loss))
         if chosen.relays:
             for at, agent in enumerate(tree):
                 if agent.parent and at % 2:
                     relay = Relay(agent.parent.port, cuts=(0.05, 1.5), delay=0.002 * (at % 5),
                                   seed=at)
-                    opened.append(relay)
+                    relays.append(relay)
                     agent.top["parents"] = [f"{agent.parent.name}@127.0.0.1:{relay.port}"]
 
     try:
         with Tree(fan(chosen.nodes), before=before) as tree:
-            relays = [it for it in opened if isinstance(it, Relay)]
             return try_tree(tree, chosen, Trial(tree, draw, relays))
     finally:
-        for it in opened:
-            it.close()
+        for relay in relays:
+            relay.close()
 
 
 def try_tree(tree, chosen, trial):
@@ -337,6 +286,11 @@ def main():
     words.add_argument("--relays", action="store_true")
     words.add_argument("--loss", type=float, default=0)
     chosen = words.parse_args()
+    if chosen.loss:
+        if not os.environ.get("LOSES"):
+            os.environ["LOSES"] = "1"
+            os.execvp("unshare", ["unshare", "--net", sys.executable, *sys.argv])
+        lose(chosen.loss)
     passed = 0
     for seed in range(chosen.seed, chosen.seed + chosen.runs):
         print(f"seed {seed}:", flush=True)

@@ -1,19 +1,15 @@
 #!/usr/bin/env python3
 """The choice of parents in trees of processes: restarts in every order, and who is cut off.
 
-    tests/daemon/parents.py     by itself; check.py runs it with all others
+    tests/daemon/parents.py [WORD..]     by itself; check.py runs it with all others
 """
 import random
 import signal
+import sys
 import time
 
-from daemons import Tree, until
-
-
-def sure(holds, *words):
-    """An assertion that python -O keeps."""
-    if not holds:
-        raise AssertionError(" ".join(map(str, words)))
+from daemons import Tree, running, until
+from runner import main, sure, test
 
 
 def parents(agent, *names):
@@ -44,7 +40,7 @@ def racks(count, further=1, leaf=()):
                 del agent.top["children"]
 
     shape = {**{name: "root" for name in names}, **({"leaf": "root"} if leaf else {})}
-    return Tree(shape, before=before)
+    return shape, before
 
 
 def below_root(tree):
@@ -61,8 +57,9 @@ def at_first(name, tree):
     sure(until(lambda: leaf.status()["parent"] == name, pause=0.1), leaf.status())
 
 
+@test(begins=True)
 def racks_that_start_before_the_root_come_to_it():
-    with racks(3) as tree:
+    with Tree(*racks(3)) as tree:
         tree.write("one", "1")
         for agent in tree:
             if agent is not tree.root:
@@ -74,10 +71,9 @@ def racks_that_start_before_the_root_come_to_it():
         sure((way["cost"], way["way"]) == (1, ["root", "rack1"]), way)
 
 
+@test(begins=True)
 def a_root_that_restarts_leaves_no_ring():
-    with racks(3) as tree:
-        tree.write("one", "1")
-        tree.start()
+    with running(*racks(3)) as tree:
         below_root(tree)
         for away in (0.2, 1.5):
             tree.root.kill(signal.SIGTERM)
@@ -89,11 +85,9 @@ def a_root_that_restarts_leaves_no_ring():
         sure(sum(strays) < 50, "items went round:", strays)
 
 
+@test(begins=True)
 def who_has_another_parent_leaves_one_that_lost_the_root():
-    with racks(2, further=0, leaf=("rack1", "rack0")) as tree:
-        tree.write("one", "1")
-        tree.start()
-        sure(tree.ready() and tree.right(), tree.wrong())
+    with running(*racks(2, further=0, leaf=("rack1", "rack0"))) as tree:
         at_first("rack1", tree)
         tree.root.ask("child", "remove", "rack1")
         tree.write("two", "2")
@@ -111,10 +105,9 @@ def who_has_another_parent_leaves_one_that_lost_the_root():
         sure(tree.right(agents=[tree["rack1"], tree["leaf"]]), tree.wrong())
 
 
+@test(begins=True)
 def nobody_moves_while_the_root_is_away():
-    with racks(3, leaf=("rack0", "rack1")) as tree:
-        tree.write("one", "1")
-        tree.start()
+    with running(*racks(3, leaf=("rack0", "rack1"))) as tree:
         below_root(tree)
         tree.root.kill()
         below = [agent for agent in tree if agent is not tree.root]
@@ -134,11 +127,9 @@ def nobody_moves_while_the_root_is_away():
         sure(until(lambda: way() == ["root", "rack0", "leaf"], pause=0.1), tree["leaf"].status())
 
 
+@test(begins=True)
 def a_parent_that_stands_still_is_left():
-    with racks(2, further=0, leaf=("rack0", "rack1")) as tree:
-        tree.write("one", "1")
-        tree.start()
-        sure(tree.ready() and tree.right(), tree.wrong())
+    with running(*racks(2, further=0, leaf=("rack0", "rack1"))) as tree:
         at_first("rack0", tree)
         tree["rack0"].signal(signal.SIGSTOP)
         tree.write("two", "2")
@@ -148,6 +139,7 @@ def a_parent_that_stands_still_is_left():
         sure(tree.right(), tree.wrong())
 
 
+@test(begins=True)
 def a_ring_of_single_parents_says_so_once():
     def ring(tree):
         for agent in tree:
@@ -172,17 +164,15 @@ def a_ring_of_single_parents_says_so_once():
         head = heads()[0]
         parents(head, "root")
         tree.root.start()
-        head.configure()
-        head.signal(signal.SIGHUP)
+        head.reload()
         tree.write("one", "1")
         sure(tree.right(), tree.wrong())
 
 
+@test(begins=True)
 def faults_end_in_a_tree():
     draw = random.Random(5)
-    with racks(5, further=2) as tree:
-        tree.write("one", "1")
-        tree.start()
+    with running(*racks(5, further=2)) as tree:
         below_root(tree)
         for turn in range(10):
             names = [["root"], ["rack"], ["root", "rack"]][draw.randrange(3)]
@@ -202,16 +192,5 @@ def faults_end_in_a_tree():
         sure(moves() == before, "they move on:", before, moves())
 
 
-TESTS = [racks_that_start_before_the_root_come_to_it, a_root_that_restarts_leaves_no_ring,
-         who_has_another_parent_leaves_one_that_lost_the_root, nobody_moves_while_the_root_is_away,
-         a_parent_that_stands_still_is_left, a_ring_of_single_parents_says_so_once,
-         faults_end_in_a_tree]
-
 if __name__ == "__main__":
-    import sys
-    chosen = [it for it in TESTS if not sys.argv[1:] or any(w in it.__name__ for w in sys.argv[1:])]
-    for function in chosen:
-        begun = time.monotonic()
-        function()
-        print(f"{function.__name__}: ok ({time.monotonic() - begun:.1f} s)", flush=True)
-    print(f"{len(chosen)} passed, 0 failed")
+    sys.exit(main())

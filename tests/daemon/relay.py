@@ -1,9 +1,20 @@
-"""A relay between a child and its parent, one connection for one, that can lose and delay."""
+"""What lies between a child and its parent: relays, one connection for one, that can lose and
+delay, and a network that loses packets."""
 import random
 import select
 import socket
+import subprocess
 import threading
 import time
+
+
+def lose(percent):
+    """In the network of this process, as of `unshare --net`, so many percent of all is lost."""
+    rule = f'iifname "lo" numgen random mod 1000000 < {round(percent * 10_000)} drop'
+    for words in (["ip", "link", "set", "lo", "up", "mtu", "1500"],
+                  ["nft", "add table inet lossy; add chain inet lossy in "
+                   "{ type filter hook input priority 0 ; }; add rule inet lossy in " + rule]):
+        subprocess.run(words, check=True, capture_output=True)
 
 
 class Relay:

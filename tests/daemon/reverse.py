@@ -4,37 +4,13 @@
     tests/daemon/reverse.py     by itself; check.py runs it with all others
 """
 import random
-import signal
-import socket
 import ssl
-import struct
-import subprocess
+import sys
 
-from daemons import PATIENCE, USUAL, Tree, until
+from daemons import Tree, by_tls, tls, until
+from protocol import hello
 from relay import Relay
-
-
-def sure(holds, *words):
-    """An assertion that python -O keeps."""
-    if not holds:
-        raise AssertionError(" ".join(map(str, words)))
-
-
-def certify(home, names):
-    """An authority, and a certificate of it for each name: the tables of their configurations."""
-    def run(*words):
-        subprocess.run(["openssl", *words], check=True, capture_output=True, cwd=home)
-
-    key = ["-newkey", "ec", "-pkeyopt", "ec_paramgen_curve:P-256", "-nodes"]
-    run("req", "-x509", *key, "-days", "2", "-subj", "/CN=authority", "-keyout", "ca.key",
-        "-out", "ca.crt")
-    for name in names:
-        run("req", *key, "-subj", f"/CN={name}", "-addext", f"subjectAltName=DNS:{name}",
-            "-keyout", f"{name}.key", "-out", f"{name}.csr")
-        run("x509", "-req", "-in", f"{name}.csr", "-CA", "ca.crt", "-CAkey", "ca.key",
-            "-copy_extensions", "copy", "-CAcreateserial", "-days", "2", "-out", f"{name}.crt")
-    return {name: {"certificate": str(home / f"{name}.crt"), "key": str(home / f"{name}.key"),
-                   "authority": str(home / "ca.crt")} for name in names}
+from runner import main, sure, test
 
 
 def turn(child, port=None):
@@ -48,33 +24,22 @@ def turn(child, port=None):
 
 def refused(tree, agent, by, sender):
     """Whether an agent closes a connection whose certificate and hello have these names."""
-    context = ssl.SSLContext(ssl.PROTOCOL_TLS_CLIENT)
-    context.check_hostname = False
-    context.load_verify_locations(tree.home / "ca.crt")
-    context.load_cert_chain(tree.home / f"{by}.crt", tree.home / f"{by}.key")
-    name = lambda text: bytes([len(text)]) + text.encode()
-    hello = b"RGND" + struct.pack(">BQH", 1, 7, 255) + name(sender) + name(agent.name)
     try:
-        with socket.create_connection(("127.0.0.1", agent.port),
-                                      timeout=USUAL * PATIENCE) as plain, \
-                context.wrap_socket(plain) as sock:
-            sock.sendall(hello)
+        with agent.connect() as plain, tls(tree.home, by).wrap_socket(plain) as sock:
+            sock.sendall(hello(sender, agent.name, life=7))
             return sock.recv(4096) == b""
-    except ConnectionError:
-        return True
-    except ssl.SSLError:
+    except (ConnectionError, ssl.SSLError):
         return True
 
 
+@test(begins=True)
 def parents_may_connect_to_their_children():
     """Both directions in one tree, by TLS: kills, breaks, wrong names, a reload, an order."""
     shape = {"left": "root", "right": "root", "leaf": "left", "other": "right"}
     relays = []
 
     def turned(tree):
-        tables = certify(tree.home, list(tree.agents))
-        for agent in tree:
-            agent.tables["tls"] = tables[agent.name]
+        by_tls(tree)
         # (there is no round that would mend what was lost)
         tree.root.tables["root"]["round"] = "1h"
         relays.append(Relay(tree["left"].port, cuts=(0.05, 0.4), seed=3))
@@ -122,8 +87,7 @@ def parents_may_connect_to_their_children():
         right = tree["right"]
         turn(right)
         for agent in (right, tree.root):
-            agent.configure()
-            agent.signal(signal.SIGHUP)
+            agent.reload()
         sure(until(lambda: right.said("the parents changed") and right.up()), right.text())
         tree.write("turned", "1")
         sure(tree.right(), tree.wrong())
@@ -133,8 +97,7 @@ def parents_may_connect_to_their_children():
         leaf.top["parents"] = ["left", f"right@127.0.0.1:{right.port}"]
         right.top["children"] = ["other", "leaf"]
         for agent in (right, leaf):
-            agent.configure()
-            agent.signal(signal.SIGHUP)
+            agent.reload()
         tree["left"].kill()
         sure(until(lambda: leaf.status()["parent"] == "right"), leaf.status())
         tree.write("next", "parent")
@@ -143,10 +106,5 @@ def parents_may_connect_to_their_children():
         relays[0].close()
 
 
-TESTS = [parents_may_connect_to_their_children]
-
 if __name__ == "__main__":
-    for function in TESTS:
-        function()
-        print(f"{function.__name__}: ok")
-    print(f"{len(TESTS)} passed, 0 failed")
+    sys.exit(main())

@@ -1,7 +1,7 @@
 #!/usr/bin/env python3
 """Links that lie in a store of Redis, in a tree of processes on this machine.
 
-    tests/daemon/store.py             the trials that check.py runs too, where Redis is there
+    tests/daemon/store.py [WORD..]    the trials that check.py runs too, where Redis is there
     tests/daemon/store.py --judged [--faults 30] [--seed 1]
                                       by hand: faults in the store and kills, each count judged
                                       as long.py does
@@ -10,6 +10,7 @@ It needs Debian's redis-server, and by hand installs it where it may; where that
 says so. The last line is 'N passed, M failed'.
 """
 import argparse
+import functools
 import os
 import pathlib
 import random
@@ -21,28 +22,30 @@ import tempfile
 import threading
 import time
 
-sys.dont_write_bytecode = True
-
+import runner
 from daemons import Tree, free_port, until
-from reverse import sure
+from runner import sure
 
 PACKAGES = ["redis-server"]
 IN_STORE = ["left", "left1", "left2", "right2"]      # the others have connections
 
 
-def is_there():
-    """Whether this machine has the server."""
-    return shutil.which("redis-server") is not None
+def lacking():
+    is_there = shutil.which("redis-server")
+    return None if is_there else "links in a store: by hand tests/daemon/store.py installs it"
+
+
+test = functools.partial(runner.test, begins=True, needs=lacking)
 
 
 def install():
-    """The same, after they were installed where that may be done."""
-    if not is_there() and os.geteuid() == 0 and shutil.which("apt-get"):
+    """Installs the server where that may be done: what is not there then."""
+    if lacking() and os.geteuid() == 0 and shutil.which("apt-get"):
         command = ["apt-get", "install", "-y", "-q", "--no-install-recommends", *PACKAGES]
         # (its own service is not what is tried here)
         environment = {**os.environ, "DEBIAN_FRONTEND": "noninteractive", "RUNLEVEL": "1"}
         subprocess.run(command, capture_output=True, env=environment)
-    return is_there()
+    return lacking()
 
 
 class Redis:
@@ -139,18 +142,11 @@ def in_store(redis, names=IN_STORE):
     return before
 
 
-def usual(tree):
-    for at in range(8):
-        tree.write(f"key{at}", f"value {at}")
-    tree.start()
-    sure(tree.ready(), "the tree is not ready", [agent.text()[-300:] for agent in tree])
-    sure(tree.right(), "not the root's settings:", tree.wrong())
-
-
+@test()
 def settings_travel_through_a_store():
     """Small and large ones; who has what is known at the root; and one process has one name."""
     with Redis() as redis, Tree(before=in_store(redis)) as tree:
-        usual(tree)
+        tree.begin()
         took = []
         for at in range(5):
             begun = time.monotonic()
@@ -177,6 +173,7 @@ def settings_travel_through_a_store():
         sure(not any(agent.said("panicked") for agent in tree))
 
 
+@test()
 def losses_in_a_store_lose_nothing():
     """Words that are gone or spoiled, a store that is away or back empty: no round mends that."""
     draw = random.Random(3)
@@ -187,7 +184,7 @@ def losses_in_a_store_lose_nothing():
     with Redis() as redis:
         place = in_store(redis)
         with Tree(before=lambda tree: (place(tree), before(tree))) as tree:
-            usual(tree)
+            tree.begin()
             for turn in range(6):
                 tree.write("key1", f"before {turn}")
                 if turn % 2:
@@ -210,11 +207,12 @@ def losses_in_a_store_lose_nothing():
             sure(not any(agent.said("panicked") for agent in tree))
 
 
+@test()
 def faults_of_a_store_are_mended_by_rounds():
     """Old words, an old backup, and kills: two rounds later all is right."""
     draw = random.Random(4)
     with Redis() as redis, Tree(before=in_store(redis)) as tree:
-        usual(tree)
+        tree.begin()
         redis.backup()
         redis.age()
         for turn in range(3):
@@ -235,10 +233,6 @@ def faults_of_a_store_are_mended_by_rounds():
             sure(tree.right(), turn, tree.wrong())
         sure(tree.ready(), "the tree is not ready")
         sure(not any(agent.said("panicked") for agent in tree))
-
-
-TESTS = [settings_travel_through_a_store, losses_in_a_store_lose_nothing,
-         faults_of_a_store_are_mended_by_rounds]
 
 
 # ---- By hand: each count judged
@@ -310,25 +304,21 @@ def strike(redis, tree, trial, draw):
 
 
 def main():
+    lacks = install()
+    if "--judged" not in sys.argv:
+        return runner.main()
     words = argparse.ArgumentParser(description=__doc__.splitlines()[0])
     words.add_argument("--judged", action="store_true")
     words.add_argument("--faults", type=int, default=30)
     words.add_argument("--seed", type=int, default=1)
     chosen = words.parse_args()
-    if not install():
-        print("the links in a store are not tried: apt-get install", *PACKAGES)
+    if lacks:
+        print("not tried:", lacks)
         print("0 passed, 0 failed")
         return 0
-    if chosen.judged:
-        good = judged(chosen.faults, chosen.seed)
-        print(f"{int(good)} passed, {int(not good)} failed")
-        return 0 if good else 1
-    for function in TESTS:
-        begun = time.monotonic()
-        function()
-        print(f"{function.__name__}: ok, {time.monotonic() - begun:.1f} s", flush=True)
-    print(f"{len(TESTS)} passed, 0 failed")
-    return 0
+    good = judged(chosen.faults, chosen.seed)
+    print(f"{int(good)} passed, {int(not good)} failed")
+    return 0 if good else 1
 
 
 if __name__ == "__main__":

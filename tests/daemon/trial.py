@@ -29,7 +29,6 @@ import random
 import re
 import shutil
 import signal
-import socket
 import stat
 import statistics
 import subprocess
@@ -37,7 +36,8 @@ import sys
 import threading
 import time
 
-from daemons import Agent, Tree, until
+from daemons import Agent, Tree, certify, memory, read, until
+from relay import lose
 
 RACKS, LEAVES = 4, 10
 NAMES = (["hub"] + [f"rack{at}" for at in range(1, RACKS + 1)]
@@ -64,20 +64,16 @@ class Network:
     """The network of this process: what is lost in it, and which links are cut."""
 
     def __init__(self, loss):
-        self.run("ip", "link", "set", "lo", "up")
+        lose(loss)
         for child in NAMES:
             for parent in parents_of(child):
                 if parent in IPV6 or child == DIALLED:
                     self.run("ip", "-6", "addr", "add", f"{self.address(child, parent)}/128",
                              "dev", "lo", "nodad")
-        rules = ["add table inet lossy",
-                 "add set inet lossy cut4 { type ipv4_addr ; }",
-                 "add set inet lossy cut6 { type ipv6_addr ; }",
-                 "add chain inet lossy in { type filter hook input priority 0 ; }"]
+        rules = ["add set inet lossy cut4 { type ipv4_addr ; }",
+                 "add set inet lossy cut6 { type ipv6_addr ; }"]
         rules += [f"add rule inet lossy in {family} {end} @cut{version} drop"
                   for family, version in (("ip", 4), ("ip6", 6)) for end in ("saddr", "daddr")]
-        rules.append('add rule inet lossy in iifname "lo" '
-                     f"numgen random mod 1000000 < {round(loss * 10_000)} drop")
         self.run("nft", "; ".join(rules))
 
     def run(self, *words):
@@ -94,25 +90,6 @@ class Network:
         address = self.address(child, parent)
         version = 6 if ":" in address else 4
         self.run("nft", f"{how} element inet lossy cut{version} {{ {address} }}")
-
-
-def certify(home):
-    """An authority, and a certificate of it for each agent: the tables of their configurations."""
-    home.mkdir()
-
-    def run(*words):
-        subprocess.run(["openssl", *words], check=True, capture_output=True, cwd=home)
-
-    key = ["-newkey", "ec", "-pkeyopt", "ec_paramgen_curve:P-256", "-nodes"]
-    run("req", "-x509", *key, "-days", "90", "-subj", "/CN=trial", "-keyout", "ca.key", "-out",
-        "ca.crt")
-    for name in NAMES:
-        run("req", *key, "-subj", f"/CN={name}", "-addext", f"subjectAltName=DNS:{name}", "-keyout",
-            f"{name}.key", "-out", f"{name}.csr")
-        run("x509", "-req", "-in", f"{name}.csr", "-CA", "ca.crt", "-CAkey", "ca.key",
-            "-CAcreateserial", "-days", "90", "-copy_extensions", "copy", "-out", f"{name}.crt")
-    return {name: {"certificate": str(home / f"{name}.crt"), "key": str(home / f"{name}.key"),
-                   "authority": str(home / "ca.crt")} for name in NAMES}
 
 
 class Node(Agent):
@@ -177,52 +154,7 @@ class Net(Tree):
         return f"[{address}]:{port}" if ":" in address else f"{address}:{port}"
 
 
-def status(agent, seconds=5.0):
-    """What an agent says of itself; None where it does not answer."""
-    try:
-        with socket.socket(socket.AF_UNIX) as sock:
-            sock.settimeout(seconds)
-            sock.connect(str(agent.socket))
-            sock.sendall(b'{"do":"status"}\n')
-            return json.loads(sock.makefile("rb").readline())["status"]
-    except (OSError, ValueError, KeyError):
-        return None
-
-
-def memory(agent):
-    """The most MiB that a process had in memory."""
-    try:
-        text = pathlib.Path(f"/proc/{agent.process.pid}/status").read_text()
-        return int(re.search(r"VmHWM:\s+(\d+)", text)[1]) // 1024
-    except (OSError, TypeError):
-        return 0
-
-
 # ---- Folders
-
-def contents(folder):
-    """The regular files of a folder; what else is there has no bytes."""
-    found = {}
-    try:
-        names = os.listdir(folder)
-    except OSError:
-        return found
-    for name in names:
-        if name.startswith("."):
-            continue
-        try:
-            file = os.open(folder / name, os.O_RDONLY | os.O_NOFOLLOW | os.O_NONBLOCK)
-        except OSError:
-            found[name] = None
-            continue
-        with open(file, "rb", closefd=True) if stat.S_ISREG(os.fstat(file).st_mode) else \
-                open(os.devnull, "rb") as source:
-            regular = source.name != os.devnull
-            found[name] = source.read() if regular else None
-        if not regular:
-            os.close(file)
-    return found
-
 
 def is_key(name):
     return re.fullmatch(r"[A-Za-z0-9_][A-Za-z0-9._-]{0,127}", name) is not None
@@ -230,7 +162,7 @@ def is_key(name):
 
 def differs(agent, truth):
     """What is wrong with an agent's folder. What is there and is no file is nobody's setting."""
-    own = contents(agent.settings)
+    own = read(agent.settings)
     wrong = [key for key, value in truth.items() if own.get(key) != value]
     return wrong + [key for key, value in own.items()
                     if key not in truth and value is not None and is_key(key)]
@@ -392,15 +324,8 @@ class Run:
         if kind < 0.15:
             (root.truth / key).unlink(missing_ok=True)
         elif kind < 0.25 and not self.done.is_set():
-            request = {"do": "publish", "key": key, "value": draw.randbytes(40).hex()}
-            try:
-                with socket.socket(socket.AF_UNIX) as sock:
-                    sock.settimeout(1)
-                    sock.connect(str(root.socket))
-                    sock.sendall(json.dumps(request).encode() + b"\n")
-                    sock.recv(4096)
-            except OSError:
-                pass            # (it is being killed, or stands still)
+            # (it may be being killed, or stand still)
+            root.request(1, do="publish", key=key, value=draw.randbytes(40).hex())
         else:
             size = draw.choice([0, 10, 300, 3_000, 40_000 if draw.random() < 0.1 else 50])
             self.net.write(key, draw.randbytes(size))
@@ -484,7 +409,7 @@ class Run:
         if not copy.exists():
             try:
                 copy.mkdir()
-                for name, value in contents(kept.settings).items():
+                for name, value in read(kept.settings).items():
                     if value is not None:
                         (copy / name).write_bytes(value)
                 self.copies[kept.name] = copy
@@ -492,7 +417,7 @@ class Run:
                 pass
 
     def wrong(self):
-        truth = {name: value for name, value in contents(self.net.root.truth).items()
+        truth = {name: value for name, value in read(self.net.root.truth).items()
                  if value is not None}
         return {agent.name: found for agent in self.net
                 if (found := differs(agent, truth))}, len(truth)
@@ -552,21 +477,21 @@ class Run:
         self.settle(time.monotonic())
         result.update(rounds=None if equal is None else round(equal / period, 2), keys=keys,
                       ever=len(wrong), wrong={name: found[:4] for name, found in wrong.items()})
-        said = {agent.name: status(agent) for agent in net}
-        parents = {name: it and it["parent"] for name, it in said.items()}
+        said = {agent.name: agent.request(do="status").get("status", {}) for agent in net}
+        parents = {name: it.get("parent") for name, it in said.items()}
         moves = sum(agent.said("connected the parent") for agent in net)
         # A change that is said to be everywhere is everywhere.
         number = net.root.ask("publish", "final", str(draw.random()), check=False).get("sequence")
         answer = net.root.ask("wait", "--everywhere", "--timeout", "40s", number, check=False)
         value = (net.root.truth / "final").read_bytes()
         lacking = [agent.name for agent in net
-                   if contents(agent.settings).get("final") != value]
+                   if read(agent.settings).get("final") != value]
         result["wait"] = "ok" if "error" not in answer else str(answer["error"])[:200]
         result["early"] = lacking if result["wait"] == "ok" else []
         result.update(lost=self.circles(parents), parents=parents, ended=self.ended,
                       moves=sum(agent.said("connected the parent") for agent in net) - moves,
-                      strays=max(((it or {}).get("strays", 0) for it in said.values())),
-                      most=max(memory(agent) for agent in net),
+                      strays=max(it.get("strays", 0) for it in said.values()),
+                      most=max((memory(it) for it in net if it.alive()), default=0),
                       panics=[agent.name for agent in net if agent.said("panicked")],
                       second=sum(parents[name] != parents_of(name)[0] for name in NAMES[1:]),
                       counts=self.counts, changes=self.changes)
@@ -583,7 +508,7 @@ def work(chosen):
     signal.signal(signal.SIGTERM, lambda *_: sys.exit(1))
     network = Network(chosen.loss)
     home = pathlib.Path(os.environ["TRIAL_HOME"])
-    tls = certify(home / f"job{chosen.job}")
+    tls = {name: certify(home / f"job{chosen.job}", name, seconds=90 * 86_400) for name in NAMES}
     for seed in range(chosen.seed + chosen.job, chosen.seed + chosen.runs, chosen.jobs):
         draw = random.Random(seed)
         began = time.monotonic()

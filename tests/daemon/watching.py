@@ -8,18 +8,10 @@ import signal
 import subprocess
 import sys
 import time
-import traceback
-import urllib.request
 
-from daemons import PATIENCE, Agent, Tree, free_port, until
-from hostile import Child, Parent, body, entry, report, sure
-
-TESTS = []
-
-
-def test(function):
-    TESTS.append(function)
-    return function
+from daemons import PATIENCE, Tree, counted, running, until, very_patient
+from protocol import Child, Parent, body, entry, report
+from runner import main, sure, test
 
 
 def also_below(agent, parent):
@@ -35,11 +27,8 @@ def known(tree):
 
 def slow_hook(agent):
     """A hook that ends when the file `go` is there, and notes the key."""
-    hook = agent.home / "hook"
     go = f"while [ -d {agent.home} ] && [ ! -e {agent.home}/go ]; do sleep 0.02; done"
-    hook.write_text(f'#!/bin/sh\n{go}\necho "$2" >>{agent.home}/calls\n')
-    hook.chmod(0o755)
-    agent.tables["apply"].update(hook=str(hook), hook_timeout="10m")
+    agent.hook(f'{go}\necho "$2" >>{agent.home}/calls', hook_timeout="10m")
 
 
 def calls(agent):
@@ -123,11 +112,8 @@ def nothing_is_everywhere_before_it_is_applied():
 def what_a_gap_left_out_is_waited_for():
     with Tree({}) as tree:
         leaf = tree.add("leaf", "root")
-        leaf.tables["link"] = {"ack_timeout": "1m", "evict": "10m"}
         slow_hook(leaf)
         parent = Parent(leaf)
-        leaf.start()
-        parent.meet()
         parent.send(body(b"T", 100, [entry(b"a", b"1")]))
         (leaf.home / "go").touch()
         leaf.ask("wait", 100)
@@ -146,10 +132,10 @@ def what_a_gap_left_out_is_waited_for():
 
 @test
 def a_file_that_was_moved_in_is_waited_for():
-    with Tree({"left": "root", "leaf": "left"}) as tree:
+    def slow_rounds(tree):
         tree.root.tables["root"]["round"] = "1h"
-        tree.start()
-        sure(tree.ready())
+
+    with running({"left": "root", "leaf": "left"}, slow_rounds) as tree:
         script = ('printf %s "$1" >"$2/.new"; mv "$2/.new" "$2/key"; '
                   'exec "$3" --socket "$4" wait --everywhere')
         early = []
@@ -164,14 +150,9 @@ def a_file_that_was_moved_in_is_waited_for():
 
 @test
 def what_cannot_be_published_is_named():
-    with Tree({"left": "root"}) as tree:
-        port = free_port()
-        tree.root.top["metrics"] = f"127.0.0.1:{port}"
-        tree.write("good", "1")
-        tree.start()
-        sure(tree.ready() and waits(tree.root, "--everywhere", seconds=20) is None)
-        counts = lambda: urllib.request.urlopen(f"http://127.0.0.1:{port}/metrics",
-                                                timeout=60).read().decode()
+    with running({"left": "root"}, counted) as tree:
+        sure(waits(tree.root, "--everywhere", seconds=20) is None)
+        counts = lambda: tree.root.counts()[1]
         sure("\nrignolda_unpublished 0\n" in counts(), counts())
         long = tree.root.truth / "long"
         long.write_bytes(b"x" * ((1 << 20) + 1))
@@ -195,11 +176,7 @@ def what_cannot_be_published_is_named():
 
 @test
 def a_wait_ends_in_its_time():
-    with Tree({"left": "root"}) as tree:
-        tree.root.tables["link"] = {"ack_timeout": "1m", "evict": "10m"}
-        tree.write("one", "1")
-        tree.start()
-        sure(tree.ready())
+    with running({"left": "root"}, very_patient) as tree:
         # (where no child takes anything, the root publishes no more)
         tree["left"].signal(signal.SIGSTOP)
 
@@ -220,14 +197,7 @@ def a_wait_ends_in_its_time():
 def invented_agents_drive_nobody_out():
     shape = {"left": "root", "left1": "left", "liar": "left", "zeta": "left", "last": "zeta",
              "right": "root"}
-    with Tree(shape) as tree:
-        for agent in tree:
-            agent.tables["link"] = {"ack_timeout": "20s", "evict": "10m"}
-        tree.write("one", "1")
-        honest = [agent for agent in tree if agent.name != "liar"]
-        for agent in honest:
-            agent.start()
-        sure(until(lambda: all(agent.up() for agent in honest)))
+    with running(shape, very_patient, without=["liar"]) as tree:
         liar = Child(tree["left"], "liar")
         up = {"connected": True, "whole": True, "applied": 1 << 63}
         invented = [{"name": f"n{at}", "parent": "liar", **up} for at in range(9_999)]
@@ -235,7 +205,7 @@ def invented_agents_drive_nobody_out():
         count = lambda: sum(it["name"].startswith("n") for it in tree.root.ask("tree"))
         sure(until(lambda: count() > 1_000), "the root knows", count())
         names = {it["name"] for it in tree.root.ask("tree")}
-        lost = {agent.name for agent in honest} - names
+        lost = {agent.name for agent in tree} - {"liar"} - names
         sure(not lost, "driven out:", lost)
         number = tree.root.ask("publish", "two", "2")["sequence"]
         lacking = lambda: [it["name"] for it in tree.root.ask("tree")
@@ -250,17 +220,13 @@ def invented_agents_drive_nobody_out():
 
 @test
 def a_chain_of_invented_agents_is_short():
-    with Tree({"liar": "root"}) as tree:
-        tree.root.tables["link"] = {"ack_timeout": "20s", "evict": "10m"}
-        tree.root.start()
-        sure(until(tree.root.up))
+    with running({"liar": "root"}, very_patient, without=["liar"]) as tree:
         liar = Child(tree.root, "liar")
         chain = [{"name": f"n{at}", "parent": f"n{at - 1}" if at else "liar"}
                  for at in range(9_999)]
         liar.send(report([{"name": "liar", "whole": True, "applied": 1 << 63}, *chain]))
         sure(until(lambda: len(tree.root.ask("tree")) > 60))
-        done = subprocess.run([tree.bin / "rignoldactl", "--socket", tree.root.socket, "tree"],
-                              capture_output=True, text=True, timeout=60)
+        done = tree.root.run("tree")
         sure(len(done.stdout) < 30_000, len(done.stdout), "bytes of text")
         sure("as at n62 needs 131" in done.stderr, done.stderr)
         sure(until(lambda: "liar has more agents" in (waits(tree.root, "--everywhere") or "")))
@@ -271,10 +237,7 @@ def a_chain_of_invented_agents_is_short():
 def settings_without_end_are_not_applied():
     with Tree({}) as tree:
         leaf = tree.add("leaf", "root")
-        leaf.tables["link"] = {"ack_timeout": "1m", "evict": "10m"}
         parent = Parent(leaf)
-        leaf.start()
-        parent.meet()
         parent.send(body(b"T", 100, [entry(b"a", b"1")]))
         for at in range(40):
             parent.send(body(b"C", 101 + at, [entry(b"k%02d" % at, bytes(1 << 20))]))
@@ -294,35 +257,25 @@ def settings_without_end_are_not_applied():
 
 @test
 def two_agents_of_one_name_are_counted():
-    with Tree({"left": "root", "right": "root"}) as tree:
+    with running({"left": "root", "right": "root"}) as tree:
         left = tree["left"]
-        tree.write("one", "1")
-        tree.start()
-        sure(tree.ready())
         clashes = lambda: [it["clashes"] for it in tree.root.status()["children"]]
         # (one that starts again and again is none)
         for _ in range(4):
-            left.kill()
-            left.start()
+            left.restart()
             sure(until(left.up))
         sure(clashes() == [0, 0], clashes())
-        twin = Agent(tree, "twin", None)
-        shutil.rmtree(twin.truth)
-        del twin.tables["root"]
-        twin.name, twin.top["parents"] = "left", left.top["parents"]
-        tree.agents["twin"] = twin
-        twin.start()
+        tree.twin("left").start()
         sure(until(lambda: clashes()[0] > 2), clashes())
         sure(clashes()[1] == 0 and tree.root.said("clash left") == 1, clashes())
 
 
 @test
 def small_things_are_as_they_should_be():
-    with Tree({"left": "root"}) as tree:
+    def quick_rounds(tree):
         tree.root.tables["root"].update(round="200ms", harmless=50)
-        tree.write("one", "1")
-        tree.start()
-        sure(tree.ready())
+
+    with running({"left": "root"}, quick_rounds) as tree:
         # a value that begins with a hyphen
         number = tree.root.ask("publish", "k", "-5")["sequence"]
         tree.root.ask("wait", "--everywhere", number)
@@ -332,32 +285,15 @@ def small_things_are_as_they_should_be():
         sure("k" not in tree["left"].files())
         # (rounds begin all the time, and nothing lags)
         lags = set()
-        text = lambda: subprocess.run([tree.bin / "rignoldactl", "--socket", tree.root.socket,
-                                       "tree"], capture_output=True, text=True).stdout
         for _ in range(40):
-            lags |= {line.split()[1] for line in text().splitlines()[1:]}
+            lags |= {line.split()[1] for line in tree.root.run("tree").stdout.splitlines()[1:]}
             time.sleep(0.02)
         sure(lags == {"0"}, lags)
         # what a file says does not reach a terminal as it is
         (tree.root.truth / "bad\x1b[2J").write_text("1")
-        done = subprocess.run([tree.bin / "rignoldactl", "--socket", tree.root.socket, "wait"],
-                              capture_output=True, text=True, timeout=60)
+        done = tree.root.run("wait")
         sure(done.returncode == 1 and "bad\\u001b[2J" in done.stderr, done)
         sure(tree.root.status()["unpublished"] == 1, tree.root.status())
-
-
-def main():
-    failed = 0
-    for function in TESTS:
-        if not sys.argv[1:] or any(word in function.__name__ for word in sys.argv[1:]):
-            begun = time.monotonic()
-            try:
-                function()
-                result = "ok"
-            except Exception:
-                failed, result = failed + 1, "FAILED\n" + traceback.format_exc()
-            print(f"{function.__name__}: {result} ({time.monotonic() - begun:.1f} s)", flush=True)
-    return 1 if failed else 0
 
 
 if __name__ == "__main__":

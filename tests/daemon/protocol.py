@@ -1,0 +1,164 @@
+"""The bytes of the protocol, written here a second time, and ends that say what they are told."""
+import itertools
+import json
+import random
+import socket
+import struct
+import threading
+import time
+import zlib
+
+from daemons import PATIENCE, USUAL
+from runner import sure
+
+
+def hello(sender, to, life=None, label=255, version=1):
+    life = random.getrandbits(64) if life is None else life
+    name = lambda text: bytes([len(text)]) + text.encode()
+    return b"RGND" + struct.pack(">BQH", version, life, label) + name(sender) + name(to)
+
+
+def look(sender, to):
+    """A hello of version 2 that begins no count: it asks for the way."""
+    return b"RGNL" + hello(sender, to, label=0, version=2)[4:]
+
+
+def way(cost, names, length=None):
+    names = names if isinstance(names, bytes) else "\n".join(names).encode()
+    return b"W" + struct.pack(">HH", cost, len(names) if length is None else length) + names
+
+
+def frame(label, text, item=None, length=None):
+    item = zlib.crc32(text) if item is None else item
+    return b"F" + struct.pack(">HII", label, item, len(text) if length is None else length) + text
+
+
+def body(kind, sequence, entries=b""):
+    """A body: behind its number these bytes, or the entries of a list and how many there are."""
+    if isinstance(entries, list):
+        entries = struct.pack(">I", len(entries)) + b"".join(entries)
+    return kind + struct.pack(">Q", sequence) + entries
+
+
+def entry(key, value=b""):
+    """That a key has a value, or none any more."""
+    key = bytes([len(key)]) + key
+    return b"U" + key if value is None else b"S" + key + struct.pack(">I", len(value)) + value
+
+
+def report(said):
+    said = said if isinstance(said, bytes) else json.dumps(said, separators=(",", ":")).encode()
+    return b"R" + struct.pack(">I", len(said)) + said
+
+
+def exactly(sock, count):
+    got = bytearray()
+    while len(got) < count:
+        piece = sock.recv(min(1 << 20, count - len(got)))
+        if not piece:
+            raise EOFError
+        got += piece
+    return bytes(got)
+
+
+def take_hello(sock, begins=b"RGND\x01"):
+    """Takes a hello, or what begins so; it answers which beginning came."""
+    head = exactly(sock, 15)
+    sure(head.startswith(begins), head)
+    for _ in range(2):
+        exactly(sock, exactly(sock, 1)[0])
+    return head[:5]
+
+
+def closed(sock):
+    """Whether the other end closes."""
+    end = time.monotonic() + USUAL * PATIENCE
+    try:
+        while (left := end - time.monotonic()) > 0:
+            sock.settimeout(left)
+            if not sock.recv(1 << 16):
+                return True
+    except ConnectionError:
+        return True
+    except TimeoutError:
+        pass
+    return False
+
+
+class Child:
+    """A child that takes and acknowledges all, and sends what it is told to."""
+
+    def __init__(self, parent, name, context=None):
+        self.lock = threading.Lock()
+        sock = parent.connect()
+        self.sock = context.wrap_socket(sock) if context else sock
+        self.sock.sendall(hello(name, parent.name))
+        self.closed = threading.Event()
+        threading.Thread(target=self.take, daemon=True).start()
+
+    def take(self):
+        try:
+            take_hello(self.sock)
+            while True:
+                label, _, length = struct.unpack(">HII", exactly(self.sock, 11)[1:])
+                exactly(self.sock, length)
+                self.send(b"A" + struct.pack(">H", label))
+        except (OSError, EOFError, AssertionError):
+            self.closed.set()
+
+    def send(self, text):
+        with self.lock:
+            self.sock.sendall(text)
+
+    def close(self):
+        self.sock.close()
+
+
+class Parent:
+    """The parent of an agent, which it starts: it sends what it is told to, and waits for each
+    acknowledgement."""
+
+    def __init__(self, agent):
+        self.agent, self.numbers = agent, itertools.count(1)
+        self.name = agent.parent.name
+        self.listener = socket.create_server(("127.0.0.1", agent.parent.port))
+        self.listener.settimeout(USUAL * PATIENCE)
+        self.life = random.getrandbits(64)
+        self.sock = None
+        # (what is said here at once is to come in time)
+        agent.tables["link"] = {"ack_timeout": "1m", "evict": "10m"}
+        agent.start()
+        self.meet()
+
+    def meet(self):
+        """Takes the next connection that is kept: of looks, version 1 knows nothing."""
+        if self.sock:
+            self.sock.close()
+        while True:
+            self.sock, _ = self.listener.accept()
+            self.sock.settimeout(USUAL * PATIENCE)
+            if self.sock.recv(4, socket.MSG_PEEK | socket.MSG_WAITALL) != b"RGNL":
+                break
+            self.sock.recv(4096)
+            self.sock.close()
+        self.sock.sendall(hello(self.name, self.agent.name, self.life, label=0))
+        take_hello(self.sock)
+        return self
+
+    def send(self, text, item=None, label=None):
+        """Sends a body, and waits until it is acknowledged. It answers with which label."""
+        label = next(self.numbers) % 255 if label is None else label
+        self.sock.sendall(frame(label, text, item))
+        while True:
+            kind = exactly(self.sock, 1)
+            if kind == b"A":
+                if struct.unpack(">H", exactly(self.sock, 2))[0] == label:
+                    return label
+            elif kind == b"R":
+                exactly(self.sock, struct.unpack(">I", exactly(self.sock, 4))[0])
+            else:
+                raise AssertionError(f"it sends {kind}")
+
+    def close(self):
+        self.sock.close()
+        self.listener.close()
