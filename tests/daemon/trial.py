@@ -46,6 +46,8 @@ DIALLED = "leaf10"
 IPV6 = ("rack3", DIALLED)
 # How many rounds are waited for before a folder counts as wrong for ever.
 FOR_EVER = 60
+# For how many an agent is looked at again that does not come to the hub by its parents.
+AGAIN = 5
 
 
 def parents_of(name):
@@ -477,7 +479,15 @@ class Run:
         self.settle(time.monotonic())
         result.update(rounds=None if equal is None else round(equal / period, 2), keys=keys,
                       ever=len(wrong), wrong={name: found[:4] for name, found in wrong.items()})
-        said = {agent.name: agent.request(do="status").get("status", {}) for agent in net}
+        said = {}
+
+        def lost():
+            for agent in net:
+                said[agent.name] = agent.request(do="status").get("status", {})
+            return self.circles({name: it.get("parent") for name, it in said.items()})
+
+        # (one that is between two parents when it is looked at is no fault: it is looked at again)
+        until(lambda: not lost(), AGAIN * period, 0.05)
         parents = {name: it.get("parent") for name, it in said.items()}
         moves = sum(agent.said("connected the parent") for agent in net)
         # A change that is said to be everywhere is everywhere.
