@@ -48,7 +48,7 @@ def judged(*parts, broken=()):
             lengths[name] += len(found)
             if (at, name) in broken:
                 texts[name] = texts[name].removesuffix("\n")
-        cuts.append((dict(lengths), set()))
+        cuts.append(dict(lengths))
     wrong, count, strays, missing, left_out = judge(cuts, texts, ABOVE)
     return [name for _, name, _ in wrong], count, strays, missing, left_out
 

@@ -6,6 +6,7 @@
 
 The program is the one of tests/check_tables.py. `job_of` makes a job of the logs of any agents.
 """
+import itertools
 import json
 import subprocess
 import sys
@@ -14,6 +15,7 @@ from pathlib import Path
 sys.dont_write_bytecode = True
 sys.path.insert(0, str(Path(__file__).resolve().parents[2] / "tools"))
 
+import long
 from programs import run_with
 
 GARBAGE = 2 ** 32 - 1       # an item that nobody publishes
@@ -72,40 +74,24 @@ def broken_in(file, above, published, counts, hold):
 def judge(file, cuts, texts, above, hold):
     """Judges logs as `judge` of long.py does: what is wrong, as (part, agent, text), and how many
     counts of agents were judged and left out."""
-    import long
-    logs = {name: long.lines_of(text) for name, text in texts.items()}
-    root = logs["root"]
     wrong, judged, left_out = [], 0, 0
-    for at, (start, end) in enumerate(zip(cuts, cuts[1:])):
-        part = {name: log[start[name]:end[name]] for name, log in logs.items()}
-        begun = max([place for place, line in enumerate(root[:end["root"]])
-                     if line.startswith("start ")], default=0)
-        if begun >= start["root"]:
-            left_out += len(above)
-            continue
-        published = long.numbers(root[begun:end["root"]], "published")
+    for at, group in itertools.groupby(long.counts_of(cuts, texts, above), lambda it: it[0]):
         counts = {}
-        for name in above:
-            path = [name]
-            while path[0] in above:
-                path.insert(0, above[path[0]])
-            path = path[1:]
-            if any(long.began_anew(part, step, above[step]) for step in path):
+        for _, name, count in group:
+            if count is None:
                 left_out += 1
                 continue
-            first = long.first_offered(root[begun:start["root"]], logs[path[0]][:start[path[0]]],
-                                       part[path[0]], path[0])
-            place = len(published) if first is None else \
-                sum(number < first for number in published)
-            counts[name] = (place, long.numbers(part[name], "received"))
-        judged += len(counts)
-        wrong += [(at, name, text)
-                  for name, text in broken_in(file, above, published, counts, hold).items()]
+            _, published, first, got = count
+            place = len(published) if first is None else sum(it < first for it in published)
+            counts[name] = (place, got)
+        if counts:
+            judged += len(counts)
+            wrong += [(at, name, text) for name, text
+                      in broken_in(file, above, published, counts, hold).items()]
     return wrong, judged, left_out
 
 
 def main(file):
-    import long
     passed = failed = 0
     for name in sys.argv[1:]:
         kept = json.loads(Path(name).read_text())

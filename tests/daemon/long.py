@@ -37,7 +37,7 @@ class Trial:
         self.tree, self.draw, self.relays = tree, draw, relays
         self.lock = threading.Lock()
         self.done = threading.Event()
-        self.cuts = []          # (lines of each log, agents that were killed then)
+        self.cuts = []          # how many lines each log had
         self.changes = 0
 
     def publish(self):
@@ -59,8 +59,7 @@ class Trial:
     def cut(self, victims=()):
         """A moment at which all are stopped: how long each log is. Victims end there."""
         living = self.stop_all()
-        self.cuts.append(({agent.name: len(lines_of(agent.text())) for agent in self.tree},
-                          {victim.name for victim in victims}))
+        self.cuts.append({agent.name: len(lines_of(agent.text())) for agent in self.tree})
         for victim in victims:
             victim.kill()
         for agent in living:
@@ -96,8 +95,7 @@ class Trial:
         if verdict[0]:
             with tempfile.NamedTemporaryFile("w", prefix="rignolda-judged-", suffix=".json",
                                              delete=False) as file:
-                json.dump({"cuts": [lengths for lengths, _ in self.cuts], "logs": logs,
-                           "above": above}, file)
+                json.dump({"cuts": self.cuts, "logs": logs, "above": above}, file)
             print(f"what was judged is in {file.name}")
         return verdict
 
@@ -110,39 +108,46 @@ def lines_of(text):
     return re.sub(r"(?<=[^\n])(start \S+ life [0-9a-f]{16}\n)", r"\n\1", text).splitlines()
 
 
-def judge(cuts, texts, above):
-    """Judges logs: the moments as `Trial.cuts` has them, the text of each log by its agent's name,
-    and the parent of each agent but the root. It returns what is wrong, how many counts of agents
-    were judged, their strays, what is missing in them, and how many counts were left out."""
+def counts_of(cuts, texts, above):
+    """Each count of an agent between two moments: which, the agent, and what is to be judged. That
+    is the agents of its path, what the root published, the number with which the root's list
+    begins, and what the agent received; or nothing, where a link of the path began anew."""
     logs = {name: lines_of(text) for name, text in texts.items()}
     root = logs["root"]
-    wrong, judged, strays, missing, left_out = [], 0, 0, 0, 0
-    for at, ((start, _), (end, _)) in enumerate(zip(cuts, cuts[1:])):
+    for at, (start, end) in enumerate(zip(cuts, cuts[1:])):
         part = {name: log[start[name]:end[name]] for name, log in logs.items()}
         begun = max([place for place, line in enumerate(root[:end["root"]])
                      if line.startswith("start ")], default=0)
         published = numbers(root[begun:end["root"]], "published")
-        if begun >= start["root"]:
-            left_out += len(above)
-            continue
         for name in above:
             path = [name]
-            while path[0] in above:
+            while above[path[0]] in above:
                 path.insert(0, above[path[0]])
-            path = path[1:]
-            if any(began_anew(part, step, above[step]) for step in path):
-                left_out += 1
+            if begun >= start["root"] or any(began_anew(part, it, above[it]) for it in path):
+                yield at, name, None
                 continue
             first = first_offered(root[begun:start["root"]], logs[path[0]][:start[path[0]]],
                                   part[path[0]], path[0])
-            new = [number for number in published if first is not None and number >= first]
-            place = {number: at for at, number in enumerate(new)}
-            got = numbers(part[name], "received")
-            inner = [step for step in path if step in above.values()]
-            fault, front, gaps = judge_one(got, place, len(path), LIMIT * len(inner))
-            judged, strays, missing = judged + 1, strays + front, missing + gaps
-            if fault:
-                wrong.append((at, name, fault))
+            yield at, name, (path, published, first, numbers(part[name], "received"))
+
+
+def judge(cuts, texts, above):
+    """Judges logs: the moments as `Trial.cuts` has them, the text of each log by its agent's name,
+    and the parent of each agent but the root. It returns what is wrong, how many counts of agents
+    were judged, their strays, what is missing in them, and how many counts were left out."""
+    wrong, judged, strays, missing, left_out = [], 0, 0, 0, 0
+    for at, name, count in counts_of(cuts, texts, above):
+        if count is None:
+            left_out += 1
+            continue
+        path, published, first, got = count
+        new = [number for number in published if first is not None and number >= first]
+        place = {number: at for at, number in enumerate(new)}
+        inner = [step for step in path if step in above.values()]
+        fault, front, gaps = judge_one(got, place, len(path), LIMIT * len(inner))
+        judged, strays, missing = judged + 1, strays + front, missing + gaps
+        if fault:
+            wrong.append((at, name, fault))
     return wrong, judged, strays, missing, left_out
 
 
