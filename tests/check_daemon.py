@@ -62,6 +62,7 @@ def main():
         if shutil.which("cargo"):
             cases.works("the tests of the library for Rust", "cargo", "test", *OFFLINE, *LIBRARY,
                         *APART)
+        cases.works("each planted bug fits", "tests/daemon/planted.py", "--fits")
         for script in "check_judge.py", "check.py", "check_validators.py":
             said = ran(f"tests/daemon/{script}")[1]
             print(said, end="", flush=True)

@@ -171,31 +171,33 @@ def spoiled_folders_are_right_after_two_rounds():
 
 @test(begins=True)
 def a_dead_leaf_harms_nobody_and_is_served_when_it_is_back():
+    """Of one its parent has no room for what it lacks, and one is away for too long."""
     def slow_rounds(tree):
         tree.root.tables["root"]["round"] = "1h"
-        for agent in tree:
-            agent.tables["link"]["backlog"] = 100
+        tree["left"].tables["link"] = {"ack_timeout": "500ms", "evict": "1h", "backlog": 100}
 
     with running(before=slow_rounds) as tree:
-        dead = tree["left1"]
-        dead.kill()
-        others = [agent for agent in tree if agent is not dead]
+        dead = [tree["left1"], tree["right1"]]
+        for agent in dead:
+            agent.kill()
+        others = [agent for agent in tree if agent not in dead]
         # (changes of one file that come together are one item, so what has to
         # fill the backlog is published: each one is answered before the next)
         for at in range(150):
             tree.root.ask("publish", f"key{at % 20}", str(at))
             tree.write(f"file{at % 20}", at)
         sure(tree.right(agents=others), tree.wrong(others))
-        # (its time was over, or there was no room, whichever came first)
-        said = tree["left"].said
-        dropped = lambda: said("evicted left1") + said("left-behind left1")
-        sure(until(dropped), "its backlog was kept")
+        sure(until(lambda: tree["left"].said("left-behind left1")), tree["left"].text()[-500:])
+        sure(until(lambda: tree["right"].said("evicted right1")), tree["right"].text()[-500:])
+        sure(not tree["left"].said("evicted") and not tree["right"].said("left-behind"))
         tree.write("last", "one")
-        dead.start()
+        for agent in dead:
+            agent.start()
         # (there is no round that would bring it)
         sure(tree.right(), tree.wrong())
-        children = lambda: tree["left"].status()["children"]
-        sure(until(lambda: all(child["connected"] for child in children())), children())
+        for name in ("left", "right"):
+            children = lambda: tree[name].status()["children"]
+            sure(until(lambda: all(child["connected"] for child in children())), children())
 
 
 @test
@@ -275,6 +277,7 @@ def a_hello_of_garbage_is_refused():
                 sock.sendall(greeting)
                 sure(closed(sock), "it was kept:", greeting[:40])
         # of two connections by one name the older one is closed
+        tree["left"].kill()
         first = connect()
         first.sendall(hello("left", "root"))
         sure(first.recv(4), "it is not greeted")
@@ -282,6 +285,9 @@ def a_hello_of_garbage_is_refused():
             second.sendall(hello("left", "root", life=8))
             sure(second.recv(4) and closed(first), "a connection that was left is kept")
         first.close()
+        # (for that, and not since it answered to nothing for a while)
+        sure(until(lambda: tree.root.said("closed left: it connected anew")), tree.root.text())
+        tree["left"].start()
         # a slow one is dropped, and so are too many
         slow = [connect() for _ in range(150)]
         for sock in slow:

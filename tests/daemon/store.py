@@ -197,6 +197,11 @@ def losses_in_a_store_lose_nothing():
                     redis.spoil(draw)
                 tree.write("key3", f"after {turn}")
                 sure(tree.right(), turn, tree.wrong())
+            # a child's word is set again although nothing changes: who begins anew looks at it
+            redis.ask("DEL", *redis.words())
+            lacking = lambda: {f"tree:{tree[it].parent.name}:{it}:up"
+                               for it in IN_STORE} - set(redis.words())
+            sure(until(lambda: not lacking()), "these are gone:", lacking())
             statuses = {agent.name: agent.status() for agent in tree}
             sure(all(it["gaps"] + it["strays"] == 0 for it in statuses.values()), statuses)
             # (each change of state is one line)
@@ -204,6 +209,9 @@ def losses_in_a_store_lose_nothing():
             states = re.findall("^(connected|closed) the parent", text, re.MULTILINE)
             sure(states.count("closed") >= 3, text)
             sure(states == (["connected", "closed"] * len(states))[:len(states)], text)
+            for agent in (tree.root, tree["left"]):
+                agent.restart()
+            sure(tree.ready() and tree.right(), tree.wrong())
             sure(not any(agent.said("panicked") for agent in tree))
 
 
