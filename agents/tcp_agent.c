@@ -197,8 +197,8 @@ static void forget(void) {
     rignolda_node_forget(&node, place);
 }
 
-/* A child that is back and was left behind begins with what is kept, under another label than its
- * last one. Its link counts anew from here on. */
+/* A child that was left behind begins with what is kept, under another label than its last one. Its
+ * link counts anew from here on. */
 static void begin_anew(struct child *child) {
     uint16_t label = (uint16_t)((child->link.sender.label + 1) % params.labels);
     if (rignolda_child_init_at(&child->link, &node, PLACES, label, node.forgotten))
@@ -246,6 +246,9 @@ static void look_up(bool is_readable) {
     if (rignolda_session_ack(&node.above, &above, &label)) {
         uint8_t ack[ACK_BYTES] = {(uint8_t)(label >> 8), (uint8_t)label};
         put(&to_parent, ack, sizeof ack);
+    } else if (above.there && above.turn) {
+        /* (nobody closed it: it has only been hit) */
+        rignolda_receiver_init(&node.above, node.above.label);
     }
     if (came < 0 || !flush(&to_parent) || (has_room() && now() - to_parent.since > LONG_PATIENCE))
         leave(&to_parent, &above);
@@ -267,6 +270,8 @@ static void look_down(struct child *child, bool is_readable) {
             (uint8_t)(frame.label >> 8), (uint8_t)frame.label, (uint8_t)(frame.item >> 24),
             (uint8_t)(frame.item >> 16), (uint8_t)(frame.item >> 8), (uint8_t)frame.item};
         put(it, bytes, sizeof bytes);
+    } else if (child->session.there && child->session.turn && backlog(child) > 0) {
+        begin_anew(child);
     }
     bool waits = child->link.sender.holding && now() - it->since > PATIENCE;
     if (came < 0 || !flush(it) || waits)

@@ -3,8 +3,10 @@
  * one's own.
  *
  * Each call is proved: it does the step of the protocol's definition, from every bit pattern that a
- * struct may hold. The proofs are of the code behind this header (the crate stab_c); that your line
- * is one of those that the laws are about is for you to see to.
+ * struct may hold. So the bounds of the laws hold from there too; that items arrive is so where the
+ * ends call what "When nothing comes" says, in the part on sessions. The proofs are of the code
+ * behind this header (the crate stab_c); that your line is one of those that the laws are about is
+ * for you to see to.
  *
  * Every call:
  *   - takes no memory, does no input or output, reads no clock, waits for nothing, calls nothing
@@ -28,9 +30,8 @@
  *   - holding, closed, there and turn are true at any value but 0;
  *   - the item of a sender counts only while it is holding;
  *   - a node keeps the items of its list from place `forgotten` on, and no more than the last
- *     `size` of them: any other length or count of forgotten items means that too. Where a child's
- *     count of offered items is past the end of the list, it is offered nothing until the list is
- *     longer than that.
+ *     `size` of them: any other length or count of forgotten items means that too. A child whose
+ *     count of offered items is past the end of the list is left behind.
  *
  * A count of a link is what the laws are about: all that happens on it from a moment that you
  * choose, whatever the structs and the line hold then. From its beginning to its end a link has one
@@ -199,7 +200,10 @@ RIGNOLDA_CALL bool rignolda_sender_frame(const rignolda_sender *sender, rignolda
 RIGNOLDA_CALL bool rignolda_sender_on_ack(rignolda_sender *sender, const rignolda_params *params,
                                           uint16_t label);
 
-/* Closes the sender for good; only rignolda_sender_init makes an open one of it. All else stays. */
+/*
+ * Closes the sender for good, over all connections that are made later too; only
+ * rignolda_sender_init makes an open one of it. All else stays.
+ */
 RIGNOLDA_CALL void rignolda_sender_close(rignolda_sender *sender);
 
 /* ---- The receiver's half ---- */
@@ -231,7 +235,7 @@ RIGNOLDA_CALL bool rignolda_receiver_on_frame(rignolda_receiver *receiver,
  */
 RIGNOLDA_CALL bool rignolda_receiver_ack(const rignolda_receiver *receiver, uint16_t *label);
 
-/* Closes the receiver for good; only rignolda_receiver_init makes an open one. All else stays. */
+/* The same for a receiver: only rignolda_receiver_init makes an open one of it. */
 RIGNOLDA_CALL void rignolda_receiver_close(rignolda_receiver *receiver);
 
 /* ---- A node: one receiver above, a child for each link below, and a ring in your buffer ---- */
@@ -259,9 +263,10 @@ RIGNOLDA_CALL void rignolda_child_init(rignolda_child *child, uint16_t label);
 
 /*
  * The same for a child that is added later, or again: it begins at this place of the list. True:
- * the node keeps the list from there on, or the place is the list's end. False: the place is past
- * the end, or what is there is no more kept; the child stays as it was. So a child with a backlog
- * of n items begins at node.length - n.
+ * the node keeps the list from there on, or the place is the list's end, node.length, at which a
+ * child can begin whatever the node holds. False: the place is past the end, or what is there is no
+ * more kept; the child stays as it was. So a child with a backlog of n items begins at
+ * node.length - n.
  * A new count of its link begins. Close first what the child had open.
  * Law: it gets at most capacity strays, then the list from this place on in its order, each item at
  * most once; of those that it acknowledges only some among the first 2 * capacity + 1 can be
@@ -334,22 +339,25 @@ RIGNOLDA_CALL uint64_t rignolda_child_needs(const rignolda_node *node, const rig
 
 /*
  * Forgets what is before this place of the list, or all of it where the place is past the end; what
- * was forgotten before stays so. What is at the place and behind it is kept, and a child whose
- * count of offered items is the place or more is as it was before.
+ * was forgotten before stays so, but never more than the list has. What is at the place and behind
+ * it is kept, and a child whose count of offered items is the place or more is as it was before.
  */
 RIGNOLDA_CALL void rignolda_node_forget(rignolda_node *node, uint64_t place);
 
 /*
- * Whether the child is left behind: the item that it would be offered next is no more kept. It
- * stays so until the child is made anew (rignolda_child_init_at). Nothing changes.
+ * Whether the child is left behind: the item that it would be offered next is no more kept, or its
+ * count of offered items is past the end of the list, as no count is that began here. Then make the
+ * child anew (rignolda_child_init_at). Nothing changes.
  */
 RIGNOLDA_CALL bool rignolda_node_left_behind(const rignolda_node *node, const rignolda_child *child,
                                              size_t size);
 
 /*
- * The backlog of a child, in items: the one that its sender holds, and those still to be offered
- * (to a child that is left behind, none). It is what the `h` of a restart has to bound. It stops at
- * UINT64_MAX. Nothing changes.
+ * The backlog of a child, in items: the one that its sender holds, and those still to be offered.
+ * It is what the `h` of a restart has to bound. It stops at UINT64_MAX, and is that where the child
+ * is left behind. Nothing changes.
+ * Law: it is 0 just where the child was offered the whole list and its sender is idle
+ * (no_backlog_is_the_whole_list, a law of stab_c).
  */
 RIGNOLDA_CALL uint64_t rignolda_node_backlog(const rignolda_node *node, const rignolda_child *child,
                                              size_t size);
@@ -395,7 +403,7 @@ RIGNOLDA_CALL void rignolda_session_init(rignolda_session *session);
 /*
  * Call it where you begin to make a connection (connect), and close the one that the end had. It
  * returns the number of the new one: keep it beside the descriptor. 0: no number is left, and the
- * end has no connection; make none.
+ * end has no connection; make none, but see below.
  */
 RIGNOLDA_CALL uint64_t rignolda_session_made(rignolda_session *session);
 
@@ -459,6 +467,35 @@ RIGNOLDA_CALL bool rignolda_session_child_on_ack(rignolda_child *child, rignolda
 RIGNOLDA_CALL bool rignolda_session_node_on_frame(rignolda_node *node, rignolda_session *session,
                                                   uint64_t number, uint32_t *list, size_t size,
                                                   const rignolda_frame *frame);
+
+/*
+ * When nothing comes. Whatever bits the structs of both ends hold, and whatever is under way, items
+ * arrive again where connections are made again and each end calls what stands here. Those calls
+ * that begin a new count have a star; a sound end is led to none, but for a child left behind.
+ *
+ *   what an end sees                              what it calls
+ *
+ *   it waits for an answer, and nothing comes     rignolda_session_ended, and another connection:
+ *   in the time that you allow                    its turns begin anew
+ *   the same again, on some connections           that alone: it is the network, and no struct
+ *   a connection gets the number 0                close all that the end has open, then
+ *                                                 rignolda_session_init and the call again
+ *   a poll returns false, where the end may       the child is left behind, or closed:
+ *   send and the child's backlog is not 0         rignolda_child_init_at *, at any place of what
+ *                                                 is kept, or at node.length
+ *   the same of rignolda_session_send, and        rignolda_sender_init *
+ *   rignolda_sender_offer returns false too
+ *   rignolda_session_ack returns false, where     its receiver is closed: rignolda_receiver_init *,
+ *   the end may send                              with the label that it has
+ *   node.length is UINT64_MAX                     rignolda_node_init *, and each child as above
+ *
+ * An end may send where neither `there` nor `turn` of its session is 0, and who waits for an answer
+ * is an end with a backlog. Whoever closed an end leaves it closed. Let each node forget, as above,
+ * before it takes a frame or publishes, and before it makes a child anew. Make no end anew for a
+ * silence alone: it would begin new counts as long as the network is away.
+ * Law: a poll that may send is false only where the child's backlog is 0, or it is left behind, or
+ * closed (a_backlog_is_sent, a law of stab_c).
+ */
 
 /* ---- Words: a link in two places of a store ---- */
 

@@ -147,8 +147,9 @@ static inline bool rignolda_child_init_at(rignolda_child *child, const rignolda_
 {
     const uint64_t forgotten = node->forgotten;
     const uint64_t length = node->length;
-    const uint64_t value = length > size ? length - size : 0;
-    const bool holds = (length >= place) && (place >= (value > forgotten ? value : forgotten));
+    const uint64_t value = length < forgotten ? length : forgotten;
+    const uint64_t value_2 = length > size ? length - size : 0;
+    const bool holds = (place <= length) && ((value_2 > value ? value_2 : value) <= place);
     if (!holds) {
         return holds;
     }
@@ -304,33 +305,36 @@ static inline uint64_t rignolda_child_needs(const rignolda_node *node,
 static inline void rignolda_node_forget(rignolda_node *node, uint64_t place)
 {
     const uint64_t forgotten = node->forgotten;
+    const uint64_t value = place > forgotten ? place : forgotten;
     const uint64_t length = node->length;
-    const uint64_t value = length < place ? length : place;
-    node->forgotten = value > forgotten ? value : forgotten;
+    node->forgotten = length < value ? length : value;
 }
 
 static inline bool rignolda_node_left_behind(const rignolda_node *node,
                                              const rignolda_child *child, size_t size)
 {
+    const uint64_t offered = child->offered;
     const uint64_t forgotten = node->forgotten;
     const uint64_t length = node->length;
-    const uint64_t value = length > size ? length - size : 0;
-    return child->offered < (value > forgotten ? value : forgotten);
+    const uint64_t value = length < forgotten ? length : forgotten;
+    const uint64_t value_2 = length > size ? length - size : 0;
+    return (offered > length) || ((value_2 > value ? value_2 : value) > offered);
 }
 
 static inline uint64_t rignolda_node_backlog(const rignolda_node *node,
                                              const rignolda_child *child, size_t size)
 {
-    const uint64_t value = (uint64_t)(child->sender.holding != 0);
     const uint64_t offered = child->offered;
     const uint64_t forgotten = node->forgotten;
     const uint64_t length = node->length;
+    const uint64_t value = length < forgotten ? length : forgotten;
     const uint64_t value_2 = length > size ? length - size : 0;
-    if (offered < (value_2 > forgotten ? value_2 : forgotten)) {
-        return value;
+    if ((offered > length) || ((value_2 > value ? value_2 : value) > offered)) {
+        return UINT64_MAX;
     }
-    const uint64_t value_3 = length > offered ? length - offered : 0;
-    return value > UINT64_MAX - value_3 ? UINT64_MAX : value + value_3;
+    const uint64_t value_3 = (uint64_t)(child->sender.holding != 0);
+    const uint64_t value_4 = length - offered;
+    return value_3 > UINT64_MAX - value_4 ? UINT64_MAX : value_3 + value_4;
 }
 
 static inline void rignolda_session_init(rignolda_session *session)

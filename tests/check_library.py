@@ -34,6 +34,8 @@ IN_C = "-std=gnu11", "-O2", *WARNED
 # items, past 10^10, past 2^63, and up to the last one before 2^64. And in how small a buffer.
 LISTS = [(16, it) for it in (0, 4294917296, 9999950000, 9223372036854725808, 2**64 - 1)]
 LISTS += [(places, 0) for places in (1, 2, 3, 7, 4096)]
+# The rows of the header's table of what to call when nothing comes: each of them is needed.
+ROWS = "connection", "number", "child", "receiver", "list"
 # What is said to somebody who gives other words to agents/run_tree than it takes.
 REFUSED = (
     ("a capacity of 3", "has room for a power of two of messages: 1, 2, 4, 8, 16, 32, 64",
@@ -65,7 +67,8 @@ class Library(Cases):
     def in_c(self, name, rounds, jobs, words, under=None):
         """Builds the programs in C by the words of a compiler, and runs them, under an emulator if
         one is named."""
-        at = {test: self.room / test for test in ("link", "fuzz", "sessions", "lists")}
+        tests = "link", "fuzz", "sessions", "lists", "arrives"
+        at = {test: self.room / test for test in tests}
         for test, to in at.items():
             made = to.with_suffix(".made") if under else to
             # (the source before the archive, which a linker reads in this order)
@@ -81,6 +84,12 @@ class Library(Cases):
         for places, begin in LISTS:
             self.works(f"{name}: a list that is forgotten from {begin} on, of {places} places",
                        at["lists"], "100000", places, begin)
+        self.works(f"{name}: items arrive from all bits", at["arrives"], rounds.split()[0], "1")
+        for word in ROWS:
+            status, said = ran(at["arrives"], "1000", "1", "without", word)
+            self.holds(f"{name}: without this row of the table they do not ({word})",
+                       status == 1 and not said.endswith(" after 0 of them items do not arrive\n"),
+                       said)
         for word in "maker-begins", "handles-left":
             status, said = ran(at["sessions"], "1000000", "1", word)
             self.holds(f"{name}: ends that do what they may not ({word})",

@@ -206,10 +206,11 @@ static int same_node(rignolda_node one, rignolda_node other) {
            one.forgotten == other.forgotten && one.old_frames == other.old_frames;
 }
 
-/* The first place of the list that a node keeps. */
+/* The first place of the list that a node keeps: its end at most. */
 static uint64_t first_kept(rignolda_node its, uint64_t size) {
     uint64_t first = its.length > size ? its.length - size : 0;
-    return its.forgotten > first ? its.forgotten : first;
+    uint64_t forgotten = its.forgotten < its.length ? its.forgotten : its.length;
+    return forgotten > first ? forgotten : first;
 }
 
 static int has_place(rignolda_node its, uint64_t size) {
@@ -261,13 +262,16 @@ static void try_poll(void) {
     rignolda_child child_before = *child, wanted = *child;
     rignolda_frame frame_before = *frame;
     uint64_t first = first_kept(before, size);
-    int behind = wanted.offered < first, has_next = !behind && wanted.offered < before.length;
+    int behind = wanted.offered < first || wanted.offered > before.length;
+    int has_next = !behind && wanted.offered < before.length;
     part = "node_left_behind";
     must(rignolda_node_left_behind(node, child, size) == behind, "what it needs is not kept");
     part = "node_backlog";
-    uint64_t backlog = has_next ? before.length - wanted.offered : 0;
+    uint64_t backlog = behind ? UINT64_MAX : before.length - wanted.offered;
     backlog = wanted.sender.holding ? one_more(backlog) : backlog;
     must(rignolda_node_backlog(node, child, size) == backlog, "held, and still to be offered");
+    must((backlog == 0) == (wanted.offered == before.length && !wanted.sender.holding),
+         "0 where it has all, and nowhere else");
     part = "node_poll";
     if (!wanted.sender.holding && !wanted.sender.closed && has_next) {
         wanted.sender.holding = 1, wanted.sender.item = list[wanted.offered % size];
@@ -302,11 +306,11 @@ static void try_forget(void) {
     must(rignolda_child_needs(node, child, at) == needed, "the lower place, unless forgotten");
     must(same_node(*node, before) && !memcmp(child, &child_before, sizeof *child), "all stays");
     part = "node_forget";
-    int behind = child->offered < first_kept(before, size);
+    int behind = child->offered < first_kept(before, size) || child->offered > before.length;
     rignolda_node_forget(node, at);
-    uint64_t end = at < before.length ? at : before.length;
-    wanted.forgotten = end > before.forgotten ? end : before.forgotten;
-    must(same_node(*node, wanted), "what is before the place");
+    uint64_t more = at > before.forgotten ? at : before.forgotten;
+    wanted.forgotten = more < before.length ? more : before.length;
+    must(same_node(*node, wanted), "what is before the place, and no more than there is");
     must(child->offered < at || rignolda_node_left_behind(node, child, size) == behind,
          "a child that needs what is behind the place is as before");
     *node = before;

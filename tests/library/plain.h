@@ -101,6 +101,6 @@ static uint64_t plain_needs(const rignolda_node *node, const rignolda_child *chi
 }
 
 static void plain_forget(rignolda_node *node, uint64_t place) {
-    place = place < node->length ? place : node->length;
-    node->forgotten = place > node->forgotten ? place : node->forgotten;
+    place = place > node->forgotten ? place : node->forgotten;
+    node->forgotten = place < node->length ? place : node->length;
 }

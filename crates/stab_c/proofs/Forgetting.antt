@@ -1,7 +1,7 @@
 -- What a node keeps when it forgets, and that every node has a list.
-use Rattle.std.proofs.Common.{◌≡◌, ℕ, zero, suc, ◌%◌, ◌<◌, ◌≤◌, inl, inr, nat_lt}
-use Rattle.std.proofs.Common.{List, [], ◌∷◌, ◌++◌, length, get_or, slice_get, Some, Contains, refl, sym, ◌∙◌, ap, arith, lt-ltb, le-ltb}
-use Rattle.std.proofs.lemmas.Bool.{cases_lt}
+use Rattle.std.proofs.Common.{◌≡◌, ℕ, zero, suc, ◌%◌, ◌<◌, ◌≤◌, ◌&&◌, not, Bool, inl, inr, nat_le}
+use Rattle.std.proofs.Common.{List, [], ◌∷◌, ◌++◌, length, get_or, slice_get, Some, Contains, refl, sym, ◌∙◌, ap, arith, le-leb, lt-ltb, le-ltb}
+use Rattle.std.proofs.lemmas.Bool.{cases_lt, lt-leb}
 use Rattle.std.proofs.lemmas.List.{length_push}
 use Rattle.std.proofs.lemmas.Option.{slice_get-get_or, slice_get_past}
 use Rattle.stab_c.specs.declared.child.Child.{Child}
@@ -94,14 +94,14 @@ each_needs node (first ∷ children) child place (suc k) within is_there kept =
     each_needs node children child (needs_from node first place) k (omega arith) is_there kept
 
 -- the test gives the same where the place is so low
-same_test : (offered kept later : ℕ) → kept ≤ later → (offered < later → offered < kept) → nat_lt offered later ≡ nat_lt offered kept
+same_test : (offered kept later : ℕ) → kept ≤ later → (offered < later → offered < kept) → nat_le later offered ≡ nat_le kept offered
 same_test offered kept later more back =
     elim (cases_lt offered kept) [
-      | inl behind ↦ lt-ltb offered later (omega arith) ∙ sym (lt-ltb offered kept behind)
+      | inl behind ↦ lt-leb later offered (omega arith) ∙ sym (lt-leb kept offered behind)
       | inr there ↦
           elim (cases_lt offered later) [
             | inl behind ↦ let again = back behind in absurd (omega (arith, again))
-            | inr still ↦ le-ltb offered later still ∙ sym (le-ltb offered kept there)
+            | inr still ↦ le-leb later offered still ∙ sym (le-leb kept offered there)
           ]
     ]
 
@@ -110,8 +110,9 @@ pub none_left_behind : (node : Node) (children : List Child) (child : Child) (pl
     → is_left_behind (after_forgetting node (all_need_from node children place)) child size ≡ is_left_behind node child size
 none_left_behind node children child place size (k, within, is_there) =
     let needed : ℕ = all_need_from node children place in
-    same_test child.offered (first_kept node size) (first_kept (after_forgetting node needed) size) (omega arith)
+    ap (λ (from : Bool). not (from && nat_le child.offered node.length))
+    (same_test child.offered (first_kept node size) (first_kept (after_forgetting node needed) size) (omega arith)
     (λ behind. elim (cases_lt child.offered node.forgotten) [
       | inl before ↦ omega (arith, before)
       | inr kept ↦ let low = each_needs node children child place k within is_there kept in omega (arith, low, behind)
-    ])
+    ]))

@@ -16,9 +16,14 @@ use Rattle.stab_c.specs.Meaning.{is_set, receiver_end}
 abbrev pub most_items : ℕ
 most_items = 18446744073709551615
 
--- the place from which on the node keeps its list, in a buffer of this size
+-- The place from which on the node keeps its list, in a buffer of this size. It is never past the
+-- list's end: a node that has forgotten more than its list has, has forgotten all of it.
 abbrev pub first_kept : Node → ℕ → ℕ
-first_kept node size = max node.forgotten (node.length - size)
+first_kept node size = max (min node.forgotten node.length) (node.length - size)
+
+-- the place is one of those from which on the node keeps its list, or the list's end
+abbrev pub is_kept_place : Node → ℕ → ℕ → Bool
+is_kept_place node size place = nat_le (first_kept node size) place && nat_le place node.length
 
 -- the item at a place of the list, where the node keeps it
 abbrev pub item_kept : Node → List ℕ → ℕ → Option ℕ
@@ -65,14 +70,16 @@ offered_next s (Some item) = offered_to s item
 abbrev pub takes_next : SenderEnd → Option ℕ → Bool
 takes_next s next = is_some next && accepts s
 
--- the child is left behind: the item that it would be offered next is no more kept
+-- the child is left behind: the item that it would be offered next is no more kept, or its count is
+-- past the end of the list
 abbrev pub is_left_behind : Node → Child → ℕ → Bool
-is_left_behind node child size = nat_lt child.offered (first_kept node size)
+is_left_behind node child size = not (is_kept_place node size child.offered)
 
--- how many items of the list a child is still to be offered
+-- how many items of the list a child is still to be offered; one that is left behind lacks more than
+-- can be counted
 abbrev pub still_to_offer : Node → Child → ℕ → ℕ
 still_to_offer node child size =
-    if is_left_behind node child size then 0 else node.length - child.offered
+    if is_left_behind node child size then most_items else node.length - child.offered
 
 -- the backlog of a child: the item that its sender holds, and those still to be offered
 abbrev pub backlog : Node → Child → ℕ → ℕ
@@ -91,13 +98,10 @@ all_need_from node [] place = place
 all_need_from node (child ∷ children) place =
     all_need_from node children (needs_from node child place)
 
--- how many items the node has forgotten once it is told to forget those before this place
+-- how many items the node has forgotten once it is told to forget those before this place: never
+-- more than the list has, whatever its count said
 abbrev pub forgotten_before : Node → ℕ → ℕ
-forgotten_before node place = max node.forgotten (min place node.length)
+forgotten_before node place = min (max node.forgotten place) node.length
 
 abbrev pub after_forgetting : Node → ℕ → Node
 after_forgetting node place = record node { forgotten = forgotten_before node place }
-
--- the place is one of those from which on the node keeps its list, or the list's end
-abbrev pub is_kept_place : Node → ℕ → ℕ → Bool
-is_kept_place node size place = nat_le (first_kept node size) place && nat_le place node.length

@@ -45,6 +45,7 @@ fn begin(session: &mut Session, turn: u32) -> u64
     ensures number { result ≡ next_number session.old.number }
     ensures step { session_of session.new ≡ session_next session.old.number (is_set turn) }
     ensures newest { result ≢ 0 → session.new.number ≡ result }
+    ensures exhausted { result ≡ 0 → session.new.number ≡ session.old.number }
 {
     session.there = 0;
     session.turn = 0;
@@ -64,6 +65,7 @@ pub extern "C" fn rignolda_session_made(session: &mut Session) -> u64
     ensures number { result ≡ next_number session.old.number }
     ensures step { session_of session.new ≡ session_next session.old.number false }
     ensures newest { result ≢ 0 → session.new.number ≡ result }
+    ensures exhausted { result ≡ 0 → session.new.number ≡ session.old.number }
     ensures act { result ≢ 0 → IsMade (session_of session.old) result (session_of session.new) }
 {
     begin(session, 0)
@@ -76,6 +78,7 @@ pub extern "C" fn rignolda_session_accepted(session: &mut Session) -> u64
     ensures number { result ≡ next_number session.old.number }
     ensures step { session_of session.new ≡ session_next session.old.number true }
     ensures newest { result ≢ 0 → session.new.number ≡ result }
+    ensures exhausted { result ≡ 0 → session.new.number ≡ session.old.number }
     ensures act { result ≢ 0 →
         IsAccepted (session_of session.old) result (session_of session.new) }
 {

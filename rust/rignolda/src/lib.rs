@@ -16,9 +16,10 @@
 //! over the links, and over the inner nodes of the most items that their lists may begin with.
 //!
 //! Each call is one of the C library that this crate links, whose code is proved: it is a step of
-//! the definitions that these laws are about, from every bit pattern of its structs. None waits,
-//! reads a clock, or panics, and none takes memory but those that make a [`Node`]. What goes over a
-//! line, and when, is the caller's. The header `include/rignolda.h` names the laws.
+//! the definitions that these laws are about, from every bit pattern of its structs. So from there
+//! the bounds hold; that items arrive is so [where more is called](crate#when-nothing-comes). None
+//! waits, reads a clock, or panics, and none takes memory but those that make a [`Node`]. What goes
+//! over a line, and when, is the caller's. The header `include/rignolda.h` names the laws.
 //!
 //! ```
 //! use rignolda::{Params, Receiver, Sender};
@@ -51,6 +52,24 @@
 //! anew by [`Node::child`] begins one: it gets at most `capacity` strays, then the list of its node
 //! from its place on, in its order, each item at most once; and none that it acknowledged is
 //! missing, except among the first `2 * capacity + 1`.
+//!
+//! # When nothing comes
+//!
+//! Whatever bits a [`Session`] of a [`Child`] and of a [`Node`] hold, and whatever is under way,
+//! items arrive again where connections are made again and each end does what stands here. A sound
+//! end is never led to what begins a new count (*).
+//!
+//! | An end sees | It calls |
+//! |---|---|
+//! | it has a backlog, and nothing comes in the time that you allow | [`Session::ended`], and another connection |
+//! | the same on some connections | that alone: it is the network, and no end |
+//! | [`Session::made`] or [`Session::accepted`] gives none | closes all that it has open, and makes session and end anew * |
+//! | [`Session::poll`] gives none [in turn](Session::is_in_turn), though there is a backlog | [`Session::renew`] with a [`Node::child`] * |
+//! | [`Session::ack`] gives none in turn | [`Session::open`] * |
+//! | [`Node::length`] is [`u64::MAX`] | makes the node anew, and its children * |
+//!
+//! Let each node [forget](Node::forget) before it takes a frame or publishes. What was closed by you
+//! stays closed.
 //!
 //! # What is proved
 //!

@@ -42,7 +42,8 @@ use core::sync::atomic::{AtomicUsize, Ordering};
 /// Only the children that [`Node::forget`] is given hold the list back. Leave one out that takes
 /// nothing, so that its siblings go on. When the item that it needs next is forgotten, it is [left
 /// behind](Node::left_behind) for good: it is sent what its sender holds, and offered nothing more.
-/// When it is back, make it anew by [`Node::child`], at any place of what is kept.
+/// When it is back, make it anew by [`Node::child`], at any place of what is kept. A child that no
+/// backlog is left for has it all; so of one that is left behind the backlog is [`u64::MAX`].
 ///
 /// ```
 /// use rignolda::{Node, Params};
@@ -57,7 +58,7 @@ use core::sync::atomic::{AtomicUsize, Ordering};
 ///         root.forget([]);
 ///     }
 /// }
-/// assert!(root.left_behind(&dead) && root.backlog(&dead) == 0);
+/// assert!(root.left_behind(&dead) && root.backlog(&dead) == u64::MAX);
 ///
 /// assert!(root.publish(10) && root.publish(11));
 /// dead = root.child(params, 3, 2);
@@ -172,8 +173,9 @@ impl Node {
         unsafe { calls::rignolda_node_forget(&mut self.raw, place) }
     }
 
-    /// Whether the item that this child would be offered next is forgotten. It is offered nothing
-    /// more then, until it is made anew by [`Node::child`]. So it is with a child of another node.
+    /// Whether the item that this child would be offered next is forgotten, or its count is past the
+    /// end of the list. It is offered nothing more then, until it is made anew by [`Node::child`]. So
+    /// it is with a child of another node.
     pub fn left_behind(&self, child: &Child) -> bool {
         // SAFETY: the call only reads.
         !self.has(child)
@@ -181,20 +183,39 @@ impl Node {
     }
 
     /// How many items a child has not acknowledged, of those that it was offered and those that it
-    /// is still to be offered: what the `h` of a restart bounds. One that is left behind has the
-    /// item alone that its sender holds.
+    /// is still to be offered: what the `h` of a restart bounds. It is 0 just where the child has
+    /// acknowledged the whole list, and [`u64::MAX`] where it is [left behind](Node::left_behind).
     pub fn backlog(&self, child: &Child) -> u64 {
         if !self.has(child) {
-            return u64::from(child.raw.sender.holding != 0);
+            return u64::MAX;
         }
         // SAFETY: the call only reads.
         unsafe { calls::rignolda_node_backlog(&self.raw, &child.raw, self.list.len()) }
     }
 
-    /// Closes the link from above for good.
+    /// Closes the link from above for good: no connection opens it again, but [`Node::open`].
     pub fn close(&mut self) {
         // SAFETY: the call has this receiver for itself.
         unsafe { calls::rignolda_receiver_close(&mut self.raw.above) }
+    }
+
+    /// Opens the link from above anew, with the label that the receiver remembers. The list stays as
+    /// it is, and [a new count](crate#a-count) of the link begins.
+    ///
+    /// ```
+    /// use rignolda::{Frame, Node};
+    ///
+    /// let mut leaf = Node::new(3, 2);
+    /// leaf.close();
+    /// assert_eq!(leaf.ack(), None);
+    /// leaf.open();
+    /// assert_eq!(leaf.ack(), Some(3));
+    /// assert!(leaf.on_frame(Frame { label: 0, item: 7 }));
+    /// ```
+    pub fn open(&mut self) {
+        let label = self.raw.above.label;
+        // SAFETY: the call has this receiver for itself.
+        unsafe { calls::rignolda_receiver_init(&mut self.raw.above, label) }
     }
 
     /// Whether there is room for one more item. While there is none, frames are better left unread.
@@ -224,7 +245,7 @@ impl Node {
         if kept == 0 {
             return (&[], &[]);
         }
-        let begin = (self.raw.forgotten % size as u64) as usize;
+        let begin = ((self.raw.length - kept as u64) % size as u64) as usize;
         if kept <= size - begin {
             (&self.list[begin..begin + kept], &[])
         } else {
@@ -242,9 +263,10 @@ impl Node {
         child.node == self.id
     }
 
-    /// How many items are kept: never more than there is room for, by the calls alone.
+    /// How many items are kept, whatever the counts hold.
     fn kept(&self) -> usize {
-        (self.raw.length - self.raw.forgotten) as usize
+        let kept = self.raw.length.saturating_sub(self.raw.forgotten);
+        kept.min(self.list.len() as u64) as usize
     }
 }
 

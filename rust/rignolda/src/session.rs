@@ -63,7 +63,8 @@ impl<End> Session<End> {
     }
 
     /// Begins a connection that this end is about to make: its number, unless none is left. The one
-    /// that the end had is left, and is to be closed.
+    /// that the end had is left, and is to be closed. Where none is left, close all that the end has
+    /// open, and make this session anew, with its end.
     pub fn made(&mut self) -> Option<Connection> {
         // SAFETY: the call has this session for itself.
         NonZeroU64::new(unsafe { calls::rignolda_session_made(&mut self.raw) }).map(Connection)
@@ -79,6 +80,12 @@ impl<End> Session<End> {
     pub fn has(&self, connection: Connection) -> bool {
         // SAFETY: the call only reads.
         unsafe { calls::rignolda_session_has(&self.raw, connection.0.get()) }
+    }
+
+    /// Whether the end has a connection, and the turn there. What it is then asked for it gives, or
+    /// [it is closed or left behind](crate#when-nothing-comes), or has nothing to send.
+    pub fn is_in_turn(&self) -> bool {
+        self.raw.there != 0 && self.raw.turn != 0
     }
 
     /// Leaves a connection that ended, or that this end gives up: whether the end had it.
@@ -221,7 +228,7 @@ impl Session<Child> {
         self.is_free() && self.end.on_ack(label)
     }
 
-    /// Closes this link for good.
+    /// Closes this link for good: a child that is made anew has an open one.
     pub fn close(&mut self) {
         self.end.close();
     }
@@ -275,9 +282,15 @@ impl Session<Node> {
         self.is_free() && self.end.on_frame(frame)
     }
 
-    /// Closes the link from above for good.
+    /// Closes the link from above for good: no connection opens it again, but [`Session::open`].
     pub fn close(&mut self) {
         self.end.close();
+    }
+
+    /// Opens the link from above anew, as [`Node::open`]: to be called where the end may send and
+    /// has no label to write, and nobody closed it.
+    pub fn open(&mut self) {
+        self.end.open();
     }
 
     /// As [`Node::forget`].

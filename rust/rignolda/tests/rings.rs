@@ -93,13 +93,12 @@ fn children_are_offered_the_whole_list() {
                 let is_behind = beside.place < forgotten;
                 behind += usize::from(is_behind);
                 assert_eq!(node.left_behind(&beside.child), is_behind);
-                let to_come = if is_behind {
-                    0
+                let backlog = if is_behind {
+                    u64::MAX
                 } else {
-                    whole.len() - beside.place
+                    (whole.len() - beside.place + usize::from(beside.held.is_some())) as u64
                 };
-                let backlog = to_come + usize::from(beside.held.is_some());
-                assert_eq!(node.backlog(&beside.child), backlog as u64);
+                assert_eq!(node.backlog(&beside.child), backlog);
                 assert_eq!(beside.child.offered(), beside.place as u64);
             }
             assert_eq!(node.length(), whole.len() as u64);
@@ -120,7 +119,7 @@ fn a_child_belongs_to_its_node() {
     assert!(node.publish(7) && other.publish(8));
     assert_eq!(node.poll(&mut foreign), None);
     assert!(node.left_behind(&foreign) && !node.left_behind(&own));
-    assert_eq!((node.backlog(&foreign), foreign.offered()), (0, 0));
+    assert_eq!((node.backlog(&foreign), foreign.offered()), (u64::MAX, 0));
     node.forget([&foreign, &own]);
     assert_eq!(node.forgotten(), 0);
     assert_eq!(node.poll(&mut own).map(|frame| frame.item), Some(7));

@@ -224,8 +224,8 @@ fn a_child_that_comes_back_leaves_its_connection() {
     root.forget([link.end()]);
     assert!(!root.left_behind(link.end()), "the next item is kept");
     root.forget([]);
-    assert!(root.left_behind(link.end()) && root.backlog(link.end()) == 1);
-    assert!(link.on_ack(first, 0));
+    assert!(root.left_behind(link.end()) && root.backlog(link.end()) == u64::MAX);
+    assert!(!link.is_in_turn() && link.on_ack(first, 0) && link.is_in_turn());
     assert_eq!(link.poll(&root), None, "it is offered nothing more");
 
     assert!(root.publish(9));

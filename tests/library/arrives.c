@@ -1,0 +1,314 @@
+/* Tries whether items arrive from every bit pattern of the structs.
+ *
+ *     arrives ROUNDS SEED [without RULE]
+ *
+ * Three agents in a row, the first of which publishes, have a link over connections between each
+ * two. At a moment the bits of their structs are changed: each single bit of each, then each number
+ * of each to its limits, and then all bits of all structs in ROUNDS drawn patterns. The agents go
+ * on, and call what the table of rignolda.h says where nothing comes. After a number of steps that
+ * is the same for all patterns, every item that is published has to come to the last agent, in its
+ * order and once. With a rule of the table left out that has to fail for some pattern, and the
+ * program says for how many, and returns 1.
+ */
+#include "rignolda.h"
+
+#include <stdio.h>
+#include <stdlib.h>
+#include <string.h>
+
+/* So many steps have the agents to come to order, and so many items have to come then. A link is
+ * silent if nothing comes on it in so many steps. */
+enum { PLACES = 16, AGENTS = 3, LINKS = AGENTS - 1, CALM = 200, ITEMS = 20, SILENCE = 4 };
+
+/* What an agent has of the library: its node, and the child below it, each with its session. */
+struct agent {
+    rignolda_node node;
+    rignolda_session above;
+    rignolda_child child;
+    rignolda_session below;
+};
+
+/* What is between two agents: the numbers of the connection at both ends, and what is under way. */
+struct line {
+    uint64_t above, below;
+    bool has_frame, has_label;
+    rignolda_frame frame;
+    uint16_t label;
+    unsigned quiet; /* steps since something came */
+};
+
+struct world {
+    struct agent agents[AGENTS];
+    uint32_t lists[AGENTS][PLACES];
+    struct line lines[LINKS];
+};
+
+/* The rules of the table, each of which may be left out. */
+static const char *const RULES[] = {"connection", "number", "child", "receiver", "list"};
+enum { CONNECTION, NUMBER, CHILD, RECEIVER, LIST, COUNT };
+static int left_out = COUNT;
+
+static const rignolda_params params = {1, 4};
+static uint64_t state;
+
+static uint64_t draw(void) {
+    state ^= state << 13, state ^= state >> 7, state ^= state << 17;
+    return state * 0x2545F4914F6CDD1D;
+}
+
+/* ---- What an agent does, by the table */
+
+static void forget(struct agent *it, bool is_last) {
+    uint64_t place = it->node.length;
+    if (!is_last)
+        place = rignolda_child_needs(&it->node, &it->child, place);
+    rignolda_node_forget(&it->node, place);
+}
+
+/* The child begins anew at the end of the list. */
+static void begin_child_anew(struct agent *it) {
+    uint16_t label = (uint16_t)(draw() >> 48);
+    rignolda_child_init_at(&it->child, &it->node, PLACES, label, it->node.length);
+}
+
+/* A node whose list can grow no more begins anew. */
+static void begin_list_anew(struct agent *it) {
+    if (left_out != LIST && it->node.length == UINT64_MAX)
+        rignolda_node_init(&it->node, (uint16_t)(draw() >> 48), 0);
+}
+
+static uint64_t numbered(rignolda_session *session, bool by_it) {
+    uint64_t number = by_it ? rignolda_session_made(session) : rignolda_session_accepted(session);
+    if (number > 0 || left_out == NUMBER)
+        return number;
+    /* (no connection of this end is open now) */
+    rignolda_session_init(session);
+    return by_it ? rignolda_session_made(session) : rignolda_session_accepted(session);
+}
+
+/* One of the two makes a connection, and the other accepts it. What was under way is lost. */
+static void connect_ends(struct agent *above, struct line *line, struct agent *below) {
+    bool by_parent = draw() >> 63;
+    *line = (struct line){.above = numbered(&above->below, by_parent),
+                          .below = numbered(&below->above, !by_parent)};
+}
+
+/* What the parent does on the link to its child. */
+static void look_down(struct agent *it, uint32_t *list, struct line *line) {
+    if (line->has_label) {
+        line->has_label = false, line->quiet = 0;
+        rignolda_session_child_on_ack(&it->child, &it->below, &params, line->above, line->label);
+    }
+    forget(it, false);
+    bool may_send = it->below.there && it->below.turn;
+    if (rignolda_session_poll(&it->node, &it->child, &it->below, list, PLACES, &line->frame))
+        line->has_frame = true;
+    else if (left_out != CHILD && may_send &&
+             rignolda_node_backlog(&it->node, &it->child, PLACES) > 0)
+        begin_child_anew(it);
+}
+
+/* What the child does on the link to its parent. An item that is new is passed to `came`. */
+static void look_up(struct agent *it, uint32_t *list, struct line *line, bool is_last,
+                    void (*came)(uint32_t)) {
+    forget(it, is_last);
+    if (line->has_frame) {
+        line->has_frame = false, line->quiet = 0;
+        if (rignolda_session_node_on_frame(&it->node, &it->above, line->below, list, PLACES,
+                                           &line->frame))
+            came(list[(it->node.length - 1) % PLACES]);
+        else
+            begin_list_anew(it);
+    }
+    bool may_send = it->above.there && it->above.turn;
+    if (rignolda_session_ack(&it->node.above, &it->above, &line->label))
+        line->has_label = true;
+    else if (left_out != RECEIVER && may_send)
+        rignolda_receiver_init(&it->node.above, it->node.above.label);
+}
+
+static bool publish(struct agent *it, uint32_t *list, uint32_t item) {
+    forget(it, false);
+    if (rignolda_node_publish(&it->node, list, PLACES, item))
+        return true;
+    begin_list_anew(it);
+    return false;
+}
+
+/* ---- Runs */
+
+static uint32_t next, first, expected;
+static bool in_order;
+
+static void nowhere(uint32_t item) { (void)item; }
+
+/* An item that came to the last agent: from the first that counts on, each is the next one. */
+static void at_last(uint32_t item) {
+    if (expected == first && item != first)
+        return; /* (one from before: a stray, or one published while the agents came to order) */
+    in_order &= item == expected++;
+}
+
+static void step(struct world *it) {
+    for (int i = 0; i < LINKS; i++) {
+        struct agent *above = &it->agents[i], *below = &it->agents[i + 1];
+        bool is_last = i + 1 == AGENTS - 1;
+        look_down(above, it->lists[i], &it->lines[i]);
+        look_up(below, it->lists[i + 1], &it->lines[i], is_last, is_last ? at_last : nowhere);
+        /* (an end that has a backlog waits for an answer) */
+        bool waits = rignolda_node_backlog(&above->node, &above->child, PLACES) > 0;
+        it->lines[i].quiet = waits ? it->lines[i].quiet + 1 : 0;
+        if (left_out != CONNECTION && it->lines[i].quiet > SILENCE)
+            connect_ends(above, &it->lines[i], below);
+    }
+}
+
+/* Publishes so many items, one as soon as there is room, in a bounded number of steps. */
+static void go_on(struct world *it, uint32_t items) {
+    uint32_t end = next + items;
+    for (int k = 0; k < CALM; k++) {
+        if (next != end)
+            next += publish(&it->agents[0], it->lists[0], next);
+        step(it);
+    }
+}
+
+/* Whether items arrive in the end in such a world. */
+static bool arrives(struct world *it) {
+    first = expected = 0;
+    for (int k = 0; k < 3; k++)
+        go_on(it, ITEMS);
+    first = expected = next, in_order = true;
+    go_on(it, ITEMS);
+    return in_order && next == first + ITEMS && expected == next;
+}
+
+static struct world sound(void) {
+    struct world it;
+    memset(&it, 0, sizeof it);
+    for (int i = 0; i < AGENTS; i++) {
+        rignolda_node_init(&it.agents[i].node, 255, 0);
+        rignolda_child_init(&it.agents[i].child, 0);
+        rignolda_session_init(&it.agents[i].above);
+        rignolda_session_init(&it.agents[i].below);
+    }
+    for (int i = 0; i < LINKS; i++)
+        connect_ends(&it.agents[i], &it.lines[i], &it.agents[i + 1]);
+    go_on(&it, ITEMS);
+    return it;
+}
+
+/* ---- Patterns */
+
+static struct field {
+    const char *name;
+    size_t at, bytes;
+} FIELDS[] = {
+#define FIELD(member) {#member, offsetof(struct agent, member), sizeof((struct agent *)0)->member}
+    FIELD(node.above.label), FIELD(node.above.closed), FIELD(node.length), FIELD(node.forgotten),
+    FIELD(node.old_frames), FIELD(above.number), FIELD(above.there), FIELD(above.turn),
+    FIELD(child.sender.item), FIELD(child.sender.label), FIELD(child.sender.holding),
+    FIELD(child.sender.closed), FIELD(child.offered), FIELD(child.acknowledged),
+    FIELD(child.ignored), FIELD(below.number), FIELD(below.there), FIELD(below.turn),
+};
+enum { FIELD_COUNT = sizeof FIELDS / sizeof *FIELDS };
+
+static unsigned long tried, stuck;
+
+static bool try(const struct world *it) {
+    struct world spoiled = *it;
+    uint32_t published = next;
+    bool all = arrives(&spoiled);
+    tried++, stuck += !all, next = published;
+    return all;
+}
+
+static void try_bits(const struct world *it, int agent, const struct field *field) {
+    unsigned long before = stuck;
+    for (size_t bit = 0; bit < 8 * field->bytes; bit++) {
+        struct world spoiled = *it;
+        ((uint8_t *)&spoiled.agents[agent])[field->at + bit / 8] ^= (uint8_t)(1 << bit % 8);
+        try(&spoiled);
+    }
+    if (stuck > before)
+        printf("agent %d, %s: %lu of %zu single bits\n", agent, field->name, stuck - before,
+               8 * field->bytes);
+}
+
+/* The least and the greatest numbers, and those beside them. */
+static void try_limits(const struct world *it, int agent, const struct field *field) {
+    unsigned long before = stuck;
+    for (int k = -3; k < 4; k++) {
+        struct world spoiled = *it;
+        int64_t number = k;
+        memcpy((uint8_t *)&spoiled.agents[agent] + field->at, &number, field->bytes);
+        try(&spoiled);
+    }
+    if (stuck > before)
+        printf("agent %d, %s: %lu of 7 numbers at the limits\n", agent, field->name,
+               stuck - before);
+}
+
+/* A drawn number of a few bytes: often a small one, or close to the greatest. */
+static uint64_t number(void) {
+    uint64_t any = draw();
+    switch (draw() >> 61) {
+    case 0: return 0;
+    case 1: return any % 40;
+    case 2: return UINT64_MAX - any % ITEMS;
+    case 3: return next + any % 40;
+    default: return any;
+    }
+}
+
+static void try_drawn(const struct world *it) {
+    struct world spoiled = *it;
+    for (int agent = 0; agent < AGENTS; agent++)
+        for (int k = 0; k < FIELD_COUNT; k++) {
+            uint64_t drawn = number();
+            memcpy((uint8_t *)&spoiled.agents[agent] + FIELDS[k].at, &drawn, FIELDS[k].bytes);
+        }
+    for (int agent = 0; agent < AGENTS; agent++)
+        for (int k = 0; k < PLACES; k++)
+            spoiled.lists[agent][k] = (uint32_t)draw();
+    for (int k = 0; k < LINKS; k++) {
+        struct line *line = &spoiled.lines[k];
+        line->has_frame = draw() >> 63, line->has_label = draw() >> 63;
+        line->frame = (rignolda_frame){(uint32_t)draw(), (uint16_t)number(), 0};
+        line->label = (uint16_t)number();
+    }
+    try(&spoiled);
+}
+
+int main(int count, char **words) {
+    if (count != 3 && count != 5)
+        return 2;
+    unsigned long rounds = strtoul(words[1], NULL, 10);
+    state = strtoull(words[2], NULL, 10) * 2 + 1;
+    if (count == 5)
+        for (left_out = 0; left_out < COUNT && strcmp(RULES[left_out], words[4]) != 0;)
+            left_out++;
+    if (count == 5 && left_out == COUNT)
+        return 2;
+    next = 1 << 20;
+    int leave_out = left_out;
+    left_out = COUNT;
+    struct world it = sound();
+    left_out = leave_out;
+    if (!try(&it)) {
+        printf("nothing arrives even where nothing is changed\n");
+        return 2;
+    }
+    for (int agent = 0; agent < AGENTS; agent++)
+        for (int k = 0; k < FIELD_COUNT; k++) {
+            try_bits(&it, agent, &FIELDS[k]);
+            try_limits(&it, agent, &FIELDS[k]);
+        }
+    unsigned long before = stuck;
+    for (unsigned long k = 0; k < rounds; k++)
+        try_drawn(&it);
+    if (stuck > before)
+        printf("drawn: %lu of %lu patterns\n", stuck - before, rounds);
+    printf("%lu patterns, and after %lu of them items do not arrive\n", tried, stuck);
+    return stuck > 0;
+}
