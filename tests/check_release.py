@@ -288,14 +288,14 @@ holds("the archive has all of it", [
 DAEMON = ["rignoldad", "rignoldactl"]
 command(house.bin / "cargo", """mkdir -p target/release
 for program in rignoldad rignoldactl; do
-    cat "rignoldad/src/$program.rs" rignolda/lib/* >"target/release/$program"
+    cat "$program/src/main.rs" rignolda/lib/* >"target/release/$program"
 done""")
 command(house.bin / "rustc", 'echo "rustc ${RUSTC:-1.0}"')
 command(house.bin / "dpkg-deb", "")
 for file in "rust/Cargo.toml", "rust/Cargo.lock", "rust/rignolda/build.rs", "tools/debian_crates":
     write(file)
-write("rust/rignoldad/src/rignoldad.rs", "a daemon\n")
-write("rust/rignoldad/src/rignoldactl.rs", "a control\n")
+write("rust/rignoldad/src/main.rs", "a daemon\n")
+write("rust/rignoldactl/src/main.rs", "a control\n")
 write("rust/rignoldad/Cargo.toml", CARGO)
 command("rust/rignoldad/packaging/make_deb", 'cat "$1/rignoldad" "$1/rignoldactl" "$1/stab" >"$4"\n'
         'echo "$2 $3 $SOURCE_DATE_EPOCH" >>"$4"')
@@ -368,10 +368,10 @@ said("and it is not unpacked", 1, "is not what its MANIFEST says", "--unpack", w
 restore("MANIFEST")
 daemon("--unpack", work / "unpacked")
 holds("the right ones are", same(top / "rust/target/release", work / "unpacked"))
-add("rust/rignoldad/src/rignoldad.rs", "more\n")
+add("rust/rignoldad/src/main.rs", "more\n")
 said("other sources are found", 1, "has a rignoldad of other sources", "--check")
 checked("for both", 15, NAMED[0], NAMED[2])
-write("rust/rignoldad/src/rignoldad.rs", "a daemon\n")
+write("rust/rignoldad/src/main.rs", "a daemon\n")
 change("rust/rignoldad/Cargo.toml", "1.2.0", "1.1.9")
 daemon("--keep")
 refused("a daemon of another version is not packed",

@@ -608,7 +608,7 @@ class Release(Commands):
         if not found:
             self.fail("the first heading of CHANGELOG.md has no version and date")
         version, day = found.groups()
-        for part in ("rignolda", "rignoldad"):
+        for part in ("rignolda", "rignoldad", "rignoldactl"):
             own = re.search('^version = "(.*)"$', read(TOP / f"rust/{part}/Cargo.toml"), re.M)
             if own and own[1] != version:
                 self.fail(f"CHANGELOG.md has the version {version}, and the crate {part} for Rust "

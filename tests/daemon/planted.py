@@ -66,7 +66,7 @@ def run(test, rust):
     file, _, name = test.rpartition("::")
     library = "--manifest-path", "rignolda/Cargo.toml", "--test", file
     built = cargo(rust, *(["test", "-q", "--no-run", *library] if file
-                          else ["build", "-q", "-p", "rignoldad"]))
+                          else ["build", "-q", "-p", "rignoldad", "-p", "rignoldactl"]))
     if built.returncode:
         return None, built.stderr[-2000:], 0
     begun = time.monotonic()

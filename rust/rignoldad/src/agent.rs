@@ -2,7 +2,7 @@
 //! look-up of names, and never waits for anything else than for all of them at once.
 use crate::apply::{Applied, Applier, Outcome};
 use crate::config::{plain, Address, Config, Fault};
-use crate::control::{self, ChildStatus, Request, Response, Status};
+use crate::control;
 use crate::fact;
 use crate::journal;
 use crate::line::{names, unix_time, Line, Listener, Maker};
@@ -15,6 +15,7 @@ use mio::{Events, Interest, Poll, Registry, Token, Waker};
 use rignolda::net::{Body, Call, Handler, Peers};
 use rignolda::settings::{Meaning, Table};
 use rignolda_redis::Stores;
+use rignoldactl::{ChildStatus, Request, Response, Status};
 use socket2::SockAddr;
 use std::collections::{BTreeMap, HashSet};
 use std::io::{self, ErrorKind, Read};

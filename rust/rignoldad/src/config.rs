@@ -5,6 +5,7 @@
 pub use rignolda::net::{is_name, Address, Children, Parent, Setup, NAME_BYTES};
 pub use rignolda::settings::{is_key, too_deep, TOO_DEEP};
 pub use rignolda_redis::Login;
+use rignoldactl::milliseconds;
 use std::collections::BTreeMap;
 use std::fmt;
 use std::fs::OpenOptions;
@@ -468,19 +469,6 @@ impl<'a> Check<'a> {
         self.refuse("metrics", !may_be_open && !address.ip().is_loopback(), text);
         Some(address)
     }
-}
-
-/// A whole number with `ms`, `s`, `m` or `h`.
-pub fn milliseconds(text: &str) -> Option<u64> {
-    let end = text.find(|c: char| !c.is_ascii_digit())?;
-    let unit = match &text[end..] {
-        "ms" => 1,
-        "s" => 1_000,
-        "m" => 60_000,
-        "h" => 3_600_000,
-        _ => return None,
-    };
-    text[..end].parse::<u64>().ok()?.checked_mul(unit)
 }
 
 /// The line of a key, from 1, where it is written as is usual; of what is lacking in a table the

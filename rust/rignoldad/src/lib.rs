@@ -6,7 +6,6 @@
 
 pub mod agent;
 pub mod apply;
-pub mod ask;
 pub mod check;
 pub mod config;
 pub mod control;

@@ -1,8 +1,8 @@
 //! What an agent counts, as text for Prometheus, on a local address.
 use crate::config::Address;
-use crate::control::{ChildStatus, Status};
 use crate::line::Listener;
 use crate::serve::{self, Ticket};
+use rignoldactl::{ChildStatus, Status};
 use std::fmt::Write;
 use std::io;
 use std::net::SocketAddr;

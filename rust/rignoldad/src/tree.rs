@@ -2,9 +2,8 @@
 //!
 //! Each agent sends its list up now and then, itself first and each agent after its parent, and its
 //! parent puts it behind its own.
-use crate::control::{ChildStatus, Status};
 pub use rignolda::net::wire::REPORT_BYTES;
-use serde::{Deserialize, Serialize};
+use rignoldactl::{ChildStatus, Seen, Status};
 use std::cmp::Reverse;
 use std::collections::BTreeMap;
 use std::time::{Duration, Instant};
@@ -16,38 +15,6 @@ const DEPTH: usize = 64;
 const KNOWN: usize = 1 << 16;
 /// How often a list is made or read at most: with this much time for each agent in it.
 pub const EACH: Duration = Duration::from_micros(250);
-
-/// An agent, as an agent above it knows it.
-#[derive(Clone, Debug, Default, Deserialize, PartialEq, Serialize)]
-#[serde(default)]
-pub struct Seen {
-    pub name: String,
-    pub parent: String,
-    /// Whether its parent has a connection with it. Where not, the rest is as it was last.
-    pub connected: bool,
-    pub sequence: u64,
-    /// The last number up to which all is applied; 0 where it is not known that anything is.
-    pub applied: u64,
-    /// The number of the last body that changed something.
-    pub changed: u64,
-    pub round: u64,
-    pub whole: bool,
-    pub draining: bool,
-    /// The longest backlog for a child of it, and the limit of each.
-    pub backlog: u64,
-    pub limit: u64,
-    pub harmless: u64,
-    pub inner: bool,
-    pub strays: u64,
-    pub garbage: u64,
-    pub gaps: u64,
-    /// Settings whose file or hook failed last.
-    pub failing: u64,
-    /// Whether agents below it are left out, since the list was too long.
-    pub cut: bool,
-    /// How many milliseconds ago it said so.
-    pub age: u64,
-}
 
 /// The last list of each child.
 #[derive(Debug, Default)]

@@ -1,5 +1,5 @@
 //! What a configuration means, and what is said of one that is wrong.
-use rignoldad::config::{milliseconds, too_deep, Address, Children, Config, TOO_DEEP};
+use rignoldad::config::{too_deep, Address, Children, Config, TOO_DEEP};
 use std::time::Duration;
 
 const WHOLE: &str = r#"
@@ -287,18 +287,6 @@ fn a_link_in_a_store_has_an_address_at_both_ends() {
     let listens = "name = \"a\"\nlisten = \"redis://127.0.0.1:1/t\"\nchildren = \"any\"\n[root]\n\
                    settings = \"/s\"\n";
     assert!(Config::parse(listens).unwrap_err()[0].text.contains("nobody can listen"));
-}
-
-#[test]
-fn times_have_units() {
-    for (text, time) in
-        [("0ms", 0), ("250ms", 250), ("2s", 2_000), ("3m", 180_000), ("1h", 3_600_000)]
-    {
-        assert_eq!(milliseconds(text), Some(time));
-    }
-    for text in ["", "s", "5", "5 s", "-5s", "5.5s", "18446744073709551615h", "5d"] {
-        assert_eq!(milliseconds(text), None, "{text}");
-    }
 }
 
 #[test]

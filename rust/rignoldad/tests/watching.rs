@@ -1,7 +1,9 @@
 //! What is known of the agents below, and what is made of it.
-use rignoldad::ask::{bounds, depths, harmless_needed, lacks, too_few_harmless, tree_text, Bounds};
-use rignoldad::control::{ChildStatus, Request, Response, Status};
-use rignoldad::tree::{Below, Seen, REPORT_BYTES};
+use rignoldactl::ask::{
+    bounds, depths, harmless_needed, lacks, too_few_harmless, tree_text, Bounds,
+};
+use rignoldactl::{ChildStatus, Seen, Status};
+use rignoldad::tree::{Below, REPORT_BYTES};
 use std::time::{Duration, Instant};
 
 fn status(name: &str, children: &[&str]) -> Status {
@@ -199,20 +201,6 @@ fn the_tree_is_a_line_for_each_agent() {
     assert_eq!(lines.len(), 6);
     assert!(lines[5].starts_with("      d"), "{text}");
     assert!(lines.iter().skip(1).all(|line| line.ends_with("up")), "{text}");
-}
-
-#[test]
-fn requests_and_answers_are_json() {
-    let request = Request::Publish { key: "a".into(), value: vec![0, 255] };
-    let text = r#"{"do":"publish","key":"a","value":"00ff"}"#;
-    assert_eq!(serde_json::to_string(&request).unwrap(), text);
-    assert_eq!(serde_json::from_str::<Request>(text).unwrap(), request);
-    assert_eq!(serde_json::to_string(&Response::Published(7)).unwrap(), r#"{"published":7}"#);
-    for bad in
-        [r#"{"do":"publish","key":"a","value":"0"}"#, r#"{"do":"publish","key":"a","value":"zz"}"#]
-    {
-        assert!(serde_json::from_str::<Request>(bad).is_err());
-    }
 }
 
 fn seen(name: &str, parent: &str, connected: bool) -> Seen {

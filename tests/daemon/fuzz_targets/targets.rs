@@ -3,8 +3,10 @@
 use rignolda::net::wire::{take, Expect, Hello, Message, REPORT_BYTES};
 use rignolda::net::{Body, Children, BODY_BYTES};
 use rignolda::settings::{is_key, Meaning, Table};
+use rignoldactl::ask::{bounds_text, tree_text};
+use rignoldactl::{ChildStatus, Request, Response, Status};
 use rignoldad::config::Config;
-use rignoldad::control::{self, ChildStatus, Request, Response, Server, Status};
+use rignoldad::control::{self, Server};
 use rignoldad::serve::Ticket;
 use rignoldad::tree::Below;
 use std::cell::RefCell;
@@ -175,7 +177,7 @@ fn heard(json: &[u8], now: Instant) {
     let report = below.report(&status, now);
     assert!(report.len() <= REPORT_BYTES);
     let list = below.tree(&status, now);
-    let text = rignoldad::ask::tree_text(&list) + &rignoldad::ask::bounds_text(&list);
+    let text = tree_text(&list) + &bounds_text(&list);
     assert!(text.contains("child"));
 }
 

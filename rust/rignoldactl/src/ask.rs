@@ -1,6 +1,5 @@
 //! The other end of the control socket: asks an agent, and makes text of what it says.
-use crate::control::{ChildStatus, Request, Response, Status};
-use crate::tree::Seen;
+use crate::{ChildStatus, Request, Response, Seen, Status};
 use serde::Serialize;
 use std::collections::BTreeMap;
 use std::fmt::Write as _;

@@ -1,10 +1,8 @@
 //! Asks a running agent, over its control socket.
 #![forbid(unsafe_code)]
 use clap::{Parser, Subcommand};
-use rignoldad::ask::{self, Agent};
-use rignoldad::config::milliseconds;
-use rignoldad::control::{Request, Response, Status};
-use rignoldad::tree::Seen;
+use rignoldactl::ask::{self, Agent};
+use rignoldactl::{milliseconds, Request, Response, Seen, Status};
 use serde_json::json;
 use std::io::{ErrorKind, Read, Write};
 use std::path::PathBuf;

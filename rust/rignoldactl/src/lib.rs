@@ -1,0 +1,233 @@
+//! What an operator asks a running agent of rignoldad over its Unix socket, what the agent answers,
+//! and [who asks](ask).
+//!
+//! A request is one line of JSON, and so is its answer; a connection may carry one after the other.
+//! Who may connect is decided by the permissions of the socket's file.
+#![forbid(unsafe_code)]
+use serde::{Deserialize, Serialize};
+
+pub mod ask;
+
+#[derive(Clone, Debug, Deserialize, PartialEq, Serialize)]
+#[serde(tag = "do", rename_all = "kebab-case", deny_unknown_fields)]
+pub enum Request {
+    /// At the root: writes a setting's file, and publishes it.
+    Publish {
+        key: String,
+        #[serde(with = "hexadecimal")]
+        value: Vec<u8>,
+    },
+    /// At the root: removes a setting's file, and publishes that.
+    Unset {
+        key: String,
+    },
+    /// This agent.
+    Status,
+    /// This agent, and all that is known of the agents below it.
+    Tree,
+    /// At the root: publishes nothing more until `Resume`.
+    Drain,
+    Resume,
+    ChildAdd {
+        name: String,
+    },
+    ChildRemove {
+        name: String,
+    },
+    /// At the root: a round now.
+    Round,
+    /// At the root: looks at the settings' folder, and answers when all that it saw is published.
+    Look,
+}
+
+#[derive(Clone, Debug, Deserialize, PartialEq, Serialize)]
+#[serde(rename_all = "kebab-case")]
+pub enum Response {
+    Done,
+    /// What was asked for is published with this sequence number.
+    Published(u64),
+    Status(Box<Status>),
+    /// The agent itself first, and each agent after its parent.
+    Tree(Vec<Seen>),
+    Refused(String),
+}
+
+/// An agent, as it is now. Counts are since its start.
+#[derive(Clone, Debug, Default, Deserialize, PartialEq, Serialize)]
+#[serde(default)]
+pub struct Status {
+    pub name: String,
+    pub is_root: bool,
+    /// The parent that it is connected to.
+    pub parent: Option<String>,
+    /// What its way costs, 128 and more without a root; and whose names lie on it, its own last.
+    pub cost: u16,
+    pub way: Vec<String>,
+    /// For how many seconds it has been connected to its parent.
+    pub connected_since: u64,
+    /// The sequence number of the last body that came, or was published.
+    pub sequence: u64,
+    /// That of the last body which was applied, its hooks included.
+    /// While a table that may bring older changes is lacking, or is not applied, it is 0.
+    pub applied: u64,
+    /// That of the last body which changed something.
+    pub changed: u64,
+    /// That of the last whole table which was applied.
+    pub round: u64,
+    /// How many milliseconds ago that was.
+    pub round_age: u64,
+    /// Whether nothing is known to be missing: a whole table came, and no gap since.
+    pub whole: bool,
+    /// How many settings there are.
+    pub settings: u64,
+    pub draining: bool,
+    /// How many harmless items a round of this root begins with.
+    pub harmless: u64,
+    /// The limit of the backlog for each child.
+    pub limit: u64,
+    pub received: u64,
+    /// Bodies that were older than the last one, and not applied.
+    pub strays: u64,
+    /// Bodies that did not fit their items, or have no meaning.
+    pub garbage: u64,
+    pub gaps: u64,
+    pub old_frames: u64,
+    pub reconnects: u64,
+    /// Connections that were refused: a hello that was bad, late, or of an unknown name.
+    pub refused: u64,
+    pub hook_failures: u64,
+    /// Settings whose file or hook failed last.
+    pub failing: u64,
+    /// At the root: what of its folder cannot be published, and the first of these with their whys.
+    pub unpublished: u64,
+    pub faults: Vec<String>,
+    /// At the root: how many agents are known, itself with them, and how many of them are children
+    /// of agents and connected nowhere.
+    pub agents: u64,
+    pub away: u64,
+    pub children: Vec<ChildStatus>,
+    /// What was not taken at the last reload, and why; empty where all was.
+    pub reload_failed: String,
+    /// When its own certificate expires, in seconds since 1970; 0 without TLS.
+    pub certificate_expires: u64,
+}
+
+/// A child, as its parent sees it.
+#[derive(Clone, Debug, Default, Deserialize, PartialEq, Serialize)]
+#[serde(default)]
+pub struct ChildStatus {
+    pub name: String,
+    pub connected: bool,
+    /// For how many milliseconds it has been connected, or away.
+    pub since: u64,
+    pub backlog: u64,
+    /// For how many milliseconds its sender has had its item; 0 where it has none.
+    pub oldest: u64,
+    /// Whether what it needs next was forgotten: it begins anew when it is back.
+    pub left_behind: bool,
+    pub reconnects: u64,
+    pub acknowledged: u64,
+    pub ignored: u64,
+    pub timeouts: u64,
+    /// How often a process came back that another one of its name had replaced.
+    pub clashes: u64,
+}
+
+impl Status {
+    /// Whether its way is none from a root.
+    pub fn is_rootless(&self) -> bool {
+        self.cost >= rignolda::net::parents::NONE
+    }
+
+    /// What the agents above learn of this one.
+    pub fn seen(&self) -> Seen {
+        Seen {
+            name: self.name.clone(),
+            parent: self.parent.clone().unwrap_or_default(),
+            connected: true,
+            sequence: self.sequence,
+            applied: self.applied,
+            changed: self.changed,
+            round: self.round,
+            whole: self.whole,
+            draining: self.draining,
+            backlog: self.children.iter().map(|child| child.backlog).max().unwrap_or(0),
+            limit: self.limit,
+            harmless: self.harmless,
+            inner: !self.children.is_empty(),
+            strays: self.strays,
+            garbage: self.garbage,
+            gaps: self.gaps,
+            failing: self.failing,
+            cut: false,
+            age: 0,
+        }
+    }
+}
+
+/// An agent, as an agent above it knows it.
+#[derive(Clone, Debug, Default, Deserialize, PartialEq, Serialize)]
+#[serde(default)]
+pub struct Seen {
+    pub name: String,
+    pub parent: String,
+    /// Whether its parent has a connection with it. Where not, the rest is as it was last.
+    pub connected: bool,
+    pub sequence: u64,
+    /// The last number up to which all is applied; 0 where it is not known that anything is.
+    pub applied: u64,
+    /// The number of the last body that changed something.
+    pub changed: u64,
+    pub round: u64,
+    pub whole: bool,
+    pub draining: bool,
+    /// The longest backlog for a child of it, and the limit of each.
+    pub backlog: u64,
+    pub limit: u64,
+    pub harmless: u64,
+    pub inner: bool,
+    pub strays: u64,
+    pub garbage: u64,
+    pub gaps: u64,
+    /// Settings whose file or hook failed last.
+    pub failing: u64,
+    /// Whether agents below it are left out, since the list was too long.
+    pub cut: bool,
+    /// How many milliseconds ago it said so.
+    pub age: u64,
+}
+
+/// A whole number with `ms`, `s`, `m` or `h`.
+pub fn milliseconds(text: &str) -> Option<u64> {
+    let end = text.find(|c: char| !c.is_ascii_digit())?;
+    let unit = match &text[end..] {
+        "ms" => 1,
+        "s" => 1_000,
+        "m" => 60_000,
+        "h" => 3_600_000,
+        _ => return None,
+    };
+    text[..end].parse::<u64>().ok()?.checked_mul(unit)
+}
+
+/// Bytes as hexadecimal digits.
+mod hexadecimal {
+    use serde::{de::Error, Deserialize, Deserializer, Serializer};
+
+    pub fn serialize<S: Serializer>(bytes: &[u8], to: S) -> Result<S::Ok, S::Error> {
+        let digit = |half: u8| char::from(b"0123456789abcdef"[usize::from(half)]);
+        let digits: String = bytes.iter().flat_map(|b| [digit(b >> 4), digit(b & 15)]).collect();
+        to.serialize_str(&digits)
+    }
+
+    pub fn deserialize<'de, D: Deserializer<'de>>(from: D) -> Result<Vec<u8>, D::Error> {
+        let text = std::borrow::Cow::<str>::deserialize(from)?;
+        let digit = |b: u8| char::from(b).to_digit(16).map(|digit| digit as u8);
+        let pair = |pair: &[u8]| match pair {
+            [high, low] => Some(digit(*high)? << 4 | digit(*low)?),
+            _ => None,
+        };
+        let bytes: Option<Vec<u8>> = text.as_bytes().chunks(2).map(pair).collect();
+        bytes.ok_or_else(|| D::Error::custom("value: pairs of hexadecimal digits are expected"))
+    }
+}
