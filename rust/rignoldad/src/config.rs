@@ -130,7 +130,7 @@ impl Config {
             let said = e.to_string();
             vec![Fault::of(line, said.rsplit_once(" at line ").map_or(&*said, |(said, _)| said))]
         })?;
-        let mut check = Check { text, table: &table, faults: Vec::new() };
+        let mut check = Check { text, table: &table, insecure: false, faults: Vec::new() };
         check.unknown(&table, "");
         let config = check.config();
         check.faults.sort_by_key(|fault| fault.line);
@@ -140,38 +140,32 @@ impl Config {
         }
     }
 
-    /// The keys of a new configuration that differ from this one and count from a start alone. All
-    /// others may change while the agent runs.
-    pub fn at_a_start_alone(&self, new: &Config) -> Vec<&'static str> {
-        let folder = |c: &Config| c.apply.as_ref().map(|a| a.folder.clone());
-        let settings = |c: &Config| c.root.as_ref().map(|r| r.settings.clone());
-        [
-            ("name", self.peers.name != new.peers.name),
-            ("listen", self.listen != new.listen),
-            ("root.settings", settings(self) != settings(new)),
-            ("link.backlog", self.backlog != new.backlog),
-            ("store", self.store != new.store),
-            ("apply.folder", folder(self) != folder(new)),
-            ("control", self.control != new.control),
-            ("metrics", self.metrics != new.metrics),
-        ]
-        .into_iter()
-        .filter_map(|(key, differs)| differs.then_some(key))
-        .collect()
-    }
-
-    /// Takes a new configuration, but for these keys.
-    pub fn take(&mut self, new: Config) {
+    /// Takes a new configuration, but for the keys that count from a start alone: those of them
+    /// that differ. All others may change while the agent runs.
+    pub fn take(&mut self, new: Config) -> Vec<&'static str> {
+        fn keep<T: PartialEq>(
+            key: &'static str,
+            new: Option<&mut T>,
+            old: Option<T>,
+        ) -> Option<&'static str> {
+            let differs = new.as_deref() != old.as_ref();
+            new.into_iter().zip(old).for_each(|(new, old)| *new = old);
+            differs.then_some(key)
+        }
         let old = std::mem::replace(self, new);
-        self.peers.name = old.peers.name;
-        (self.listen, self.backlog, self.store) = (old.listen, old.backlog, old.store);
-        (self.control, self.metrics) = (old.control, old.metrics);
-        if let (Some(new), Some(old)) = (&mut self.root, old.root) {
-            new.settings = old.settings;
-        }
-        if let (Some(new), Some(old)) = (&mut self.apply, old.apply) {
-            new.folder = old.folder;
-        }
+        let settings = self.root.as_mut().map(|it| &mut it.settings);
+        let folder = self.apply.as_mut().map(|it| &mut it.folder);
+        let late = [
+            keep("name", Some(&mut self.peers.name), Some(old.peers.name)),
+            keep("listen", Some(&mut self.listen), Some(old.listen)),
+            keep("root.settings", settings, old.root.map(|it| it.settings)),
+            keep("link.backlog", Some(&mut self.backlog), Some(old.backlog)),
+            keep("store", Some(&mut self.store), Some(old.store)),
+            keep("apply.folder", folder, old.apply.map(|it| it.folder)),
+            keep("control", Some(&mut self.control), Some(old.control)),
+            keep("metrics", Some(&mut self.metrics), Some(old.metrics)),
+        ];
+        late.into_iter().flatten().collect()
     }
 }
 
@@ -186,6 +180,7 @@ const KEYS: &str = "name listen children parents insecure control metrics metric
 struct Check<'a> {
     text: &'a str,
     table: &'a Table,
+    insecure: bool,
     faults: Vec<Fault>,
 }
 
@@ -234,20 +229,32 @@ impl<'a> Check<'a> {
         }
     }
 
+    /// The value of a key that is there, where it can be read so.
+    fn value<T>(
+        &mut self,
+        key: &str,
+        text: &str,
+        read: impl FnOnce(&'a Value) -> Option<T>,
+    ) -> Option<T> {
+        let value = read(self.get(key)?);
+        self.expect(key, value, text)
+    }
+
     fn text(&mut self, key: &str) -> Option<&'a str> {
-        let value = self.get(key)?;
-        self.expect(key, value.as_str(), "a text is expected")
+        self.value(key, "a text is expected", Value::as_str)
+    }
+
+    fn is_set(&mut self, key: &str) -> bool {
+        self.value(key, "true or false is expected", Value::as_bool) == Some(true)
     }
 
     /// A list of texts, or one text.
     fn texts(&mut self, key: &str, most: usize) -> Vec<&'a str> {
-        let texts = match self.get(key) {
-            None => return Vec::new(),
-            Some(Value::String(text)) => Some(vec![text.as_str()]),
-            Some(Value::Array(all)) => all.iter().map(Value::as_str).collect(),
-            Some(_) => None,
+        let read = |value: &'a Value| match value {
+            Value::Array(all) => all.iter().map(Value::as_str).collect(),
+            one => one.as_str().map(|text| vec![text]),
         };
-        let texts = self.expect(key, texts, "a list of texts is expected").unwrap_or_default();
+        let texts = self.value(key, "a list of texts is expected", read).unwrap_or_default();
         if texts.len() > most {
             self.fault(key, format!("there are more than {most}"));
             return Vec::new();
@@ -268,20 +275,18 @@ impl<'a> Check<'a> {
     }
 
     fn number(&mut self, key: &str, usual: u64, bounds: RangeInclusive<u64>) -> u64 {
-        let Some(value) = self.get(key) else { return usual };
-        let number = value.as_integer().and_then(|number| u64::try_from(number).ok());
-        let number = number.filter(|number| bounds.contains(number));
         let text = format!("a number of {} to {}", bounds.start(), bounds.end());
-        self.expect(key, number, text).unwrap_or(usual)
+        let number = |it: &Value| u64::try_from(it.as_integer()?).ok();
+        let read = |it: &Value| number(it).filter(|it| bounds.contains(it));
+        self.value(key, &text, read).unwrap_or(usual)
     }
 
     /// A time, with its bounds in milliseconds.
     fn time(&mut self, key: &str, usual: u64, bounds: RangeInclusive<u64>) -> Duration {
-        let Some(text) = self.text(key) else { return Duration::from_millis(usual) };
-        let time = milliseconds(text).filter(|time| bounds.contains(time));
         let (least, most) = (bounds.start(), bounds.end() / 1_000);
         let text = format!("a time of {least}ms to {most}s, as \"500ms\" or \"10m\"");
-        Duration::from_millis(self.expect(key, time, text).unwrap_or(usual))
+        let read = |it: &Value| milliseconds(it.as_str()?).filter(|it| bounds.contains(it));
+        Duration::from_millis(self.value(key, &text, read).unwrap_or(usual))
     }
 
     fn name(&mut self, key: &str, name: &str) -> String {
@@ -297,7 +302,7 @@ impl<'a> Check<'a> {
     }
 
     fn address(&mut self, key: &str, text: &str) -> Option<Address> {
-        let (insecure, tls) = (self.is_set("insecure"), self.has("tls"));
+        let (insecure, tls) = (self.insecure, self.has("tls"));
         let address = Address::parse(text).and_then(|it| match &it {
             Address::Redis { .. } if key == "listen" => Err("nobody can listen in a store".into()),
             Address::Redis { .. } if !insecure && !it.is_local() => {
@@ -311,16 +316,9 @@ impl<'a> Check<'a> {
         address.map_err(|why| self.fault(key, why)).ok()
     }
 
-    fn is_set(&self, key: &str) -> bool {
-        self.get(key).and_then(Value::as_bool) == Some(true)
-    }
-
     fn config(&mut self) -> Config {
         self.expect("name", self.get("name"), "it is missing");
-        for key in ["insecure", "metrics_open", "apply.take"] {
-            let is_wrong = self.get(key).is_some_and(|value| !value.is_bool());
-            self.refuse(key, is_wrong, "true or false is expected");
-        }
+        self.insecure = self.is_set("insecure");
         let name = self.text("name").map_or(String::new(), |name| self.name("name", name));
         let children = self.children(&name);
         let parents = self.texts("parents", ADDRESSES);
@@ -348,7 +346,7 @@ impl<'a> Check<'a> {
             }),
             apply: self.has("apply").then(|| Apply {
                 folder: self.needed("apply.folder"),
-                take: self.get("apply.take").and_then(Value::as_bool) == Some(true),
+                take: self.is_set("apply.take"),
                 mode: self.mode(),
                 hook: self.path("apply.hook"),
                 hook_timeout: self.time("apply.hook_timeout", 30_000, 100..=3_600_000),
@@ -358,7 +356,7 @@ impl<'a> Check<'a> {
                 password: self.path("store.password"),
                 database: self.number("store.database", 0, 0..=65_535) as u32,
             },
-            insecure: self.is_set("insecure"),
+            insecure: self.insecure,
             control: self.path("control"),
             metrics: self.metrics(),
         };
@@ -456,15 +454,15 @@ impl<'a> Check<'a> {
     }
 
     fn mode(&mut self) -> u32 {
-        let Some(text) = self.text("apply.mode") else { return 0o640 };
-        let mode = u32::from_str_radix(text, 8).ok().filter(|it| (0o400..=0o777).contains(it));
-        self.expect("apply.mode", mode, "it is octal, as \"0640\", to be read").unwrap_or_default()
+        let mode = |it: &Value| u32::from_str_radix(it.as_str()?, 8).ok();
+        let read = |it: &Value| mode(it).filter(|it| (0o400..=0o777).contains(it));
+        self.value("apply.mode", "it is octal, as \"0640\", to be read", read).unwrap_or(0o640)
     }
 
     fn metrics(&mut self) -> Option<SocketAddr> {
-        let address = self.text("metrics")?.parse::<SocketAddr>().ok();
-        let address = self.expect("metrics", address, "ADDRESS:PORT is expected, in numbers")?;
-        let may_be_open = self.is_set("metrics_open") || self.is_set("insecure");
+        let may_be_open = self.is_set("metrics_open") || self.insecure;
+        let read = |it: &Value| it.as_str()?.parse::<SocketAddr>().ok();
+        let address = self.value("metrics", "ADDRESS:PORT is expected, in numbers", read)?;
         let text = "anybody may read it: a loopback address, or `metrics_open`";
         self.refuse("metrics", !may_be_open && !address.ip().is_loopback(), text);
         Some(address)

@@ -265,7 +265,7 @@ fn a_link_in_a_store_has_an_address_at_both_ends() {
     assert_eq!(config.store.password.as_deref(), Some(std::path::Path::new("/p")));
     assert_eq!(config.peers.poll.as_millis(), 1_000);
     let other = Config::parse(&text.replace("database = 2", "database = 3")).unwrap();
-    assert_eq!(config.at_a_start_alone(&other), ["store"]);
+    assert_eq!(config.clone().take(other), ["store"]);
     // (TLS is of connections alone)
     let tls = "[tls]\ncertificate = \"/c\"\nkey = \"/k\"\nauthority = \"/a\"\n";
     for (address, is_good) in [
@@ -294,11 +294,11 @@ fn knows_which_keys_need_a_start() {
     let old = Config::parse(WHOLE).unwrap();
     let hot =
         WHOLE.replace("\"host32\"", "\"host33\"").replace("500ms", "1s").replace("hub2", "hub3");
-    assert!(old.at_a_start_alone(&Config::parse(&hot).unwrap()).is_empty());
+    assert!(old.clone().take(Config::parse(&hot).unwrap()).is_empty());
     let cold =
         WHOLE.replace("rack3", "rack4").replace("/settings", "/other").replace("9464", "9465");
     let cold = Config::parse(&cold).unwrap();
-    assert_eq!(old.at_a_start_alone(&cold), ["name", "apply.folder", "metrics"]);
+    assert_eq!(old.clone().take(cold), ["name", "apply.folder", "metrics"]);
 }
 
 #[test]
