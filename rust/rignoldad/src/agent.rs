@@ -2,7 +2,7 @@
 //! look-up of names, and never waits for anything else than for all of them at once.
 use crate::apply::{Applied, Applier, Outcome};
 use crate::config::{plain, Address, Config, Fault};
-use crate::control;
+use crate::control::{self, Asked, Server};
 use crate::fact;
 use crate::journal;
 use crate::line::{names, unix_time, Line, Listener, Maker};
@@ -18,6 +18,7 @@ use rignolda_redis::Stores;
 use rignoldactl::{ChildStatus, Request, Response, Status};
 use socket2::SockAddr;
 use std::collections::{BTreeMap, HashSet};
+use std::fmt::Display;
 use std::io::{self, ErrorKind, Read};
 use std::net::{SocketAddr, ToSocketAddrs};
 use std::os::unix::io::{AsRawFd, RawFd};
@@ -45,6 +46,7 @@ const WAKE: Token = Token(usize::MAX);
 
 /// What a look-up of a host's name brought.
 type Found = (Call<Address>, io::Result<Vec<SocketAddr>>);
+/// The answer to a request; nothing where it comes later.
 type Answer = Result<Option<Response>, String>;
 
 pub struct Agent {
@@ -71,13 +73,9 @@ pub struct Agent {
     found: (mpsc::Sender<Found>, mpsc::Receiver<Found>),
     peers: Peers<Line, Address>,
     stores: Stores,
-    root: Option<Root>,
+    root: Option<Root<Ticket>>,
     state: State,
-    control: Option<control::Server>,
-    metrics: Option<metrics::Server>,
-    /// Who asked for a change, of which key and in which batch, and waits for its number; without a
-    /// key, for a look at the folder.
-    asked: Vec<(Ticket, String, u64)>,
+    servers: Vec<Server>,
     reported: Instant,
     /// What was not taken at the last reload, and why.
     reload_failed: String,
@@ -168,6 +166,16 @@ fn notify(text: &str) {
         let _ = socket.set_write_timeout(Some(Duration::from_secs(1)));
         let _ = socket.send_to_addr(text.as_bytes(), &address);
     }
+}
+
+/// Says where an error of the system was.
+fn of(place: impl Display) -> impl FnOnce(io::Error) -> String {
+    move |error| format!("{place}: {error}")
+}
+
+/// Answers through the server that has this ticket.
+fn say(servers: &mut [Server], ticket: Ticket, bytes: &[u8], is_last: bool) {
+    servers.iter_mut().for_each(|server| server.answer(ticket, bytes, is_last));
 }
 
 /// Seconds since 1970, by the clock of the machine.
@@ -278,28 +286,29 @@ impl Handler for State {
 impl Agent {
     pub fn new(path: &Path, config: Config) -> Result<Agent, String> {
         let now = Instant::now();
-        let life = random().map_err(|e| format!("/dev/urandom: {e}"))?;
+        let life = random().map_err(of("/dev/urandom"))?;
         let listen = |address: &Address| {
-            Listener::new(address, Some(0o660)).map_err(|e| format!("listen: {address}: {e}"))
+            Listener::new(address, Some(0o660)).map_err(of(format!("listen: {address}")))
         };
-        let control = config.control.as_ref().map(|path| {
-            control::server(path).map_err(|e| format!("control: {}: {e}", path.display()))
-        });
-        let metrics = config.metrics.map(|address| {
-            metrics::server(address).map_err(|e| format!("metrics: {address}: {e}"))
-        });
-        let poll = Poll::new().map_err(|e| format!("poll: {e}"))?;
-        let waker = Waker::new(poll.registry(), WAKE).map_err(|e| format!("poll: {e}"))?;
-        let waker = Arc::new(waker);
+        let control = config
+            .control
+            .iter()
+            .map(|path| control::server(path).map_err(of(format!("control: {}", path.display()))));
+        let counts = config
+            .metrics
+            .iter()
+            .map(|address| control::counts(*address).map_err(of(format!("metrics: {address}"))));
+        let poll = Poll::new().map_err(of("poll"))?;
+        let waker = Arc::new(Waker::new(poll.registry(), WAKE).map_err(of("poll"))?);
         let wakes = waker.clone();
         let wake: Arc<dyn Fn() + Send + Sync> = Arc::new(move || drop(wakes.wake()));
         let applier = config.apply.as_ref().map(|apply| {
-            Applier::new(apply, wake.clone())
-                .map_err(|e| format!("apply: its threads cannot be started: {e}"))
+            let applier = Applier::new(apply, wake.clone());
+            applier.map_err(of("apply: its threads cannot be started"))
         });
         let root = config.root.as_ref().map(|root| {
-            Root::new(root, now, wake.clone())
-                .map_err(|e| format!("root: its thread cannot be started: {e}"))
+            let root = Root::new(root, now, wake.clone());
+            root.map_err(of("root: its thread cannot be started"))
         });
         let mut peers = Peers::new(config.peers.clone(), life, config.backlog, now);
         // (the others are for children that came, files and control)
@@ -329,9 +338,7 @@ impl Agent {
                 traces: std::env::var_os("RIGNOLDA_TRACE").is_some(),
                 ..State::default()
             },
-            control: control.transpose()?,
-            metrics: metrics.transpose()?,
-            asked: Vec::new(),
+            servers: control.chain(counts).collect::<Result<_, _>>()?,
             reported: now,
             reload_failed: String::new(),
             config,
@@ -347,8 +354,7 @@ impl Agent {
         let reads = [signals.reload.as_raw_fd(), signals.end.as_raw_fd()].into_iter();
         let reads = reads.chain(listeners.map(|it| it.socket.as_raw_fd()));
         let reads = reads.chain(self.root.as_ref().and_then(Root::descriptor));
-        let served = self.control.iter().flat_map(control::Server::descriptors);
-        let served = served.chain(self.metrics.iter().flat_map(metrics::Server::descriptors));
+        let served = self.servers.iter().flat_map(Server::descriptors);
         let others: Vec<_> = reads.map(|fd| (fd, 0, false)).chain(served).collect();
         let line = |(id, it, has): (u64, &Line, bool)| (id, it.as_raw_fd(), it.wants_write(has));
         let lines: Vec<_> = self.peers.lines().map(line).collect();
@@ -397,16 +403,14 @@ impl Agent {
     fn deadline(&self, now: Instant) -> Instant {
         let root = self.root.as_ref().map(Root::deadline);
         let report = self.peers.parent().map(|_| self.reports_at());
-        let served = self.control.as_ref().and_then(control::Server::deadline);
-        let counted = self.metrics.as_ref().and_then(metrics::Server::deadline);
+        let served = self.servers.iter().filter_map(Server::deadline).min();
         let full = Some(self.full_until).filter(|at| *at > now);
         let expires = u64::try_from(self.expires.saturating_sub(unix_now())).unwrap_or(0);
         // (the clock may be set meanwhile)
         let expires = Some(now + Duration::from_secs(expires).min(SAYS_AGAIN));
         let files = self.state.applying.then(|| now + ASKS_AGAIN);
         let more = self.may_publish().then_some(now);
-        let all =
-            [self.peers.deadline(now), root, report, served, counted, full, files, more, expires];
+        let all = [self.peers.deadline(now), root, report, served, full, files, more, expires];
         all.into_iter().flatten().min().unwrap_or(now + SAYS_AGAIN)
     }
 
@@ -430,7 +434,6 @@ impl Agent {
             self.report(now);
         }
         self.publish(now);
-        self.looked();
         self.stores.go_on(&mut self.peers, now, &mut self.state);
         self.peers.write(now, &mut self.state);
     }
@@ -515,39 +518,23 @@ impl Agent {
     fn publish(&mut self, now: Instant) {
         while self.may_publish() {
             let Some(root) = &mut self.root else { return };
-            let written = root.written();
-            let Some(published) = root.next(self.config.backlog / 2, now) else { return };
+            let Some(published) = root.next(self.config.backlog / 2, now) else { break };
             self.peers.publish(&published.body, now, &mut self.state);
             if !published.keys.is_empty() {
                 self.state.table.changed = self.state.table.sequence;
             }
-            let response = Response::Published(self.state.table.sequence);
-            let is_there = |key: &String, batch| batch <= written && published.keys.contains(key);
-            self.answer(is_there, &response);
+            self.answer();
         }
+        self.answer();
     }
 
-    /// Answers those who asked for changes of these keys.
-    fn answer(&mut self, is: impl Fn(&String, u64) -> bool, response: &Response) {
-        let control = &mut self.control;
-        self.asked.retain(|(ticket, key, batch)| {
-            let done = is(key, *batch);
-            if let (true, Some(control)) = (done, control.as_mut()) {
-                control::answer(control, *ticket, response);
-            }
-            !done
-        });
-    }
-
-    /// Answers those who asked for a look at the folder, when all that it saw is published.
-    fn looked(&mut self) {
-        let Some(root) = self.root.as_ref().filter(|_| !self.asked.is_empty()) else { return };
-        let response = match root.is_published() {
-            Ok(false) => return,
-            Ok(true) => Response::Published(self.state.table.sequence),
-            Err(why) => Response::Refused(why),
-        };
-        self.answer(|key, _| key.is_empty(), &response);
+    /// Answers those who asked the root for something that is done now, or cannot be.
+    fn answer(&mut self) {
+        let sequence = self.state.table.sequence;
+        for (ticket, done) in self.root.iter_mut().flat_map(Root::answers) {
+            let response = done.map_or_else(Response::Refused, |()| Response::Published(sequence));
+            say(&mut self.servers, ticket, &control::answer(&response), false);
+        }
     }
 
     // ---- Watching and control
@@ -638,28 +625,27 @@ impl Agent {
     }
 
     fn serve(&mut self, fired: &HashSet<RawFd>, now: Instant) {
-        let asked = self.metrics.as_mut().map(|server| server.ready(fired, now));
-        for (ticket, good) in asked.into_iter().flatten() {
-            let status = good.then(|| self.full_status(now));
-            if let Some(server) = &mut self.metrics {
-                metrics::answer(server, ticket, status.as_ref());
-            }
-        }
-        let asked = self.control.as_mut().map(|server| server.ready(fired, now));
-        for (ticket, request) in asked.into_iter().flatten() {
-            let response = request.and_then(|request| self.request(ticket, request, now));
-            let response = response.unwrap_or_else(|why| Some(Response::Refused(why)));
-            if let (Some(server), Some(response)) = (&mut self.control, response) {
-                control::answer(server, ticket, &response);
-            }
+        let asked = self.servers.iter_mut().flat_map(|server| server.ready(fired, now));
+        for (ticket, asked) in asked.collect::<Vec<_>>() {
+            let (answer, is_last) = match asked {
+                Asked::Counts(is_good) => {
+                    let status = is_good.then(|| self.full_status(now));
+                    (metrics::answer(status.as_ref()).into_bytes(), true)
+                }
+                Asked::Request(request) => {
+                    let response = request.and_then(|it| self.request(ticket, it, now));
+                    match response.unwrap_or_else(|why| Some(Response::Refused(why))) {
+                        Some(response) => (control::answer(&response), false),
+                        None => continue,
+                    }
+                }
+            };
+            say(&mut self.servers, ticket, &answer, is_last);
         }
         self.root.iter_mut().for_each(Root::commit);
-        for (at, key, why) in self.root.iter_mut().flat_map(Root::failed).collect::<Vec<_>>() {
-            self.answer(|asked, batch| *asked == key && batch == at, &Response::Refused(why));
-        }
     }
 
-    /// Does what an operator asks for. Nothing where the answer comes later.
+    /// Does what an operator asks for.
     fn request(&mut self, ticket: Ticket, request: Request, now: Instant) -> Answer {
         match (request, &mut self.root) {
             (Request::Status, _) => {
@@ -679,14 +665,10 @@ impl Agent {
             (_, None) => return Err("it is not the root".into()),
             // (who asked for a change is answered when it is published)
             (Request::Publish { key, value }, Some(root)) => {
-                let batch = root.ask(&key, Some(value))?;
-                self.asked.push((ticket, key, batch));
-                return Ok(None);
+                return root.ask(&key, Some(value), ticket).map(|()| None);
             }
             (Request::Unset { key }, Some(root)) => {
-                let batch = root.ask(&key, None)?;
-                self.asked.push((ticket, key, batch));
-                return Ok(None);
+                return root.ask(&key, None, ticket).map(|()| None);
             }
             (Request::Drain, Some(root)) => root.draining = true,
             (Request::Resume, Some(root)) => {
@@ -695,8 +677,7 @@ impl Agent {
             }
             (Request::Round, Some(root)) => root.begin_round(now),
             (Request::Look, Some(root)) => {
-                root.look_again(now);
-                self.asked.push((ticket, String::new(), 0));
+                root.look_again(now, ticket);
                 return Ok(None);
             }
         }
@@ -713,8 +694,7 @@ impl Agent {
             return Err(nothing("a root is one from its start alone".into()));
         }
         self.maker = maker(&new).map_err(nothing)?;
-        let late = self.config.at_a_start_alone(&new).join(", ");
-        self.config.take(new);
+        let late = self.config.take(new).join(", ");
         if let (Some(applier), Some(apply)) = (&mut self.state.applier, &self.config.apply) {
             applier.reload(apply);
         }

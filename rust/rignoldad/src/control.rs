@@ -1,9 +1,11 @@
-//! The socket at which an operator asks a running agent.
+//! The sockets at which a running agent is asked: by an operator, and for its [counts](metrics).
 use crate::config::Address;
 use crate::line::Listener;
-use crate::serve::{self, Ticket};
+use crate::metrics;
+use crate::serve;
 use rignoldactl::{Request, Response};
 use std::io;
+use std::net::SocketAddr;
 use std::path::Path;
 use std::time::Duration;
 
@@ -11,23 +13,42 @@ use std::time::Duration;
 const REQUEST_BYTES: usize = (2 << 20) + 4_096;
 /// How long a connection may be without a request.
 const IDLE: Duration = Duration::from_secs(30);
+/// The same of those who ask for the counts.
+const COUNTS_BYTES: usize = 8_192;
+const COUNTS_IDLE: Duration = Duration::from_secs(5);
 
-/// The control socket. What comes is a request, or says why it is none.
-pub type Server = serve::Server<Result<Request, String>, Listener>;
+/// What is asked for.
+pub enum Asked {
+    /// Something of an operator, or why it is no request.
+    Request(Result<Request, String>),
+    /// The counts, or a page that is none.
+    Counts(bool),
+}
 
-/// Listens at a socket of this path, for whom its file lets in.
+pub type Server = serve::Server<Asked, Listener>;
+
+/// Listens for an operator at a socket of this path, for whom its file lets in.
 pub fn server(path: &Path) -> io::Result<Server> {
     let listener = Listener::new(&Address::Unix(path.into()), Some(0o660))?;
     Ok(Server::new(listener, REQUEST_BYTES, IDLE, |bytes| {
         let end = bytes.iter().position(|b| *b == b'\n')?;
         let request = serde_json::from_slice(&bytes[..end]).map_err(|e| e.to_string());
-        Some((request, end + 1))
+        Some((Asked::Request(request), end + 1))
     }))
 }
 
-/// Answers a request.
-pub fn answer(server: &mut Server, ticket: Ticket, response: &Response) {
+/// Listens at an address for whoever asks for the counts.
+pub fn counts(address: SocketAddr) -> io::Result<Server> {
+    let listener = Listener::new(&Address::Tcp(address.to_string()), None)?;
+    Ok(Server::new(listener, COUNTS_BYTES, COUNTS_IDLE, |bytes| {
+        let end = bytes.windows(4).position(|four| four == b"\r\n\r\n")?;
+        Some((Asked::Counts(metrics::is_asked_for(bytes)), end + 4))
+    }))
+}
+
+/// The bytes of an answer to an operator.
+pub fn answer(response: &Response) -> Vec<u8> {
     let mut line = serde_json::to_vec(response).expect("texts, numbers and lists are JSON");
     line.push(b'\n');
-    server.answer(ticket, &line, false);
+    line
 }

@@ -1,14 +1,6 @@
 //! What an agent counts, as text for Prometheus, on a local address.
-use crate::config::Address;
-use crate::line::Listener;
-use crate::serve::{self, Ticket};
 use rignoldactl::{ChildStatus, Status};
 use std::fmt::Write;
-use std::io;
-use std::net::SocketAddr;
-use std::time::Duration;
-
-const REQUEST_BYTES: usize = 8_192;
 
 /// A number of an agent: its name, its kind, what it is, and how to get it.
 type Number<T> = (&'static str, &'static str, &'static str, fn(&T) -> u64);
@@ -94,29 +86,20 @@ fn head(text: &mut String, whose: &str, name: &str, kind: &str, help: &str) {
     let _ = writeln!(text, "# TYPE rignolda_{whose}{name} {kind}");
 }
 
-/// The server. What comes is whether a request is for the counts.
-pub type Server = serve::Server<bool, Listener>;
-
-/// Listens at an address.
-pub fn server(address: SocketAddr) -> io::Result<Server> {
-    let listener = Listener::new(&Address::Tcp(address.to_string()), None)?;
-    Ok(Server::new(listener, REQUEST_BYTES, Duration::from_secs(5), |bytes| {
-        let end = bytes.windows(4).position(|four| four == b"\r\n\r\n")?;
-        let good = [&b"GET /metrics "[..], b"GET /metrics?", b"GET / "];
-        Some((good.iter().any(|line| bytes.starts_with(line)), end + 4))
-    }))
+/// Whether a request is for the counts.
+pub fn is_asked_for(request: &[u8]) -> bool {
+    ["GET /metrics ", "GET /metrics?", "GET / "].iter().any(|it| request.starts_with(it.as_bytes()))
 }
 
-/// Answers a request with the counts of an agent, or that they are elsewhere.
-pub fn answer(server: &mut Server, ticket: Ticket, status: Option<&Status>) {
+/// The answer to a request: the counts of an agent, or that they are elsewhere.
+pub fn answer(status: Option<&Status>) -> String {
     let (head, body) = match status {
         Some(status) => ("200 OK", text(status)),
         None => ("404 Not Found", "The counts are at /metrics.\n".into()),
     };
-    let answer = format!(
+    format!(
         "HTTP/1.1 {head}\r\nContent-Type: text/plain; version=0.0.4\r\n\
          Content-Length: {}\r\nConnection: close\r\n\r\n{body}",
         body.len()
-    );
-    server.answer(ticket, answer.as_bytes(), true);
+    )
 }

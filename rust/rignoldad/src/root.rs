@@ -22,7 +22,8 @@ const PATIENCE: Duration = Duration::from_secs(5);
 /// How old what was read for a table may be.
 const FRESH: Duration = Duration::from_secs(1);
 
-pub struct Root {
+/// The root. `W`: who asks it for something, and is answered later.
+pub struct Root<W> {
     config: Config,
     disk: Disk,
     publisher: Publisher,
@@ -45,27 +46,31 @@ pub struct Root {
     begins: bool,
     for_table: bool,
     fresh: Option<Instant>,
-    /// Changes that were asked for and are not begun, each key once in a batch; whether one is
-    /// under way, and how many are over.
-    asked: Vec<Vec<Kept>>,
-    is_writing: bool,
-    written: u64,
+    /// Changes that were asked for and are not begun, each key once in a batch, and by whom; who
+    /// asked for the batch under way; and for which keys that are written and not published.
+    asked: Vec<Vec<(Kept, W)>>,
+    writing: Vec<W>,
+    written: Vec<(String, W)>,
+    /// Who asked for a look.
+    looking: Vec<W>,
+    answers: Vec<Answer<W>>,
     /// How many changes are not written yet, and their bytes.
     waiting: (usize, usize),
-    /// Those that could not be written: their batch and key, and why.
-    failed: Vec<(u64, String, String)>,
     /// Whether it was time for a round while one was under way.
     overdue: bool,
     faults: Faults,
 }
 
-impl Root {
+/// To whom, and that all is published, or why something is not.
+pub type Answer<W> = (W, Result<(), String>);
+
+impl<W> Root<W> {
     /// Begins to read the folder, in a thread that calls `wake` whenever it has something to say.
     pub fn new(
         config: &Config,
         now: Instant,
         wake: Arc<dyn Fn() + Send + Sync>,
-    ) -> io::Result<Root> {
+    ) -> io::Result<Root<W>> {
         // (a root that restarts goes on above the numbers of its earlier lives)
         let clock = SystemTime::now().duration_since(UNIX_EPOCH).unwrap_or_default();
         let mut root = Root {
@@ -85,10 +90,11 @@ impl Root {
             for_table: false,
             fresh: None,
             asked: Vec::new(),
-            is_writing: false,
-            written: 0,
+            writing: Vec::new(),
+            written: Vec::new(),
+            looking: Vec::new(),
+            answers: Vec::new(),
             waiting: (0, 0),
-            failed: Vec::new(),
             overdue: false,
             faults: Faults::default(),
         };
@@ -130,7 +136,7 @@ impl Root {
 
     /// Whether the disk has something to answer.
     pub fn is_busy(&self) -> bool {
-        self.reads > 0 || self.is_writing
+        self.reads > 0 || !self.writing.is_empty()
     }
 
     /// Takes up what the disk says, has the folder read and begins a round, where it is time.
@@ -180,8 +186,10 @@ impl Root {
         }
     }
 
-    /// Looks at the folder for somebody who has just changed it.
-    pub fn look_again(&mut self, now: Instant) {
+    /// Looks at the folder for somebody who has just changed it: the answer comes when all that it
+    /// saw is published.
+    pub fn look_again(&mut self, now: Instant, who: W) {
+        self.looking.push(who);
         let reads = self.reads;
         self.look(now);
         if self.reads == reads && !self.is_late {
@@ -191,7 +199,7 @@ impl Root {
     }
 
     /// Whether all that such looks saw is published; else why it cannot be.
-    pub fn is_published(&self) -> Result<bool, String> {
+    fn is_published(&self) -> Result<bool, String> {
         let some: Vec<&str> = self.faults.texts.iter().take(3).map(String::as_str).collect();
         match self.publisher.is_changed() {
             _ if self.reads > 0 && !self.is_late => Ok(false),
@@ -223,20 +231,34 @@ impl Root {
             self.for_table = true;
             self.look(now);
         }
-        let next = self.waits().then(|| self.publisher.next(limit))?;
-        if next.as_ref().is_some_and(|next| next.is_table) {
-            self.fresh = None;
+        let next = self.waits().then(|| self.publisher.next(limit))??;
+        self.fresh = self.fresh.filter(|_| !next.is_table);
+        for (key, who) in std::mem::take(&mut self.written) {
+            match next.keys.contains(&key) {
+                true => self.answers.push((who, Ok(()))),
+                false => self.written.push((key, who)),
+            }
         }
         if self.overdue && !self.publisher.is_in_a_round() {
             self.overdue = false;
             self.publisher.begin_round(self.config.harmless);
         }
-        next
+        Some(next)
+    }
+
+    /// Those who can be answered now.
+    pub fn answers(&mut self) -> Vec<Answer<W>> {
+        let done = if self.looking.is_empty() { Ok(false) } else { self.is_published() };
+        if done != Ok(false) {
+            let looked = self.looking.drain(..).map(|who| (who, done.clone().map(drop)));
+            self.answers.extend(looked);
+        }
+        std::mem::take(&mut self.answers)
     }
 
     /// Writes a setting's file after [`Root::commit`], and publishes it then; without a value,
-    /// removes it. The number of its batch.
-    pub fn ask(&mut self, key: &str, value: Option<Vec<u8>>) -> Result<u64, String> {
+    /// removes it.
+    pub fn ask(&mut self, key: &str, value: Option<Vec<u8>>, who: W) -> Result<(), String> {
         let settings = self.config.settings.display();
         let bytes = entry_bytes(&(key, value.as_deref()));
         match &value {
@@ -253,11 +275,12 @@ impl Root {
             _ => Ok(()),
         }?;
         self.waiting = (self.waiting.0 + 1, self.waiting.1 + bytes);
-        if self.asked.last().is_none_or(|batch| batch.iter().any(|it| it.0 == key)) {
-            self.asked.push(Vec::new());
+        let change = ((key.into(), value), who);
+        match self.asked.last_mut() {
+            Some(batch) if batch.iter().all(|it| it.0 .0 != key) => batch.push(change),
+            _ => self.asked.push(vec![change]),
         }
-        self.asked.last_mut().into_iter().for_each(|it| it.push((key.into(), value.clone())));
-        Ok(self.written + u64::from(self.is_writing) + self.asked.len() as u64)
+        Ok(())
     }
 
     /// Whether there is room beside what waits, as if each of it were a new setting.
@@ -270,32 +293,25 @@ impl Root {
 
     /// Has what was asked for written, one batch after the other.
     pub fn commit(&mut self) {
-        if !self.is_writing && !self.asked.is_empty() {
-            self.is_writing = true;
-            self.disk.begin(Job::Write(self.asked.remove(0)));
+        if self.writing.is_empty() && !self.asked.is_empty() {
+            let (changes, writing) = self.asked.remove(0).into_iter().unzip();
+            self.writing = writing;
+            self.disk.begin(Job::Write(changes));
         }
     }
 
-    /// How many batches are written.
-    pub fn written(&self) -> u64 {
-        self.written
-    }
-
-    /// The changes that could not be written: batch, key, and why.
-    pub fn failed(&mut self) -> Vec<(u64, String, String)> {
-        std::mem::take(&mut self.failed)
-    }
-
     fn is_written(&mut self, all: Vec<(Kept, Result<(), String>)>, now: Instant) {
-        self.is_writing = false;
-        self.written += 1;
-        for ((key, value), done) in all {
+        let writing = std::mem::take(&mut self.writing);
+        for (((key, value), done), who) in all.into_iter().zip(writing) {
             let bytes = entry_bytes(&(&key, value.as_deref()));
             self.waiting = (self.waiting.0 - 1, self.waiting.1 - bytes);
             match done {
                 // (also where it is as it was: whoever asked for it is told a number)
-                Ok(()) => self.publisher.put(&key, value),
-                Err(why) => self.failed.push((self.written, key, why)),
+                Ok(()) => {
+                    self.publisher.put(&key, value);
+                    self.written.push((key, who));
+                }
+                Err(why) => self.answers.push((who, Err(why))),
             }
         }
         if !self.known {

@@ -32,7 +32,8 @@ const ROUND: Duration = Duration::from_secs(3_600);
 
 /// A root, and what time it is there. Whatever it asks the disk for is waited for.
 struct Tried {
-    root: Root,
+    /// Who asks is the key that is asked for.
+    root: Root<String>,
     now: Instant,
 }
 
@@ -66,15 +67,15 @@ impl Tried {
         self.wait();
     }
 
-    fn ask(&mut self, key: &str, value: Option<&[u8]>) -> Result<u64, String> {
-        self.root.ask(key, value.map(Vec::from))
+    fn ask(&mut self, key: &str, value: Option<&[u8]>) -> Result<(), String> {
+        self.root.ask(key, value.map(Vec::from), key.into())
     }
 
     /// Those that failed.
     fn commit(&mut self) -> Vec<(String, String)> {
         self.root.commit();
         self.wait();
-        self.root.failed().into_iter().map(|(_, key, why)| (key, why)).collect()
+        self.answers().into_iter().filter_map(|(key, done)| Some((key, done.err()?))).collect()
     }
 
     fn change(&mut self, key: &str, value: Option<&[u8]>) -> Result<(), String> {
@@ -88,15 +89,15 @@ impl Tried {
 }
 
 impl std::ops::Deref for Tried {
-    type Target = Root;
+    type Target = Root<String>;
 
-    fn deref(&self) -> &Root {
+    fn deref(&self) -> &Root<String> {
         &self.root
     }
 }
 
 impl std::ops::DerefMut for Tried {
-    fn deref_mut(&mut self) -> &mut Root {
+    fn deref_mut(&mut self) -> &mut Root<String> {
         &mut self.root
     }
 }

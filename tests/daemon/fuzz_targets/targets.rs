@@ -6,7 +6,7 @@ use rignolda::settings::{is_key, Meaning, Table};
 use rignoldactl::ask::{bounds_text, tree_text};
 use rignoldactl::{ChildStatus, Request, Response, Status};
 use rignoldad::config::Config;
-use rignoldad::control::{self, Server};
+use rignoldad::control::{self, Asked, Server};
 use rignoldad::serve::Ticket;
 use rignoldad::tree::Below;
 use std::cell::RefCell;
@@ -253,8 +253,14 @@ fn configuration(bytes: &[u8]) {
 
 /// What has come at the control socket.
 fn ready(server: &mut Server) -> Vec<(Ticket, Result<Request, String>)> {
-    let fired = server.descriptors().map(|(descriptor, _)| descriptor).collect();
-    server.ready(&fired, Instant::now())
+    let fired = server.descriptors().map(|(descriptor, ..)| descriptor).collect();
+    let asked = server.ready(&fired, Instant::now()).into_iter();
+    asked
+        .map(|(ticket, asked)| match asked {
+            Asked::Request(request) => (ticket, request),
+            Asked::Counts(_) => panic!("they are asked for elsewhere"),
+        })
+        .collect()
 }
 
 /// A client of the control socket, that sends these bytes and no more.
@@ -286,7 +292,7 @@ fn requests(bytes: &[u8]) {
                         Response::Done
                     },
                 );
-                control::answer(server, ticket, &response);
+                server.answer(ticket, &control::answer(&response), false);
             }
         }
         for _ in 0..2 {
