@@ -18,7 +18,7 @@ sys.path.insert(0, str(TOP / "tools"))
 from programs import Cases, ran  # noqa: E402
 
 OFFLINE = "--offline", "--locked", "--quiet"
-DAEMON = "-p", "rignoldad", "-p", "rignoldactl", "-p", "rignolda_redis"
+DAEMON = "-p", "rignoldad", "-p", "rignoldactl", "-p", "rignolda_redis", "-p", "rignolda_tls"
 # The library's crate stands outside, and needs no other; so it is not built in rust/, where the
 # settings of cargo name those of Debian.
 LIBRARY = "--manifest-path", "rust/rignolda/Cargo.toml"
@@ -26,7 +26,7 @@ APART = "--target-dir", "rust/target/library"
 # Tests that are built once, and not looked into, need nothing for a next build or a debugger.
 ONCE = {"CARGO_INCREMENTAL": "0", "CARGO_PROFILE_DEV_DEBUG": "0"}
 SOURCES = ("rignoldad/src", "rignoldad/tests", "rignoldactl/src", "rignoldactl/tests",
-           "rignolda_redis/src")
+           "rignolda_redis/src", "rignolda_tls/src", "rignolda_tls/tests")
 
 
 def of_sources(cases):

@@ -5,7 +5,6 @@ use crate::config::{plain, Address, Config, Fault};
 use crate::control::{self, Asked, Server};
 use crate::fact;
 use crate::journal;
-use crate::line::{names, unix_time, Line, Listener, Maker};
 use crate::metrics;
 use crate::root::Root;
 use crate::serve::Ticket;
@@ -15,6 +14,7 @@ use mio::{Events, Interest, Poll, Registry, Token, Waker};
 use rignolda::net::{Body, Call, Handler, Peers};
 use rignolda::settings::{Meaning, Table};
 use rignolda_redis::Stores;
+use rignolda_tls::{Line, Listener, Maker};
 use rignoldactl::{ChildStatus, Request, Response, Status};
 use socket2::SockAddr;
 use std::collections::{BTreeMap, HashSet};
@@ -607,8 +607,8 @@ impl Agent {
             reload_failed: self.reload_failed.clone(),
             certificate_expires: self
                 .maker
-                .certificate()
-                .map_or(0, |it| u64::try_from(unix_time(it.not_after())).unwrap_or(0)),
+                .expires()
+                .map_or(0, |at| u64::try_from(at).unwrap_or(0)),
             ..Status::default()
         }
     }
@@ -723,7 +723,7 @@ fn silence(config: &Config) -> Duration {
 fn maker(config: &Config) -> Result<Maker, String> {
     let (name, tls) = (&config.peers.name, config.tls.as_ref());
     let maker = Maker::new(tls, silence(config)).map_err(|e| format!("tls: {e}"))?;
-    if maker.certificate().is_some_and(|it| !names(it).contains(name)) {
+    if maker.names().is_some_and(|all| !all.contains(name)) {
         fact!("certificate", "no DNS name of its SAN is `{name}`: others refuse this agent");
     }
     Ok(maker)

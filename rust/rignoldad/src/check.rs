@@ -1,23 +1,14 @@
 //! What `--check` finds beyond the text of a configuration: what its user cannot use on this
 //! machine, and, of the files of a whole tree, which agents do not fit.
 use crate::apply::refusal;
-use crate::config::{leads, line_of, read_file, read_text, Address, Children, Config, Fault, Tls};
-use crate::line::{Maker, PEM_BYTES};
-use openssl::asn1::Asn1Time;
-use openssl::error::ErrorStack;
-use openssl::pkey::PKey;
-use openssl::stack::Stack;
-use openssl::x509::{store::X509StoreBuilder, X509StoreContext, X509};
+use crate::config::{leads, line_of, read_text, Address, Children, Config, Fault, Tls};
 use std::collections::BTreeMap;
 use std::fs;
 use std::io::ErrorKind;
 use std::os::unix::fs::FileTypeExt;
 use std::path::{Path, PathBuf};
 use std::process::Command;
-use std::time::Duration;
 
-/// From how many days before its end on a certificate is warned of.
-const DAYS: u32 = 30;
 /// How many agents of a way are named.
 const WAY: usize = 8;
 /// How deep an agent is at most: each link costs 1 at least, and no way costs more.
@@ -119,50 +110,9 @@ impl Check<'_> {
     }
 
     fn tls(&mut self, name: &str, tls: &Tls) {
-        let keys @ [key, ..] = ["tls.certificate", "tls.authority", "tls.key"];
-        let paths: [&Path; 3] = [&tls.certificate, &tls.authority, &tls.key];
-        let may = [0, 1, 2].map(|at| self.may(keys[at], paths[at], "-r -f"));
-        // (what is no file, as a pipe, is not even opened)
-        let pem = |at: usize| may[at].then(|| read_file(paths[at], PEM_BYTES, "it").ok())?;
-        let certificates = |at: usize| X509::stack_from_pem(&pem(at)?).ok();
-        let [own, authority] = [0, 1].map(|at| certificates(at).unwrap_or_default());
-        // (nobody is there to be asked for a word that opens a key)
-        let private = PKey::private_key_from_pem_callback(&pem(2).unwrap_or_default(), |_| Ok(0));
-        let is_bad = [own.is_empty(), authority.is_empty(), private.is_err()];
-        for at in (0..3).filter(|at| is_bad[*at] && may[*at]) {
-            self.say(0, false, keys[at], "nothing in it can be used");
-        }
-        let times = (Asn1Time::days_from_now(0), Asn1Time::days_from_now(DAYS));
-        let (Some(leaf), (Ok(now), Ok(soon))) = (own.first(), times) else { return };
-        let (begin, end) = (leaf.not_before(), leaf.not_after());
-        let is_out = end < now || begin > now;
-        let word = if end < now { "has expired" } else { "is not yet valid" };
-        if is_out || end < soon {
-            let word = if is_out { word } else { "expires soon" };
-            self.say(0, !is_out, key, format!("it {word}: it is valid from {begin} to {end}"));
-        }
-        if !leaf.subject_alt_names().iter().flatten().any(|it| it.dnsname() == Some(name)) {
-            self.say(0, false, key, format!("no DNS name of its SAN is `{name}`"));
-        }
-        if private.is_ok_and(|it| !leaf.public_key().is_ok_and(|own| own.public_eq(&it))) {
-            self.say(0, false, "tls.key", "it is the key of another certificate");
-        }
-        let verify = || -> Result<_, ErrorStack> {
-            let (mut store, mut others) = (X509StoreBuilder::new()?, Stack::new()?);
-            authority.iter().try_for_each(|it| store.add_cert(it.clone()))?;
-            own[1..].iter().try_for_each(|it| others.push(it.clone()))?;
-            X509StoreContext::new()?.init(&store.build(), leaf, &others, |it| {
-                Ok((!it.verify_cert()?).then(|| it.error().error_string()))
-            })
-        };
-        let why = verify().ok().flatten().filter(|_| !is_out && !authority.is_empty());
-        if let Some(why) = why {
-            self.say(0, false, key, format!("`authority` did not sign it: {why}"));
-        }
-        // (whatever else the daemon would refuse, as a key that is too short)
-        if may == [true; 3] && self.faults.iter().all(|(_, it)| it.is_warning) {
-            let why = Maker::new(Some(tls), Duration::from_secs(1)).err();
-            why.iter().for_each(|why| self.say(0, false, key, why));
+        let may = tls.files().map(|(file, path)| self.may(&format!("tls.{file}"), path, "-r -f"));
+        for fault in tls.faults(name, may) {
+            self.say(0, fault.is_warning, &format!("tls.{}", fault.file), fault.text);
         }
     }
 

@@ -5,14 +5,14 @@
 pub use rignolda::net::{is_name, Address, Children, Parent, Setup, NAME_BYTES};
 pub use rignolda::settings::{is_key, too_deep, TOO_DEEP};
 pub use rignolda_redis::Login;
+use rignolda_tls::read_file;
+pub use rignolda_tls::Tls;
 use rignoldactl::milliseconds;
 use std::collections::BTreeMap;
 use std::fmt;
-use std::fs::OpenOptions;
-use std::io::{self, Read};
+use std::io;
 use std::net::{IpAddr, SocketAddr};
 use std::ops::RangeInclusive;
-use std::os::unix::fs::OpenOptionsExt;
 use std::path::{Path, PathBuf};
 use std::time::Duration;
 use toml::value::{Table, Value};
@@ -23,8 +23,6 @@ const CHILDREN: usize = 10_000;
 const ADDRESSES: usize = 64;
 /// The most that a parent may cost besides 1: of 128 and more, there would never be a way over it.
 const PRICE: u16 = 100;
-/// O_NONBLOCK of Linux.
-const NONBLOCK: i32 = 0o4000;
 /// How much of a text is shown.
 const TEXT_CHARS: usize = 500;
 
@@ -54,13 +52,6 @@ pub struct Root {
     pub round: Duration,
     /// How many harmless items a round begins with.
     pub harmless: u32,
-}
-
-#[derive(Clone, Debug, PartialEq)]
-pub struct Tls {
-    pub certificate: PathBuf,
-    pub key: PathBuf,
-    pub authority: PathBuf,
 }
 
 #[derive(Clone, Debug, Default, PartialEq)]
@@ -510,18 +501,4 @@ pub fn read_text(path: &Path) -> Result<String, Vec<Fault>> {
     read_file(path, FILE_BYTES, "the file")
         .and_then(|bytes| io::read_to_string(&bytes[..]))
         .map_err(|e| vec![Fault::of(0, e.to_string())])
-}
-
-/// The bytes of a file, of which there are at most `most`. A pipe is none, and is not waited for.
-pub fn read_file(path: &Path, most: usize, what: &str) -> io::Result<Vec<u8>> {
-    let mut bytes = Vec::new();
-    let file = OpenOptions::new().read(true).custom_flags(NONBLOCK).open(path)?;
-    if !file.metadata()?.is_file() {
-        return Err(io::Error::other("it is no file"));
-    }
-    file.take(most as u64 + 1).read_to_end(&mut bytes)?;
-    match bytes.len() > most {
-        true => Err(io::Error::other(format!("{what} has more than {most} bytes"))),
-        false => Ok(bytes),
-    }
 }

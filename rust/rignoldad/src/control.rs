@@ -1,8 +1,8 @@
 //! The sockets at which a running agent is asked: by an operator, and for its [counts](metrics).
 use crate::config::Address;
-use crate::line::Listener;
 use crate::metrics;
 use crate::serve;
+use rignolda_tls::Listener;
 use rignoldactl::{Request, Response};
 use std::io;
 use std::net::SocketAddr;

@@ -11,7 +11,6 @@ pub mod config;
 pub mod control;
 pub mod disk;
 pub mod journal;
-pub mod line;
 pub mod metrics;
 pub mod root;
 pub mod tree;

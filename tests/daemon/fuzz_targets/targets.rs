@@ -239,7 +239,7 @@ fn configuration(bytes: &[u8]) {
             let mut names = parents.chain(children).chain([&peers.name]);
             assert!(names.all(|name| is_name(name)));
             assert_eq!(config.root.is_some(), peers.parents.is_empty());
-            assert!(config.at_a_start_alone(&config).is_empty());
+            assert!(config.clone().take(config.clone()).is_empty());
         }
         Err(faults) => {
             assert!(!faults.is_empty());

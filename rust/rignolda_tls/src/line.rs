@@ -1,27 +1,18 @@
 //! A connection that never makes its caller wait: TCP, a Unix socket, or TLS over TCP.
-use crate::config::{read_file, Address, Tls};
-use crate::serve;
-use openssl::asn1::{Asn1Time, Asn1TimeRef};
+use crate::certificate::{names, private_key, read, reason, unix_time, unverified};
+use crate::{Listener, Tls};
 use openssl::error::ErrorStack;
-use openssl::pkey::PKey;
 use openssl::ssl::{
     Error, ErrorCode, Ssl, SslContext, SslMethod, SslMode, SslOptions, SslSessionCacheMode,
     SslStream, SslVerifyMode, SslVersion,
 };
-use openssl::x509::{X509Ref, X509VerifyResult};
-use rignolda::net::is_name;
+use openssl::x509::X509Ref;
+use rignolda::net::{is_name, serve};
 use socket2::{Domain, SockAddr, Socket, TcpKeepalive, Type};
-use std::fs::{self, Permissions};
 use std::io::{self, ErrorKind, Read, Write};
-use std::net::TcpListener;
-use std::os::unix::fs::{FileTypeExt, PermissionsExt};
 use std::os::unix::io::{AsRawFd, RawFd};
-use std::os::unix::net::UnixStream;
-use std::path::{Path, PathBuf};
+use std::path::Path;
 use std::time::Duration;
-
-/// The longest file of certificates or of a key.
-pub const PEM_BYTES: usize = 1 << 20;
 
 pub enum Line {
     Plain(Socket),
@@ -87,12 +78,6 @@ pub struct Maker {
     timeout: Duration,
 }
 
-/// Where lines are accepted. A Unix socket's file goes with it.
-pub struct Listener {
-    pub socket: Socket,
-    path: Option<PathBuf>,
-}
-
 impl Maker {
     /// Reads the certificates. `timeout` is how long sent bytes may stay without an answer of the
     /// other machine.
@@ -116,7 +101,7 @@ impl Maker {
 
     /// Takes the next connection of a listener.
     pub fn accept(&self, listener: &Listener) -> io::Result<Line> {
-        self.line(serve::Listener::accept(listener)?, listener.path.is_some(), true)
+        self.line(serve::Listener::accept(listener)?, listener.is_unix(), true)
     }
 
     fn line(&self, socket: Socket, is_unix: bool, accepted: bool) -> io::Result<Line> {
@@ -139,27 +124,26 @@ impl Maker {
         Ok(Line::Tls(Box::new(Secure { stream, greeted, expires, waits: [false; 2] })))
     }
 
-    /// The agent's own certificate, where there is TLS.
-    pub fn certificate(&self) -> Option<&X509Ref> {
+    /// The names of the agent's own certificate, where there is TLS.
+    pub fn names(&self) -> Option<Vec<String>> {
+        self.certificate().map(names)
+    }
+
+    /// When the agent's own certificate expires, in seconds since 1970, where there is TLS.
+    pub fn expires(&self) -> Option<i64> {
+        self.certificate().map(|it| unix_time(it.not_after()))
+    }
+
+    fn certificate(&self) -> Option<&X509Ref> {
         self.tls.as_ref()?.certificate()
     }
 }
 
-/// Seconds since 1970.
-pub fn unix_time(time: &Asn1TimeRef) -> i64 {
-    let since = Asn1Time::from_unix(0).and_then(|zero| zero.diff(time));
-    since.map_or(0, |it| i64::from(it.days) * 86_400 + i64::from(it.secs))
-}
-
 fn context(tls: &Tls) -> Result<SslContext, String> {
-    let say = |path: &Path, why: &str| format!("{}: {why}", path.display());
     let with = |path: &Path| {
-        let why = say(path, "");
-        move |e: ErrorStack| why + reason(&e).unwrap_or("nothing in it can be used")
+        let path = format!("{}: ", path.display());
+        move |e: ErrorStack| path + reason(&e).unwrap_or("nothing in it can be used")
     };
-    // (what cannot be read is said in the words of the system)
-    let read =
-        |path: &Path| read_file(path, PEM_BYTES, "it").map_err(|e| say(path, &e.to_string()));
     let make = || -> Result<_, ErrorStack> {
         let mut context = SslContext::builder(SslMethod::tls())?;
         context.set_min_proto_version(Some(SslVersion::TLS1_2))?;
@@ -183,70 +167,10 @@ fn context(tls: &Tls) -> Result<SslContext, String> {
     read(&tls.authority).and_then(|_| read(&tls.certificate))?;
     context.set_ca_file(&tls.authority).map_err(with(&tls.authority))?;
     context.set_certificate_chain_file(&tls.certificate).map_err(with(&tls.certificate))?;
-    // (nobody is there to be asked for a word that opens a key)
-    let key = PKey::private_key_from_pem_callback(&read(&tls.key)?, |_| Ok(0));
-    let key = key.map_err(with(&tls.key))?;
+    let key = private_key(&read(&tls.key)?).map_err(with(&tls.key))?;
     let done = context.set_private_key(&key).and_then(|()| context.check_private_key());
     done.map_err(with(&tls.key))?;
     Ok(context.build())
-}
-
-/// What OpenSSL found wrong last, without the places in its sources.
-fn reason(errors: &ErrorStack) -> Option<&'static str> {
-    errors.errors().last()?.reason()
-}
-
-impl Listener {
-    /// Listens there. A socket's file that nobody listens at any more is replaced; the new one has
-    /// its mode before anybody can connect.
-    pub fn new(address: &Address, mode: Option<u32>) -> io::Result<Listener> {
-        let (socket, path) = match address {
-            Address::Tcp(address) => (TcpListener::bind(address)?.into(), None),
-            Address::Redis { .. } => return Err(ErrorKind::Unsupported.into()),
-            Address::Unix(path) => {
-                if UnixStream::connect(path).is_ok() {
-                    let why = "another process listens there";
-                    return Err(io::Error::new(ErrorKind::AddrInUse, why));
-                }
-                match fs::symlink_metadata(path) {
-                    Ok(is) if is.file_type().is_socket() => fs::remove_file(path)?,
-                    Ok(_) => return Err(io::Error::other("what is there is no socket")),
-                    Err(_) => (),
-                }
-                let socket = Socket::new(Domain::UNIX, Type::STREAM, None)?;
-                socket.bind(&SockAddr::unix(path)?)?;
-                mode.map_or(Ok(()), |it| fs::set_permissions(path, Permissions::from_mode(it)))?;
-                socket.listen(1_024)?;
-                (socket, Some(path.clone()))
-            }
-        };
-        let listener = Listener { socket, path };
-        listener.socket.set_nonblocking(true)?;
-        Ok(listener)
-    }
-}
-
-impl AsRawFd for Listener {
-    fn as_raw_fd(&self) -> RawFd {
-        self.socket.as_raw_fd()
-    }
-}
-
-impl serve::Listener for Listener {
-    type Socket = Socket;
-
-    /// Takes the next connection, without TLS.
-    fn accept(&self) -> io::Result<Socket> {
-        let socket = self.socket.accept()?.0;
-        socket.set_nonblocking(true)?;
-        Ok(socket)
-    }
-}
-
-impl Drop for Listener {
-    fn drop(&mut self) {
-        self.path.iter().for_each(|path| drop(fs::remove_file(path)));
-    }
 }
 
 impl AsRawFd for Line {
@@ -302,23 +226,6 @@ impl Line {
             Line::Tls(secure) => secure.waits != [false; 2],
             _ => has_output,
         }
-    }
-}
-
-/// The DNS names of a certificate: no other name counts.
-pub fn names(certificate: &X509Ref) -> Vec<String> {
-    let all = certificate.subject_alt_names();
-    all.iter().flatten().filter_map(|name| name.dnsname().map(str::to_owned)).collect()
-}
-
-/// Why a certificate does not count, in words of an operator.
-pub fn unverified(why: X509VerifyResult) -> &'static str {
-    match why.as_raw() {
-        9 => "is not yet valid",
-        10 => "has expired",
-        2 | 7 | 18..=21 => "is of another authority",
-        22 | 25 => "has too many authorities above it",
-        _ => why.error_string(),
     }
 }
 

@@ -9,9 +9,8 @@ use openssl::pkey::{PKey, Private};
 use openssl::ssl::{SslConnector, SslConnectorBuilder, SslMethod, SslVerifyMode, SslVersion};
 use openssl::x509::extension::{BasicConstraints, SubjectAlternativeName};
 use openssl::x509::{X509Builder, X509NameBuilder, X509};
-use rignolda::net::Line as _;
-use rignoldad::config::{Address, Tls};
-use rignoldad::line::{unix_time, Line, Listener, Maker};
+use rignolda::net::{Address, Line as _};
+use rignolda_tls::{unix_time, Line, Listener, Maker, Tls};
 use socket2::SockAddr;
 use std::fs;
 use std::io::{ErrorKind, Read, Write};
@@ -285,14 +284,14 @@ fn a_line_knows_when_a_certificate_of_its_ends_expires() {
     };
     let ((root, last), (leaf, first)) = (make("root", 5), make("leaf", 3));
     for (maker, end) in [(&root, last), (&leaf, first)] {
-        assert_eq!(unix_time(maker.certificate().unwrap().not_after()), end);
+        assert_eq!(maker.expires(), Some(end));
     }
     assert_eq!(last - first, 2 * 86_400);
     let [up, down] = connected(&root, &leaf).unwrap();
     assert_eq!((up.expires(), down.expires()), (first, first));
     let plain = Maker::new(None, TIMEOUT).unwrap();
     let [up, _down] = connected(&plain, &plain).unwrap();
-    assert!(up.expires() == i64::MAX && plain.certificate().is_none());
+    assert!(up.expires() == i64::MAX && plain.expires().is_none());
 }
 
 /// Whether an agent talks with a client that was set up so, and what it says.

@@ -1,0 +1,43 @@
+//! Lines of an agent, over sockets that never make it wait, and its certificates.
+//!
+//! A [`Maker`] makes lines by the files of a [`Tls`], a [`Listener`] is where others connect to, and
+//! a [`Line`] is read and written as [`rignolda::net::Peers`] asks for it.
+#![forbid(unsafe_code)]
+use std::fs::OpenOptions;
+use std::io::{self, Read};
+use std::os::unix::fs::OpenOptionsExt;
+use std::path::{Path, PathBuf};
+
+mod certificate;
+mod line;
+mod listener;
+
+pub use certificate::{unix_time, Fault};
+pub use line::{Line, Maker, Secure};
+pub use listener::Listener;
+
+/// O_NONBLOCK of Linux.
+const NONBLOCK: i32 = 0o4000;
+
+/// The files of an agent: its own certificate and the key of that, and the authority that signed it
+/// and those of all others.
+#[derive(Clone, Debug, PartialEq)]
+pub struct Tls {
+    pub certificate: PathBuf,
+    pub key: PathBuf,
+    pub authority: PathBuf,
+}
+
+/// The bytes of a file, of which there are at most `most`. A pipe is none, and is not waited for.
+pub fn read_file(path: &Path, most: usize, what: &str) -> io::Result<Vec<u8>> {
+    let mut bytes = Vec::new();
+    let file = OpenOptions::new().read(true).custom_flags(NONBLOCK).open(path)?;
+    if !file.metadata()?.is_file() {
+        return Err(io::Error::other("it is no file"));
+    }
+    file.take(most as u64 + 1).read_to_end(&mut bytes)?;
+    match bytes.len() > most {
+        true => Err(io::Error::other(format!("{what} has more than {most} bytes"))),
+        false => Ok(bytes),
+    }
+}
