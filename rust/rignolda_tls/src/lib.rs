@@ -1,17 +1,20 @@
 //! Lines of an agent, over sockets that never make it wait, and its certificates.
 //!
-//! A [`Maker`] makes lines by the files of a [`Tls`], a [`Listener`] is where others connect to, and
-//! a [`Line`] is read and written as [`rignolda::net::Peers`] asks for it.
+//! A [`Maker`] makes lines by the files of a [`Tls`], a [`Caller`] connects by it to others, and a
+//! [`Listener`] is where they connect to. A [`Line`] is read and written as
+//! [`rignolda::net::Peers`] asks for it.
 #![forbid(unsafe_code)]
 use std::fs::OpenOptions;
 use std::io::{self, Read};
 use std::os::unix::fs::OpenOptionsExt;
 use std::path::{Path, PathBuf};
 
+mod caller;
 mod certificate;
 mod line;
 mod listener;
 
+pub use caller::{Called, Caller};
 pub use certificate::{unix_time, Fault};
 pub use line::{Line, Maker, Secure};
 pub use listener::Listener;

@@ -11,20 +11,18 @@ use crate::serve::Ticket;
 use crate::tree::{Below, EACH};
 use mio::unix::SourceFd;
 use mio::{Events, Interest, Poll, Registry, Token, Waker};
-use rignolda::net::{Body, Call, Handler, Peers};
+use rignolda::net::{Body, Handler, Peers};
 use rignolda::settings::{Meaning, Table};
 use rignolda_redis::Stores;
-use rignolda_tls::{Line, Listener, Maker};
+use rignolda_tls::{Caller, Line, Listener, Maker};
 use rignoldactl::{ChildStatus, Request, Response, Status};
-use socket2::SockAddr;
 use std::collections::{BTreeMap, HashSet};
 use std::fmt::Display;
 use std::io::{self, ErrorKind, Read};
-use std::net::{SocketAddr, ToSocketAddrs};
 use std::os::unix::io::{AsRawFd, RawFd};
 use std::os::unix::net::{UnixDatagram, UnixStream};
 use std::path::{Path, PathBuf};
-use std::sync::{mpsc, Arc};
+use std::sync::Arc;
 use std::time::{Duration, Instant, SystemTime, UNIX_EPOCH};
 
 /// How many connections are accepted in one turn.
@@ -44,8 +42,6 @@ const EVENTS: usize = 256;
 const OTHER: usize = 1 << (usize::BITS - 1);
 const WAKE: Token = Token(usize::MAX);
 
-/// What a look-up of a host's name brought.
-type Found = (Call<Address>, io::Result<Vec<SocketAddr>>);
 /// The answer to a request; nothing where it comes later.
 type Answer = Result<Option<Response>, String>;
 
@@ -55,7 +51,6 @@ pub struct Agent {
     maker: Maker,
     poll: Poll,
     events: Events,
-    waker: Arc<Waker>,
     /// The lines that are waited for, and whether until they can be written too, in their order.
     lines: Vec<(u64, RawFd, bool)>,
     /// The lines that can be read or written.
@@ -70,7 +65,7 @@ pub struct Agent {
     listeners: Vec<Listener>,
     /// Until when nobody is accepted, since no descriptor was left.
     full_until: Instant,
-    found: (mpsc::Sender<Found>, mpsc::Receiver<Found>),
+    caller: Caller,
     peers: Peers<Line, Address>,
     stores: Stores,
     root: Option<Root<Ticket>>,
@@ -299,9 +294,8 @@ impl Agent {
             .iter()
             .map(|address| control::counts(*address).map_err(of(format!("metrics: {address}"))));
         let poll = Poll::new().map_err(of("poll"))?;
-        let waker = Arc::new(Waker::new(poll.registry(), WAKE).map_err(of("poll"))?);
-        let wakes = waker.clone();
-        let wake: Arc<dyn Fn() + Send + Sync> = Arc::new(move || drop(wakes.wake()));
+        let waker = Waker::new(poll.registry(), WAKE).map_err(of("poll"))?;
+        let wake: Arc<dyn Fn() + Send + Sync> = Arc::new(move || drop(waker.wake()));
         let applier = config.apply.as_ref().map(|apply| {
             let applier = Applier::new(apply, wake.clone());
             applier.map_err(of("apply: its threads cannot be started"))
@@ -318,7 +312,6 @@ impl Agent {
             maker: maker(&config)?,
             poll,
             events: Events::with_capacity(EVENTS),
-            waker,
             lines: Vec::new(),
             ready: Vec::new(),
             is_due: true,
@@ -326,7 +319,7 @@ impl Agent {
             others: Vec::new(),
             listeners: config.listen.iter().map(listen).collect::<Result<_, _>>()?,
             full_until: now,
-            found: mpsc::channel(),
+            caller: Caller::new(wake.clone()),
             peers,
             stores: Stores::new(config.store.clone(), silence(&config), wake.clone()),
             root: root.transpose()?,
@@ -470,42 +463,16 @@ impl Agent {
 
     /// Makes the connections that are due.
     fn connect(&mut self, now: Instant) {
-        while let Ok((call, found)) = self.found.1.try_recv() {
-            let nothing = || io::Error::new(ErrorKind::NotFound, "it has no address");
-            let line = found.and_then(|places| {
-                let place = places.get(call.failed % places.len().max(1)).ok_or_else(nothing)?;
-                self.maker.connect(&SockAddr::from(*place))
-            });
-            self.peers.called(call, line.map_err(|e| e.to_string()), now, &mut self.state);
+        while let Some((call, line)) = self.caller.found(&self.maker) {
+            self.peers.called(call, line, now, &mut self.state);
         }
         while let Some(call) = self.peers.next_call(now, &mut self.state) {
-            let line = match &call.address {
-                Address::Redis { .. } => {
-                    self.peers.in_store(call, now);
-                    continue;
-                }
-                Address::Unix(path) => SockAddr::unix(path).and_then(|it| self.maker.connect(&it)),
-                Address::Tcp(text) => match text.parse::<SocketAddr>() {
-                    Ok(address) => self.maker.connect(&address.into()),
-                    Err(_) => match self.look_up(call.clone()) {
-                        Ok(()) => continue,
-                        Err(error) => Err(error),
-                    },
-                },
-            };
-            self.peers.called(call, line.map_err(|e| e.to_string()), now, &mut self.state);
+            if matches!(call.address, Address::Redis { .. }) {
+                self.peers.in_store(call, now);
+            } else if let Some((call, line)) = self.caller.call(call, &self.maker) {
+                self.peers.called(call, line, now, &mut self.state);
+            }
         }
-    }
-
-    /// Looks a host's name up. That waits, so another thread does it.
-    fn look_up(&self, call: Call<Address>) -> io::Result<()> {
-        let (to, waker) = (self.found.0.clone(), self.waker.clone());
-        let look_up = move || {
-            let found = call.address.to_string().to_socket_addrs().map(Iterator::collect);
-            let _ = to.send((call, found));
-            let _ = waker.wake();
-        };
-        std::thread::Builder::new().spawn(look_up).map(drop)
     }
 
     /// Whether something waits to be published, and the quickest child that there is takes it.
