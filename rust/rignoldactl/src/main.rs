@@ -3,6 +3,7 @@
 use clap::{Parser, Subcommand};
 use rignoldactl::ask::{self, Agent};
 use rignoldactl::{milliseconds, Request, Response, Seen, Status};
+use serde::Serialize;
 use serde_json::json;
 use std::io::{ErrorKind, Read, Write};
 use std::path::PathBuf;
@@ -116,6 +117,7 @@ fn main() -> ExitCode {
 fn run(arguments: &Arguments) -> Result<String, Failed> {
     let mut agent = Agent::connect(&arguments.socket)
         .map_err(|error| Failed(3, format!("{}: {error}", arguments.socket.display())))?;
+    let (agent, is_json) = (&mut agent, arguments.json);
     let request = match &arguments.command {
         Command::Publish { key, value } => {
             Request::Publish { key: key.clone(), value: value_of(value.as_deref())? }
@@ -128,49 +130,55 @@ fn run(arguments: &Arguments) -> Result<String, Failed> {
             Request::ChildRemove { name: name.clone() }
         }
         Command::Status => {
-            let status = status(&mut agent)?;
-            return Ok(if arguments.json { json(&status) } else { ask::status_text(&status) });
+            let status = status(agent)?;
+            return Ok(shown(is_json, &status, ask::status_text));
         }
-        Command::Tree => return show_tree(&mut agent, arguments.json),
+        Command::Tree => {
+            let is_root = status(agent)?.is_root;
+            let list = tree(agent)?;
+            if let Some(warning) = ask::too_few_harmless(&list).filter(|_| is_root) {
+                eprintln!("rignoldactl: {warning}");
+            }
+            return Ok(shown(is_json, &list, |list| ask::tree_text(list)));
+        }
         Command::Bounds => {
-            from_the_root(&mut agent)?;
-            let list = tree(&mut agent)?;
-            return Ok(match arguments.json {
-                true => json(&ask::bounds(&list)),
-                false => ask::bounds_text(&list),
-            });
+            if !status(agent)?.is_root {
+                let why = "ask the root: an agent does not know how deep it is";
+                return Err(Failed(1, why.into()));
+            }
+            let list = tree(agent)?;
+            return Ok(shown(is_json, &ask::bounds(&list), |_| ask::bounds_text(&list)));
         }
         Command::Wait { sequence, everywhere, timeout } => {
             let begun = Instant::now();
-            let sequence = match sequence {
-                Some(sequence) => *sequence,
-                None => newest(&mut agent, *timeout)?,
-            };
-            wait(&mut agent, sequence, *everywhere, timeout.saturating_sub(begun.elapsed()))?;
-            return Ok(if arguments.json {
-                json(&json!({ "applied": sequence }))
-            } else {
-                "".into()
-            });
+            let sequence = sequence.map_or_else(|| newest(agent, *timeout), Ok)?;
+            wait(agent, sequence, *everywhere, timeout.saturating_sub(begun.elapsed()))?;
+            return Ok(shown(is_json, &json!({ "applied": sequence }), nothing));
         }
         Command::Drain { timeout } => {
-            asked(&mut agent, &Request::Drain)?;
-            drained(&mut agent, *timeout)?;
-            return Ok(if arguments.json { json(&json!({ "drained": true })) } else { "".into() });
+            asked(agent, &Request::Drain)?;
+            drained(agent, *timeout)?;
+            return Ok(shown(is_json, &json!({ "drained": true }), nothing));
         }
     };
-    match asked(&mut agent, &request)? {
-        Response::Published(sequence) if arguments.json => {
-            Ok(json(&json!({ "sequence": sequence })))
+    Ok(match asked(agent, &request)? {
+        Response::Published(sequence) => {
+            shown(is_json, &json!({ "sequence": sequence }), |_| format!("{sequence}\n"))
         }
-        Response::Published(sequence) => Ok(format!("{sequence}\n")),
-        _ if arguments.json => Ok(json(&json!({ "done": true }))),
-        _ => Ok(String::new()),
+        _ => shown(is_json, &json!({ "done": true }), nothing),
+    })
+}
+
+/// What is shown of a value: JSON, or its text.
+fn shown<T: Serialize>(is_json: bool, value: &T, text: impl FnOnce(&T) -> String) -> String {
+    match is_json {
+        true => serde_json::to_string(value).expect("texts, numbers and lists are JSON") + "\n",
+        false => text(value),
     }
 }
 
-fn json(value: &impl serde::Serialize) -> String {
-    serde_json::to_string(value).expect("texts, numbers and lists are JSON") + "\n"
+fn nothing<T>(_: &T) -> String {
+    String::new()
 }
 
 /// The value to publish.
@@ -199,10 +207,21 @@ fn asked(agent: &mut Agent, request: &Request) -> Result<Response, Failed> {
     }
 }
 
+fn something_else<T>() -> Result<T, Failed> {
+    Err(Failed(3, "the agent answers something else".into()))
+}
+
 fn status(agent: &mut Agent) -> Result<Status, Failed> {
     match asked(agent, &Request::Status)? {
         Response::Status(status) => Ok(*status),
-        _ => Err(Failed(3, "the agent answers something else".into())),
+        _ => something_else(),
+    }
+}
+
+fn tree(agent: &mut Agent) -> Result<Vec<Seen>, Failed> {
+    match asked(agent, &Request::Tree)? {
+        Response::Tree(list) => Ok(list),
+        _ => something_else(),
     }
 }
 
@@ -217,31 +236,24 @@ fn newest(agent: &mut Agent, timeout: Duration) -> Result<u64, Failed> {
             Err(Failed(1, "the time is up: not all of its folder is published".into()))
         }
         Some(Err(error)) => Err(error.into()),
-        Some(_) => Err(Failed(3, "the agent answers something else".into())),
+        Some(_) => something_else(),
     }
 }
 
-fn tree(agent: &mut Agent) -> Result<Vec<Seen>, Failed> {
-    match asked(agent, &Request::Tree)? {
-        Response::Tree(list) => Ok(list),
-        _ => Err(Failed(3, "the agent answers something else".into())),
+/// Asks for the tree until there is nothing that it `lacks`, which it says in words.
+fn until(
+    agent: &mut Agent,
+    timeout: Duration,
+    mut lacks: impl FnMut(Vec<Seen>) -> Option<String>,
+) -> Result<(), Failed> {
+    let until = Instant::now() + timeout;
+    while let Some(words) = lacks(tree(agent)?) {
+        if Instant::now() >= until {
+            return Err(Failed(1, format!("the time is up: {words}")));
+        }
+        std::thread::sleep(PAUSE);
     }
-}
-
-fn from_the_root(agent: &mut Agent) -> Result<(), Failed> {
-    match status(agent)?.is_root {
-        true => Ok(()),
-        false => Err(Failed(1, "ask the root: an agent does not know how deep it is".into())),
-    }
-}
-
-fn show_tree(agent: &mut Agent, json_is_asked: bool) -> Result<String, Failed> {
-    let is_root = status(agent)?.is_root;
-    let list = tree(agent)?;
-    if let Some(warning) = ask::too_few_harmless(&list).filter(|_| is_root) {
-        eprintln!("rignoldactl: {warning}");
-    }
-    Ok(if json_is_asked { json(&list) } else { ask::tree_text(&list) })
+    Ok(())
 }
 
 fn wait(
@@ -250,45 +262,28 @@ fn wait(
     everywhere: bool,
     timeout: Duration,
 ) -> Result<(), Failed> {
-    let until = Instant::now() + timeout;
-    loop {
-        let mut list = tree(agent)?;
+    until(agent, timeout, |mut list| {
         if !everywhere {
             list.truncate(1);
         }
         let lacking = list.iter().filter_map(|seen| Some((seen, ask::lacks(seen, sequence)?)));
         let lacking: Vec<String> =
             lacking.map(|(seen, why)| format!("{} {why}", seen.name)).collect();
-        if lacking.is_empty() && !list.is_empty() {
-            return Ok(());
-        }
-        if Instant::now() >= until {
-            return Err(Failed(1, format!("the time is up: {}", lacking.join(", "))));
-        }
-        std::thread::sleep(PAUSE);
-    }
+        (!lacking.is_empty() || list.is_empty()).then(|| lacking.join(", "))
+    })
 }
 
 /// Waits until each agent has what its parent has, and no backlog, and that twice in turn: for the
 /// lists of the agents come up one after the other.
 fn drained(agent: &mut Agent, timeout: Duration) -> Result<(), Failed> {
-    let until = Instant::now() + timeout;
     let mut before = false;
-    loop {
-        let list = tree(agent)?;
+    until(agent, timeout, |list| {
         let newest = list.first().map_or(0, |root| root.sequence);
         let full = |seen: &&Seen| {
             !seen.connected || seen.backlog > 0 || seen.sequence < newest || seen.cut
         };
         let full: Vec<&str> = list.iter().filter(full).map(|seen| seen.name.as_str()).collect();
-        if full.is_empty() && before {
-            return Ok(());
-        }
-        before = full.is_empty();
-        if Instant::now() >= until {
-            let agents = full.join(", ");
-            return Err(Failed(1, format!("the time is up: not drained at {agents}")));
-        }
-        std::thread::sleep(PAUSE);
-    }
+        let twice = std::mem::replace(&mut before, full.is_empty()) && full.is_empty();
+        (!twice).then(|| format!("not drained at {}", full.join(", ")))
+    })
 }
