@@ -9,14 +9,15 @@ use openssl::pkey::{PKey, Private};
 use openssl::ssl::{SslConnector, SslConnectorBuilder, SslMethod, SslVerifyMode, SslVersion};
 use openssl::x509::extension::{BasicConstraints, SubjectAlternativeName};
 use openssl::x509::{X509Builder, X509NameBuilder, X509};
-use rignolda::net::{Address, Line as _};
-use rignolda_tls::{unix_time, Line, Listener, Maker, Tls};
+use rignolda::net::{Address, Call, Line as _, Whom};
+use rignolda_tls::{unix_time, Caller, Line, Listener, Maker, Tls};
 use socket2::SockAddr;
 use std::fs;
 use std::io::{ErrorKind, Read, Write};
 use std::net::{SocketAddr, TcpStream};
 use std::os::unix::fs::PermissionsExt;
 use std::path::{Path, PathBuf};
+use std::sync::{mpsc, Arc};
 use std::time::{Duration, Instant};
 
 /// What does not come on a machine with much else to do does not come at all.
@@ -421,4 +422,23 @@ fn a_key_that_does_not_belong_to_the_certificate_is_named() {
     tls.authority = path("absent");
     let why = "No such file or directory (os error 2)";
     assert_eq!(said(&tls), format!("{}: {why}", begins("absent")));
+}
+
+#[test]
+fn the_name_of_a_host_is_looked_up_by_another_thread() {
+    let (woken, wakes) = mpsc::channel();
+    let caller = Caller::new(Arc::new(move || woken.send(()).unwrap()));
+    let (maker, (listener, address)) = (Maker::new(None, TIMEOUT).unwrap(), listen());
+    let call = |address| Call { whom: Whom::Parent, address, failed: 5 };
+    let (called, line) = caller.call(call(Address::Tcp(address.to_string())), &maker).unwrap();
+    assert_eq!(called.address, Address::Tcp(address.to_string()));
+    exchange([&mut line.unwrap(), &mut accept(&maker, &listener)], 100).unwrap();
+    let by_name = call(Address::Tcp(format!("localhost:{}", address.port())));
+    assert!(caller.call(by_name.clone(), &maker).is_none());
+    wakes.recv().unwrap();
+    // (which of its addresses it is, the machine says)
+    assert_eq!(caller.found(&maker).unwrap().0, by_name);
+    assert!(caller.found(&maker).is_none() && wakes.try_recv().is_err());
+    let stored = Address::Redis { server: "127.0.0.1:1".into(), prefix: "tree".into() };
+    assert!(caller.call(call(stored), &maker).unwrap().1.is_err());
 }
