@@ -1,4 +1,5 @@
 """The bytes of the protocol, written here a second time, and ends that say what they are told."""
+import contextlib
 import itertools
 import json
 import random
@@ -94,7 +95,8 @@ class Child:
         self.sock = context.wrap_socket(sock) if context else sock
         self.sock.sendall(hello(name, parent.name))
         self.closed = threading.Event()
-        threading.Thread(target=self.take, daemon=True).start()
+        self.taker = threading.Thread(target=self.take, daemon=True)
+        self.taker.start()
 
     def take(self):
         try:
@@ -103,7 +105,7 @@ class Child:
                 label, _, length = struct.unpack(">HII", exactly(self.sock, 11)[1:])
                 exactly(self.sock, length)
                 self.send(b"A" + struct.pack(">H", label))
-        except (OSError, EOFError, AssertionError):
+        except (OSError, EOFError, ValueError, AssertionError):
             self.closed.set()
 
     def send(self, text):
@@ -111,6 +113,10 @@ class Child:
             self.sock.sendall(text)
 
     def close(self):
+        # (what waits in OpenSSL for a descriptor would read from whoever is given that one next)
+        with contextlib.suppress(OSError):
+            self.sock.shutdown(socket.SHUT_RDWR)
+        self.taker.join()
         self.sock.close()
 
 
