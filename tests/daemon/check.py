@@ -24,14 +24,14 @@ import time
 
 import runner
 from daemons import (Tree, by_tls, certify, certify_foreign, chain, counted, memory, patient,
-                     running, until, very_patient)
+                     root_has, running, until, very_patient)
 from memory import write_over
 from protocol import Child, Parent, body, closed, entry, frame, hello, report
 from relay import Relay
 from runner import sure, test
 
 # (each of them tells its tests)
-for name in ("blocked", "floods", "hostile", "parents", "reverse", "store", "watching"):
+for name in ("blocked", "floods", "hostile", "parents", "store", "watching"):
     importlib.import_module(name)
 
 PACKAGING = pathlib.Path(__file__).resolve().parents[2] / "rust/rignoldad/packaging"
@@ -42,8 +42,7 @@ def settings_reach_all_and_what_is_removed_is_gone():
     with running() as tree:
         tree.write("by_editor", "one")
         sure(tree.right(), tree.wrong())
-        number = tree.root.ask("publish", "by_command", "two")["sequence"]
-        tree.root.ask("wait", "--everywhere", number)
+        tree.publish("by_command", "two")
         # (what wait says is so at once)
         sure(not tree.wrong(), tree.wrong())
         sure(tree["left1"].files()["by_command"] == b"two")
@@ -56,8 +55,7 @@ def settings_reach_all_and_what_is_removed_is_gone():
         sure(tree.right() and "by_command" not in tree["left1"].files(), tree.wrong())
         sure("key0" not in tree["right1"].files())
         big = random.Random(1).randbytes(1 << 20)
-        number = tree.root.ask("publish", "big", value=big)["sequence"]
-        tree.root.ask("wait", "--everywhere", number)
+        tree.publish("big", value=big)
         sure(tree["right2"].files()["big"] == big)
         sure(not any(agent.said("panicked") for agent in tree))
 
@@ -75,8 +73,7 @@ def kills_do_no_lasting_harm():
                 victim.kill()
             tree.write(f"while_down{turn % 3}", turn)
             time.sleep(draw.choice([0, 0.05, 0.2]))
-            for victim in victims:
-                victim.start()
+            tree.start(victims)
             time.sleep(draw.choice([0, 0.05, 0.2]))
         sure(tree.right(), tree.wrong())
         sure(tree.ready(), "the tree is not ready")
@@ -143,11 +140,7 @@ def spoil(folder, draw):
 @test
 def spoiled_folders_are_right_after_two_rounds():
     draw = random.Random(3)
-
-    def by_hand(tree):
-        tree.root.tables["root"]["round"] = "1h"
-
-    with running(before=by_hand) as tree:
+    with running(before=root_has(round="1h")) as tree:
         for turn in range(6):
             for agent in tree:
                 spoil(agent.settings, draw)
@@ -163,8 +156,7 @@ def spoiled_folders_are_right_after_two_rounds():
         for agent in tree:
             agent.kill()
             spoil(agent.settings, draw)
-        for agent in tree:
-            agent.start()
+        tree.start()
         # (a start begins with the whole table)
         sure(tree.right(), tree.wrong())
 
@@ -191,8 +183,7 @@ def a_dead_leaf_harms_nobody_and_is_served_when_it_is_back():
         sure(until(lambda: tree["right"].said("evicted right1")), tree["right"].text()[-500:])
         sure(not tree["left"].said("evicted") and not tree["right"].said("left-behind"))
         tree.write("last", "one")
-        for agent in dead:
-            agent.start()
+        tree.start(dead)
         # (there is no round that would bring it)
         sure(tree.right(), tree.wrong())
         for name in ("left", "right"):
@@ -229,8 +220,7 @@ def only_the_right_certificate_is_let_in():
     with running(shape, secure, without=["strange", "liar", "plain"]) as tree:
         good = [tree["root"], tree["inner"], tree["leaf"]]
         bad = [tree["strange"], tree["liar"], tree["plain"]]
-        for agent in bad:
-            agent.start()
+        tree.start(bad)
         # (each says why it has no parent when it was refused first)
         sure(until(lambda: all(agent.said("parent 127.0.0.1") for agent in bad)), "not refused")
         sure(until(lambda: tree.root.status()["refused"] >= 3), tree.root.status())
@@ -476,7 +466,8 @@ def a_client_that_waits_or_has_gone_costs_nothing():
         sure(busy() < before + 500_000_000, "the root is busy with nothing")
         tree["left"].signal(signal.SIGCONT)
         lines = sock.makefile("rb")
-        sure(b"published" in lines.readline() and b"status" in lines.readline())
+        said = lines.readline(), lines.readline()
+        sure(b"published" in said[0] and b"status" in said[1], said)
 
 
 @test
@@ -519,16 +510,12 @@ def what_is_wrong_in_the_roots_memory_gets_nowhere():
     values = {f"k{at}": f"right {at:026}" for at in range(10)}
     over = {value.encode(): value.replace("right", "wrong").encode()
             for key, value in values.items() if key != "k0"}
-
-    def never(tree):
-        tree.root.tables["root"]["round"] = "1h"
-
-    with Tree({"left": "root", "leaf": "left", "new": "root"}, before=never) as tree:
+    shape = {"left": "root", "leaf": "left", "new": "root"}
+    with Tree(shape, root_has(round="1h")) as tree:
         old = [agent for agent in tree if agent.name != "new"]
         for key, value in values.items():
             tree.write(key, value)
-        for agent in old:
-            agent.start()
+        tree.start(old)
         sure(tree.right(agents=old), tree.wrong(old))
         sure(write_over(tree.root.process.pid, over) > 8, "it does not remember them")
         with tree.root.client() as sock:
@@ -537,7 +524,8 @@ def what_is_wrong_in_the_roots_memory_gets_nowhere():
             for _ in range(150):
                 # (so many that tables come)
                 sock.sendall(json.dumps(words).encode() + b"\n")
-                sure(b"published" in lines.readline(), "it was refused")
+                said = lines.readline()
+                sure(b"published" in said, said, tree.root.text()[-300:])
         tree["new"].start()
         sure(tree.right(), tree.wrong())
         time.sleep(0.5)
@@ -625,10 +613,7 @@ def commands_say_what_they_did():
 
 @test
 def a_root_with_too_few_harmless_items_is_told():
-    def few(tree):
-        tree.root.tables["root"]["harmless"] = 4
-
-    with running(chain(3), few) as tree:
+    with running(chain(3), root_has(harmless=4)) as tree:
         said = lambda: tree.root.run("tree").stderr
         # (2 * 3 + 1 can be missing at depth 3, and two more are for an agent's own numbers)
         sure(until(lambda: "needs 9" in said()), said())
@@ -649,8 +634,7 @@ def a_reload_changes_children_and_parents():
         # a child is added, and one removed
         new = tree.add("new", "root")
         tree.root.children.remove(tree["left"])
-        tree.root.configure()
-        tree.root.signal(signal.SIGHUP)
+        tree.root.reload()
         new.start()
         tree.write("moved", "1")
         here = [tree.root, right, leaf, new]

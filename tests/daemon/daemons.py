@@ -62,6 +62,19 @@ def until(what, seconds=USUAL, pause=0.01):
         time.sleep(pause)
 
 
+def during(seconds):
+    """0, 1, 2 and so on, until so many seconds have passed."""
+    end = time.monotonic() + seconds
+    return itertools.takewhile(lambda _: time.monotonic() < end, itertools.count())
+
+
+def took(act):
+    """How many seconds something takes."""
+    begun = time.monotonic()
+    act()
+    return time.monotonic() - begun
+
+
 GIVEN = set()
 
 
@@ -112,10 +125,6 @@ class Agent:
             # (without a setting too it is the truth)
             (self.truth / ".empty").touch()
             self.tables["root"] = {"settings": str(self.truth), "round": "1s"}
-
-    @property
-    def depth(self):
-        return self.parent.depth + 1 if self.parent else 0
 
     def configure(self):
         """Writes the configuration anew."""
@@ -287,18 +296,16 @@ class Tree:
         if kind is None or not os.environ.get("KEEP"):
             shutil.rmtree(self.home, ignore_errors=True)
 
-    def start(self):
-        for agent in self:
+    def start(self, agents=None):
+        for agent in agents or self:
             agent.start()
-        return self
 
     def begin(self, without=()):
         """Starts all but some agents, and waits until they have the settings of the root."""
         for at in range(8):
             self.write(f"key{at}", f"value {at}")
         there = [agent for agent in self if agent.name not in without]
-        for agent in there:
-            agent.start()
+        self.start(there)
         sure(until(lambda: all(agent.up() for agent in there), pause=0.05), "the tree is not ready",
              [agent.text()[-300:] for agent in there])
         sure(self.right(agents=there), "not the root's settings:", self.wrong(there))
@@ -340,6 +347,12 @@ class Tree:
         new.rename(self.root.truth / key)
 
 
+    def publish(self, *words, **given):
+        """Has a change published, and come to be everywhere: its number."""
+        number = self.root.ask("publish", *words, **given)["sequence"]
+        self.root.ask("wait", "--everywhere", "--timeout", "60s", number)
+        return number
+
     def reaches(self, *names):
         """Has a change reach these agents: after how many seconds."""
         value = f"probe {next(NUMBERS)}"
@@ -361,6 +374,11 @@ def running(shape=None, before=None, without=()):
     with Tree(shape, before) as tree:
         tree.begin(without)
         yield tree
+
+
+def root_has(**keys):
+    """What gives the root these keys of its table, before a tree starts."""
+    return lambda tree: tree.root.tables["root"].update(keys)
 
 
 def patient(tree, **times):

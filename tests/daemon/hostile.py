@@ -23,8 +23,8 @@ import sys
 import time
 
 import store
-from daemons import (PATIENCE, USUAL, Tree, certify, counted, descriptors, flips, forget, meanwhile,
-                     memory, patient, running, secure, tls, until)
+from daemons import (PATIENCE, USUAL, Tree, certify, counted, descriptors, during, flips, forget,
+                     meanwhile, memory, patient, running, secure, tls, took, until)
 from protocol import (Child, Parent, body, closed, entry, exactly, frame, hello, look, report,
                       take_hello, way)
 from runner import main, sure, test
@@ -62,12 +62,11 @@ def reports_of_all_kinds_are_bounded_and_harm_nobody():
             child = Child(tree.root, "evil")
             child.send(report(said))
             tree.reaches("leaf")
-            asked = time.monotonic()
-            shown = tree.root.run("tree")
-            took = time.monotonic() - asked
-            text = shown.stdout + shown.stderr
+            shown = []
+            seconds = took(lambda: shown.append(tree.root.run("tree")))
+            text = shown[0].stdout + shown[0].stderr
             what = str(said)[:60]
-            sure(took < 3 * PATIENCE, what, "tree takes", took)
+            sure(seconds < 3 * PATIENCE, what, "tree takes", seconds)
             sure(len(text.encode()) < 8 << 20, what, "tree prints", len(text))
             sure(not re.search("[\x00-\x08\x0b-\x1f\x7f-\x9f]", text), what,
                  "controls a terminal")
@@ -116,16 +115,13 @@ def a_child_that_changes_its_life_costs_its_own_line_alone():
     with running({"evil": "root", "left": "root"}, patient, without=["evil"]) as tree:
         fill(tree)
         most = forget(tree.root) + MOST
-        stop = time.monotonic() + 3
-        times = 0
-        while time.monotonic() < stop:
+        for at in during(3):
             with tree.root.connect() as sock:
                 sock.sendall(hello("evil", "root"))
                 with contextlib.suppress(OSError, EOFError):
                     take_hello(sock)
                     exactly(sock, 100_000)
-            times += 1
-            if times % 10 == 1:
+            if at % 10 == 0:
                 tree.reaches("left")
         sure(memory(tree.root) < most, "its memory is", memory(tree.root), "of", most)
 
@@ -204,14 +200,10 @@ def a_parent_that_sends_tables_without_end_holds_nobody_up():
         parent.send(body(b"T", 1, [entry(b"a", b"1")]))
         sure(until(lambda: leaf.files() == {"a": b"1"}), leaf.files())
         most = forget(left) + MOST
-        longest = 0.0
         for at in range(12):
             values = [entry(b"k%02d" % key, bytes([at + key]) * (1 << 20)) for key in range(15)]
             parent.send(body(b"T", 10 + at, values))
-            asked = time.monotonic()
-            left.status()
-            longest = max(longest, time.monotonic() - asked)
-        sure(longest < 2 * PATIENCE, "it answers after", longest)
+            sure(took(left.status) < 2 * PATIENCE, "it answers late")
         sure(memory(left) < most, "its memory is", memory(left), "of", most)
         parent.send(body(b"T", 100, [entry(b"a", b"2")]))
         sure(until(lambda: leaf.files() == {"a": b"2"}, 30), leaf.files().keys())
@@ -329,13 +321,10 @@ def a_parent_whose_way_lies_or_never_rests_is_bounded():
         # another way each time, as fast as it goes
         before = forget(left)
         sock = serve(way(0, ["root"]))
-        end, times = time.monotonic() + 3, 0
-        while time.monotonic() < end:
-            texts = [way(cost % 100, ["root"] + [f"n{cost}"] * (cost % 120))
-                     for cost in range(times, times + 50)]
-            sock.sendall(b"".join(texts))
-            times += 50
-            if times % 5_000 == 0:
+        for at in during(3):
+            sock.sendall(b"".join(way(cost % 100, ["root"] + [f"n{cost}"] * (cost % 120))
+                                  for cost in range(50 * at, 50 * at + 50)))
+            if at % 100 == 99:
                 sure(left.status()["name"] == "left")
         sock.sendall(way(0, ["root"]))
         sock.sendall(frame(1, body(b"T", 1, [entry(b"a", b"1")])))
@@ -420,16 +409,11 @@ def files_by_the_thousand_in_the_roots_folder_hold_nobody_up():
             path = tree.root.truth / (f"made{at % 3_000}" if at % 2 else f".made{at % 9_000}")
             path.unlink() if at % 7 == 0 else path.touch()
 
-        longest = 0.0
         makers = [functools.partial(make, itertools.count()) for _ in range(2)]
         with meanwhile(*makers):
-            end = time.monotonic() + 4
-            while time.monotonic() < end:
-                asked = time.monotonic()
-                tree.root.status()
-                longest = max(longest, time.monotonic() - asked)
+            for _ in during(4):
+                sure(took(tree.root.status) < 2 * PATIENCE, "it answers late")
                 tree.reaches("left")
-        sure(longest < 2 * PATIENCE, "it answers after", longest)
         sure(memory(tree.root) < most, "its memory is", memory(tree.root), "of", most)
         sure(tree.right(60), tree.wrong())
 
@@ -461,8 +445,7 @@ def odd_things_in_the_roots_folder_hold_nobody_up():
         found = set(tree["left"].files()) & set(made)
         sure(not found, "these were published:", found)
         with meanwhile(lambda: flips(truth)):
-            end = time.monotonic() + 4
-            while time.monotonic() < end:
+            for _ in during(4):
                 tree.reaches("left")
 
 
@@ -511,8 +494,7 @@ def a_child_with_another_certificate_each_time_harms_nobody():
         evil.kill()
         # (a hello of TLS and one of the protocol with each of them, as fast as it goes)
         contexts = itertools.cycle([tls(tree.home, f"evil{at}") for at in range(6)])
-        end = time.monotonic() + 3
-        while time.monotonic() < end:
+        for _ in during(3):
             with contextlib.suppress(OSError):
                 Child(tree.root, "evil", next(contexts)).close()
         tree.reaches("left")
@@ -539,14 +521,12 @@ def who_writes_to_a_store_harms_its_own_link_alone():
                                           redis.ask("INFO", "stats"))[1])
             key = "tree:root:evil:up"
             written, most = stats(), forget(tree.root) + MOST
-            end, times = time.monotonic() + 4, 0
-            while time.monotonic() < end:
+            for times in during(4):
                 # (another life each time: a child that begins anew)
                 word = hello("evil", "root", label=times % 255) + struct.pack(">I", times)
                 text = "".join(f"\\x{it:02x}" for it in word)
                 redis.ask(lines=[f'SET {key} "{text}"'])
-                times += 1
-                if times % 40 == 0:
+                if times % 40 == 39:
                     tree.reaches("left")
             written = (stats() - written) >> 20
             sure(written < 200, "for", times, "words it wrote", written, "MiB")
@@ -619,9 +599,7 @@ def files_that_a_parent_makes_by_the_thousand_are_removed_again():
             text = many_keys(bytes([97 + at]), 30_000)
             parent.send(b"C" + struct.pack(">QI", 1_000 + at, 30_000) + text)
         sure(memory(left) < before + MOST, "its memory is", memory(left))
-        begin = time.monotonic()
-        left.status()
-        sure(time.monotonic() - begin < 2 * PATIENCE, "it does not answer")
+        sure(took(left.status) < 2 * PATIENCE, "it does not answer")
         parent.close()
         tree.write("one", "1")
         tree.root.start()

@@ -156,8 +156,7 @@ def settings_travel_through_a_store():
             tree.root.ask("wait", "--everywhere", number)
         print(f"settings came in {min(took):.3f} to {max(took):.3f} s", flush=True)
         big = random.Random(1).randbytes(1 << 20)
-        number = tree.root.ask("publish", "big", value=big)["sequence"]
-        tree.root.ask("wait", "--everywhere", "--timeout", "60s", number)
+        tree.publish("big", value=big)
         sure(tree["left1"].files()["big"] == big, "it is another one")
         # a second process of one name takes the store from the first one, and is told apart
         leaf = tree["left2"]

@@ -9,7 +9,7 @@ import subprocess
 import sys
 import time
 
-from daemons import PATIENCE, Tree, counted, running, until, very_patient
+from daemons import PATIENCE, Tree, counted, root_has, running, took, until, very_patient
 from protocol import Child, Parent, body, entry, report
 from runner import main, sure, test
 
@@ -57,8 +57,7 @@ def an_agent_with_two_parents_is_where_it_is_connected():
         here = [("far", "leaf", True), ("leaf", "right", True), ("left", "root", True),
                 ("right", "root", True)]
         sure(until(lambda: known(tree) == here), known(tree))
-        number = tree.root.ask("publish", "two", "2")["sequence"]
-        tree.root.ask("wait", "--everywhere", number)
+        tree.publish("two", "2")
         sure(tree.root.status()["away"] == 0, tree.root.status())
         # it moves when its parent goes, with those below it; and one that is nowhere is away once
         tree["right"].kill()
@@ -132,10 +131,7 @@ def what_a_gap_left_out_is_waited_for():
 
 @test
 def a_file_that_was_moved_in_is_waited_for():
-    def slow_rounds(tree):
-        tree.root.tables["root"]["round"] = "1h"
-
-    with running({"left": "root", "leaf": "left"}, slow_rounds) as tree:
+    with running({"left": "root", "leaf": "left"}, root_has(round="1h")) as tree:
         script = ('printf %s "$1" >"$2/.new"; mv "$2/.new" "$2/key"; '
                   'exec "$3" --socket "$4" wait --everywhere')
         early = []
@@ -162,8 +158,7 @@ def what_cannot_be_published_is_named():
         sure(status["unpublished"] == 1 and "long" in status["faults"][0], status)
         sure("\nrignolda_unpublished 1\n" in counts(), counts())
         # (what was published is everywhere all the same, and says so by its number)
-        number = tree.root.ask("publish", "good", "2")["sequence"]
-        tree.root.ask("wait", "--everywhere", number)
+        tree.publish("good", "2")
         long.write_bytes(b"x")
         tree.root.ask("wait", "--everywhere")
         sure(tree["left"].files()["long"] == b"x" and tree.root.status()["unpublished"] == 0)
@@ -185,9 +180,8 @@ def a_wait_ends_in_its_time():
             return "not all of its folder is published" in (waits(tree.root) or "")
 
         sure(until(is_full), "it publishes all the time")
-        begun = time.monotonic()
-        waits(tree.root)
-        sure(time.monotonic() - begun < 3 * PATIENCE, time.monotonic() - begun)
+        seconds = took(lambda: waits(tree.root))
+        sure(seconds < 3 * PATIENCE, seconds)
         tree["left"].signal(signal.SIGCONT)
         tree.root.ask("wait", "--everywhere")
         sure(tree["left"].files() == tree.truth())
@@ -272,13 +266,9 @@ def two_agents_of_one_name_are_counted():
 
 @test
 def small_things_are_as_they_should_be():
-    def quick_rounds(tree):
-        tree.root.tables["root"].update(round="200ms", harmless=50)
-
-    with running({"left": "root"}, quick_rounds) as tree:
+    with running({"left": "root"}, root_has(round="200ms", harmless=50)) as tree:
         # a value that begins with a hyphen
-        number = tree.root.ask("publish", "k", "-5")["sequence"]
-        tree.root.ask("wait", "--everywhere", number)
+        tree.publish("k", "-5")
         sure(tree["left"].files()["k"] == b"-5", tree["left"].files())
         tree.root.ask("unset", "--", "k")
         tree.root.ask("wait", "--everywhere")
