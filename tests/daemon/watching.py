@@ -152,8 +152,8 @@ def what_cannot_be_published_is_named():
         sure("\nrignolda_unpublished 0\n" in counts(), counts())
         long = tree.root.truth / "long"
         long.write_bytes(b"x" * ((1 << 20) + 1))
-        why = waits(tree.root) or "it was done"
-        sure("long" in why and "1048576 bytes" in why, why)
+        why = lambda: waits(tree.root) or "it was done"
+        sure(until(lambda: "long" in why() and "1048576 bytes" in why()), why())
         status = tree.root.status()
         sure(status["unpublished"] == 1 and "long" in status["faults"][0], status)
         sure("\nrignolda_unpublished 1\n" in counts(), counts())
@@ -165,8 +165,7 @@ def what_cannot_be_published_is_named():
         # more than all settings may have
         for at in range(17):
             tree.write(f"big{at}", b"x" * (1 << 20))
-        why = waits(tree.root) or "it was done"
-        sure("more than 16777216 bytes" in why, why)
+        sure(until(lambda: "more than 16777216 bytes" in why()), why())
 
 
 @test
