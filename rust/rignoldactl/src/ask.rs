@@ -2,7 +2,7 @@
 use crate::{ChildStatus, Request, Response, Seen, Status};
 use serde::Serialize;
 use std::collections::BTreeMap;
-use std::fmt::Write as _;
+use std::fmt::{Display, Write as _};
 use std::io::{self, BufRead, BufReader, Write};
 use std::os::unix::net::UnixStream;
 use std::path::Path;
@@ -154,15 +154,17 @@ fn table(rows: &[Vec<String>]) -> String {
     text
 }
 
-fn words(line: &[&str]) -> Vec<String> {
-    line.iter().map(|word| word.to_string()).collect()
+fn row<const COLUMNS: usize>(words: [&dyn Display; COLUMNS]) -> Vec<String> {
+    words.iter().map(ToString::to_string).collect()
 }
 
 /// The tree, an agent a line, each under its parent.
 pub fn tree_text(list: &[Seen]) -> String {
     // (what is harmless, or a table that changes nothing, is no lag)
     let newest = list.first().map_or(0, |root| root.changed);
-    let mut rows = vec![words(&["agent", "lag", "backlog", "strays", "garbage", "gaps", "state"])];
+    let head: [&dyn Display; 7] =
+        [&"agent", &"lag", &"backlog", &"strays", &"garbage", &"gaps", &"state"];
+    let mut rows = vec![row(head)];
     for (seen, depth) in list.iter().zip(depths(list)) {
         let state = match () {
             () if !seen.connected && seen.sequence == 0 => "never heard of".into(),
@@ -172,18 +174,13 @@ pub fn tree_text(list: &[Seen]) -> String {
             () if seen.draining => "drains".into(),
             () => "up".into(),
         };
-        rows.push(vec![
-            format!("{}{}", "  ".repeat(depth), seen.name),
-            match seen.applied {
-                0 => "-".into(),
-                applied => newest.saturating_sub(applied).to_string(),
-            },
-            format!("{}/{}", seen.backlog, seen.limit),
-            seen.strays.to_string(),
-            seen.garbage.to_string(),
-            seen.gaps.to_string(),
-            state,
-        ]);
+        let name = format!("{}{}", "  ".repeat(depth), seen.name);
+        let lag = match seen.applied {
+            0 => "-".into(),
+            applied => newest.saturating_sub(applied).to_string(),
+        };
+        let backlog = format!("{}/{}", seen.backlog, seen.limit);
+        rows.push(row([&name, &lag, &backlog, &seen.strays, &seen.garbage, &seen.gaps, &state]));
     }
     table(&rows)
 }
@@ -201,59 +198,56 @@ fn age(milliseconds: u64) -> String {
 /// An agent, a fact a line, and its children.
 pub fn status_text(status: &Status) -> String {
     let mut text = String::new();
-    let mut fact = |name: &str, value: String| {
+    let mut fact = |name: &str, value: &dyn Display| {
         let _ = writeln!(text, "{name:<14} {value}");
     };
-    fact("name", status.name.clone());
+    fact("name", &status.name);
     match &status.parent {
-        _ if status.is_root => fact("parent", "none: it is the root".into()),
+        _ if status.is_root => fact("parent", &"none: it is the root"),
         Some(parent) => {
-            fact("parent", format!("{parent}, for {}", age(status.connected_since * 1_000)));
+            fact("parent", &format!("{parent}, for {}", age(status.connected_since * 1_000)));
         }
-        None => fact("parent", "not connected".into()),
+        None => fact("parent", &"not connected"),
     }
     let lacks = if status.is_rootless() { "no root: " } else { "" };
-    fact("way", format!("{lacks}{}, costs {}", status.way.join(" > "), status.cost));
-    fact("sequence", status.sequence.to_string());
-    fact("applied", status.applied.to_string());
+    fact("way", &format!("{lacks}{}, costs {}", status.way.join(" > "), status.cost));
+    fact("sequence", &status.sequence);
+    fact("applied", &status.applied);
     match status.round {
-        0 => fact("last round", "none yet".into()),
-        _ => fact("last round", format!("{} ago", age(status.round_age))),
+        0 => fact("last round", &"none yet"),
+        _ => fact("last round", &format!("{} ago", age(status.round_age))),
     }
-    fact("complete", if status.whole { "yes" } else { "no: a round will bring it" }.into());
-    for (name, count) in [
-        ("settings", status.settings),
-        ("failing", status.failing),
-        ("hook failures", status.hook_failures),
-        ("received", status.received),
-        ("strays", status.strays),
-        ("garbage", status.garbage),
-        ("gaps", status.gaps),
-        ("old frames", status.old_frames),
-        ("reconnects", status.reconnects),
-        ("refused", status.refused),
-    ] {
-        fact(name, count.to_string());
-    }
+    fact("complete", if status.whole { &"yes" } else { &"no: a round will bring it" });
+    fact("settings", &status.settings);
+    fact("failing", &status.failing);
+    fact("hook failures", &status.hook_failures);
+    fact("received", &status.received);
+    fact("strays", &status.strays);
+    fact("garbage", &status.garbage);
+    fact("gaps", &status.gaps);
+    fact("old frames", &status.old_frames);
+    fact("reconnects", &status.reconnects);
+    fact("refused", &status.refused);
     if status.certificate_expires > 0 {
         let now = SystemTime::now().duration_since(UNIX_EPOCH).map_or(0, |it| it.as_secs());
         let left = status.certificate_expires.saturating_sub(now);
-        fact("certificate", format!("expires in {}", age(left * 1_000)));
+        fact("certificate", &format!("expires in {}", age(left * 1_000)));
     }
     if !status.reload_failed.is_empty() {
-        fact("reload", status.reload_failed.clone());
+        fact("reload", &status.reload_failed);
     }
     if status.draining {
-        fact("draining", "yes".into());
+        fact("draining", &"yes");
     }
     if status.is_root {
-        fact("agents", format!("{}, and {} of them away", status.agents, status.away));
+        fact("agents", &format!("{}, and {} of them away", status.agents, status.away));
     }
-    status.faults.iter().for_each(|why| fact("not published", why.clone()));
+    status.faults.iter().for_each(|why| fact("not published", why));
     if !status.children.is_empty() {
-        let head = ["child", "backlog", "item for", "reconnects", "ignored", "timeouts", "state"];
-        let rows: Vec<Vec<String>> =
-            std::iter::once(words(&head)).chain(status.children.iter().map(child_row)).collect();
+        let head: [&dyn Display; 7] =
+            [&"child", &"backlog", &"item for", &"reconnects", &"ignored", &"timeouts", &"state"];
+        let mut rows = vec![row(head)];
+        rows.extend(status.children.iter().map(child_row));
         let _ = write!(text, "\n{}", table(&rows));
     }
     text
@@ -266,29 +260,15 @@ fn child_row(child: &ChildStatus) -> Vec<String> {
         (false, false) => "away",
         (false, true) => "away, its backlog dropped",
     };
-    vec![
-        child.name.clone(),
-        child.backlog.to_string(),
-        age(child.oldest),
-        child.reconnects.to_string(),
-        child.ignored.to_string(),
-        child.timeouts.to_string(),
-        state.into(),
-    ]
+    let ChildStatus { name, backlog, reconnects, ignored, timeouts, .. } = child;
+    row([name, backlog, &age(child.oldest), reconnects, ignored, timeouts, &state])
 }
 
 /// The bounds of each agent.
 pub fn bounds_text(list: &[Seen]) -> String {
-    let mut rows = vec![words(&["agent", "depth", "C", "E", "M", "N"])];
-    for agent in bounds(list) {
-        rows.push(vec![
-            agent.name,
-            agent.depth.to_string(),
-            agent.c.to_string(),
-            agent.e.to_string(),
-            agent.m.to_string(),
-            agent.n.to_string(),
-        ]);
+    let mut rows = vec![row([&"agent", &"depth", &"C", &"E", &"M", &"N"])];
+    for Bounds { name, depth, c, e, m, n } in bounds(list) {
+        rows.push(row([&name, &depth, &c, &e, &m, &n]));
     }
     table(&rows)
 }
