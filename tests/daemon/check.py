@@ -213,7 +213,7 @@ def only_the_right_certificate_is_let_in():
 
     def secure(tree):
         by_tls(tree)
-        tree["strange"].tables["tls"] = certify_foreign(tree, "strange")
+        tree["strange"].tables["tls"] = certify_foreign(tree, "strange", authority="other")
         tree["liar"].tables["tls"] = certify(tree.home, "inner2")
         del tree["plain"].tables["tls"]
 

@@ -448,7 +448,7 @@ def descriptors(agent):
 
 # ---- Certificates
 
-def certify(home, name, seconds=86_400, file=None, begins=-3_600):
+def certify(home, name, seconds=86_400, file=None, begins=-3_600, authority="authority"):
     """A certificate of one authority that ends in so many seconds: the table of a configuration."""
     def run(*words):
         subprocess.run(["openssl", *words], check=True, capture_output=True, cwd=home)
@@ -456,7 +456,7 @@ def certify(home, name, seconds=86_400, file=None, begins=-3_600):
     key = ["-newkey", "ec", "-pkeyopt", "ec_paramgen_curve:P-256", "-nodes"]
     if not (home / "ca.crt").exists():
         home.mkdir(exist_ok=True)
-        run("req", "-x509", *key, "-days", "90", "-subj", "/CN=authority", "-keyout", "ca.key",
+        run("req", "-x509", *key, "-days", "90", "-subj", f"/CN={authority}", "-keyout", "ca.key",
             "-out", "ca.crt")
         (home / "index").touch()
         (home / "ca.cnf").write_text(
@@ -474,9 +474,10 @@ def certify(home, name, seconds=86_400, file=None, begins=-3_600):
             "authority": str(home / "ca.crt")}
 
 
-def certify_foreign(tree, name):
-    """The same, of an authority that nobody knows."""
-    return {**certify(tree.home / "other", name), "authority": str(tree.home / "ca.crt")}
+def certify_foreign(tree, name, authority="authority"):
+    """The same, of another authority, which may have the name of the one that all know."""
+    table = certify(tree.home / "other", name, authority=authority)
+    return {**table, "authority": str(tree.home / "ca.crt")}
 
 
 def by_tls(tree):
