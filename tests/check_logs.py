@@ -14,7 +14,6 @@ The program is the one of check_tables.py. The last line is 'N passed, M failed'
 
 import json
 import random
-import subprocess
 import sys
 from concurrent.futures import ThreadPoolExecutor
 from pathlib import Path
@@ -23,7 +22,7 @@ TOP = Path(__file__).resolve().parent.parent
 sys.path[:0] = [str(TOP / "tests/faults"), str(TOP / "tools")]
 
 from logs import sums, text_of
-from programs import counted, run_with
+from programs import answered, counted, run_with
 
 TREE = [{"name": "r"}, {"name": "a", "parent": "r"}]
 JOB = {"capacity": 1, "labels": 4, "tree": TREE, "items": [10, 11]}
@@ -38,13 +37,6 @@ REFUSED = [
     ({"received": [[], []], "from": [0]}, PLACES),
     ({"received": [[], []], "capacity": 65}, "rignolda: job: capacity out of range\n"),
 ]
-
-
-def run(file, job):
-    """The status of a judgement of this job, and what it prints."""
-    done = subprocess.run([file, "judge"], input=json.dumps(job).encode(), capture_output=True,
-                          timeout=60)
-    return done.returncode, done.stdout.decode(), done.stderr.decode()
 
 
 def spoiled(draw, received, top):
@@ -128,7 +120,8 @@ def tried(file):
     cases += [({**JOB, **members}, text) for members, text in REFUSED]
     wanted += [(1, "", text) for _, text in REFUSED]
     with ThreadPoolExecutor(2) as pool:
-        said = list(pool.map(lambda case: run(file, case[0]), cases))
+        judged = lambda case: answered(file, "judge", given=case[0], timeout=60)
+        said = list(pool.map(judged, cases))
     broken = sum(text != "obeys\n" for _, text in cases[:count])
     print(f"logs: {count} drawn, of which {broken} do not obey, and {len(REFUSED)} refused")
     return counted(((json.dumps(job), None if has == want else f"{has}\nwanted {want}")

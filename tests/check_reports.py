@@ -20,7 +20,6 @@ import collections
 import json
 import random
 import re
-import subprocess
 import sys
 import tempfile
 from pathlib import Path
@@ -30,7 +29,7 @@ sys.path[:0] = [str(ROOT / "agents"), str(ROOT / "tools")]
 import check_report  # noqa: E402
 from check_report import depth_of, is_subsequence  # noqa: E402
 from jobs import drawn_link, drawn_tree  # noqa: E402
-from programs import Cases, run_with  # noqa: E402
+from programs import Cases, answered, run_with  # noqa: E402
 
 LINK_LINES = ["delivered", "offered", "acked", "send label", "recv label", "frames", "acks",
     "closed"]
@@ -253,9 +252,8 @@ def answer_of(rignolda, folder, job, text, swapped):
     (folder / "job").write_text(job)
     (folder / "report").write_text(text)
     words, given = (["job", "-"], text) if swapped else (["-", "report"], job)
-    done = subprocess.run([rignolda, "check", *words], input=given.encode(), cwd=folder,
-                          capture_output=True)
-    return done.returncode, (done.stdout or done.stderr).decode().split("\n")[0]
+    status, out, err = answered(rignolda, "check", *words, given=given, cwd=folder)
+    return status, (out or err).split("\n")[0]
 
 
 def expected(found, is_link):
@@ -302,10 +300,9 @@ def main(stab, rignolda):
             job = drawn_link(draw, draw.choice([3, 20, 1 << 32])) if is_link else drawn_job(
                 draw, "--words" in command, rignolda)
             whole = json.dumps(job)
-            done = subprocess.run([stab, *command], input=whole.encode(), capture_output=True)
-            text = done.stdout.decode()
-            if done.returncode:
-                cases.holds(f"{case}: stab {command}", False, done.stderr.decode() + whole)
+            status, text, err = answered(stab, *command, given=whole)
+            if status:
+                cases.holds(f"{case}: stab {command}", False, err + whole)
                 continue
             way, other = (spoiled_link if is_link else spoiled)(draw, text)
             for kind, report in (("true", text), (way, other)):

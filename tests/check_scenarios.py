@@ -14,7 +14,6 @@ The program is the one of check_tables.py. The last line is 'N passed, M failed'
 
 import json
 import random
-import subprocess
 import sys
 import xml.etree.ElementTree
 from concurrent.futures import ThreadPoolExecutor
@@ -24,19 +23,12 @@ TOP = Path(__file__).resolve().parent.parent
 sys.path[:0] = [str(TOP / "tests/faults"), str(TOP / "tools")]
 
 from drawn import drawn_text
-from programs import counted, run_with
+from programs import answered, counted, run_with
 from scenario import random_job, text_of
 
 VALUES = [None, True, -1, 0, 1, 70000, 0.5, "", "x", "offer", "publish", "lose_frame", [], [0],
     [[0]],
           {}, {"send": 0, "recv": 1}, {"send": 0, "recv": 1, "acks": [1, 1, 1, 1]}]
-
-
-def run(file, words, job):
-    """The status of a command that reads this job, and what it prints."""
-    done = subprocess.run([file, *words], input=json.dumps(job).encode(), capture_output=True,
-                          timeout=60)
-    return done.returncode, done.stdout.decode(), done.stderr.decode()
 
 
 def rows_of_text(text):
@@ -91,8 +83,8 @@ def fault_of_spoiled(file, draw, job):
     job = spoiled(draw, job)
     if job is None:
         return None
-    status, _, err = run(file, ["scenario"], job)
-    _, said, _ = run(file, ["explain"], job)
+    status, _, err = answered(file, "scenario", given=job)
+    _, said, _ = answered(file, "explain", given=job)
     lines = said.splitlines()
     if lines[-1] != "stab tree: accepted":
         return f"explain ends with {lines[-1]!r} for {json.dumps(job)}"
@@ -113,10 +105,10 @@ def fault_of(file, seed):
     wanted = drawn_text(job)
     for words, text in ((["scenario"], text_of(job)), (["draw"], wanted),
                         (["explain"], "stab tree: accepted\n")):
-        seen = run(file, words, job)
+        seen = answered(file, *words, given=job, timeout=60)
         if seen != (0, text, ""):
             return f"{words[0]} prints {seen}, and not {text!r}, of {json.dumps(job)}"
-    status, svg, _ = run(file, ["draw", "--svg"], job)
+    status, svg, _ = answered(file, "draw", "--svg", given=job)
     names = [node["name"] for node in job["tree"]]
     if status != 0 or rows_of_picture(svg, names) != rows_of_text(wanted):
         return f"the picture has other rows, of {json.dumps(job)}"

@@ -2,6 +2,7 @@
 sources, and how cases are counted."""
 
 import gzip
+import json
 import os
 import subprocess
 import sys
@@ -73,6 +74,14 @@ def ran(*words, **options):
     except OSError as fault:
         return 127, str(fault)
     return done.returncode, done.stdout
+
+
+def answered(file, *words, given, **options):
+    """The status of a program that reads this text, or this job, and what it writes on both of its
+    outputs."""
+    given = given if isinstance(given, str) else json.dumps(given)
+    done = subprocess.run([file, *words], input=given.encode(), capture_output=True, **options)
+    return done.returncode, done.stdout.decode(), done.stderr.decode()
 
 
 class Cases:

@@ -8,7 +8,6 @@ The program is the one of tests/check_tables.py. `job_of` makes a job of the log
 """
 import itertools
 import json
-import subprocess
 import sys
 from pathlib import Path
 
@@ -16,7 +15,7 @@ sys.dont_write_bytecode = True
 sys.path.insert(0, str(Path(__file__).resolve().parents[2] / "tools"))
 
 import long
-from programs import run_with
+from programs import answered, run_with
 
 GARBAGE = 2 ** 32 - 1       # an item that nobody publishes
 
@@ -43,12 +42,11 @@ def job_of(above, published, counts, hold):
 
 def said_of(file, job):
     """What the program says of a job: nothing where it obeys."""
-    done = subprocess.run([file, "judge"], input=json.dumps(job).encode(), capture_output=True)
-    text = done.stdout.decode()
-    if (done.returncode, text) == (0, "obeys\n"):
+    status, text, fault = answered(file, "judge", given=job)
+    if (status, text) == (0, "obeys\n"):
         return None
-    if done.returncode != 1 or not text:
-        raise RuntimeError(f"status {done.returncode}: {done.stderr.decode()}")
+    if status != 1 or not text:
+        raise RuntimeError(f"status {status}: {fault}")
     return text
 
 
