@@ -216,10 +216,11 @@ impl<L> Conn<L> {
 
     /// What is under way from a parent has its time by its length, however its bytes come.
     fn waits_for_rest(&mut self, now: Instant) {
-        let length = wire::frame_bytes(&self.input).filter(|_| !self.is_timed);
-        self.is_timed |= length.is_some();
-        if length.is_some() || (self.until.is_none() && !self.input.is_empty()) {
-            self.until = Some(now + SILENCE + Duration::from_secs(length.unwrap_or(0) / SLOWEST));
+        let head = wire::head(&self.input).filter(|_| !self.is_timed);
+        self.is_timed |= head.is_some();
+        if head.is_some() || (self.until.is_none() && !self.input.is_empty()) {
+            let length = head.map_or(0, |(.., length)| length as u64);
+            self.until = Some(now + SILENCE + Duration::from_secs(length / SLOWEST));
         }
     }
 }
@@ -1267,7 +1268,7 @@ impl<L: Line, A: Clone + PartialEq + fmt::Display> Peers<L, A> {
             _ => "it is no hello",
         };
         // (so much says which version this is, and else nothing)
-        self.send(id, [&wire::LOOK[..], &[VERSION]].concat());
+        self.send(id, [wire::LOOK, &[VERSION]].concat());
         self.write_one(id, now, to);
         Err(why)
     }

@@ -29,6 +29,7 @@
 //! ```
 use super::parents::{Way, NAMES};
 use super::{is_name, Body, BODY_BYTES, NAME_BYTES};
+use std::mem;
 use std::sync::Arc;
 
 /// The version of the protocol, and the one before it, which is spoken to those that know no other.
@@ -39,8 +40,8 @@ pub const OLD: u8 = 1;
 pub const REPORT_BYTES: usize = 1 << 20;
 /// The longest way, in bytes: each name with a line feed.
 pub const WAY_BYTES: usize = NAMES * (NAME_BYTES + 1);
-const MAGIC: &[u8; 4] = b"RGND";
-pub(super) const LOOK: &[u8; 4] = b"RGNL";
+const MAGIC: &[u8] = b"RGND";
+pub(super) const LOOK: &[u8] = b"RGNL";
 pub(super) const FRAME_HEAD: usize = 11;
 
 /// What an end says first.
@@ -94,10 +95,8 @@ pub enum Expect {
 impl Hello {
     /// The bytes to write.
     pub fn bytes(&self) -> Vec<u8> {
-        let mut bytes = MAGIC.to_vec();
-        bytes.push(self.version);
-        bytes.extend_from_slice(&self.life.to_be_bytes());
-        bytes.extend_from_slice(&self.label.to_be_bytes());
+        let (life, label) = (self.life.to_be_bytes(), self.label.to_be_bytes());
+        let mut bytes = [MAGIC, &[self.version], &life, &label].concat();
         for name in [&self.from, &self.to] {
             bytes.push(name.len() as u8);
             bytes.extend_from_slice(name.as_bytes());
@@ -107,42 +106,22 @@ impl Hello {
 
     /// The same as a look.
     pub fn look(&self) -> Vec<u8> {
-        let mut bytes = self.bytes();
-        bytes[..LOOK.len()].copy_from_slice(LOOK);
-        bytes
+        [LOOK, &self.bytes()[MAGIC.len()..]].concat()
     }
-}
-
-/// How long the message is that begins here, if it is a frame and its head is there.
-pub(super) fn frame_bytes(bytes: &[u8]) -> Option<u64> {
-    label(bytes).and_then(|_| number(bytes, 7, 4))
-}
-
-/// The label of the frame that begins here, if its head is there.
-pub(super) fn label(bytes: &[u8]) -> Option<u16> {
-    let is_one = bytes.first() == Some(&b'F') && bytes.len() >= FRAME_HEAD;
-    number(bytes, 1, 2)
-        .filter(|_| is_one)
-        .map(|label| label as u16)
 }
 
 /// The head of a frame: its body follows.
 pub fn frame(label: u16, body: &Body) -> Vec<u8> {
-    let mut bytes = vec![b'F'];
-    bytes.extend_from_slice(&label.to_be_bytes());
-    bytes.extend_from_slice(&body.item.to_be_bytes());
-    bytes.extend_from_slice(&(body.bytes.len() as u32).to_be_bytes());
-    bytes
+    let (label, item) = (label.to_be_bytes(), body.item.to_be_bytes());
+    let length = (body.bytes.len() as u32).to_be_bytes();
+    [b"F", &label[..], &item, &length].concat()
 }
 
 /// A way.
 pub fn way(way: &Way) -> Vec<u8> {
-    let names = way.names.join("\n");
-    let mut bytes = vec![b'W'];
-    bytes.extend_from_slice(&way.cost.to_be_bytes());
-    bytes.extend_from_slice(&(names.len() as u16).to_be_bytes());
-    bytes.extend_from_slice(names.as_bytes());
-    bytes
+    let (cost, names) = (way.cost.to_be_bytes(), way.names.join("\n"));
+    let length = (names.len() as u16).to_be_bytes();
+    [b"W", &cost[..], &length, names.as_bytes()].concat()
 }
 
 /// The last word of a child that takes another parent.
@@ -150,16 +129,56 @@ pub const GOODBYE: &[u8] = b"G";
 
 /// An acknowledgement.
 pub fn ack(label: u16) -> Vec<u8> {
-    let [high, low] = label.to_be_bytes();
-    vec![b'A', high, low]
+    [b"A", &label.to_be_bytes()[..]].concat()
 }
 
 /// A report.
 pub fn report(report: &[u8]) -> Vec<u8> {
-    let mut bytes = vec![b'R'];
-    bytes.extend_from_slice(&(report.len() as u32).to_be_bytes());
-    bytes.extend_from_slice(report);
-    bytes
+    let length = (report.len() as u32).to_be_bytes();
+    [b"R", &length[..], report].concat()
+}
+
+/// What is read, or why it is not: nothing where more has to come.
+type Parsed<T> = Result<T, Option<&'static str>>;
+
+/// What is still to be read.
+struct Rest<'a>(&'a [u8]);
+
+impl<'a> Rest<'a> {
+    fn take(&mut self, length: usize) -> Parsed<&'a [u8]> {
+        let taken = self.0.get(..length).ok_or(None)?;
+        self.0 = &self.0[length..];
+        Ok(taken)
+    }
+
+    fn number(&mut self, bytes: usize) -> Parsed<u64> {
+        let digits = self.take(bytes)?.iter();
+        Ok(digits.fold(0, |number, byte| number << 8 | u64::from(*byte)))
+    }
+
+    /// Some bytes after their length, which has so many bytes itself.
+    fn counted(&mut self, bytes: usize, most: usize, why: &'static str) -> Parsed<&'a [u8]> {
+        match self.number(bytes)? as usize {
+            length if length > most => Err(Some(why)),
+            length => self.take(length),
+        }
+    }
+
+    fn name(&mut self, may_lack: bool) -> Parsed<String> {
+        let length = self.number(1)? as usize;
+        let name = std::str::from_utf8(self.take(length)?).ok();
+        let name = name.filter(|it| is_name(it) || (may_lack && it.is_empty()));
+        let name = name.map(String::from);
+        name.ok_or(Some("a name of its hello is none"))
+    }
+}
+
+/// The label and the item of the frame that begins here, and the length of its body, if its head is
+/// there.
+pub(super) fn head(bytes: &[u8]) -> Option<(u16, u32, usize)> {
+    let mut rest = Rest(bytes.strip_prefix(b"F")?);
+    let (label, item) = (rest.number(2).ok()? as u16, rest.number(4).ok()? as u32);
+    Some((label, item, rest.number(4).ok()? as usize))
 }
 
 /// Takes the next message from the front of what came: nothing where more has to come.
@@ -168,143 +187,83 @@ pub fn report(report: &[u8]) -> Vec<u8> {
 ///
 /// Why it is no message: the connection is to be closed.
 pub fn take(input: &mut Vec<u8>, expect: Expect) -> Result<Option<Message>, &'static str> {
-    let (message, used) = match parse(input, expect)? {
-        None => return Ok(None),
-        Some(Parsed::Whole(message, used)) => (message, used),
-        Some(Parsed::Frame(label, item, used)) => {
+    let mut rest = Rest(input);
+    let message = match (expect, head(input)) {
+        (Expect::Frames, Some((.., length))) if length > BODY_BYTES => {
+            return Err("a body is too long");
+        }
+        (Expect::Frames, Some((label, item, length))) if input.len() >= FRAME_HEAD + length => {
             // (the buffer itself becomes the body where nothing follows, as is usual)
-            let rest = input.split_off(used);
-            let mut bytes = std::mem::replace(input, rest);
+            let after = input.split_off(FRAME_HEAD + length);
+            let mut bytes = mem::replace(input, after);
             bytes.drain(..FRAME_HEAD);
             bytes.shrink_to_fit();
             return Ok(Some(Message::Frame(label, Arc::new(Body { item, bytes }))));
         }
+        _ => parse(&mut rest, expect),
     };
-    input.drain(..used);
-    Ok(Some(message))
+    let used = input.len() - rest.0.len();
+    match message {
+        Ok(message) => {
+            input.drain(..used);
+            Ok(Some(message))
+        }
+        Err(why) => why.map_or(Ok(None), Err),
+    }
 }
 
-/// A message, or the label and the item of a frame; and how many bytes it took.
-enum Parsed {
-    Whole(Message, usize),
-    Frame(u16, u32, usize),
-}
-
-fn parse(input: &[u8], expect: Expect) -> Result<Option<Parsed>, &'static str> {
-    let first = match input.first() {
-        Some(first) => *first,
-        None => return Ok(None),
-    };
-    match (expect, first) {
-        (Expect::Hello, _) => hello(input),
-        (Expect::Frames, b'F') => {
-            let (label, item, length) = match (
-                number(input, 1, 2),
-                number(input, 3, 4),
-                number(input, 7, 4),
-            ) {
-                (Some(label), Some(item), Some(length)) => {
-                    (label as u16, item as u32, length as usize)
-                }
-                _ => return Ok(None),
-            };
-            if length > BODY_BYTES {
-                return Err("a body is too long");
+/// Any message but a whole frame.
+fn parse(rest: &mut Rest<'_>, expect: Expect) -> Parsed<Message> {
+    if expect == Expect::Hello {
+        return hello(rest);
+    }
+    Ok(match (expect, rest.number(1)? as u8) {
+        (Expect::Frames, b'F') => return Err(None),
+        (Expect::Frames | Expect::Way, b'W') => {
+            let cost = rest.number(2)? as u16;
+            let names = rest.counted(2, WAY_BYTES, "a way is too long")?;
+            let names = std::str::from_utf8(names).unwrap_or_default();
+            let names: Vec<String> = names.split('\n').map(String::from).collect();
+            if names.len() > NAMES {
+                return Err(Some("a way is too long"));
+            } else if !names.iter().all(|name| is_name(name)) {
+                return Err(Some("a name of a way is none"));
             }
-            let used = FRAME_HEAD + length;
-            Ok((input.len() >= used).then_some(Parsed::Frame(label, item, used)))
+            Message::Way(Way { cost, names })
         }
-        (Expect::Frames | Expect::Way, b'W') => match number(input, 3, 2) {
-            Some(length) if length as usize > WAY_BYTES => Err("a way is too long"),
-            length => length.map_or(Ok(None), |length| parse_way(input, 5 + length as usize)),
-        },
-        (Expect::Acks, b'G') => Ok(Some(Parsed::Whole(Message::Goodbye, 1))),
-        (Expect::Acks, b'A') => {
-            Ok(number(input, 1, 2).map(|label| Parsed::Whole(Message::Ack(label as u16), 3)))
+        (Expect::Acks, b'G') => Message::Goodbye,
+        (Expect::Acks, b'A') => Message::Ack(rest.number(2)? as u16),
+        (Expect::Acks, b'R') => {
+            let bytes = rest.counted(4, REPORT_BYTES, "a report is too long")?;
+            Message::Report(bytes.to_vec())
         }
-        (Expect::Acks, b'R') => match number(input, 1, 4) {
-            Some(length) if length as usize > REPORT_BYTES => Err("a report is too long"),
-            length => Ok(length.and_then(|length| {
-                let end = 5 + length as usize;
-                let bytes = input.get(5..end)?.to_vec();
-                Some(Parsed::Whole(Message::Report(bytes), end))
-            })),
-        },
-        _ => Err("it is no message"),
-    }
+        _ => return Err(Some("it is no message")),
+    })
 }
 
-fn parse_way(input: &[u8], end: usize) -> Result<Option<Parsed>, &'static str> {
-    let (cost, names) = match (number(input, 1, 2), input.get(5..end)) {
-        (Some(cost), Some(names)) => (cost as u16, names),
-        _ => return Ok(None),
+fn hello(rest: &mut Rest<'_>) -> Parsed<Message> {
+    let begins = |magic: &[u8]| rest.0.iter().zip(magic).all(|(byte, it)| byte == it);
+    let (is_look, least) = match begins(LOOK) {
+        true => (true, VERSION),
+        false if begins(MAGIC) => (false, OLD),
+        false => return Err(Some("it is no hello")),
     };
-    let names = std::str::from_utf8(names).map_err(|_| "a name of a way is none")?;
-    let names: Vec<String> = names.split('\n').map(String::from).collect();
-    if names.len() > NAMES {
-        return Err("a way is too long");
-    } else if !names.iter().all(|name| is_name(name)) {
-        return Err("a name of a way is none");
-    }
-    Ok(Some(Parsed::Whole(Message::Way(Way { cost, names }), end)))
-}
-
-/// The number in `bytes` bytes from a place on, if they have come.
-fn number(input: &[u8], at: usize, bytes: usize) -> Option<u64> {
-    let from = input.get(at..at + bytes)?;
-    Some(
-        from.iter()
-            .fold(0, |number, byte| number << 8 | u64::from(*byte)),
-    )
-}
-
-fn hello(input: &[u8]) -> Result<Option<Parsed>, &'static str> {
-    let known = input.len().min(MAGIC.len());
-    let is_look = input[..known] == LOOK[..known];
-    if input[..known] != MAGIC[..known] && !is_look {
-        return Err("it is no hello");
-    }
-    let least = if is_look && known == LOOK.len() {
-        VERSION
-    } else {
-        OLD
-    };
-    let version = input.get(4).copied().unwrap_or(least);
+    rest.take(MAGIC.len())?;
+    let version = rest.number(1)? as u8;
     if !(least..=VERSION).contains(&version) {
-        return Err("its version of the protocol is neither 1 nor 2");
+        return Err(Some("its version of the protocol is neither 1 nor 2"));
     }
-    let mut at = 15;
-    let mut names = [String::new(), String::new()];
-    for (which, to) in names.iter_mut().enumerate() {
-        let bytes = input
-            .get(at)
-            .and_then(|length| input.get(at + 1..at + 1 + usize::from(*length)));
-        let bytes = match bytes {
-            Some(bytes) => bytes,
-            None => return Ok(None),
-        };
-        match std::str::from_utf8(bytes) {
-            Ok(name) if is_name(name) || (which == 1 && name.is_empty()) => *to = name.to_owned(),
-            _ => return Err("a name of its hello is none"),
-        }
-        at += 1 + bytes.len();
-    }
-    let [from, to] = names;
-    let numbers = number(input, 5, 8).zip(number(input, 13, 2));
-    Ok(numbers.map(|(life, label)| {
-        let label = label as u16;
-        let hello = Hello {
-            version,
-            life,
-            label,
-            from,
-            to,
-        };
-        let message = if is_look {
-            Message::Look
-        } else {
-            Message::Hello
-        };
-        Parsed::Whole(message(hello), at)
-    }))
+    let (life, label) = (rest.number(8)?, rest.number(2)? as u16);
+    let (from, to) = (rest.name(false)?, rest.name(true)?);
+    let hello = Hello {
+        version,
+        life,
+        label,
+        from,
+        to,
+    };
+    Ok(match is_look {
+        true => Message::Look(hello),
+        false => Message::Hello(hello),
+    })
 }

@@ -193,7 +193,7 @@ impl<L: Line, A: Clone + PartialEq + fmt::Display> Peers<L, A> {
                 format_args!("the parent {}{}", hello.from, count(anew)),
             );
         }
-        if wire::label(&rest)? == self.relay.label() {
+        if wire::head(&rest)?.0 == self.relay.label() {
             return None;
         }
         match wire::take(&mut rest, Expect::Frames) {
