@@ -6,6 +6,7 @@ use crate::Connection;
 use std::collections::{BTreeMap, BTreeSet, VecDeque};
 use std::fmt;
 use std::io::{ErrorKind, Read, Write};
+use std::mem;
 use std::sync::Arc;
 use std::time::{Duration, Instant};
 
@@ -34,7 +35,7 @@ const TURN_GREETINGS: usize = 8;
 const READ_BYTES: usize = 16 << 10;
 /// Up to this length a body is written together with its head.
 const JOINED: usize = 16 << 10;
-/// How long a connection has to stand to count as one that did.
+/// How long a connection has to stand to count as one that did, and how often a refusal is said.
 const SHORT: Duration = Duration::from_secs(1);
 
 /// A connection of bytes that never makes its caller wait.
@@ -148,9 +149,28 @@ pub struct Call<A> {
     pub failed: usize,
 }
 
+/// What a step needs besides what came: when it is, and who is told what follows.
+struct Context<'a> {
+    now: Instant,
+    to: &'a mut dyn Handler,
+}
+
+/// Tells a fact.
+macro_rules! fact {
+    ($cx:expr, $fact:literal, $($words:tt)*) => {
+        $cx.to.on_fact($fact, format_args!($($words)*))
+    };
+}
+use fact;
+
+/// What came is taken, or why its connection is closed.
+type Taken = Result<(), &'static str>;
+
 /// When somebody is called next.
+#[derive(Default)]
 struct Dial {
-    next: Instant,
+    /// Nothing: at once.
+    next: Option<Instant>,
     failed: u32,
     under_way: bool,
     /// How long the hello took that came last.
@@ -163,16 +183,19 @@ struct Dial {
     why: String,
 }
 
-/// What a connection is for before it is one of a link.
+/// What a connection is for.
 #[derive(Clone)]
-enum Look {
-    No,
-    /// For this call the parent at this place is looked at, and its hello has come or not.
-    Asks(Whom, usize, bool),
-    /// The parent at this place has connected itself, and its way is to come.
-    Comes(usize, Hello),
-    /// It was answered. The other end goes on with a hello, or closes it.
+enum State {
+    /// It was accepted, and nobody knows whose it is.
+    Accepted,
+    /// It was accepted, and a look was answered. The other end goes on with a hello, or closes it.
     Answered,
+    /// The parent at this place has made it, and its way is to come.
+    Comes(usize, Hello),
+    /// By it the parent at this place is looked at for this call, and its hello has come or not.
+    Looks(Whom, usize, bool),
+    /// It is one of the link with this end, whose hello came then or is to come.
+    Link(Whom, Connection, Option<Instant>),
 }
 
 struct Conn<L> {
@@ -180,10 +203,7 @@ struct Conn<L> {
     /// Whether this end made it.
     made: bool,
     since: Instant,
-    /// Unknown where it was accepted, and its hello has not come.
-    whom: Option<(Whom, Connection)>,
-    /// Since when its hello has come.
-    greeted: Option<Instant>,
+    state: State,
     input: Vec<u8>,
     output: VecDeque<Chunk>,
     /// How much of the first chunk is written.
@@ -197,15 +217,39 @@ struct Conn<L> {
     is_old: bool,
     has_said: bool,
     is_mute: bool,
-    look: Look,
-    /// The name that its hello had, right or not.
+    /// The name that its hello had, right or not, in words.
     says: String,
 }
 
 impl<L> Conn<L> {
     /// Whether it was accepted, and nobody knows whose it is.
     fn is_greeting(&self) -> bool {
-        self.whom.is_none() && !self.made
+        !matches!(self.state, State::Looks(..) | State::Link(..))
+    }
+
+    /// The other end, where it is one of a link.
+    fn link(&self) -> Option<(Whom, Connection)> {
+        match &self.state {
+            State::Link(whom, number, _) => Some((whom.clone(), *number)),
+            _ => None,
+        }
+    }
+
+    /// Since when it is one of a link whose hello has come.
+    fn greeted(&self) -> Option<Instant> {
+        match self.state {
+            State::Link(_, _, since) => since,
+            _ => None,
+        }
+    }
+
+    fn expects(&self) -> Expect {
+        match &self.state {
+            State::Link(Whom::Child(_), _, Some(_)) => Expect::Acks,
+            State::Link(_, _, Some(_)) => Expect::Frames,
+            State::Looks(_, _, true) | State::Comes(..) => Expect::Way,
+            _ => Expect::Hello,
+        }
     }
 
     /// Of a parent, something whole came.
@@ -219,10 +263,15 @@ impl<L> Conn<L> {
         let head = wire::head(&self.input).filter(|_| !self.is_timed);
         self.is_timed |= head.is_some();
         if head.is_some() || (self.until.is_none() && !self.input.is_empty()) {
-            let length = head.map_or(0, |(.., length)| length as u64);
-            self.until = Some(now + SILENCE + Duration::from_secs(length / SLOWEST));
+            let length = head.map_or(0, |(.., length)| length);
+            self.until = Some(now + SILENCE + travels(length));
         }
     }
+}
+
+/// How long a body of this length may be under way.
+fn travels(length: usize) -> Duration {
+    Duration::from_secs(length as u64 / SLOWEST)
 }
 
 enum Chunk {
@@ -312,38 +361,29 @@ impl<L: Line, A: Clone + PartialEq + fmt::Display> Peers<L, A> {
 
     /// Takes another set-up: those that are no longer in it are left. The name stays.
     pub fn set_up(&mut self, setup: Setup<A>, now: Instant, to: &mut dyn Handler) {
-        let old = std::mem::replace(&mut self.setup, setup);
+        let cx = &mut Context { now, to };
+        let old = mem::replace(&mut self.setup, setup);
         self.setup.name = old.name;
         if let Children::Named(children) = &self.setup.children {
             let all = self.relay.children().map(|(name, _)| name);
-            let gone: Vec<String> = all
-                .filter(|name| !children.contains_key(*name))
-                .cloned()
-                .collect();
-            for name in gone {
-                let _ = self.remove(&name, now, to);
-            }
+            let gone = all.filter(|name| !children.contains_key(*name));
+            let gone: Vec<String> = gone.cloned().collect();
+            gone.iter().for_each(|name| self.leave_child(name, cx));
         }
         let parents = &self.setup.parents;
         if old.parents != *parents {
-            let here = old.parents.get(self.parents.at());
-            let is = |it: &Parent<A>| {
-                here.map_or(false, |here| {
-                    (&it.name, &it.address) == (&here.name, &here.address)
-                })
-            };
-            let (at, prices) = (
-                parents.iter().position(is),
-                parents.iter().map(|it| it.price),
-            );
-            self.parents.set(prices, at);
+            let who = |it: &Parent<A>| (it.name.clone(), it.address.clone());
+            let here = old.parents.get(self.parents.at()).map(who);
+            let at = parents.iter().position(|it| Some(who(it)) == here);
+            self.parents.set(parents.iter().map(|it| it.price), at);
             // (a look is at a place of the list)
-            self.conns
-                .retain(|_, conn| !matches!(conn.look, Look::Asks(..) | Look::Comes(..)));
-            self.dials
-                .retain(|whom, _| !matches!(whom, Whom::Candidate(_)));
+            let is_look =
+                |conn: &Conn<L>| matches!(conn.state, State::Looks(..) | State::Comes(..));
+            self.conns.retain(|_, conn| !is_look(conn));
+            let is_look = |whom: &Whom| matches!(whom, Whom::Candidate(_));
+            self.dials.retain(|whom, _| !is_look(whom));
             if let (None, Some(id)) = (at, self.above) {
-                self.close(id, "the parents changed", now, to);
+                self.leave_line(id, "the parents changed", cx);
                 self.parents.tries(0);
             }
             if self.above.is_none() && self.stored(&Whom::Parent).is_none() {
@@ -358,35 +398,21 @@ impl<L: Line, A: Clone + PartialEq + fmt::Display> Peers<L, A> {
     /// Each child of the set-up is one, and all are called who have an address.
     fn dial_all(&mut self, now: Instant) {
         let mut whoms = BTreeSet::new();
-        if !self.setup.parents.is_empty() {
+        for (at, parent) in self.setup.parents.iter().enumerate() {
             whoms.insert(Whom::Parent);
+            whoms.extend(parent.address.as_ref().map(|_| Whom::Candidate(at)));
         }
-        let all = self.setup.parents.iter().enumerate();
-        let all = all.filter(|(_, parent)| parent.address.is_some());
-        whoms.extend(all.map(|(at, _)| Whom::Candidate(at)));
-        let has_children = match &self.setup.children {
-            Children::Named(children) => !children.is_empty(),
-            Children::Any => true,
-        };
-        self.parents.set_children(has_children);
         if let Children::Named(children) = &self.setup.children {
             for (name, address) in children {
                 self.relay.add(name, now);
                 whoms.extend(address.as_ref().map(|_| Whom::Child(name.clone())));
             }
         }
+        let is_leaf = matches!(&self.setup.children, Children::Named(all) if all.is_empty());
+        self.parents.set_children(!is_leaf);
         self.dials.retain(|whom, _| whoms.contains(whom));
         for whom in whoms {
-            let dial = Dial {
-                next: now,
-                failed: 0,
-                under_way: false,
-                took: Duration::ZERO,
-                is_old: false,
-                is_mute: false,
-                why: String::new(),
-            };
-            self.dials.entry(whom).or_insert(dial);
+            self.dials.entry(whom).or_default();
         }
     }
 
@@ -426,28 +452,29 @@ impl<L: Line, A: Clone + PartialEq + fmt::Display> Peers<L, A> {
         now: Instant,
         to: &mut dyn Handler,
     ) -> Result<(), &'static str> {
-        if self.relay.child_mut(name).is_none() {
-            return Err("it is no child");
-        }
+        self.relay.child(name).ok_or("it is no child")?;
+        self.leave_child(name, &mut Context { now, to });
+        Ok(())
+    }
+
+    fn leave_child(&mut self, name: &str, cx: &mut Context<'_>) {
         if let Children::Named(names) = &mut self.setup.children {
             names.remove(name);
         }
-        let whom = Whom::Child(name.into());
-        self.dials.remove(&whom);
-        let its = |conn: &Conn<L>| conn.whom.as_ref().map_or(false, |(it, _)| *it == whom);
-        let ids: Vec<u64> = self
-            .conns
-            .iter()
-            .filter(|(_, conn)| its(conn))
-            .map(|(id, _)| *id)
-            .collect();
-        for id in ids {
-            self.close(id, "it was removed", now, to);
+        let child = Whom::Child(name.into());
+        self.dials.remove(&child);
+        let is_its = |conn: &Conn<L>| matches!(&conn.state, State::Link(it, ..) if *it == child);
+        for id in self.all_that(is_its) {
+            self.leave_line(id, "it was removed", cx);
         }
-        self.keep_stores(now);
+        self.keep_stores(cx.now);
+        self.forget(name, cx);
+    }
+
+    /// A child is one no longer.
+    fn forget(&mut self, name: &str, cx: &mut Context<'_>) {
         self.relay.remove(name);
-        to.on_gone(name);
-        Ok(())
+        cx.to.on_gone(name);
     }
 
     // ---- What is to be seen
@@ -460,10 +487,10 @@ impl<L: Line, A: Clone + PartialEq + fmt::Display> Peers<L, A> {
     /// The parent that it is connected to, and since when.
     pub fn parent(&self) -> Option<(&Parent<A>, Instant)> {
         let since = match self.above {
-            Some(id) => self.conns.get(&id)?.greeted,
+            Some(id) => self.conns.get(&id)?.greeted(),
             None => self.stored(&Whom::Parent)?.since,
         };
-        Some((self.setup.parents.get(self.parents.at())?, since?))
+        Some((self.candidate(self.parents.at())?, since?))
     }
 
     /// The way from a root to the agent, as it says it itself.
@@ -493,30 +520,27 @@ impl<L: Line, A: Clone + PartialEq + fmt::Display> Peers<L, A> {
 
     /// Each line with its number, and whether it has something to write.
     pub fn lines(&self) -> impl Iterator<Item = (u64, &L, bool)> {
-        self.conns
-            .iter()
-            .map(|(id, conn)| (*id, &conn.line, !conn.output.is_empty()))
+        let all = self.conns.iter();
+        all.map(|(id, conn)| (*id, &conn.line, !conn.output.is_empty()))
+    }
+
+    /// The numbers of all connections of which this holds.
+    fn all_that(&self, holds: impl Fn(&Conn<L>) -> bool) -> Vec<u64> {
+        let all = self.conns.iter().filter(|(_, conn)| holds(conn));
+        all.map(|(id, _)| *id).collect()
     }
 
     /// When there is something to do although nothing comes.
     pub fn deadline(&self, now: Instant) -> Option<Instant> {
         let again = (!self.again.is_empty()).then_some(now);
-        let conns = self.conns.values().filter_map(|conn| conn.until);
-        let dials = self
-            .dials
-            .iter()
-            .filter(|(whom, dial)| self.is_idle(whom, dial));
-        let dials = dials.map(|(_, dial)| dial.next);
-        let evicts = self.relay.evicts_at(self.setup.evict);
-        let stores = self.stores.iter().filter_map(words::Place::due);
         let beat = (!self.children.is_empty()).then_some(self.beat);
-        conns
-            .chain(beat)
-            .chain(dials)
-            .chain(evicts)
-            .chain(again)
-            .chain(stores)
-            .min()
+        let evicts = self.relay.evicts_at(self.setup.evict);
+        let dials = self.dials.iter();
+        let dials = dials.filter(|(whom, dial)| self.is_idle(whom, dial));
+        let conns = self.conns.values().filter_map(|conn| conn.until);
+        let all = conns.chain(dials.map(|(_, dial)| dial.next.unwrap_or(now)));
+        let all = all.chain(self.stores.iter().filter_map(words::Place::due));
+        all.chain(again).chain(beat).chain(evicts).min()
     }
 
     // ---- Connections
@@ -529,42 +553,38 @@ impl<L: Line, A: Clone + PartialEq + fmt::Display> Peers<L, A> {
     /// Takes a line that was accepted. Of those whose hello has not come, one too many drives the
     /// oldest one out.
     pub fn accept(&mut self, line: L, now: Instant, to: &mut dyn Handler) {
-        let patience = self.setup.ack_timeout * (1 << self.late);
-        self.open(line, false, None, now, patience);
-        let greeting = self.conns.iter().filter(|(_, conn)| conn.is_greeting());
-        let greeting: Vec<u64> = greeting.map(|(id, _)| *id).collect();
+        let until = self.greets_until(now);
+        self.open(line, State::Accepted, now, until);
+        let greeting = self.all_that(Conn::is_greeting);
         let children = || self.relay.children().map(|(_, link)| link);
         let away = || children().filter(|link| !link.is_connected()).count();
         let most = self.waiting.min(GREETING);
         if greeting.len() > most && greeting.len() > self.waiting.min(GREETING + away()) {
-            self.close(greeting[0], "too many say no hello", now, to);
+            let cx = &mut Context { now, to };
+            self.leave_line(greeting[0], "too many say no hello", cx);
         }
     }
 
-    fn open(
-        &mut self,
-        line: L,
-        made: bool,
-        whom: Option<(Whom, Connection)>,
-        now: Instant,
-        patience: Duration,
-    ) -> u64 {
+    /// Until when an end that connects itself may say its hello.
+    fn greets_until(&self, now: Instant) -> Instant {
+        now + self.setup.ack_timeout * (1 << self.late)
+    }
+
+    fn open(&mut self, line: L, state: State, now: Instant, until: Instant) -> u64 {
         self.made += 1;
         let conn = Conn {
             line,
-            made,
+            made: !matches!(state, State::Accepted),
             since: now,
-            whom,
-            greeted: None,
+            state,
             input: Vec::new(),
             output: VecDeque::new(),
             written: 0,
-            until: Some(now + patience),
+            until: Some(until),
             is_timed: false,
             is_old: false,
             has_said: false,
             is_mute: false,
-            look: Look::No,
             says: String::new(),
         };
         self.conns.insert(self.made, conn);
@@ -577,7 +597,7 @@ impl<L: Line, A: Clone + PartialEq + fmt::Display> Peers<L, A> {
             Whom::Child(name) => self.children.contains_key(name),
             Whom::Candidate(at) => {
                 let above = self.above.and_then(|id| self.conns.get(&id));
-                let is_old = above.map_or(false, |conn| conn.is_old && conn.greeted.is_some());
+                let is_old = above.map_or(false, |it| it.is_old && it.greeted().is_some());
                 !self.parents.looks_at(*at, is_old)
             }
         };
@@ -586,15 +606,30 @@ impl<L: Line, A: Clone + PartialEq + fmt::Display> Peers<L, A> {
 
     fn address(&self, whom: &Whom) -> Option<&A> {
         match (whom, &self.setup.children) {
-            (Whom::Parent, _) => self.candidate(self.parents.at())?.address.as_ref(),
-            (Whom::Candidate(at), _) => self.candidate(*at)?.address.as_ref(),
             (Whom::Child(name), Children::Named(children)) => children.get(name)?.as_ref(),
             (Whom::Child(_), Children::Any) => None,
+            _ => self.candidate(self.place_of(whom))?.address.as_ref(),
         }
     }
 
     fn candidate(&self, at: usize) -> Option<&Parent<A>> {
         self.setup.parents.get(at)
+    }
+
+    /// The place of a parent in the list.
+    fn place_of(&self, whom: &Whom) -> usize {
+        match whom {
+            Whom::Candidate(at) => *at,
+            _ => self.parents.at(),
+        }
+    }
+
+    /// The name of this end, if it is known; a parent has this place.
+    fn name_of<'a>(&'a self, whom: &'a Whom, at: usize) -> Option<&'a String> {
+        match whom {
+            Whom::Child(name) => Some(name),
+            _ => self.candidate(at)?.name.as_ref(),
+        }
     }
 
     /// How many are tried in turn.
@@ -607,32 +642,33 @@ impl<L: Line, A: Clone + PartialEq + fmt::Display> Peers<L, A> {
 
     /// A connection that is to be made now. What became of it is to be told to [`Peers::called`].
     pub fn next_call(&mut self, now: Instant, to: &mut dyn Handler) -> Option<Call<A>> {
-        let due = |whom: &Whom, dial: &Dial| self.is_idle(whom, dial) && now >= dial.next;
-        let whom = self
-            .dials
-            .iter()
-            .find(|(whom, dial)| due(whom, dial))?
-            .0
-            .clone();
-        let (address, all) = (self.address(&whom).cloned(), self.all(&whom));
-        match address {
-            Some(address) => {
-                let dial = self.dials.get_mut(&whom)?;
-                dial.under_way = true;
-                let failed = (dial.failed / all) as usize;
-                Some(Call {
-                    whom,
-                    address,
-                    failed,
-                })
-            }
-            None => {
-                // (it has a while to connect itself, before the next one is tried)
-                self.failed(&whom, "it has not connected", now, to);
-                self.dials.get_mut(&whom)?.next = now + self.setup.ack_timeout;
-                self.next_call(now, to)
-            }
+        let mut dials = self.dials.iter();
+        let due = |dial: &Dial| dial.next.map_or(true, |at| now >= at);
+        let (whom, _) = dials.find(|(whom, dial)| self.is_idle(whom, dial) && due(dial))?;
+        let (whom, all) = (whom.clone(), self.all(whom));
+        let address = self.address(&whom).cloned();
+        if address.is_none() {
+            // (it has a while to connect itself, before the next one is tried)
+            self.fails(&whom, "it has not connected", &mut Context { now, to });
+            self.dials.get_mut(&whom)?.next = Some(now + self.setup.ack_timeout);
+            return self.next_call(now, to);
         }
+        let dial = self.dials.get_mut(&whom)?;
+        dial.under_way = true;
+        let failed = (dial.failed / all) as usize;
+        address.map(|address| Call {
+            whom,
+            address,
+            failed,
+        })
+    }
+
+    /// A call has ended: whether it is wanted still.
+    fn is_wanted(&mut self, call: &Call<A>) -> bool {
+        let is_same = self.address(&call.whom) == Some(&call.address);
+        let dial = self.dials.get_mut(&call.whom);
+        let was_under_way = dial.map_or(false, |dial| mem::take(&mut dial.under_way));
+        was_under_way && is_same && self.is_idle(&call.whom, &self.dials[&call.whom])
     }
 
     /// A call led to a line, or failed. It is dropped where it is not wanted any more.
@@ -643,47 +679,35 @@ impl<L: Line, A: Clone + PartialEq + fmt::Display> Peers<L, A> {
         now: Instant,
         to: &mut dyn Handler,
     ) {
-        let is_wanted = self.address(&call.whom) == Some(&call.address);
-        match self.dials.get_mut(&call.whom) {
-            Some(dial) if dial.under_way => dial.under_way = false,
-            _ => return,
-        }
-        if !is_wanted || !self.is_idle(&call.whom, &self.dials[&call.whom]) {
+        if !self.is_wanted(&call) {
             return;
         }
-        let line = match line {
-            Ok(line) => line,
-            Err(why) => return self.failed(&call.whom, &why, now, to),
+        let (whom, at) = (&call.whom, self.place_of(&call.whom));
+        let Dial { is_old, took, .. } = self.dials[whom];
+        let looks = !is_old && !matches!(whom, Whom::Child(_));
+        let made = line.and_then(|line| {
+            let number = match whom {
+                _ if looks => return Ok((line, State::Looks(whom.clone(), at, false))),
+                Whom::Child(name) => self.relay.made_to(name),
+                _ => self.relay.made(),
+            };
+            let number = number.ok_or("no number is left")?;
+            Ok((line, State::Link(whom.clone(), number, None)))
+        });
+        let (line, state) = match made {
+            Ok(made) => made,
+            Err(why) => return self.fails(whom, &why, &mut Context { now, to }),
         };
-        let (at, is_parent) = (self.place_of(&call.whom), call.whom == Whom::Parent);
-        let (is_old, took) = match self.dials.get_mut(&call.whom) {
-            Some(dial) => (dial.is_old, dial.took),
-            None => return,
-        };
-        let looks = matches!(call.whom, Whom::Candidate(_)) || (is_parent && !is_old);
-        let (number, name) = match &call.whom {
-            Whom::Child(name) => (self.relay.made_to(name), name.clone()),
-            _ if looks => (None, self.name_of(at)),
-            _ => (self.relay.made(), self.name_of(at)),
-        };
-        if number.is_none() && !looks {
-            return self.failed(&call.whom, "no number is left", now, to);
-        }
-        self.dial_with(&call.whom, |dial| dial.under_way = true);
-        let patience = self.later(took, call.failed as u32);
-        let whom = number.map(|number| (call.whom.clone(), number));
-        let id = self.open(line, true, whom, now, patience);
-        if looks {
-            self.conn_with(id, |conn| conn.look = Look::Asks(call.whom, at, false));
-            return self.say(id, name, true);
-        }
+        self.dial_with(whom, |dial| dial.under_way = true);
+        let until = now + self.later(took, call.failed as u32);
+        let id = self.open(line, state, now, until);
         self.conn_with(id, |conn| conn.is_old = is_old);
-        if is_parent {
-            self.above = Some(id);
-        }
-        self.say(id, name, false);
-        if !is_parent {
-            self.say_way(id);
+        let name = self.name_of(whom, at).cloned().unwrap_or_default();
+        self.say(id, name);
+        match whom {
+            Whom::Child(_) => self.say_way(id),
+            _ if looks => (),
+            _ => self.above = Some(id),
         }
     }
 
@@ -699,30 +723,27 @@ impl<L: Line, A: Clone + PartialEq + fmt::Display> Peers<L, A> {
         }
     }
 
-    /// The name of the parent at this place, if it is known.
-    fn name_of(&self, at: usize) -> String {
-        let name = self.candidate(at).and_then(|it| it.name.clone());
-        name.unwrap_or_default()
-    }
-
-    /// Says a hello, or looks at a candidate or answers that: by that no life is told, and no label.
-    fn say(&mut self, id: u64, to: String, is_look: bool) {
-        let conn = self.conns.get(&id);
-        let to_parent = conn.map_or(false, |it| matches!(it.whom, Some((Whom::Parent, _))));
-        let is_old = conn.map_or(false, |it| it.is_old) && !is_look;
+    /// Says a hello where it is one of a link; else it looks at a candidate, or answers that: by
+    /// that no life is told, and no label.
+    fn say(&mut self, id: u64, to: String) {
+        let (link, is_old) = match self.conns.get(&id) {
+            Some(conn) => (conn.link(), conn.is_old),
+            None => return,
+        };
+        let is_look = link.is_none();
+        let life = match link {
+            Some((Whom::Parent, _)) => self.told(),
+            Some(_) => self.life,
+            None => 0,
+        };
         let hello = Hello {
             version: if is_old { OLD } else { VERSION },
-            life: match is_look {
-                true => 0,
-                false if to_parent => self.told(),
-                false => self.life,
-            },
+            life,
             label: if is_look { 0 } else { self.relay.label() },
             from: self.setup.name.clone(),
             to,
         };
-        let bytes = if is_look { hello.look() } else { hello.bytes() };
-        self.send(id, bytes);
+        self.send(id, if is_look { hello.look() } else { hello.bytes() });
     }
 
     /// Says the own way, if the other end knows what that is.
@@ -756,7 +777,8 @@ impl<L: Line, A: Clone + PartialEq + fmt::Display> Peers<L, A> {
         if has_news && self.parents.says().cost >= NONE {
             for (whom, dial) in &mut self.dials {
                 if let Whom::Candidate(at) = whom {
-                    dial.next = dial.next.min(now + self.parents.pause(*at));
+                    let soon = now + self.parents.pause(*at);
+                    dial.next = dial.next.map(|next| next.min(soon));
                 }
             }
         }
@@ -773,14 +795,12 @@ impl<L: Line, A: Clone + PartialEq + fmt::Display> Peers<L, A> {
     }
 
     fn send(&mut self, id: u64, bytes: Vec<u8>) {
-        if let Some(conn) = self.conns.get_mut(&id) {
-            conn.output.push_back(Chunk::Bytes(bytes));
-        }
+        self.conn_with(id, |conn| conn.output.push_back(Chunk::Bytes(bytes)));
     }
 
     /// Somebody cannot be connected to now: the next one is tried after a while.
-    fn failed(&mut self, whom: &Whom, why: &str, now: Instant, to: &mut dyn Handler) {
-        let all = self.all(whom);
+    fn fails(&mut self, whom: &Whom, why: &str, cx: &mut Context<'_>) {
+        let (all, at) = (self.all(whom), self.parents.at());
         let dial = match self.dials.get_mut(whom) {
             Some(dial) => dial,
             None => return,
@@ -788,18 +808,14 @@ impl<L: Line, A: Clone + PartialEq + fmt::Display> Peers<L, A> {
         // (of several, what each says would be said for ever)
         let is_news = dial.failed == 0 || (all == 1 && dial.why != why);
         dial.why = why.into();
-        if is_news {
-            let place = |it: &Parent<A>| match &it.address {
-                Some(address) => address.to_string(),
-                None => it.to_string(),
-            };
-            match (whom, self.setup.parents.get(self.parents.at())) {
-                (Whom::Child(name), _) => to.on_fact("child", format_args!("{name}: {why}")),
-                (Whom::Parent, Some(it)) => {
-                    to.on_fact("parent", format_args!("{}: {why}", place(it)));
-                }
-                _ => (),
-            }
+        match (whom, self.setup.parents.get(at)) {
+            _ if !is_news => (),
+            (Whom::Child(name), _) => fact!(cx, "child", "{name}: {why}"),
+            (Whom::Parent, Some(it)) => match &it.address {
+                Some(address) => fact!(cx, "parent", "{address}: {why}"),
+                None => fact!(cx, "parent", "{it}: {why}"),
+            },
+            _ => (),
         }
         (dial.is_old, dial.is_mute) = (false, false);
         let rounds = (dial.failed / all).min(5);
@@ -810,125 +826,104 @@ impl<L: Line, A: Clone + PartialEq + fmt::Display> Peers<L, A> {
             Whom::Candidate(at) => self.parents.pause(*at),
             _ => Duration::from_millis(50 << rounds),
         };
-        dial.next = now + pause * (500 + drawn as u32) / 1_000;
+        dial.next = Some(cx.now + pause * (500 + drawn as u32) / 1_000);
         if *whom == Whom::Parent && self.above.is_none() {
-            self.parents.tries((self.parents.at() + 1) % all as usize);
+            self.parents.tries((at + 1) % all as usize);
         }
     }
 
     /// A look is over. Who left without a word may speak version 1 alone: then it is called so.
-    fn look_ended(
-        &mut self,
-        whom: &Whom,
-        is_mute: bool,
-        why: &str,
-        now: Instant,
-        to: &mut dyn Handler,
-    ) {
-        let (at, is_parent) = (self.parents.at(), *whom == Whom::Parent);
-        if let Some(dial) = self.dials.get_mut(whom) {
-            dial.under_way = false;
-            if is_parent && self.above.is_some() {
-                return;
+    fn look_ended(&mut self, whom: &Whom, is_mute: bool, why: &str, cx: &mut Context<'_>) {
+        let at = self.parents.at();
+        self.dial_with(whom, |dial| dial.under_way = false);
+        match whom {
+            Whom::Parent if self.above.is_some() => (),
+            Whom::Parent if is_mute && self.parents.looked(at, &self.parents.old(at)).is_ok() => {
+                self.dial_with(whom, |dial| (dial.is_old, dial.next) = (true, None));
             }
-            if is_parent && is_mute && self.parents.looked(at, &self.parents.old(at)).is_ok() {
-                (dial.is_old, dial.next) = (true, now);
-                return;
-            }
-            self.failed(whom, why, now, to);
+            _ => self.fails(whom, why, cx),
         }
     }
 
     /// Closes a connection: its end of the link leaves it.
     pub fn close(&mut self, id: u64, why: &str, now: Instant, to: &mut dyn Handler) {
+        self.leave_line(id, why, &mut Context { now, to });
+    }
+
+    fn leave_line(&mut self, id: u64, why: &str, cx: &mut Context<'_>) {
         let conn = match self.conns.remove(&id) {
             Some(conn) => conn,
             None => return,
         };
-        let (whom, number) = match (conn.whom, &conn.look) {
-            (Some(whom), _) => whom,
-            (None, Look::Answered) => return,
-            (None, Look::Asks(whom, ..)) => {
-                // (who answered was not late: the next look gets its time by how long this one took)
-                if conn.has_said && *whom != Whom::Parent {
-                    let took = now - conn.since;
-                    self.dial_with(whom, |dial| (dial.failed, dial.took) = (0, took));
-                }
-                return self.look_ended(whom, conn.is_mute, why, now, to);
-            }
-            (None, _) => {
+        let place = conn.line.place();
+        match &conn.state {
+            State::Answered => (),
+            State::Accepted | State::Comes(..) => {
                 self.refused += 1;
                 // (whoever can connect must not fill the journal)
                 if self
                     .said_refused
-                    .map_or(true, |said| now >= said + Duration::from_secs(1))
+                    .map_or(true, |said| cx.now >= said + SHORT)
                 {
-                    self.said_refused = Some(now);
-                    let (place, all) = (conn.line.place(), self.refused);
-                    let says = match &*conn.says {
-                        "" => String::new(),
-                        name => format!(", which calls itself {name}"),
-                    };
-                    to.on_fact(
-                        "refused",
-                        format_args!("{place}{says}: {why} ({all} in all)"),
-                    );
-                }
-                return;
-            }
-        };
-        if conn.greeted.is_some() {
-            let place = conn.line.place();
-            to.on_fact("closed", format_args!("{whom}: {why}, at {place}"));
-        }
-        match &whom {
-            Whom::Candidate(_) => (),
-            Whom::Parent => {
-                self.relay.ended(number);
-                // (else another one is taken already)
-                if self.above != Some(id) {
-                    return;
-                }
-                self.above = None;
-                self.parents.tries(self.parents.at());
-            }
-            Whom::Child(name) => {
-                self.relay.child_ended(name, number, now);
-                if self.children.get(name) == Some(&id) {
-                    self.children.remove(name);
+                    self.said_refused = Some(cx.now);
+                    let (says, all) = (&conn.says, self.refused);
+                    fact!(cx, "refused", "{place}{says}: {why} ({all} in all)");
                 }
             }
-        }
-        let was_mute = self.dials.get(&whom).map_or(false, |dial| dial.is_mute);
-        self.redial(&whom, conn.made, conn.greeted, why, now, to);
-        // (a parent's hello of version 2 was not heard, or it was tried to speak version 1)
-        if let (Whom::Child(_), Some(dial)) = (&whom, self.dials.get_mut(&whom)) {
-            dial.is_mute = conn.is_mute && !conn.is_old;
-            dial.is_old = dial.is_mute && was_mute;
+            State::Looks(whom, ..) => {
+                // (who answered was not late: the next look gets its time by how long this one took)
+                if conn.has_said && *whom != Whom::Parent {
+                    let took = cx.now - conn.since;
+                    self.dial_with(whom, |dial| (dial.failed, dial.took) = (0, took));
+                }
+                self.look_ended(whom, conn.is_mute, why, cx);
+            }
+            State::Link(whom, number, greeted) => {
+                if greeted.is_some() {
+                    fact!(cx, "closed", "{whom}: {why}, at {place}");
+                }
+                if let Whom::Child(name) = whom {
+                    self.relay.child_ended(name, *number, cx.now);
+                    if self.children.get(name) == Some(&id) {
+                        self.children.remove(name);
+                    }
+                } else {
+                    self.relay.ended(*number);
+                    // (else another one is taken already)
+                    if self.above != Some(id) {
+                        return;
+                    }
+                    self.above = None;
+                    self.parents.tries(self.parents.at());
+                }
+                let was_mute = self.dials.get(whom).map_or(false, |dial| dial.is_mute);
+                self.redial(whom, conn.made, *greeted, why, cx);
+                // (a parent's hello of version 2 was not heard, or it was tried to speak version 1)
+                if let (Whom::Child(_), Some(dial)) = (whom, self.dials.get_mut(whom)) {
+                    dial.is_mute = conn.is_mute && !conn.is_old;
+                    dial.is_old = dial.is_mute && was_mute;
+                }
+            }
         }
     }
 
     /// Leaves the parent for the one at this place, and says so.
-    fn leave(&mut self, at: usize, now: Instant, to: &mut dyn Handler) {
+    fn leave(&mut self, at: usize, cx: &mut Context<'_>) {
         let is_same = at == self.parents.at();
         self.dial_with(&Whom::Parent, |dial| dial.under_way = false);
         if let Some(id) = self.above.take() {
-            let conn = self
-                .conns
-                .get(&id)
-                .filter(|it| it.greeted.is_some() && !it.is_old);
-            if conn.is_some() && !is_same {
+            let conn = self.conns.get(&id).filter(|it| it.greeted().is_some());
+            if conn.map_or(false, |it| !it.is_old && !is_same) {
                 self.send(id, wire::GOODBYE.into());
-                self.write_one(id, now, to);
+                self.write_one(id, cx);
             }
-            let why = if is_same {
-                "it connected anew"
-            } else {
-                "another parent is taken"
+            let why = match is_same {
+                true => "it connected anew",
+                false => "another parent is taken",
             };
-            self.close(id, why, now, to);
+            self.leave_line(id, why, cx);
         }
-        self.leave_store_of_parent(now);
+        self.leave_store_of_parent(cx.now);
     }
 
     /// Who was left is called again after a while, or the next one is.
@@ -938,8 +933,7 @@ impl<L: Line, A: Clone + PartialEq + fmt::Display> Peers<L, A> {
         made: bool,
         greeted: Option<Instant>,
         why: &str,
-        now: Instant,
-        to: &mut dyn Handler,
+        cx: &mut Context<'_>,
     ) {
         let all = self.all(whom);
         let dial = match self.dials.get_mut(whom) {
@@ -948,9 +942,9 @@ impl<L: Line, A: Clone + PartialEq + fmt::Display> Peers<L, A> {
         };
         dial.under_way &= !made;
         dial.is_old = false;
-        if greeted.map_or(false, |since| now >= since + SHORT) {
+        if greeted.map_or(false, |since| cx.now >= since + SHORT) {
             dial.failed = 0;
-            dial.next = now + Duration::from_millis(self.life % 50);
+            dial.next = Some(cx.now + Duration::from_millis(self.life % 50));
             if *whom == Whom::Parent {
                 self.parents.tries(0);
             }
@@ -959,46 +953,32 @@ impl<L: Line, A: Clone + PartialEq + fmt::Display> Peers<L, A> {
             if greeted.is_some() {
                 dial.failed = dial.failed.min(all);
             }
-            self.failed(whom, why, now, to);
+            self.fails(whom, why, cx);
         }
     }
 
     /// Closes what waited too long, and drops the backlog of who is away too long.
     pub fn tick(&mut self, now: Instant, to: &mut dyn Handler) {
-        let late = |conn: &Conn<L>| conn.until.map_or(false, |at| now >= at);
-        let late: Vec<u64> = self
-            .conns
-            .iter()
-            .filter(|(_, conn)| late(conn))
-            .map(|(id, _)| *id)
-            .collect();
-        for id in late {
-            let is_unknown = self
-                .conns
-                .get(&id)
-                .map_or(false, |conn| conn.whom.is_none() && !conn.made);
-            self.late = (self.late + u32::from(is_unknown)).min(LATER);
-            let whom = self.conns.get(&id).filter(|conn| conn.greeted.is_some());
-            if let Some((Whom::Child(name), _)) = whom.and_then(|conn| conn.whom.clone()) {
-                if let Some(link) = self.relay.child_mut(&name) {
-                    link.timeouts += 1;
-                    link.late = link.late.saturating_add(1);
-                }
+        let cx = &mut Context { now, to };
+        for id in self.all_that(|conn| conn.until.map_or(false, |at| now >= at)) {
+            match self.conns.get(&id).map(|conn| &conn.state) {
+                Some(State::Link(Whom::Child(name), _, Some(_))) => self.relay.was_late(name),
+                Some(State::Link(..) | State::Looks(..)) | None => (),
+                Some(_) => self.late = (self.late + 1).min(LATER),
             }
-            self.close(id, "nothing came in time", now, to);
+            self.leave_line(id, "nothing came in time", cx);
         }
         for name in self.relay.evict(self.setup.evict, now) {
-            to.on_fact("evicted", format_args!("{name}"));
-            self.forget_any(&name, to);
+            fact!(cx, "evicted", "{name}");
+            self.forget_any(&name, cx);
         }
         self.tell(now);
     }
 
     /// Where any child may connect, one that is gone is a child no longer.
-    fn forget_any(&mut self, name: &str, to: &mut dyn Handler) {
+    fn forget_any(&mut self, name: &str, cx: &mut Context<'_>) {
         if self.setup.children == Children::Any {
-            self.relay.remove(name);
-            to.on_gone(name);
+            self.forget(name, cx);
         }
     }
 
@@ -1012,9 +992,10 @@ impl<L: Line, A: Clone + PartialEq + fmt::Display> Peers<L, A> {
         now: Instant,
         to: &mut dyn Handler,
     ) {
+        let cx = &mut Context { now, to };
         // (those that were put off come first: else a few that are always ready would come alone)
         let mut seen = BTreeSet::new();
-        let all = std::mem::take(&mut self.again).into_iter().chain(ready);
+        let all = mem::take(&mut self.again).into_iter().chain(ready);
         let all = all.filter(|id| seen.insert(*id));
         let waits = |id: &u64| self.conns.get(id).map_or(false, Conn::is_greeting);
         let (waiting, mut ready): (Vec<u64>, Vec<u64>) = all.partition(waits);
@@ -1022,20 +1003,19 @@ impl<L: Line, A: Clone + PartialEq + fmt::Display> Peers<L, A> {
         ready.extend_from_slice(first);
         self.again.extend_from_slice(later);
         for id in ready {
-            match self.read_one(id, now, to) {
-                Ok(()) => self.write_one(id, now, to),
+            match self.read_one(id, cx) {
+                Ok(()) => self.write_one(id, cx),
                 Err(why) => {
-                    if let Some(conn) = self.conns.get_mut(&id) {
-                        conn.is_mute = !conn.has_said && conn.output.is_empty();
-                    }
-                    self.close(id, &why, now, to);
+                    let is_mute = |it: &Conn<L>| !it.has_said && it.output.is_empty();
+                    self.conn_with(id, |conn| conn.is_mute = is_mute(conn));
+                    self.leave_line(id, &why, cx);
                 }
             }
         }
         self.tell(now);
     }
 
-    fn read_one(&mut self, id: u64, now: Instant, to: &mut dyn Handler) -> Result<(), String> {
+    fn read_one(&mut self, id: u64, cx: &mut Context<'_>) -> Result<(), String> {
         let (mut total, mut reads) = (0, 0);
         while let Some(conn) = self.conns.get_mut(&id) {
             reads += 1;
@@ -1044,7 +1024,7 @@ impl<L: Line, A: Clone + PartialEq + fmt::Display> Peers<L, A> {
                 Ok(count) => {
                     total += count;
                     conn.input.extend_from_slice(&self.space[..count]);
-                    self.messages(id, now, to)?;
+                    self.messages(id, cx)?;
                 }
                 Err(e) if e.kind() == ErrorKind::WouldBlock => break,
                 Err(e) if e.kind() == ErrorKind::Interrupted => (),
@@ -1061,17 +1041,13 @@ impl<L: Line, A: Clone + PartialEq + fmt::Display> Peers<L, A> {
 
     /// Writes what can be written now.
     pub fn write(&mut self, now: Instant, to: &mut dyn Handler) {
-        let ids: Vec<u64> = self
-            .lines()
-            .filter(|(_, _, has)| *has)
-            .map(|(id, ..)| id)
-            .collect();
-        for id in ids {
-            self.write_one(id, now, to);
+        let cx = &mut Context { now, to };
+        for id in self.all_that(|conn| !conn.output.is_empty()) {
+            self.write_one(id, cx);
         }
     }
 
-    fn write_one(&mut self, id: u64, now: Instant, to: &mut dyn Handler) {
+    fn write_one(&mut self, id: u64, cx: &mut Context<'_>) {
         let conn = match self.conns.get_mut(&id) {
             Some(conn) => conn,
             None => return,
@@ -1084,251 +1060,203 @@ impl<L: Line, A: Clone + PartialEq + fmt::Display> Peers<L, A> {
                 continue;
             }
             match conn.line.write(left) {
-                Ok(0) => return self.close(id, "it takes nothing", now, to),
+                Ok(0) => return self.leave_line(id, "it takes nothing", cx),
                 Ok(count) => conn.written += count,
                 Err(e) if e.kind() == ErrorKind::WouldBlock => return,
                 Err(e) if e.kind() == ErrorKind::Interrupted => (),
-                Err(e) => return self.close(id, &e.to_string(), now, to),
+                Err(e) => return self.leave_line(id, &e.to_string(), cx),
             }
         }
     }
 
     /// Handles each whole message that a connection brought.
-    fn messages(
-        &mut self,
-        id: u64,
-        now: Instant,
-        to: &mut dyn Handler,
-    ) -> Result<(), &'static str> {
+    fn messages(&mut self, id: u64, cx: &mut Context<'_>) -> Taken {
         while let Some(conn) = self.conns.get_mut(&id) {
             if conn.output.len() > UNREAD {
                 return Err("it reads nothing");
             }
             conn.has_said = true;
-            let expect = match (&conn.whom, conn.greeted, &conn.look) {
-                (Some((Whom::Parent, _)), Some(_), _) => Expect::Frames,
-                (Some((Whom::Child(_), _)), Some(_), _) => Expect::Acks,
-                (None, _, Look::Asks(_, _, true) | Look::Comes(..)) => Expect::Way,
-                _ => Expect::Hello,
-            };
+            let expect = conn.expects();
             let message = wire::take(&mut conn.input, expect)?;
             match (expect, &message) {
-                (Expect::Frames, Some(_)) => conn.is_alive(now),
-                (Expect::Frames, None) => conn.waits_for_rest(now),
+                (Expect::Frames, Some(_)) => conn.is_alive(cx.now),
+                (Expect::Frames, None) => conn.waits_for_rest(cx.now),
                 _ => (),
             }
-            let message = match message {
-                Some(message) => message,
+            match message {
+                Some(message) => self.message(id, message, cx)?,
                 None => break,
-            };
-            if let Message::Hello(hello) | Message::Look(hello) = &message {
-                conn.says = hello.from.clone();
             }
-            match (conn.whom.clone(), message) {
-                (_, Message::Hello(hello)) => self.greets(id, &hello, now, to)?,
-                (None, Message::Look(hello)) => self.look(id, &hello, now, to)?,
-                (Some((Whom::Child(_), _)), Message::Look(_)) => {
-                    return Err("it has another parent");
-                }
-                (None, Message::Way(way)) => self.way_came(id, way, now, to)?,
-                (Some((Whom::Parent, _)), Message::Way(way)) => self.parents.hears(way)?,
-                (Some((Whom::Parent, number)), Message::Frame(label, body)) => {
-                    self.frame(id, number, label, &body, now, to);
-                }
-                (Some((Whom::Child(name), number)), Message::Ack(label)) => {
-                    // (else whoever acknowledges without end would be sent to without end)
-                    let waits = conn.output.iter().any(|it| !matches!(it, Chunk::Way(_)));
-                    if conn.until.take().is_none() || waits {
-                        return Err("it acknowledges what was not sent");
-                    }
-                    // (the first one after a hello may be no answer)
-                    if let Some(link) = self.relay.child_mut(&name) {
-                        if let Some(sent) = link.sent {
-                            link.answered(now - sent);
-                        }
-                    }
-                    self.relay.on_ack(&name, number, label);
-                    self.poll(&name, now);
-                }
-                (Some((Whom::Child(name), _)), Message::Report(bytes)) => {
-                    if !to.on_report(&name, &bytes, now) {
-                        return Err("it sent no report");
-                    }
-                }
-                (Some((Whom::Child(name), _)), Message::Goodbye) => {
-                    self.relay.leave_behind(&name);
-                    self.forget_any(&name, to);
-                    return Err("it takes another parent");
-                }
-                _ => return Err("it is no message"),
+        }
+        Ok(())
+    }
+
+    fn message(&mut self, id: u64, message: Message, cx: &mut Context<'_>) -> Taken {
+        let conn = self.conns.get_mut(&id).ok_or("it is gone")?;
+        match (conn.link(), message) {
+            (_, Message::Hello(hello)) => return self.greets(id, hello, cx),
+            (_, Message::Look(hello)) => return self.looks(id, &hello, cx),
+            (None, Message::Way(way)) => return self.way_came(id, way, cx),
+            (Some((Whom::Parent, _)), Message::Way(way)) => return self.parents.hears(way),
+            (Some((Whom::Parent, number)), Message::Frame(label, body)) => {
+                let came = self.relay.on_frame(number, label, &body);
+                self.came(came, &body, cx);
+                self.acknowledge(id);
             }
+            (Some((Whom::Child(name), number)), Message::Ack(label)) => {
+                // (else whoever acknowledges without end would be sent to without end)
+                let waits = conn.output.iter().any(|it| !matches!(it, Chunk::Way(_)));
+                if conn.until.take().is_none() || waits {
+                    return Err("it acknowledges what was not sent");
+                }
+                self.relay.on_ack(&name, number, label, cx.now);
+                self.poll(&name, cx.now);
+            }
+            (Some((Whom::Child(name), _)), Message::Report(bytes)) => {
+                if !cx.to.on_report(&name, &bytes, cx.now) {
+                    return Err("it sent no report");
+                }
+            }
+            (Some((Whom::Child(name), _)), Message::Goodbye) => {
+                self.relay.leave_behind(&name);
+                self.forget_any(&name, cx);
+                return Err("it takes another parent");
+            }
+            _ => return Err("it is no message"),
         }
         Ok(())
     }
 
     // ---- What is said first
 
-    fn greets(
-        &mut self,
-        id: u64,
-        hello: &Hello,
-        now: Instant,
-        to: &mut dyn Handler,
-    ) -> Result<(), &'static str> {
-        let made = self.conns.get(&id).and_then(|conn| conn.whom.clone());
-        // (a child that was told no name of its parent says none)
+    /// Who says this hello or look, and of a parent, which one.
+    fn who(&mut self, id: u64, hello: &Hello) -> Result<(Whom, usize), &'static str> {
+        let says = format!(", which calls itself {}", hello.from);
+        self.conn_with(id, |conn| conn.says = says);
+        let conn = self.conns.get(&id).ok_or("it is gone")?;
         let is_meant = hello.to == self.setup.name;
-        let (whom, at) = match &made {
-            Some((whom, _)) => {
-                let name = match whom {
-                    Whom::Parent => {
-                        let parent = self.setup.parents.get(self.parents.at());
-                        parent.and_then(|parent| parent.name.as_ref())
-                    }
-                    Whom::Child(name) => Some(name),
-                    Whom::Candidate(_) => None,
-                };
-                if !is_meant || name.map_or(false, |name| *name != hello.from) {
-                    return Err("its hello has other names");
-                }
-                (whom.clone(), self.parents.at())
-            }
-            None if !is_meant && !hello.to.is_empty() => return Err("it means another agent"),
-            None => self
+        let (whom, at) = match &conn.state {
+            State::Looks(whom, at, _) => (whom.clone(), *at),
+            State::Link(whom, ..) => (whom.clone(), self.parents.at()),
+            // (a child that was told no name of its parent says none)
+            _ if !is_meant && !hello.to.is_empty() => return Err("it means another agent"),
+            _ => self
                 .caller(&hello.from)
                 .ok_or("its name is none of a child")?,
         };
-        if !self
-            .conns
-            .get(&id)
-            .map_or(false, |conn| conn.line.may_be(&hello.from))
-        {
+        let name = self.name_of(&whom, at);
+        if name.map_or(false, |name| *name != hello.from) || (conn.made && !is_meant) {
+            return Err("its hello has other names");
+        } else if !conn.line.may_be(&hello.from) {
             return Err("its certificate has another name");
         }
-        let made = made.map(|(_, number)| number);
+        Ok((whom, at))
+    }
+
+    fn greets(&mut self, id: u64, hello: Hello, cx: &mut Context<'_>) -> Taken {
+        let (whom, at) = self.who(id, &hello)?;
         let is_old = hello.version == OLD;
-        self.conn_with(id, |conn| conn.is_old = is_old);
-        match (whom, made) {
-            (Whom::Parent, None) if !is_old => {
-                // (nothing has changed yet: first its way is to come)
-                let look = Look::Comes(at, hello.clone());
-                self.conn_with(id, |conn| conn.look = look);
-                Ok(())
+        let conn = self.conns.get_mut(&id).ok_or("it is gone")?;
+        conn.is_old = is_old;
+        match (whom, conn.link(), &conn.state) {
+            (.., State::Looks(..)) | (Whom::Candidate(_), ..) => Err("it is no hello"),
+            (Whom::Child(name), link, _) => {
+                let made = link.map(|(_, number)| number);
+                self.child_greets(id, made, &name, &hello, cx)
             }
-            (Whom::Parent, _) => {
-                let old = self.parents.old(at);
-                if made.is_none() {
-                    self.parents.looked(at, &old)?;
-                    self.leave(at, now, to);
-                }
+            (Whom::Parent, Some((_, number)), _) => {
                 if is_old {
-                    self.parents.took(at, old);
+                    self.parents.took(at, self.parents.old(at));
                 }
-                self.parent_greets(id, made, hello, now, to)
+                self.parent_greets(id, Some(number), &hello, cx)
             }
-            (Whom::Child(name), _) => self.child_greets(id, made, &name, hello, now, to),
-            (Whom::Candidate(_), _) => Err("it is no hello"),
+            (Whom::Parent, None, _) => {
+                // (nothing has changed yet: first its way is to come, or it is of version 1)
+                conn.state = State::Comes(at, hello);
+                match is_old {
+                    true => self.way_came(id, self.parents.old(at), cx),
+                    false => Ok(()),
+                }
+            }
         }
     }
 
     /// An end looks at this one, or is a candidate that answers.
-    fn look(
-        &mut self,
-        id: u64,
-        hello: &Hello,
-        now: Instant,
-        to: &mut dyn Handler,
-    ) -> Result<(), &'static str> {
-        let own = &self.setup.name;
-        let conn = self.conns.get(&id).ok_or("it is gone")?;
-        let (may_be, is_meant) = (conn.line.may_be(&hello.from), hello.to == *own);
-        let caller = self
-            .caller(&hello.from)
-            .filter(|(whom, _)| *whom != Whom::Parent);
-        let why = match &conn.look {
-            _ if !may_be => "its certificate has another name",
-            Look::Asks(whom, at, false) => {
-                let name = self.candidate(*at).and_then(|it| it.name.as_ref());
-                if !is_meant || name.map_or(false, |name| *name != hello.from) {
-                    return Err("its hello has other names");
-                }
-                let look = Look::Asks(whom.clone(), *at, true);
-                self.conn_with(id, |conn| conn.look = look);
+    fn looks(&mut self, id: u64, hello: &Hello, cx: &mut Context<'_>) -> Taken {
+        let who = self.who(id, hello);
+        let conn = self.conns.get_mut(&id).ok_or("it is gone")?;
+        let why = match (&mut conn.state, who) {
+            (State::Link(Whom::Child(_), ..), _) => return Err("it has another parent"),
+            (State::Link(..), _) => return Err("it is no message"),
+            (State::Looks(_, _, has_come), Ok(_)) => {
+                *has_come = true;
                 return Ok(());
             }
-            Look::No if conn.made => "it is no hello",
-            Look::No if !is_meant && !hello.to.is_empty() => "it means another agent",
-            Look::No if caller.is_none() => "its name is none of a child",
-            Look::No => {
-                self.say(id, hello.from.clone(), true);
+            (State::Accepted, Ok((Whom::Child(name), _))) => {
+                self.say(id, name);
                 self.say_way(id);
-                self.answered(id, now);
+                self.answered(id, cx.now);
                 return Ok(());
             }
+            (State::Accepted, Ok(_)) => "its name is none of a child",
+            (State::Accepted | State::Looks(..), Err(why)) => why,
             _ => "it is no hello",
         };
         // (so much says which version this is, and else nothing)
         self.send(id, [wire::LOOK, &[VERSION]].concat());
-        self.write_one(id, now, to);
+        self.write_one(id, cx);
         Err(why)
     }
 
     fn answered(&mut self, id: u64, now: Instant) {
-        let patience = self.setup.ack_timeout * (1 << self.late);
-        if let Some(conn) = self.conns.get_mut(&id) {
-            (conn.look, conn.until) = (Look::Answered, Some(now + patience));
-        }
+        let until = Some(self.greets_until(now));
+        self.conn_with(id, |conn| {
+            (conn.state, conn.until) = (State::Answered, until)
+        });
     }
 
     /// A candidate says its way. It becomes the parent, or not.
-    fn way_came(
-        &mut self,
-        id: u64,
-        way: Way,
-        now: Instant,
-        to: &mut dyn Handler,
-    ) -> Result<(), &'static str> {
+    fn way_came(&mut self, id: u64, way: Way, cx: &mut Context<'_>) -> Taken {
         let conn = self.conns.get(&id).ok_or("it is gone")?;
-        let (since, look) = (conn.since, conn.look.clone());
-        match look {
-            Look::Asks(whom, at, true) => {
+        let since = conn.since;
+        match conn.state.clone() {
+            State::Looks(whom, at, true) => {
                 self.parents.looked(at, &way)?;
-                self.leave(at, now, to);
+                self.leave(at, cx);
                 if whom != Whom::Parent {
-                    self.look_ended(&whom, false, "", now, to);
+                    self.look_ended(&whom, false, "", cx);
                 }
                 self.parents.took(at, way);
                 let number = self.relay.made().ok_or("no number is left")?;
-                let took = self.dials.get_mut(&Whom::Parent).map(|dial| {
-                    dial.under_way = true;
-                    dial.took
-                });
                 // (the hello takes as long as the look did)
-                let took = took.unwrap_or(Duration::ZERO).max(now - since);
-                let until = now + self.later(took, 0);
-                if let Some(conn) = self.conns.get_mut(&id) {
-                    (conn.look, conn.until) = (Look::No, Some(until));
-                    conn.whom = Some((Whom::Parent, number));
-                }
+                let mut took = cx.now - since;
+                self.dial_with(&Whom::Parent, |dial| {
+                    dial.under_way = true;
+                    took = took.max(dial.took);
+                });
+                let until = Some(cx.now + self.later(took, 0));
+                let state = State::Link(Whom::Parent, number, None);
+                self.conn_with(id, |conn| (conn.state, conn.until) = (state, until));
                 self.above = Some(id);
-                self.say(id, self.name_of(at), false);
-                Ok(())
+                let name = self.name_of(&Whom::Parent, at).cloned();
+                self.say(id, name.unwrap_or_default());
             }
-            Look::Comes(at, hello) => match self.parents.looked(at, &way) {
+            State::Comes(at, hello) => match self.parents.looked(at, &way) {
                 Ok(()) => {
-                    self.leave(at, now, to);
+                    self.leave(at, cx);
                     self.parents.took(at, way);
-                    self.parent_greets(id, None, &hello, now, to)
+                    self.parent_greets(id, None, &hello, cx)?;
                 }
+                Err(why) if hello.version == OLD => return Err(why),
                 Err(_) => {
                     // (it is to connect again later, and no other life is told)
-                    self.say(id, hello.from, true);
-                    self.answered(id, now);
-                    Ok(())
+                    self.say(id, hello.from);
+                    self.answered(id, cx.now);
                 }
             },
-            _ => Err("it is no message"),
+            _ => return Err("it is no message"),
         }
+        Ok(())
     }
 
     /// Who an agent of this name is, where it connects itself; of a parent, which one.
@@ -1352,27 +1280,25 @@ impl<L: Line, A: Clone + PartialEq + fmt::Display> Peers<L, A> {
         id: u64,
         made: Option<Connection>,
         hello: &Hello,
-        now: Instant,
-        to: &mut dyn Handler,
-    ) -> Result<(), &'static str> {
-        let number = made
-            .or_else(|| self.relay.accepted())
-            .ok_or("no number is left")?;
+        cx: &mut Context<'_>,
+    ) -> Taken {
+        let number = made.or_else(|| self.relay.accepted());
+        let number = number.ok_or("no number is left")?;
         self.above = Some(id);
-        self.begins(id, Whom::Parent, number, now);
-        let anew = self.above_life.replace(hello.life) != Some(hello.life);
-        self.reconnects += 1;
-        let count = if anew { ", a new count" } else { "" };
-        to.on_fact(
-            "connected",
-            format_args!("the parent {}{count}", hello.from),
-        );
+        self.begins(id, Whom::Parent, number, cx.now);
+        self.parent_is_there(hello, cx);
         if made.is_none() {
             // (the end that accepted has the first turn)
-            self.say(id, hello.from.clone(), false);
+            self.say(id, hello.from.clone());
             self.acknowledge(id);
         }
         Ok(())
+    }
+
+    fn parent_is_there(&mut self, Hello { life, from, .. }: &Hello, cx: &mut Context<'_>) {
+        let anew = self.above_life.replace(*life) != Some(*life);
+        self.reconnects += 1;
+        fact!(cx, "connected", "the parent {from}{}", count(anew));
     }
 
     fn child_greets(
@@ -1381,35 +1307,33 @@ impl<L: Line, A: Clone + PartialEq + fmt::Display> Peers<L, A> {
         made: Option<Connection>,
         name: &str,
         hello: &Hello,
-        now: Instant,
-        to: &mut dyn Handler,
-    ) -> Result<(), &'static str> {
+        cx: &mut Context<'_>,
+    ) -> Taken {
         if let Some(old) = self.children.remove(name) {
-            self.close(old, "it connected anew", now, to);
+            self.leave_line(old, "it connected anew", cx);
         }
-        self.relay.add(name, now);
+        self.relay.add(name, cx.now);
         let clashes = |relay: &Relay| relay.child(name).map_or(0, |link| link.clashes);
         let before = clashes(&self.relay);
-        let greeted = self.relay.greeted(name, hello.life, hello.label, made, now);
+        let (life, label) = (hello.life, hello.label);
+        let greeted = self.relay.greeted(name, life, label, made, cx.now);
         let (number, anew) = greeted.ok_or("no number is left")?;
-        let count = if anew { ", a new count" } else { "" };
-        to.on_fact("connected", format_args!("{name}{count}"));
+        fact!(cx, "connected", "{name}{}", count(anew));
         if before == 0 && clashes(&self.relay) > 0 {
-            to.on_fact(
-                "clash",
-                format_args!("{name}: two processes have this name"),
-            );
+            fact!(cx, "clash", "{name}: two processes have this name");
         }
         self.children.insert(name.into(), id);
-        self.begins(id, Whom::Child(name.into()), number, now);
-        let patience = self.patience(name);
-        match self.conns.get_mut(&id) {
+        self.begins(id, Whom::Child(name.into()), number, cx.now);
+        match made {
             // (a child that accepted has the first turn)
-            Some(conn) if made.is_some() => conn.until = Some(now + patience),
-            _ => self.say(id, name.into(), false),
+            Some(_) => {
+                let until = cx.now + self.patience(name);
+                self.conn_with(id, |conn| conn.until = Some(until));
+            }
+            None => self.say(id, name.into()),
         }
         self.say_way(id);
-        self.poll(name, now);
+        self.poll(name, cx.now);
         Ok(())
     }
 
@@ -1418,31 +1342,15 @@ impl<L: Line, A: Clone + PartialEq + fmt::Display> Peers<L, A> {
             if let (true, Some(dial)) = (conn.made, self.dials.get_mut(&whom)) {
                 dial.took = now - conn.since;
             }
-            conn.greeted = Some(now);
             conn.until = None;
-            conn.look = Look::No;
             if whom == Whom::Parent {
                 conn.is_alive(now);
             }
-            conn.whom = Some((whom, number));
+            conn.state = State::Link(whom, number, Some(now));
         }
     }
 
     // ---- What travels
-
-    fn frame(
-        &mut self,
-        id: u64,
-        number: Connection,
-        label: u16,
-        body: &Arc<Body>,
-        now: Instant,
-        to: &mut dyn Handler,
-    ) {
-        let came = self.relay.on_frame(number, label, body);
-        self.came(came, body, now, to);
-        self.acknowledge(id);
-    }
 
     fn acknowledge(&mut self, id: u64) {
         if let Some(label) = self.relay.ack() {
@@ -1450,31 +1358,26 @@ impl<L: Line, A: Clone + PartialEq + fmt::Display> Peers<L, A> {
         }
     }
 
-    /// A frame came from above, and brought an item or not; and who was left behind for it.
-    fn came(
-        &mut self,
-        (fresh, left): (bool, Vec<String>),
-        body: &Arc<Body>,
-        now: Instant,
-        to: &mut dyn Handler,
-    ) {
-        self.left_behind(left, now, to);
-        if fresh && to.on_item(body, now) {
-            self.relay.last_is_a_table();
-            self.says_again = true;
-        }
-        self.poll_all(now);
-    }
-
     /// At the root: puts a body at the end of the list.
     pub fn publish(&mut self, body: &Arc<Body>, now: Instant, to: &mut dyn Handler) {
         let left = self.relay.publish(body);
-        if to.on_item(body, now) {
+        self.came((true, left), body, &mut Context { now, to });
+    }
+
+    /// A frame came from above, and brought an item or not; and who was left behind for it.
+    fn came(&mut self, (fresh, left): (bool, Vec<String>), body: &Arc<Body>, cx: &mut Context<'_>) {
+        for name in left {
+            fact!(cx, "left-behind", "{name}");
+            if let Some(id) = self.children.get(&name) {
+                self.leave_line(*id, "it is too far behind", cx);
+            }
+        }
+        if fresh && cx.to.on_item(body, cx.now) {
             self.relay.last_is_a_table();
             self.says_again = true;
         }
-        self.left_behind(left, now, to);
-        self.poll_all(now);
+        let names: Vec<String> = self.children.keys().cloned().collect();
+        names.iter().for_each(|name| self.poll(name, cx.now));
     }
 
     /// Says this to the parent, for watching alone: whether there is one that takes it now.
@@ -1484,27 +1387,9 @@ impl<L: Line, A: Clone + PartialEq + fmt::Display> Peers<L, A> {
         }
         let conn = self.above.and_then(|id| self.conns.get_mut(&id));
         // (what waits there already is not added to)
-        match conn.filter(|conn| conn.greeted.is_some() && conn.output.is_empty()) {
-            Some(conn) => {
-                conn.output.push_back(Chunk::Bytes(wire::report(report)));
-                true
-            }
-            None => false,
-        }
-    }
-
-    fn left_behind(&mut self, names: Vec<String>, now: Instant, to: &mut dyn Handler) {
-        for name in names {
-            to.on_fact("left-behind", format_args!("{name}"));
-            if let Some(id) = self.children.get(&name) {
-                self.close(*id, "it is too far behind", now, to);
-            }
-        }
-    }
-
-    fn poll_all(&mut self, now: Instant) {
-        let names: Vec<String> = self.children.keys().cloned().collect();
-        names.iter().for_each(|name| self.poll(name, now));
+        let conn = conn.filter(|conn| conn.greeted().is_some() && conn.output.is_empty());
+        let report = || Chunk::Bytes(wire::report(report));
+        conn.map(|conn| conn.output.push_back(report())).is_some()
     }
 
     /// How long a child's next answer may take.
@@ -1523,25 +1408,28 @@ impl<L: Line, A: Clone + PartialEq + fmt::Display> Peers<L, A> {
     /// Sends a child what is to be sent to it now.
     fn poll(&mut self, name: &str, now: Instant) {
         let patience = self.patience(name);
-        let conn = self
-            .children
-            .get(name)
-            .and_then(|id| self.conns.get_mut(id));
-        let conn = match conn {
+        let id = self.children.get(name);
+        let conn = match id.and_then(|id| self.conns.get_mut(id)) {
             Some(conn) => conn,
             None => return,
         };
         if let Some((label, body)) = self.relay.poll(name, now) {
-            let length = body.bytes.len();
-            let takes = Duration::from_secs(length as u64 / SLOWEST);
-            conn.until = Some(now + patience + takes);
+            conn.until = Some(now + patience + travels(body.bytes.len()));
             let mut head = wire::frame(label, &body);
-            if length <= JOINED {
+            if body.bytes.len() <= JOINED {
                 head.extend_from_slice(&body.bytes);
                 conn.output.push_back(Chunk::Bytes(head));
             } else {
                 conn.output.extend([Chunk::Bytes(head), Chunk::Body(body)]);
             }
         }
+    }
+}
+
+/// What is said of a link that begins anew, or goes on.
+fn count(anew: bool) -> &'static str {
+    match anew {
+        true => ", a new count",
+        false => "",
     }
 }

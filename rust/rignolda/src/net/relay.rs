@@ -51,7 +51,7 @@ impl Above {
 /// assert!(anew);
 /// let (label, body) = root.poll("leaf", now).expect("there is a table to send");
 /// assert!(leaf.on_frame(below, label, &body).0);
-/// root.on_ack("leaf", above, leaf.ack().expect("it has the turn"));
+/// root.on_ack("leaf", above, leaf.ack().expect("it has the turn"), now);
 /// assert_eq!(root.poll("leaf", now), None);
 /// ```
 pub struct Relay {
@@ -76,11 +76,10 @@ pub struct Link {
     connection: Option<Connection>,
     /// The body of the item that the sender holds.
     held: Option<Arc<Body>>,
-    /// The life of the child's process with which this link began; none where it never began.
-    life: Option<u64>,
-    /// Those of the processes that it had before, the last one first.
+    /// The life of the child's process with which this link began, and then those of the processes
+    /// that it had before; none where it never began.
     lives: VecDeque<u64>,
-    /// How often one of these came back: no process does, so two of them have one name.
+    /// How often one of before came back: no process does, so two of them have one name.
     pub clashes: u64,
     left: bool,
     /// Whether it lies in words of a store, and the child's is there.
@@ -91,11 +90,11 @@ pub struct Link {
     pub sent: Option<Instant>,
     /// How many connections it had.
     pub connections: u64,
-    /// How many were left since nothing came in time. It is counted by the caller.
+    /// How many were left since nothing came in time.
     pub timeouts: u64,
-    /// How many of these came after the last answer to a frame. It is counted by the caller.
+    /// How many of these came after the last answer to a frame.
     pub late: u32,
-    /// How long that answer took, as the caller measures it, or nearly so long as one before it.
+    /// How long that answer took, or nearly so long as one before it.
     pub took: Duration,
     /// What was counted in earlier counts of the link.
     acknowledged: u64,
@@ -118,29 +117,13 @@ impl Link {
         self.ignored + self.session.ignored()
     }
 
-    /// An answer to a frame took so long. (After a slow one another one soon may be as slow.)
-    pub(super) fn answered(&mut self, took: Duration) {
-        self.late = 0;
-        self.took = took.max(self.took - self.took / 32);
-    }
-
-    /// The frame that its sender gave, and the body: of a new item that of its place.
-    fn hold(
-        &mut self,
-        frame: Frame,
-        before: u64,
-        node: &Node,
-        bodies: &VecDeque<Arc<Body>>,
-        now: Instant,
-    ) -> Option<(u16, Arc<Body>)> {
-        if self.session.offered() != before {
-            self.held = bodies.get((before - node.forgotten()) as usize).cloned();
-            self.sent = None;
+    /// What was sent is answered, if that was a frame. (After a slow answer another one soon may be
+    /// as slow.)
+    fn answered(&mut self, now: Instant) {
+        if let Some(sent) = self.sent.take() {
+            self.late = 0;
+            self.took = (now - sent).max(self.took - self.took / 32);
         }
-        self.sent = self.sent.or(Some(now));
-        let body = self.held.clone()?;
-        debug_assert_eq!(body.item, frame.item);
-        Some((frame.label, body))
     }
 }
 
@@ -167,10 +150,6 @@ impl Relay {
         }
     }
 
-    fn node(&self) -> &Node {
-        self.above.node()
-    }
-
     /// The link above.
     fn below(&mut self) -> Option<&mut Session<Node>> {
         match &mut self.above {
@@ -186,7 +165,7 @@ impl Relay {
 
     /// How many frames were old.
     pub fn old_frames(&self) -> u64 {
-        self.node().old_frames()
+        self.above.node().old_frames()
     }
 
     // ---- The link above
@@ -240,12 +219,9 @@ impl Relay {
         body: &Arc<Body>,
         give: impl FnOnce(&mut Session<Node>, Frame) -> bool,
     ) -> (bool, Vec<String>) {
-        let left = self.make_room();
-        let frame = Frame {
-            label,
-            item: body.item,
-        };
-        let fresh = self.below().map_or(false, |session| give(session, frame));
+        let (left, item) = (self.make_room(), body.item);
+        let below = self.below();
+        let fresh = below.map_or(false, |session| give(session, Frame { label, item }));
         if fresh {
             self.keep(body);
         }
@@ -273,7 +249,9 @@ impl Relay {
     /// The last item of the list is a whole table: what came before it is no longer kept for a
     /// child that begins anew.
     pub fn last_is_a_table(&mut self) {
-        self.table = self.keeps.then(|| self.node().child(self.params, 0, 1));
+        self.table = self
+            .keeps
+            .then(|| self.above.node().child(self.params, 0, 1));
         self.forget();
     }
 
@@ -282,7 +260,7 @@ impl Relay {
         let kept = self.bodies.len() as u64;
         self.table
             .as_ref()
-            .map_or(kept, |table| self.node().length() - table.offered())
+            .map_or(kept, |table| self.above.node().length() - table.offered())
     }
 
     /// Forgets what neither a child lacks nor a table has to be kept for.
@@ -310,19 +288,16 @@ impl Relay {
         let mut names = Vec::new();
         self.forget();
         while self.bodies.len() as u64 >= self.room || self.bytes > KEPT_BYTES {
-            let last = self.children.iter().filter(|(_, link)| !link.left);
-            let last = last.min_by_key(|(_, link)| link.session.offered());
-            match last.map(|(name, link)| (name.clone(), link.session.offered())) {
-                Some((name, offered))
-                    if self
-                        .table
-                        .as_ref()
-                        .map_or(true, |table| offered <= table.offered()) =>
-                {
+            let all = self.children.iter().filter(|(_, link)| !link.left);
+            let all = all.map(|(name, link)| (link.session.offered(), name));
+            let table = self.table.as_ref().map_or(u64::MAX, Child::offered);
+            let last = all.min().filter(|(offered, _)| *offered <= table);
+            match last.map(|(_, name)| name.clone()) {
+                Some(name) => {
                     self.leave_behind(&name);
                     names.push(name);
                 }
-                _ => self.table = None,
+                None => self.table = None,
             }
             self.forget();
         }
@@ -341,21 +316,23 @@ impl Relay {
         self.children.get(name)
     }
 
-    /// The same, to count its timeouts.
-    pub fn child_mut(&mut self, name: &str) -> Option<&mut Link> {
-        self.children.get_mut(name)
+    /// Nothing came of a child in time.
+    pub fn was_late(&mut self, name: &str) {
+        if let Some(link) = self.children.get_mut(name) {
+            link.timeouts += 1;
+            link.late = link.late.saturating_add(1);
+        }
     }
 
     /// A child that may connect. Until it does, it holds nothing back.
     pub fn add(&mut self, name: &str, now: Instant) {
         self.keeps = true;
         if !self.children.contains_key(name) {
-            let session = Session::new(self.node().child(self.params, 0, 0));
+            let session = Session::new(self.above.node().child(self.params, 0, 0));
             let link = Link {
                 session,
                 connection: None,
                 held: None,
-                life: None,
                 lives: VecDeque::new(),
                 clashes: 0,
                 left: true,
@@ -418,8 +395,12 @@ impl Relay {
     /// begins anew at the last whole table, with this label. Whether it did.
     fn begin(&mut self, name: &str, life: u64, label: u16) -> Option<bool> {
         let link = self.children.get(name)?;
-        let anew = link.life != Some(life) || link.left;
-        let end = anew.then(|| self.node().child(self.params, label, self.since_table()));
+        let anew = link.lives.front() != Some(&life) || link.left;
+        let end = anew.then(|| {
+            self.above
+                .node()
+                .child(self.params, label, self.since_table())
+        });
         let link = self.children.get_mut(name)?;
         if let Some(end) = end {
             // (numbers of connections go on, so that an old one is never taken for a new one)
@@ -428,10 +409,10 @@ impl Relay {
             link.ignored += before.ignored();
             link.held = None;
             link.sent = None;
-            if let Some(old) = link.life.replace(life).filter(|old| *old != life) {
+            if link.lives.front() != Some(&life) {
                 link.clashes += u64::from(link.lives.contains(&life));
-                link.lives.push_front(old);
-                link.lives.truncate(LIVES);
+                link.lives.push_front(life);
+                link.lives.truncate(1 + LIVES);
             }
             link.left = false;
             self.moved = true;
@@ -465,17 +446,25 @@ impl Relay {
         let (link, node) = (self.children.get_mut(name)?, self.above.node());
         let before = link.session.offered();
         let frame = poll(&mut link.session, node)?;
-        self.moved |= link.session.offered() != before;
-        link.hold(frame, before, node, &self.bodies, now)
+        if link.session.offered() != before {
+            self.moved = true;
+            let place = (before - node.forgotten()) as usize;
+            (link.held, link.sent) = (self.bodies.get(place).cloned(), None);
+        }
+        link.sent = link.sent.or(Some(now));
+        let body = link.held.clone()?;
+        debug_assert_eq!(body.item, frame.item);
+        Some((frame.label, body))
     }
 
     /// Takes an acknowledgement of a child.
-    pub fn on_ack(&mut self, name: &str, connection: Connection, label: u16) {
+    pub fn on_ack(&mut self, name: &str, connection: Connection, label: u16, now: Instant) {
         if let Some(link) = self.children.get_mut(name) {
             if link.session.on_ack(connection, label) {
                 link.held = None;
             }
-            link.sent = None;
+            // (the first one after a hello may be no answer)
+            link.answered(now);
             if self.moved {
                 self.forget();
             }
@@ -519,13 +508,13 @@ impl Relay {
     }
 
     /// Takes an acknowledgement that a child's word shows: whether it is that of the sender's item.
-    pub fn on_word_ack(&mut self, name: &str, label: u16) -> bool {
+    pub fn on_word_ack(&mut self, name: &str, label: u16, now: Instant) -> bool {
         let link = self.children.get_mut(name).filter(|link| !link.left);
         let taken = link.map_or(false, |link| {
             let taken = link.session.on_word(label);
             if taken {
                 link.held = None;
-                link.sent = None;
+                link.answered(now);
             }
             taken
         });
@@ -546,9 +535,9 @@ impl Relay {
 
     /// Drops the backlog of each child that has been away for so long. They are named.
     pub fn evict(&mut self, after: Duration, now: Instant) -> Vec<String> {
-        let away = |link: &Link| !link.left && !link.is_connected() && now >= link.since + after;
-        let away = self.children.iter().filter(|(_, link)| away(link));
-        let names: Vec<String> = away.map(|(name, _)| name.clone()).collect();
+        let is_late = |link: &Link| now >= link.since + after;
+        let late = self.away().filter(|(_, link)| is_late(link));
+        let names: Vec<String> = late.map(|(name, _)| name.clone()).collect();
         names.iter().for_each(|name| self.leave_behind(name));
         if !names.is_empty() {
             self.forget();
@@ -558,11 +547,13 @@ impl Relay {
 
     /// When [`Relay::evict`] may have something to do next.
     pub fn evicts_at(&self, after: Duration) -> Option<Instant> {
-        let away = self
-            .children
-            .values()
-            .filter(|link| !link.left && !link.is_connected());
-        away.map(|link| link.since + after).min()
+        self.away().map(|(_, link)| link.since + after).min()
+    }
+
+    /// The children that are away, and hold something back.
+    fn away(&self) -> impl Iterator<Item = (&String, &Link)> {
+        let all = self.children.iter();
+        all.filter(|(_, link)| !link.left && !link.is_connected())
     }
 
     /// Whether what the child needs next was forgotten, so that it begins anew.
@@ -575,7 +566,7 @@ impl Relay {
         if link.left {
             return 0;
         }
-        self.node().backlog(link.session.end())
+        self.above.node().backlog(link.session.end())
     }
 
     /// The backlog of the child that is least behind, of those that are connected.

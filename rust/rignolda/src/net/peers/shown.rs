@@ -1,6 +1,6 @@
 //! What the words of links in a store show, and what follows from it.
 use super::words::{Place, What, Words};
-use super::{Handler, Line, Peers, Whom};
+use super::{count, fact, Context, Handler, Line, Peers, Whom};
 use crate::net::wire::{self, Expect, Hello, Message};
 use std::time::{Duration, Instant};
 use std::{fmt, mem};
@@ -18,14 +18,6 @@ fn word_of(mut bytes: Vec<u8>, from: &str, to: &str) -> Option<(Hello, Vec<u8>)>
     }
 }
 
-fn count(anew: bool) -> &'static str {
-    if anew {
-        ", a new count"
-    } else {
-        ""
-    }
-}
-
 impl<L: Line, A: Clone + PartialEq + fmt::Display> Peers<L, A> {
     /// What came of a turn.
     pub fn turned(
@@ -35,6 +27,7 @@ impl<L: Line, A: Clone + PartialEq + fmt::Display> Peers<L, A> {
         now: Instant,
         to: &mut dyn Handler,
     ) {
+        let cx = &mut Context { now, to };
         let mut places = mem::take(&mut self.stores);
         if let Some(place) = places.iter_mut().find(|place| place.address == *store) {
             let asked = place.asked.take().unwrap_or_default();
@@ -43,7 +36,7 @@ impl<L: Line, A: Clone + PartialEq + fmt::Display> Peers<L, A> {
                     let mut moved = false;
                     for ((whom, what), bytes) in asked.into_iter().zip(got) {
                         if let Some(words) = place.links.get_mut(&whom) {
-                            moved |= self.shown(&whom, what, words, bytes, now, to);
+                            moved |= self.shown(&whom, what, words, bytes, cx);
                         }
                     }
                     let slower = (place.pause * 2).min(self.setup.poll);
@@ -54,30 +47,28 @@ impl<L: Line, A: Clone + PartialEq + fmt::Display> Peers<L, A> {
                 Err(why) => {
                     for (whom, words) in mem::take(&mut place.links) {
                         self.leave_words(&whom, now);
-                        if words.since.is_some() {
-                            to.on_fact("closed", format_args!("{whom}: {why}"));
-                        }
-                        self.redial(&whom, true, words.since, &why, now, to);
+                        self.lost(&whom, words.since, &why, cx);
                     }
                 }
             }
         }
-        // (a call that is not under way any more has no link)
-        let dials = &self.dials;
-        let is_there = |whom: &Whom| dials.get(whom).map_or(false, |dial| dial.under_way);
-        for place in &mut places {
-            place.links.retain(|whom, _| is_there(whom));
-        }
+        places.iter_mut().for_each(|place| self.keep_called(place));
         self.stores = places;
         self.tell(now);
     }
 
-    /// The place of a parent in the list.
-    pub(super) fn place_of(&self, whom: &Whom) -> usize {
-        match whom {
-            Whom::Candidate(at) => *at,
-            _ => self.parents.at(),
+    /// A call that is not under way any more has no link.
+    fn keep_called(&self, place: &mut Place<A>) {
+        let is_called = |whom: &Whom| self.dials.get(whom).map_or(false, |it| it.under_way);
+        place.links.retain(|whom, _| is_called(whom));
+    }
+
+    /// A link that was there since then, or is not there yet, is to be called again.
+    fn lost(&mut self, whom: &Whom, since: Option<Instant>, why: &str, cx: &mut Context<'_>) {
+        if since.is_some() {
+            fact!(cx, "closed", "{whom}: {why}");
         }
+        self.redial(whom, true, since, why, cx);
     }
 
     /// The way of a parent that is looked at, or is there.
@@ -86,8 +77,7 @@ impl<L: Line, A: Clone + PartialEq + fmt::Display> Peers<L, A> {
         whom: &Whom,
         words: &mut Words,
         mut bytes: Vec<u8>,
-        now: Instant,
-        to: &mut dyn Handler,
+        cx: &mut Context<'_>,
     ) -> bool {
         let way = match wire::take(&mut bytes, Expect::Way) {
             Ok(Some(Message::Way(way))) if bytes.is_empty() => Some(way),
@@ -95,16 +85,17 @@ impl<L: Line, A: Clone + PartialEq + fmt::Display> Peers<L, A> {
         };
         let (at, is_parent) = (self.place_of(whom), *whom == Whom::Parent);
         if !words.looks {
-            let is_new = way.is_some() && way != words.way;
-            words.way = way.or(words.way.take());
-            let heard = words
-                .way
-                .clone()
-                .filter(|_| is_new && words.since.is_some());
-            if let Some(Err(why)) = heard.map(|way| self.parents.hears(way)) {
-                to.on_fact("closed", format_args!("{whom}: {why}"));
-                self.redial(whom, true, words.since.take(), why, now, to);
+            let new = way.filter(|way| words.way.as_ref() != Some(way));
+            if let Some(way) = &new {
+                let heard = words
+                    .since
+                    .map_or(Ok(()), |_| self.parents.hears(way.clone()));
+                if let Err(why) = heard {
+                    self.lost(whom, words.since.take(), why, cx);
+                }
             }
+            let is_new = new.is_some();
+            words.way = new.or(words.way.take());
             return is_new;
         }
         // (of one that speaks version 1 there is no such word)
@@ -113,15 +104,13 @@ impl<L: Line, A: Clone + PartialEq + fmt::Display> Peers<L, A> {
             .or_else(|| is_parent.then(|| self.parents.old(at)));
         let taken = said.ok_or("its word is not there");
         match taken.and_then(|said| self.parents.looked(at, &said)) {
-            Err(why) => self.look_ended(whom, false, why, now, to),
+            Err(why) => self.look_ended(whom, false, why, cx),
             Ok(()) if is_parent => (words.looks, words.way) = (false, way),
             Ok(()) => {
-                self.look_ended(whom, false, "", now, to);
-                self.leave(at, now, to);
+                self.look_ended(whom, false, "", cx);
+                self.leave(at, cx);
                 self.parents.tries(at);
-                if let Some(dial) = self.dials.get_mut(&Whom::Parent) {
-                    (dial.next, dial.failed) = (now, 0);
-                }
+                self.dial_with(&Whom::Parent, |dial| (dial.next, dial.failed) = (None, 0));
             }
         }
         true
@@ -134,32 +123,31 @@ impl<L: Line, A: Clone + PartialEq + fmt::Display> Peers<L, A> {
         what: What,
         words: &mut Words,
         bytes: Vec<u8>,
-        now: Instant,
-        to: &mut dyn Handler,
+        cx: &mut Context<'_>,
     ) -> bool {
         match (what, whom) {
             (What::Own, _) => {
                 // (somebody deleted or spoiled it, or it is of a backup)
-                let differs = words.own.as_ref().map_or(false, |own| *own != bytes);
-                let differs =
-                    differs && (*whom == Whom::Parent || words.may_begin(self.relay.kept().1, now));
+                let kept = self.relay.kept().1;
+                let differs = words.own.as_ref().map_or(false, |own| *own != bytes)
+                    && (*whom == Whom::Parent || words.may_begin(kept, cx.now));
                 if differs {
                     words.own = None;
                 }
                 differs
             }
-            (What::Other, Whom::Parent) => self.parent_shown(words, bytes, now, to) == Some(true),
+            (What::Other, Whom::Parent) => self.parent_shown(words, bytes, cx) == Some(true),
             (What::Other, Whom::Child(name)) => {
-                self.child_shown(name, words, bytes, now, to) == Some(true)
+                self.child_shown(name, words, bytes, cx) == Some(true)
             }
             (What::Report, Whom::Child(name)) => {
                 words.more = false;
                 // (what makes no sense is left: there is no connection to be closed)
-                let _ = bytes.is_empty() || to.on_report(name, &bytes, now);
+                let _ = bytes.is_empty() || cx.to.on_report(name, &bytes, cx.now);
                 false
             }
             (What::Way, Whom::Parent | Whom::Candidate(_)) => {
-                self.way_shown(whom, words, bytes, now, to)
+                self.way_shown(whom, words, bytes, cx)
             }
             _ => false,
         }
@@ -169,8 +157,7 @@ impl<L: Line, A: Clone + PartialEq + fmt::Display> Peers<L, A> {
         &mut self,
         words: &mut Words,
         bytes: Vec<u8>,
-        now: Instant,
-        to: &mut dyn Handler,
+        cx: &mut Context<'_>,
     ) -> Option<bool> {
         let was_look = !mem::take(&mut words.more);
         let (hello, mut rest) = word_of(bytes, &words.other, &self.setup.name)?;
@@ -178,20 +165,14 @@ impl<L: Line, A: Clone + PartialEq + fmt::Display> Peers<L, A> {
             let at = self.parents.at();
             let way = words.way.clone().unwrap_or_else(|| self.parents.old(at));
             if let Err(why) = self.parents.looked(at, &way) {
-                self.redial(&Whom::Parent, true, None, why, now, to);
+                self.lost(&Whom::Parent, None, why, cx);
                 return None;
             }
             self.parents.took(at, way);
         }
         if words.since.is_none() || self.above_life != Some(hello.life) {
-            let anew = self.above_life.replace(hello.life) != Some(hello.life);
-            words.since = words.since.or(Some(now));
-            words.until = None;
-            self.reconnects += 1;
-            to.on_fact(
-                "connected",
-                format_args!("the parent {}{}", hello.from, count(anew)),
-            );
+            (words.since, words.until) = (words.since.or(Some(cx.now)), None);
+            self.parent_is_there(&hello, cx);
         }
         if wire::head(&rest)?.0 == self.relay.label() {
             return None;
@@ -199,7 +180,7 @@ impl<L: Line, A: Clone + PartialEq + fmt::Display> Peers<L, A> {
         match wire::take(&mut rest, Expect::Frames) {
             Ok(Some(Message::Frame(label, body))) if rest.is_empty() => {
                 let came = self.relay.on_word(label, &body);
-                self.came(came, &body, now, to);
+                self.came(came, &body, cx);
                 Some(true)
             }
             Ok(None) => {
@@ -215,13 +196,12 @@ impl<L: Line, A: Clone + PartialEq + fmt::Display> Peers<L, A> {
         name: &str,
         words: &mut Words,
         bytes: Vec<u8>,
-        now: Instant,
-        to: &mut dyn Handler,
+        cx: &mut Context<'_>,
     ) -> Option<bool> {
         let (Hello { life, label, .. }, rest) = word_of(bytes, name, &self.setup.name)?;
         let reports = u32::from_be_bytes(rest.try_into().ok()?);
         let is_other = words.last.map_or(false, |(old, _)| old != life);
-        if is_other && !words.may_begin(self.relay.kept().1, now) {
+        if is_other && !words.may_begin(self.relay.kept().1, cx.now) {
             return None;
         }
         let before = words.last.replace((life, label));
@@ -235,53 +215,43 @@ impl<L: Line, A: Clone + PartialEq + fmt::Display> Peers<L, A> {
             return None;
         }
         if left || is_new || (is_alive && words.since.is_none()) {
-            let anew = self.relay.word_seen(name, life, label, now)?;
-            words.since = Some(now);
+            let anew = self.relay.word_seen(name, life, label, cx.now)?;
+            words.since = Some(cx.now);
             words.waits = words.waits.filter(|_| !anew);
-            to.on_fact("connected", format_args!("{name}{}", count(anew)));
+            fact!(cx, "connected", "{name}{}", count(anew));
         }
         // (a look that would change nothing is none)
         if words.waits != Some(label) && !changed {
             return None;
         }
-        let sent = self.relay.child(name).and_then(|link| link.sent);
-        let taken = self.relay.on_word_ack(name, label);
+        let taken = self.relay.on_word_ack(name, label, cx.now);
         if taken {
             (words.waits, words.until) = (None, None);
-            if let (Some(link), Some(sent)) = (self.relay.child_mut(name), sent) {
-                link.answered(now - sent);
-            }
         }
         Some(taken || changed)
     }
 
     /// What was waited for has not come: a frame is set again, and another parent is tried.
-    pub(super) fn late(&mut self, place: &mut Place<A>, now: Instant, to: &mut dyn Handler) {
-        let why = "nothing came in time";
-        let is_late = |words: &Words| words.until.map_or(false, |until| now >= until);
-        for (whom, words) in place.links.iter_mut().filter(|(_, words)| is_late(words)) {
+    pub(super) fn late(&mut self, place: &mut Place<A>, cx: &mut Context<'_>) {
+        for (whom, words) in &mut place.links {
+            if words.until.map_or(true, |until| cx.now < until) {
+                continue;
+            }
             words.until = None;
             match whom {
                 Whom::Child(name) => {
                     if !self.relay.is_left_behind(name) {
                         words.own = None;
                     }
-                    self.relay.word_away(name, now);
-                    if let Some(link) = self.relay.child_mut(name) {
-                        link.timeouts += 1;
-                        link.late = link.late.saturating_add(1);
-                    }
+                    self.relay.word_away(name, cx.now);
+                    self.relay.was_late(name);
                     if words.since.take().is_some() {
-                        to.on_fact("closed", format_args!("{whom}: {why}"));
+                        fact!(cx, "closed", "{whom}: nothing came in time");
                     }
                 }
-                _ => self.redial(whom, true, None, "its word is not there", now, to),
+                _ => self.lost(whom, None, "its word is not there", cx),
             }
         }
-        // (a call that is not under way any more has no link)
-        let dials = &self.dials;
-        place
-            .links
-            .retain(|whom, _| dials.get(whom).map_or(false, |dial| dial.under_way));
+        self.keep_called(place);
     }
 }

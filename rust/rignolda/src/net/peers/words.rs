@@ -22,7 +22,7 @@
 //! it says what to set next. Of a word that shows an old frame it takes nothing: that is a look,
 //! and no step.
 use super::shown::FIRST;
-use super::{Call, Handler, Line, Peers, Way, Whom, SLOWEST};
+use super::{travels, Call, Context, Handler, Line, Peers, Way, Whom};
 use crate::net::wire::{self, Hello, FRAME_HEAD, OLD, REPORT_BYTES, WAY_BYTES};
 use crate::net::{Turn, BODY_BYTES};
 use std::collections::BTreeMap;
@@ -54,6 +54,7 @@ pub(super) enum What {
 }
 
 /// A link, at one of its ends.
+#[derive(Default)]
 pub(super) struct Words {
     pub(super) other: String,
     keys: String,
@@ -71,8 +72,8 @@ pub(super) struct Words {
     pub(super) more: bool,
     pub(super) reports: u32,
     report: Option<Vec<u8>>,
-    /// From when it may begin anew again.
-    calm: Instant,
+    /// From when it may begin anew again; nothing where it never did.
+    calm: Option<Instant>,
     /// Whether a parent is only looked at so far.
     pub(super) looks: bool,
     /// The way that the parent's word showed last, or that was set for the child.
@@ -83,9 +84,9 @@ impl Words {
     /// Whether it may begin anew now, or set again what others spoiled, where so many bytes are kept
     /// for it; then it begins.
     pub(super) fn may_begin(&mut self, kept: usize, now: Instant) -> bool {
-        let may = now >= self.calm;
+        let may = self.calm.map_or(true, |calm| now >= calm);
         if may {
-            self.calm = now + Duration::from_millis(kept as u64 * 1_000 / ANEW);
+            self.calm = Some(now + Duration::from_millis(kept as u64 * 1_000 / ANEW));
         }
         may
     }
@@ -107,37 +108,24 @@ impl<A> Place<A> {
 impl<L: Line, A: Clone + PartialEq + fmt::Display> Peers<L, A> {
     /// A call leads to a store: the link lies there from now on.
     pub fn in_store(&mut self, call: Call<A>, now: Instant) {
-        let is_wanted = self.address(&call.whom) == Some(&call.address);
-        match self.dials.get_mut(&call.whom) {
-            Some(dial) if dial.under_way => dial.under_way = is_wanted,
-            _ => return,
-        }
-        if !is_wanted {
+        if !self.is_wanted(&call) {
             return;
         }
-        let (other, keys) = match &call.whom {
-            Whom::Child(name) => (name.clone(), format!("{}:{name}", self.setup.name)),
-            whom => {
-                let name = self.name_of(self.place_of(whom));
-                (name.clone(), format!("{name}:{}", self.setup.name))
-            }
+        self.dial_with(&call.whom, |dial| dial.under_way = true);
+        let name = self.name_of(&call.whom, self.place_of(&call.whom));
+        let (own, other) = (&self.setup.name, name.cloned().unwrap_or_default());
+        let keys = match call.whom {
+            Whom::Child(_) => format!("{own}:{other}"),
+            _ => format!("{other}:{own}"),
         };
         let is_one_of_many = call.whom == Whom::Parent && self.all(&call.whom) > 1;
         let words = Words {
             other,
             keys,
-            own: None,
-            since: None,
             until: is_one_of_many.then(|| now + self.setup.ack_timeout),
-            last: None,
-            waits: None,
-            more: false,
-            reports: 0,
-            report: None,
-            calm: now,
             // (else the first turn sets the own word)
             looks: is_one_of_many || matches!(call.whom, Whom::Candidate(_)),
-            way: None,
+            ..Words::default()
         };
         let at = self.stores.iter().position(|it| it.address == call.address);
         let at = at.unwrap_or_else(|| {
@@ -163,9 +151,8 @@ impl<L: Line, A: Clone + PartialEq + fmt::Display> Peers<L, A> {
         let mut places = mem::take(&mut self.stores);
         for place in &mut places {
             for (whom, words) in mem::take(&mut place.links) {
-                let parent = self.setup.parents.get(self.parents.at());
-                let is_other = whom == Whom::Parent
-                    && parent.and_then(|it| it.name.as_ref()) != Some(&words.other);
+                let name = self.name_of(&whom, self.parents.at());
+                let is_other = whom == Whom::Parent && name != Some(&words.other);
                 if !is_other && self.address(&whom) == Some(&place.address) {
                     place.links.insert(whom, words);
                 } else {
@@ -180,9 +167,7 @@ impl<L: Line, A: Clone + PartialEq + fmt::Display> Peers<L, A> {
         if let Whom::Child(name) = whom {
             self.relay.word_away(name, now);
         }
-        if let Some(dial) = self.dials.get_mut(whom) {
-            dial.under_way = false;
-        }
+        self.dial_with(whom, |dial| dial.under_way = false);
     }
 
     /// The parent connects itself: what lies in a store for it is left.
@@ -196,10 +181,10 @@ impl<L: Line, A: Clone + PartialEq + fmt::Display> Peers<L, A> {
     /// The turns that are to be begun now, and at which stores. What came of each is to be told to
     /// [`Peers::turned`].
     pub fn turns(&mut self, now: Instant, to: &mut dyn Handler) -> Vec<(A, Turn)> {
-        let mut turns = Vec::new();
+        let (cx, mut turns) = (&mut Context { now, to }, Vec::new());
         let mut places = mem::take(&mut self.stores);
         for place in places.iter_mut().filter(|place| place.asked.is_none()) {
-            self.late(place, now, to);
+            self.late(place, cx);
             if self.says_again {
                 place.links.values_mut().for_each(|words| words.way = None);
             }
@@ -294,8 +279,8 @@ impl<L: Line, A: Clone + PartialEq + fmt::Display> Peers<L, A> {
                     Some((label, body)) => {
                         own.extend(wire::frame(label, &body));
                         if words.own.as_ref() != Some(&own) {
-                            let takes = Duration::from_secs(body.bytes.len() as u64 / SLOWEST);
-                            words.until = Some(now + self.patience(name) + takes);
+                            let takes = self.patience(name) + travels(body.bytes.len());
+                            words.until = Some(now + takes);
                             words.waits = Some(label);
                             words.own = Some(own.clone());
                             own.extend_from_slice(&body.bytes);
