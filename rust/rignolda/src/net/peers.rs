@@ -304,8 +304,9 @@ pub struct Peers<L, A> {
     again: Vec<u64>,
     dials: BTreeMap<Whom, Dial>,
     children: BTreeMap<String, u64>,
-    /// The links that lie in stores.
+    /// The stores in which links lie, and these links.
     stores: Vec<words::Place<A>>,
+    words: BTreeMap<Whom, words::Words>,
     /// Which parent is tried or connected, its connection, and its life.
     parents: Parents,
     above: Option<u64>,
@@ -343,6 +344,7 @@ impl<L: Line, A: Clone + PartialEq + fmt::Display> Peers<L, A> {
             dials: BTreeMap::new(),
             children: BTreeMap::new(),
             stores: Vec::new(),
+            words: BTreeMap::new(),
             above: None,
             above_life: None,
             told: (None, 0),
@@ -386,7 +388,7 @@ impl<L: Line, A: Clone + PartialEq + fmt::Display> Peers<L, A> {
                 self.leave_line(id, "the parents changed", cx);
                 self.parents.tries(0);
             }
-            if self.above.is_none() && self.stored(&Whom::Parent).is_none() {
+            if self.above.is_none() && !self.words.contains_key(&Whom::Parent) {
                 self.dials.remove(&Whom::Parent);
             }
         }
@@ -488,7 +490,7 @@ impl<L: Line, A: Clone + PartialEq + fmt::Display> Peers<L, A> {
     pub fn parent(&self) -> Option<(&Parent<A>, Instant)> {
         let since = match self.above {
             Some(id) => self.conns.get(&id)?.greeted(),
-            None => self.stored(&Whom::Parent)?.since,
+            None => self.words.get(&Whom::Parent)?.since,
         };
         Some((self.candidate(self.parents.at())?, since?))
     }
@@ -539,8 +541,8 @@ impl<L: Line, A: Clone + PartialEq + fmt::Display> Peers<L, A> {
         let dials = dials.filter(|(whom, dial)| self.is_idle(whom, dial));
         let conns = self.conns.values().filter_map(|conn| conn.until);
         let all = conns.chain(dials.map(|(_, dial)| dial.next.unwrap_or(now)));
-        let all = all.chain(self.stores.iter().filter_map(words::Place::due));
-        all.chain(again).chain(beat).chain(evicts).min()
+        let all = all.chain(again).chain(beat).chain(evicts);
+        all.chain(self.turn_due()).min()
     }
 
     // ---- Connections
@@ -766,13 +768,12 @@ impl<L: Line, A: Clone + PartialEq + fmt::Display> Peers<L, A> {
             self.beat = now + BEAT;
         }
         if has_news || is_beat {
-            let ids: Vec<u64> = self.children.values().copied().collect();
-            for id in ids {
-                let waits = self.conns.get(&id).map_or(true, |it| !it.output.is_empty());
-                if has_news || !waits {
-                    self.say_way(id);
-                }
-            }
+            let is_told = |conn: &Conn<L>| {
+                let is_child = conn.expects() == Expect::Acks;
+                is_child && (has_news || conn.output.is_empty())
+            };
+            let told = self.all_that(is_told);
+            told.into_iter().for_each(|id| self.say_way(id));
         }
         if has_news && self.parents.says().cost >= NONE {
             for (whom, dial) in &mut self.dials {
@@ -923,7 +924,7 @@ impl<L: Line, A: Clone + PartialEq + fmt::Display> Peers<L, A> {
             };
             self.leave_line(id, why, cx);
         }
-        self.leave_store_of_parent(cx.now);
+        self.leave_words(&Whom::Parent, cx.now);
     }
 
     /// Who was left is called again after a while, or the next one is.
@@ -1158,19 +1159,16 @@ impl<L: Line, A: Clone + PartialEq + fmt::Display> Peers<L, A> {
         let is_old = hello.version == OLD;
         let conn = self.conns.get_mut(&id).ok_or("it is gone")?;
         conn.is_old = is_old;
-        match (whom, conn.link(), &conn.state) {
-            (.., State::Looks(..)) | (Whom::Candidate(_), ..) => Err("it is no hello"),
-            (Whom::Child(name), link, _) => {
-                let made = link.map(|(_, number)| number);
-                self.child_greets(id, made, &name, &hello, cx)
-            }
-            (Whom::Parent, Some((_, number)), _) => {
+        match (whom, &conn.state) {
+            (_, State::Looks(..)) => Err("it is no hello"),
+            (Whom::Child(_), _) => self.child_greets(id, &hello, cx),
+            (_, State::Link(..)) => {
                 if is_old {
                     self.parents.took(at, self.parents.old(at));
                 }
-                self.parent_greets(id, Some(number), &hello, cx)
+                self.parent_greets(id, &hello, cx)
             }
-            (Whom::Parent, None, _) => {
+            _ => {
                 // (nothing has changed yet: first its way is to come, or it is of version 1)
                 conn.state = State::Comes(at, hello);
                 match is_old {
@@ -1245,7 +1243,7 @@ impl<L: Line, A: Clone + PartialEq + fmt::Display> Peers<L, A> {
                 Ok(()) => {
                     self.leave(at, cx);
                     self.parents.took(at, way);
-                    self.parent_greets(id, None, &hello, cx)?;
+                    self.parent_greets(id, &hello, cx)?;
                 }
                 Err(why) if hello.version == OLD => return Err(why),
                 Err(_) => {
@@ -1275,13 +1273,13 @@ impl<L: Line, A: Clone + PartialEq + fmt::Display> Peers<L, A> {
         is_child.then(|| (Whom::Child(from.into()), 0))
     }
 
-    fn parent_greets(
-        &mut self,
-        id: u64,
-        made: Option<Connection>,
-        hello: &Hello,
-        cx: &mut Context<'_>,
-    ) -> Taken {
+    /// The number under which this end has made a connection of a link.
+    fn number(&self, id: u64) -> Option<Connection> {
+        Some(self.conns.get(&id)?.link()?.1)
+    }
+
+    fn parent_greets(&mut self, id: u64, hello: &Hello, cx: &mut Context<'_>) -> Taken {
+        let made = self.number(id);
         let number = made.or_else(|| self.relay.accepted());
         let number = number.ok_or("no number is left")?;
         self.above = Some(id);
@@ -1301,14 +1299,8 @@ impl<L: Line, A: Clone + PartialEq + fmt::Display> Peers<L, A> {
         fact!(cx, "connected", "the parent {from}{}", count(anew));
     }
 
-    fn child_greets(
-        &mut self,
-        id: u64,
-        made: Option<Connection>,
-        name: &str,
-        hello: &Hello,
-        cx: &mut Context<'_>,
-    ) -> Taken {
+    fn child_greets(&mut self, id: u64, hello: &Hello, cx: &mut Context<'_>) -> Taken {
+        let (made, name) = (self.number(id), &*hello.from);
         if let Some(old) = self.children.remove(name) {
             self.leave_line(old, "it connected anew", cx);
         }
@@ -1382,7 +1374,10 @@ impl<L: Line, A: Clone + PartialEq + fmt::Display> Peers<L, A> {
 
     /// Says this to the parent, for watching alone: whether there is one that takes it now.
     pub fn report(&mut self, report: &[u8]) -> bool {
-        if self.store_report(report) {
+        let words = self.words.get_mut(&Whom::Parent);
+        if let Some(words) = words.filter(|words| words.since.is_some()) {
+            words.reports = words.reports.wrapping_add(1);
+            words.report = Some(report.into());
             return true;
         }
         let conn = self.above.and_then(|id| self.conns.get_mut(&id));
@@ -1408,12 +1403,10 @@ impl<L: Line, A: Clone + PartialEq + fmt::Display> Peers<L, A> {
     /// Sends a child what is to be sent to it now.
     fn poll(&mut self, name: &str, now: Instant) {
         let patience = self.patience(name);
-        let id = self.children.get(name);
-        let conn = match id.and_then(|id| self.conns.get_mut(id)) {
-            Some(conn) => conn,
-            None => return,
-        };
-        if let Some((label, body)) = self.relay.poll(name, now) {
+        let id = self.children.get(name).copied();
+        let frame = id.and_then(|_| self.relay.poll(name, now));
+        let conn = id.and_then(|id| self.conns.get_mut(&id));
+        if let (Some(conn), Some((label, body))) = (conn, frame) {
             conn.until = Some(now + patience + travels(body.bytes.len()));
             let mut head = wire::frame(label, &body);
             if body.bytes.len() <= JOINED {

@@ -1,5 +1,5 @@
 //! What the words of links in a store show, and what follows from it.
-use super::words::{Place, What, Words};
+use super::words::{What, Words};
 use super::{count, fact, Context, Handler, Line, Peers, Whom};
 use crate::net::wire::{self, Expect, Hello, Message};
 use std::time::{Duration, Instant};
@@ -28,39 +28,29 @@ impl<L: Line, A: Clone + PartialEq + fmt::Display> Peers<L, A> {
         to: &mut dyn Handler,
     ) {
         let cx = &mut Context { now, to };
-        let mut places = mem::take(&mut self.stores);
-        if let Some(place) = places.iter_mut().find(|place| place.address == *store) {
-            let asked = place.asked.take().unwrap_or_default();
+        if let Some(at) = self.stores.iter().position(|it| it.address == *store) {
+            let asked = self.stores[at].asked.take().unwrap_or_default();
             match got {
                 Ok(got) => {
                     let mut moved = false;
                     for ((whom, what), bytes) in asked.into_iter().zip(got) {
-                        if let Some(words) = place.links.get_mut(&whom) {
-                            moved |= self.shown(&whom, what, words, bytes, cx);
-                        }
+                        moved |= self.shown(&whom, what, bytes, cx);
                     }
+                    let mut its = self.words.values().filter(|words| words.place == at);
+                    let (is_more, place) = (its.any(|words| words.more), &mut self.stores[at]);
                     let slower = (place.pause * 2).min(self.setup.poll);
                     place.pause = if moved { FIRST } else { slower };
-                    let is_more = place.links.values().any(|words| words.more);
                     place.due = if is_more { now } else { now + place.pause };
                 }
                 Err(why) => {
-                    for (whom, words) in mem::take(&mut place.links) {
-                        self.leave_words(&whom, now);
-                        self.lost(&whom, words.since, &why, cx);
+                    for whom in self.all_in(at) {
+                        let words = self.leave_words(&whom, now);
+                        self.lost(&whom, words.and_then(|words| words.since), &why, cx);
                     }
                 }
             }
         }
-        places.iter_mut().for_each(|place| self.keep_called(place));
-        self.stores = places;
         self.tell(now);
-    }
-
-    /// A call that is not under way any more has no link.
-    fn keep_called(&self, place: &mut Place<A>) {
-        let is_called = |whom: &Whom| self.dials.get(whom).map_or(false, |it| it.under_way);
-        place.links.retain(|whom, _| is_called(whom));
     }
 
     /// A link that was there since then, or is not there yet, is to be called again.
@@ -117,18 +107,11 @@ impl<L: Line, A: Clone + PartialEq + fmt::Display> Peers<L, A> {
     }
 
     /// A key shows this. Whether something changed.
-    fn shown(
-        &mut self,
-        whom: &Whom,
-        what: What,
-        words: &mut Words,
-        bytes: Vec<u8>,
-        cx: &mut Context<'_>,
-    ) -> bool {
-        match (what, whom) {
+    fn shown(&mut self, whom: &Whom, what: What, bytes: Vec<u8>, cx: &mut Context<'_>) -> bool {
+        let moved = self.words_with(whom, |peers, words| match (what, whom) {
             (What::Own, _) => {
                 // (somebody deleted or spoiled it, or it is of a backup)
-                let kept = self.relay.kept().1;
+                let kept = peers.relay.kept().1;
                 let differs = words.own.as_ref().map_or(false, |own| *own != bytes)
                     && (*whom == Whom::Parent || words.may_begin(kept, cx.now));
                 if differs {
@@ -136,9 +119,9 @@ impl<L: Line, A: Clone + PartialEq + fmt::Display> Peers<L, A> {
                 }
                 differs
             }
-            (What::Other, Whom::Parent) => self.parent_shown(words, bytes, cx) == Some(true),
+            (What::Other, Whom::Parent) => peers.parent_shown(words, bytes, cx) == Some(true),
             (What::Other, Whom::Child(name)) => {
-                self.child_shown(name, words, bytes, cx) == Some(true)
+                peers.child_shown(name, words, bytes, cx) == Some(true)
             }
             (What::Report, Whom::Child(name)) => {
                 words.more = false;
@@ -147,10 +130,11 @@ impl<L: Line, A: Clone + PartialEq + fmt::Display> Peers<L, A> {
                 false
             }
             (What::Way, Whom::Parent | Whom::Candidate(_)) => {
-                self.way_shown(whom, words, bytes, cx)
+                peers.way_shown(whom, words, bytes, cx)
             }
             _ => false,
-        }
+        });
+        moved == Some(true)
     }
 
     fn parent_shown(
@@ -232,26 +216,22 @@ impl<L: Line, A: Clone + PartialEq + fmt::Display> Peers<L, A> {
     }
 
     /// What was waited for has not come: a frame is set again, and another parent is tried.
-    pub(super) fn late(&mut self, place: &mut Place<A>, cx: &mut Context<'_>) {
-        for (whom, words) in &mut place.links {
-            if words.until.map_or(true, |until| cx.now < until) {
-                continue;
-            }
-            words.until = None;
-            match whom {
-                Whom::Child(name) => {
-                    if !self.relay.is_left_behind(name) {
-                        words.own = None;
-                    }
-                    self.relay.word_away(name, cx.now);
-                    self.relay.was_late(name);
-                    if words.since.take().is_some() {
-                        fact!(cx, "closed", "{whom}: nothing came in time");
-                    }
-                }
-                _ => self.lost(whom, None, "its word is not there", cx),
-            }
+    pub(super) fn late(&mut self, whom: &Whom, words: &mut Words, cx: &mut Context<'_>) {
+        if words.until.map_or(true, |until| cx.now < until) {
+            return;
         }
-        self.keep_called(place);
+        words.until = None;
+        if let Whom::Child(name) = whom {
+            if !self.relay.is_left_behind(name) {
+                words.own = None;
+            }
+            self.relay.word_away(name, cx.now);
+            self.relay.was_late(name);
+            if words.since.take().is_some() {
+                fact!(cx, "closed", "{whom}: nothing came in time");
+            }
+        } else {
+            self.lost(whom, None, "its word is not there", cx);
+        }
     }
 }

@@ -25,9 +25,8 @@ use super::shown::FIRST;
 use super::{travels, Call, Context, Handler, Line, Peers, Way, Whom};
 use crate::net::wire::{self, Hello, FRAME_HEAD, OLD, REPORT_BYTES, WAY_BYTES};
 use crate::net::{Turn, BODY_BYTES};
-use std::collections::BTreeMap;
+use std::fmt;
 use std::time::{Duration, Instant};
-use std::{fmt, mem};
 
 /// How much of a frame is got before it is known to be fresh.
 const LOOK: usize = 1_024;
@@ -35,10 +34,9 @@ const LOOK: usize = 1_024;
 /// set again: so many bytes of that in a second at most.
 const ANEW: u64 = 1 << 20;
 
-/// The links of an agent in one store.
+/// A store in which links of an agent lie.
 pub(super) struct Place<A> {
     pub(super) address: A,
-    pub(super) links: BTreeMap<Whom, Words>,
     /// Of the turn under way, what is got for whom.
     pub(super) asked: Option<Vec<(Whom, What)>>,
     pub(super) due: Instant,
@@ -56,6 +54,8 @@ pub(super) enum What {
 /// A link, at one of its ends.
 #[derive(Default)]
 pub(super) struct Words {
+    /// Which of the stores it lies in.
+    pub(super) place: usize,
     pub(super) other: String,
     keys: String,
     /// What the own word shows, without a body; where that is not known it is to be set.
@@ -71,7 +71,7 @@ pub(super) struct Words {
     /// Whether more is to be got: of a fresh frame all, of a child its report.
     pub(super) more: bool,
     pub(super) reports: u32,
-    report: Option<Vec<u8>>,
+    pub(super) report: Option<Vec<u8>>,
     /// From when it may begin anew again; nothing where it never did.
     calm: Option<Instant>,
     /// Whether a parent is only looked at so far.
@@ -96,15 +96,6 @@ impl Words {
     }
 }
 
-impl<A> Place<A> {
-    /// When it has something to do although nothing comes.
-    pub(super) fn due(&self) -> Option<Instant> {
-        let is_idle = self.asked.is_none() && !self.links.is_empty();
-        let untils = self.links.values().filter_map(|words| words.until);
-        is_idle.then(|| untils.fold(self.due, Instant::min))
-    }
-}
-
 impl<L: Line, A: Clone + PartialEq + fmt::Display> Peers<L, A> {
     /// A call leads to a store: the link lies there from now on.
     pub fn in_store(&mut self, call: Call<A>, now: Instant) {
@@ -119,7 +110,9 @@ impl<L: Line, A: Clone + PartialEq + fmt::Display> Peers<L, A> {
             _ => format!("{other}:{own}"),
         };
         let is_one_of_many = call.whom == Whom::Parent && self.all(&call.whom) > 1;
+        let place = self.stores.iter().position(|it| it.address == call.address);
         let words = Words {
+            place: place.unwrap_or(self.stores.len()),
             other,
             keys,
             until: is_one_of_many.then(|| now + self.setup.ack_timeout),
@@ -127,79 +120,100 @@ impl<L: Line, A: Clone + PartialEq + fmt::Display> Peers<L, A> {
             looks: is_one_of_many || matches!(call.whom, Whom::Candidate(_)),
             ..Words::default()
         };
-        let at = self.stores.iter().position(|it| it.address == call.address);
-        let at = at.unwrap_or_else(|| {
+        self.words.insert(call.whom, words);
+        if place.is_none() {
             self.stores.push(Place {
                 address: call.address,
-                links: BTreeMap::new(),
                 asked: None,
                 due: now,
                 pause: FIRST,
             });
-            self.stores.len() - 1
-        });
-        self.stores[at].links.insert(call.whom, words);
+        }
     }
 
-    /// The link with somebody, where it lies in a store.
-    pub(super) fn stored(&self, whom: &Whom) -> Option<&Words> {
-        self.stores.iter().find_map(|place| place.links.get(whom))
+    /// When there is something to do at a store although nothing comes.
+    pub(super) fn turn_due(&self) -> Option<Instant> {
+        let due = |words: &Words| {
+            let place = &self.stores[words.place];
+            let due = words.until.map_or(place.due, |until| until.min(place.due));
+            place.asked.is_none().then_some(due)
+        };
+        self.words.values().filter_map(due).min()
+    }
+
+    /// Those with whom a link lies in this store.
+    pub(super) fn all_in(&self, place: usize) -> Vec<Whom> {
+        let all = self.words.iter().filter(|(_, words)| words.place == place);
+        all.map(|(whom, _)| whom.clone()).collect()
+    }
+
+    /// Does this with a link, if it is there. It is not there any more once its call is over.
+    pub(super) fn words_with<T>(
+        &mut self,
+        whom: &Whom,
+        step: impl FnOnce(&mut Self, &mut Words) -> T,
+    ) -> Option<T> {
+        let mut words = self.words.remove(whom)?;
+        let done = step(self, &mut words);
+        if self.dials.get(whom).map_or(false, |dial| dial.under_way) {
+            self.words.insert(whom.clone(), words);
+        }
+        Some(done)
     }
 
     /// After a change of the set-up: links that do not lie there any more are left.
     pub(super) fn keep_stores(&mut self, now: Instant) {
-        let mut places = mem::take(&mut self.stores);
-        for place in &mut places {
-            for (whom, words) in mem::take(&mut place.links) {
-                let name = self.name_of(&whom, self.parents.at());
-                let is_other = whom == Whom::Parent && name != Some(&words.other);
-                if !is_other && self.address(&whom) == Some(&place.address) {
-                    place.links.insert(whom, words);
-                } else {
-                    self.leave_words(&whom, now);
-                }
+        let all: Vec<Whom> = self.words.keys().cloned().collect();
+        for whom in all {
+            let (words, name) = (&self.words[&whom], self.name_of(&whom, self.parents.at()));
+            let is_other = whom == Whom::Parent && name != Some(&words.other);
+            let address = &self.stores[words.place].address;
+            if is_other || self.address(&whom) != Some(address) {
+                self.leave_words(&whom, now);
             }
         }
-        self.stores = places;
     }
 
-    pub(super) fn leave_words(&mut self, whom: &Whom, now: Instant) {
+    /// What lies in a store for somebody is left.
+    pub(super) fn leave_words(&mut self, whom: &Whom, now: Instant) -> Option<Words> {
+        let words = self.words.remove(whom)?;
         if let Whom::Child(name) = whom {
             self.relay.word_away(name, now);
         }
         self.dial_with(whom, |dial| dial.under_way = false);
-    }
-
-    /// The parent connects itself: what lies in a store for it is left.
-    pub(super) fn leave_store_of_parent(&mut self, now: Instant) {
-        let mut places = self.stores.iter_mut();
-        if places.any(|place| place.links.remove(&Whom::Parent).is_some()) {
-            self.leave_words(&Whom::Parent, now);
-        }
+        Some(words)
     }
 
     /// The turns that are to be begun now, and at which stores. What came of each is to be told to
     /// [`Peers::turned`].
     pub fn turns(&mut self, now: Instant, to: &mut dyn Handler) -> Vec<(A, Turn)> {
         let (cx, mut turns) = (&mut Context { now, to }, Vec::new());
-        let mut places = mem::take(&mut self.stores);
-        for place in places.iter_mut().filter(|place| place.asked.is_none()) {
-            self.late(place, cx);
-            if self.says_again {
-                place.links.values_mut().for_each(|words| words.way = None);
-            }
-            let mut turn = Turn::default();
-            for (whom, words) in &mut place.links {
-                self.set(whom, words, &mut turn.sets, now);
-            }
-            if place.links.is_empty() || (turn.sets.is_empty() && now < place.due) {
+        for at in 0..self.stores.len() {
+            if self.stores[at].asked.is_some() {
                 continue;
             }
-            if !turn.sets.is_empty() {
+            let mut turn = Turn::default();
+            for whom in self.all_in(at) {
+                self.words_with(&whom, |peers, words| peers.late(&whom, words, cx));
+                self.words_with(&whom, |peers, words| {
+                    words.way = words.way.take().filter(|_| !peers.says_again);
+                    peers.set(&whom, words, &mut turn.sets, now);
+                });
+            }
+            let (is_idle, place) = (turn.sets.is_empty(), &mut self.stores[at]);
+            let its: Vec<_> = self
+                .words
+                .iter()
+                .filter(|(_, words)| words.place == at)
+                .collect();
+            if its.is_empty() || (is_idle && now < place.due) {
+                continue;
+            }
+            if !is_idle {
                 place.pause = FIRST;
             }
             let mut asked = Vec::new();
-            for (whom, words) in &place.links {
+            for (whom, words) in its {
                 let mut get = |what, of, most| {
                     turn.gets.push((words.key(of), most));
                     asked.push((whom.clone(), what));
@@ -229,7 +243,6 @@ impl<L: Line, A: Clone + PartialEq + fmt::Display> Peers<L, A> {
             place.asked = Some(asked);
             turns.push((place.address.clone(), turn));
         }
-        self.stores = places;
         self.says_again = false;
         turns
     }
@@ -260,53 +273,39 @@ impl<L: Line, A: Clone + PartialEq + fmt::Display> Peers<L, A> {
             to,
         }
         .bytes();
-        match whom {
-            Whom::Parent | Whom::Candidate(_) => {
-                own.extend_from_slice(&words.reports.to_be_bytes());
-                sets.extend(words.report.take().map(|it| (words.key("report"), it)));
-                if words.own.as_ref() != Some(&own) {
-                    sets.push((words.key("up"), own.clone()));
-                    words.own = Some(own);
-                }
-            }
+        let (show, below) = match whom {
             Whom::Child(name) => {
                 let way = self.parents.says();
                 if words.way.as_ref() != Some(way) {
                     sets.push((words.key("way"), wire::way(way)));
                     words.way = Some(way.clone());
                 }
-                match self.relay.poll_word(name, now) {
-                    Some((label, body)) => {
-                        own.extend(wire::frame(label, &body));
-                        if words.own.as_ref() != Some(&own) {
-                            let takes = self.patience(name) + travels(body.bytes.len());
-                            words.until = Some(now + takes);
-                            words.waits = Some(label);
-                            words.own = Some(own.clone());
-                            own.extend_from_slice(&body.bytes);
-                            sets.push((words.key("down"), own));
-                        }
-                    }
-                    None if words.own.is_none() => {
-                        words.waits = None;
-                        sets.push((words.key("down"), own.clone()));
-                        words.own = Some(own);
-                    }
-                    None => (),
+                let frame = self.relay.poll_word(name, now);
+                if let Some((label, body)) = &frame {
+                    own.extend(wire::frame(*label, body));
+                } else if words.own.is_some() {
+                    return;
                 }
+                ("down", Some((name, frame)))
+            }
+            _ => {
+                own.extend_from_slice(&words.reports.to_be_bytes());
+                sets.extend(words.report.take().map(|it| (words.key("report"), it)));
+                ("up", None)
+            }
+        };
+        if words.own.as_ref() == Some(&own) {
+            return;
+        }
+        words.own = Some(own.clone());
+        if let Some((name, frame)) = below {
+            words.waits = frame.as_ref().map(|(label, _)| *label);
+            if let Some((_, body)) = frame {
+                let takes = self.patience(name) + travels(body.bytes.len());
+                words.until = Some(now + takes);
+                own.extend_from_slice(&body.bytes);
             }
         }
-    }
-
-    /// Says this to the parent, where the link with it lies in a store.
-    pub(super) fn store_report(&mut self, report: &[u8]) -> bool {
-        let mut places = self.stores.iter_mut();
-        let words = places.find_map(|place| place.links.get_mut(&Whom::Parent));
-        let words = words.filter(|words| words.since.is_some());
-        words.map_or(false, |words| {
-            words.reports = words.reports.wrapping_add(1);
-            words.report = Some(report.into());
-            true
-        })
+        sets.push((words.key(show), own));
     }
 }
