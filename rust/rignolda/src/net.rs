@@ -35,6 +35,9 @@ pub const BODY_BYTES: usize = 16 << 20;
 /// The longest name of an agent, in bytes.
 pub const NAME_BYTES: usize = 64;
 
+/// What these calls give: where nothing is said, that it was done, or why it is refused.
+pub type Result<T = (), E = &'static str> = std::result::Result<T, E>;
+
 /// A body and its item, which need not fit it: whoever takes one looks.
 #[derive(Debug, PartialEq, Eq)]
 pub struct Body {
@@ -54,10 +57,8 @@ impl Body {
     /// assert!(!body.fits());
     /// ```
     pub fn of(bytes: Vec<u8>) -> Body {
-        Body {
-            item: checksum(&bytes),
-            bytes,
-        }
+        let item = checksum(&bytes);
+        Body { item, bytes }
     }
 
     /// Whether the item is the checksum of the bytes.
@@ -94,19 +95,11 @@ static SUMS: [[u32; 256]; 8] = {
     let mut sums = [[0; 256]; 8];
     let mut byte = 0;
     while byte < 256 {
-        let (mut sum, mut zeros) = (byte as u32, 0);
-        while zeros < 8 {
-            let mut bit = 0;
-            while bit < 8 {
-                sum = if sum & 1 == 1 {
-                    sum >> 1 ^ 0xedb8_8320
-                } else {
-                    sum >> 1
-                };
-                bit += 1;
-            }
-            sums[zeros][byte] = sum;
-            zeros += 1;
+        let (mut sum, mut bit) = (byte as u32, 0);
+        while bit < 64 {
+            sum = (sum >> 1) ^ ((sum & 1) * 0xedb8_8320);
+            bit += 1;
+            sums[(bit - 1) / 8][byte] = sum;
         }
         byte += 1;
     }

@@ -162,7 +162,7 @@ impl Tree {
             None => return,
         };
         let below = wire.below;
-        let (fresh, left) = agent.relay.on_frame(below, label, &body);
+        let (fresh, left) = agent.relay.on_frame(Some(below), label, &body);
         if fresh && agent.deliver(&body) {
             agent.relay.last_is_a_table();
         }
@@ -188,7 +188,7 @@ impl Tree {
         let above = wire.above;
         self.agents[parent]
             .relay
-            .on_ack(&at.to_string(), above, label, self.now);
+            .on_ack(&at.to_string(), Some(above), label, self.now);
     }
 
     fn publish(&mut self, meaning: &Meaning<'_>) {
@@ -445,16 +445,16 @@ fn what_no_child_lacks_is_forgotten_at_the_next_acknowledgement() {
     let (line, _) = root.greeted("line", 1, 0, None, now).unwrap();
     assert_eq!(root.word_seen("store", 2, 0, now), Some(true));
     let (label, _) = root.poll("line", now).unwrap();
-    root.on_ack("line", line, label, now);
+    root.on_ack("line", Some(line), label, now);
     assert_eq!(root.kept(), (1, 3), "the store's child lacks it");
     publish(&mut root, b"two");
     let (label, _) = root.poll("line", now).unwrap();
     let (word, _) = root.poll_word("store", now).unwrap();
-    assert!(root.on_word_ack("store", word, now));
+    assert!(root.on_ack("store", None, word, now));
     assert_eq!(root.kept(), (1, 3), "it lacks the second one");
     // (its sender has it now, and then the other child acknowledges)
     assert!(root.poll_word("store", now).is_some());
-    root.on_ack("line", line, label, now);
+    root.on_ack("line", Some(line), label, now);
     assert_eq!(root.kept(), (0, 0));
 }
 
@@ -469,10 +469,12 @@ fn what_comes_by_a_connection_that_was_left_changes_nothing() {
     tree.agents[0].relay.child_ended("1", old.above, tree.now);
     tree.connect(1, false);
     let (label, body) = old.down[0].clone();
-    let (fresh, _) = tree.agents[1].relay.on_frame(old.below, label, &body);
+    let (fresh, _) = tree.agents[1].relay.on_frame(Some(old.below), label, &body);
     assert!(!fresh);
     let now = tree.now;
-    tree.agents[0].relay.on_ack("1", old.above, label, now);
+    tree.agents[0]
+        .relay
+        .on_ack("1", Some(old.above), label, now);
     tree.settle();
     assert!(tree.all_are_right());
     assert_eq!(tree.agents[1].applied, [1]);

@@ -15,6 +15,7 @@
 //!
 //! A parent that speaks version 1 says no way. It counts as a root where it is the first of the
 //! list, or the agent has no children, and else as one that has lost the root.
+use super::Result;
 use std::time::Duration;
 
 /// The cost of who has no parent. Less than this is a way to a root.
@@ -38,7 +39,7 @@ const LOOKS_SOON: Duration = Duration::from_millis(500);
 const LOOKS_AT_OLD: Duration = Duration::from_secs(60);
 
 /// The way from a head to an agent, as that agent says it.
-#[derive(Clone, Debug, PartialEq, Eq)]
+#[derive(Clone, Debug, Default, PartialEq, Eq)]
 pub struct Way {
     /// What it costs: less than [`NONE`] where the head is a root.
     pub cost: u16,
@@ -95,27 +96,19 @@ impl Parents {
         prices: impl IntoIterator<Item = Option<u16>>,
         has_children: bool,
     ) -> Parents {
-        let price = |(at, price): (usize, Option<u16>)| {
-            price.unwrap_or_else(|| (at as u16).saturating_mul(PLACE))
-        };
-        let candidates = prices
-            .into_iter()
-            .enumerate()
-            .map(price)
-            .map(|price| Candidate {
-                cost: price.saturating_add(1),
-                better: 0,
-            });
+        let prices = prices.into_iter().enumerate();
+        let prices = prices.map(|(at, it)| it.unwrap_or((at as u16).saturating_mul(PLACE)));
+        let candidates = prices.map(|price| Candidate {
+            cost: price.saturating_add(1),
+            better: 0,
+        });
         let mut parents = Parents {
             name: name.into(),
             candidates: candidates.collect(),
             has_children,
             at: 0,
             heard: None,
-            says: Way {
-                cost: NONE,
-                names: Vec::new(),
-            },
+            says: Way::default(),
             has_news: false,
             was_in_circle: false,
         };
@@ -190,7 +183,7 @@ impl Parents {
     /// # Errors
     ///
     /// Why it is to be left.
-    pub fn hears(&mut self, way: Way) -> Result<(), &'static str> {
+    pub fn hears(&mut self, way: Way) -> Result {
         let over = self.over(self.at, &way);
         self.was_in_circle |= over.is_err();
         over?;
@@ -205,7 +198,7 @@ impl Parents {
         way.cost.saturating_add(cost).min(CIRCLE)
     }
 
-    fn over(&self, at: usize, way: &Way) -> Result<u16, &'static str> {
+    fn over(&self, at: usize, way: &Way) -> Result<u16> {
         match self.cost(at, way) {
             _ if way.names.contains(&self.name) => Err("its way leads over this agent"),
             CIRCLE => Err("its way is too long"),
@@ -219,7 +212,7 @@ impl Parents {
     /// # Errors
     ///
     /// Why it is not.
-    pub fn looked(&mut self, at: usize, way: &Way) -> Result<(), &'static str> {
+    pub fn looked(&mut self, at: usize, way: &Way) -> Result {
         let (over, own) = (self.over(at, way), self.says.cost);
         if self.heard.is_some() && at == self.at {
             // (it is the parent, on another connection)
@@ -248,11 +241,8 @@ impl Parents {
     /// How a candidate counts that speaks version 1.
     pub fn old(&self, at: usize) -> Way {
         let is_root = at == 0 || !self.has_children;
-        let cost = if is_root { 0 } else { NONE };
-        Way {
-            cost,
-            names: Vec::new(),
-        }
+        let (cost, names) = (if is_root { 0 } else { NONE }, Vec::new());
+        Way { cost, names }
     }
 
     // ---- Who is looked at

@@ -1,7 +1,7 @@
 //! The connections of an agent: who connects to whom, what is said first, and who is waited for.
 use super::parents::{Parents, Way, BEAT, NONE, SILENCE};
 use super::wire::{self, Expect, Hello, Message, OLD, VERSION};
-use super::{Body, Relay};
+use super::{Body, Relay, Result};
 use crate::Connection;
 use std::collections::{BTreeMap, BTreeSet, VecDeque};
 use std::fmt;
@@ -162,9 +162,6 @@ macro_rules! fact {
     };
 }
 use fact;
-
-/// What came is taken, or why its connection is closed.
-type Taken = Result<(), &'static str>;
 
 /// When somebody is called next.
 #[derive(Default)]
@@ -423,12 +420,7 @@ impl<L: Line, A: Clone + PartialEq + fmt::Display> Peers<L, A> {
     /// # Errors
     ///
     /// Why it is none, and nothing is changed.
-    pub fn add(
-        &mut self,
-        name: &str,
-        address: Option<A>,
-        now: Instant,
-    ) -> Result<(), &'static str> {
+    pub fn add(&mut self, name: &str, address: Option<A>, now: Instant) -> Result {
         if !super::is_name(name) || name == self.setup.name {
             return Err("it is no name of a child");
         }
@@ -448,12 +440,7 @@ impl<L: Line, A: Clone + PartialEq + fmt::Display> Peers<L, A> {
     /// # Errors
     ///
     /// Where there is none of this name.
-    pub fn remove(
-        &mut self,
-        name: &str,
-        now: Instant,
-        to: &mut dyn Handler,
-    ) -> Result<(), &'static str> {
+    pub fn remove(&mut self, name: &str, now: Instant, to: &mut dyn Handler) -> Result {
         self.relay.child(name).ok_or("it is no child")?;
         self.leave_child(name, &mut Context { now, to });
         Ok(())
@@ -987,16 +974,11 @@ impl<L: Line, A: Clone + PartialEq + fmt::Display> Peers<L, A> {
 
     /// Reads lines that can be read, and those of which there is more: each whole message is
     /// handled, and what follows from it is written.
-    pub fn read(
-        &mut self,
-        ready: impl IntoIterator<Item = u64>,
-        now: Instant,
-        to: &mut dyn Handler,
-    ) {
+    pub fn read(&mut self, ids: impl IntoIterator<Item = u64>, now: Instant, to: &mut dyn Handler) {
         let cx = &mut Context { now, to };
         // (those that were put off come first: else a few that are always ready would come alone)
         let mut seen = BTreeSet::new();
-        let all = mem::take(&mut self.again).into_iter().chain(ready);
+        let all = mem::take(&mut self.again).into_iter().chain(ids);
         let all = all.filter(|id| seen.insert(*id));
         let waits = |id: &u64| self.conns.get(id).map_or(false, Conn::is_greeting);
         let (waiting, mut ready): (Vec<u64>, Vec<u64>) = all.partition(waits);
@@ -1071,7 +1053,7 @@ impl<L: Line, A: Clone + PartialEq + fmt::Display> Peers<L, A> {
     }
 
     /// Handles each whole message that a connection brought.
-    fn messages(&mut self, id: u64, cx: &mut Context<'_>) -> Taken {
+    fn messages(&mut self, id: u64, cx: &mut Context<'_>) -> Result {
         while let Some(conn) = self.conns.get_mut(&id) {
             if conn.output.len() > UNREAD {
                 return Err("it reads nothing");
@@ -1092,7 +1074,7 @@ impl<L: Line, A: Clone + PartialEq + fmt::Display> Peers<L, A> {
         Ok(())
     }
 
-    fn message(&mut self, id: u64, message: Message, cx: &mut Context<'_>) -> Taken {
+    fn message(&mut self, id: u64, message: Message, cx: &mut Context<'_>) -> Result {
         let conn = self.conns.get_mut(&id).ok_or("it is gone")?;
         match (conn.link(), message) {
             (_, Message::Hello(hello)) => return self.greets(id, hello, cx),
@@ -1100,7 +1082,7 @@ impl<L: Line, A: Clone + PartialEq + fmt::Display> Peers<L, A> {
             (None, Message::Way(way)) => return self.way_came(id, way, cx),
             (Some((Whom::Parent, _)), Message::Way(way)) => return self.parents.hears(way),
             (Some((Whom::Parent, number)), Message::Frame(label, body)) => {
-                let came = self.relay.on_frame(number, label, &body);
+                let came = self.relay.on_frame(Some(number), label, &body);
                 self.came(came, &body, cx);
                 self.acknowledge(id);
             }
@@ -1110,7 +1092,7 @@ impl<L: Line, A: Clone + PartialEq + fmt::Display> Peers<L, A> {
                 if conn.until.take().is_none() || waits {
                     return Err("it acknowledges what was not sent");
                 }
-                self.relay.on_ack(&name, number, label, cx.now);
+                self.relay.on_ack(&name, Some(number), label, cx.now);
                 self.poll(&name, cx.now);
             }
             (Some((Whom::Child(name), _)), Message::Report(bytes)) => {
@@ -1131,7 +1113,7 @@ impl<L: Line, A: Clone + PartialEq + fmt::Display> Peers<L, A> {
     // ---- What is said first
 
     /// Who says this hello or look, and of a parent, which one.
-    fn who(&mut self, id: u64, hello: &Hello) -> Result<(Whom, usize), &'static str> {
+    fn who(&mut self, id: u64, hello: &Hello) -> Result<(Whom, usize)> {
         let says = format!(", which calls itself {}", hello.from);
         self.conn_with(id, |conn| conn.says = says);
         let conn = self.conns.get(&id).ok_or("it is gone")?;
@@ -1154,7 +1136,7 @@ impl<L: Line, A: Clone + PartialEq + fmt::Display> Peers<L, A> {
         Ok((whom, at))
     }
 
-    fn greets(&mut self, id: u64, hello: Hello, cx: &mut Context<'_>) -> Taken {
+    fn greets(&mut self, id: u64, hello: Hello, cx: &mut Context<'_>) -> Result {
         let (whom, at) = self.who(id, &hello)?;
         let is_old = hello.version == OLD;
         let conn = self.conns.get_mut(&id).ok_or("it is gone")?;
@@ -1180,7 +1162,7 @@ impl<L: Line, A: Clone + PartialEq + fmt::Display> Peers<L, A> {
     }
 
     /// An end looks at this one, or is a candidate that answers.
-    fn looks(&mut self, id: u64, hello: &Hello, cx: &mut Context<'_>) -> Taken {
+    fn looks(&mut self, id: u64, hello: &Hello, cx: &mut Context<'_>) -> Result {
         let who = self.who(id, hello);
         let conn = self.conns.get_mut(&id).ok_or("it is gone")?;
         let why = match (&mut conn.state, who) {
@@ -1214,7 +1196,7 @@ impl<L: Line, A: Clone + PartialEq + fmt::Display> Peers<L, A> {
     }
 
     /// A candidate says its way. It becomes the parent, or not.
-    fn way_came(&mut self, id: u64, way: Way, cx: &mut Context<'_>) -> Taken {
+    fn way_came(&mut self, id: u64, way: Way, cx: &mut Context<'_>) -> Result {
         let conn = self.conns.get(&id).ok_or("it is gone")?;
         let since = conn.since;
         match conn.state.clone() {
@@ -1278,7 +1260,7 @@ impl<L: Line, A: Clone + PartialEq + fmt::Display> Peers<L, A> {
         Some(self.conns.get(&id)?.link()?.1)
     }
 
-    fn parent_greets(&mut self, id: u64, hello: &Hello, cx: &mut Context<'_>) -> Taken {
+    fn parent_greets(&mut self, id: u64, hello: &Hello, cx: &mut Context<'_>) -> Result {
         let made = self.number(id);
         let number = made.or_else(|| self.relay.accepted());
         let number = number.ok_or("no number is left")?;
@@ -1299,7 +1281,7 @@ impl<L: Line, A: Clone + PartialEq + fmt::Display> Peers<L, A> {
         fact!(cx, "connected", "the parent {from}{}", count(anew));
     }
 
-    fn child_greets(&mut self, id: u64, hello: &Hello, cx: &mut Context<'_>) -> Taken {
+    fn child_greets(&mut self, id: u64, hello: &Hello, cx: &mut Context<'_>) -> Result {
         let (made, name) = (self.number(id), &*hello.from);
         if let Some(old) = self.children.remove(name) {
             self.leave_line(old, "it connected anew", cx);

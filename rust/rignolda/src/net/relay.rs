@@ -50,8 +50,8 @@ impl Above {
 /// let (above, anew) = root.greeted("leaf", 1, leaf.label(), None, now).expect("it is a child");
 /// assert!(anew);
 /// let (label, body) = root.poll("leaf", now).expect("there is a table to send");
-/// assert!(leaf.on_frame(below, label, &body).0);
-/// root.on_ack("leaf", above, leaf.ack().expect("it has the turn"), now);
+/// assert!(leaf.on_frame(Some(below), label, &body).0);
+/// assert!(root.on_ack("leaf", Some(above), leaf.ack().expect("it has the turn"), now));
 /// assert_eq!(root.poll("leaf", now), None);
 /// ```
 pub struct Relay {
@@ -195,33 +195,20 @@ impl Relay {
         }
     }
 
-    /// Takes a frame of the parent: whether it brought an item. Those that were left behind for it
-    /// are named.
+    /// Takes a frame of the parent that came by this connection, or, by none, that its word in a
+    /// store shows: whether it brought an item. Those that were left behind for it are named.
     pub fn on_frame(
         &mut self,
-        connection: Connection,
+        by: Option<Connection>,
         label: u16,
         body: &Arc<Body>,
-    ) -> (bool, Vec<String>) {
-        self.take(label, body, |session, frame| {
-            session.on_frame(connection, frame)
-        })
-    }
-
-    /// The same for a frame that the parent's word in a store shows.
-    pub fn on_word(&mut self, label: u16, body: &Arc<Body>) -> (bool, Vec<String>) {
-        self.take(label, body, Session::<Node>::on_word)
-    }
-
-    fn take(
-        &mut self,
-        label: u16,
-        body: &Arc<Body>,
-        give: impl FnOnce(&mut Session<Node>, Frame) -> bool,
     ) -> (bool, Vec<String>) {
         let (left, item) = (self.make_room(), body.item);
-        let below = self.below();
-        let fresh = below.map_or(false, |session| give(session, Frame { label, item }));
+        let frame = Frame { label, item };
+        let fresh = self.below().map_or(false, |session| match by {
+            Some(connection) => session.on_frame(connection, frame),
+            None => session.on_word(frame),
+        });
         if fresh {
             self.keep(body);
         }
@@ -249,18 +236,16 @@ impl Relay {
     /// The last item of the list is a whole table: what came before it is no longer kept for a
     /// child that begins anew.
     pub fn last_is_a_table(&mut self) {
-        self.table = self
-            .keeps
-            .then(|| self.above.node().child(self.params, 0, 1));
+        let table = || self.above.node().child(self.params, 0, 1);
+        self.table = self.keeps.then(table);
         self.forget();
     }
 
     /// How many items there are from the last whole table on, or, without one, that are kept.
     fn since_table(&self) -> u64 {
-        let kept = self.bodies.len() as u64;
-        self.table
-            .as_ref()
-            .map_or(kept, |table| self.above.node().length() - table.offered())
+        let (kept, length) = (self.bodies.len() as u64, self.above.node().length());
+        let table = self.table.as_ref();
+        table.map_or(kept, |table| length - table.offered())
     }
 
     /// Forgets what neither a child lacks nor a table has to be kept for.
@@ -457,18 +442,28 @@ impl Relay {
         Some((frame.label, body))
     }
 
-    /// Takes an acknowledgement of a child.
-    pub fn on_ack(&mut self, name: &str, connection: Connection, label: u16, now: Instant) {
-        if let Some(link) = self.children.get_mut(name) {
-            if link.session.on_ack(connection, label) {
-                link.held = None;
-            }
-            // (the first one after a hello may be no answer)
-            link.answered(now);
-            if self.moved {
-                self.forget();
-            }
+    /// Takes an acknowledgement of a child that came by this connection, or, by none, that its word
+    /// in a store shows: whether it is that of the sender's item.
+    pub fn on_ack(&mut self, name: &str, by: Option<Connection>, label: u16, now: Instant) -> bool {
+        let link = match self.children.get_mut(name) {
+            Some(link) => link,
+            None => return false,
+        };
+        let taken = match by {
+            Some(connection) => link.session.on_ack(connection, label),
+            None => !link.left && link.session.on_word(label),
+        };
+        if taken {
+            link.held = None;
         }
+        // (the first one on a connection may be no answer, and a word may show an old one)
+        if taken || by.is_some() {
+            link.answered(now);
+        }
+        if self.moved {
+            self.forget();
+        }
+        taken
     }
 
     // ---- Links below that lie in a store
@@ -505,23 +500,6 @@ impl Relay {
     pub fn poll_word(&mut self, name: &str, now: Instant) -> Option<(u16, Arc<Body>)> {
         self.children.get(name).filter(|link| !link.left)?;
         self.give(name, now, Session::<Child>::poll_word)
-    }
-
-    /// Takes an acknowledgement that a child's word shows: whether it is that of the sender's item.
-    pub fn on_word_ack(&mut self, name: &str, label: u16, now: Instant) -> bool {
-        let link = self.children.get_mut(name).filter(|link| !link.left);
-        let taken = link.map_or(false, |link| {
-            let taken = link.session.on_word(label);
-            if taken {
-                link.held = None;
-                link.answered(now);
-            }
-            taken
-        });
-        if self.moved {
-            self.forget();
-        }
-        taken
     }
 
     /// Drops the backlog of a child: it begins anew when it connects again.

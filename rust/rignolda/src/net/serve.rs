@@ -115,10 +115,8 @@ impl<T, L: Listener> Server<T, L> {
         let client =
             |it: &Client<L::Socket>| (it.socket.as_raw_fd(), it.number, !it.output.is_empty());
         let clients = self.clients.iter().filter(|it| !it.asked);
-        let listener = self
-            .full
-            .is_none()
-            .then_some((self.listener.as_raw_fd(), 0, false));
+        let listener = (self.listener.as_raw_fd(), 0, false);
+        let listener = self.full.is_none().then_some(listener);
         listener.into_iter().chain(clients.map(client))
     }
 
@@ -143,7 +141,7 @@ impl<T, L: Listener> Server<T, L> {
         self.accept(now);
         let mut requests = Vec::new();
         self.clients.retain_mut(|client| {
-            if now >= client.until || !client.write() || (client.last && client.output.is_empty()) {
+            if now >= client.until || !client.write() {
                 return false;
             }
             if client.asked || !client.output.is_empty() {
@@ -166,17 +164,13 @@ impl<T, L: Listener> Server<T, L> {
 
     /// Answers a request. If it is the `last` one, the connection is closed after it.
     pub fn answer(&mut self, ticket: Ticket, bytes: &[u8], last: bool) {
-        if let Some(client) = self
-            .clients
-            .iter_mut()
-            .find(|c| c.number == ticket.0 && c.asked)
-        {
+        let mut clients = self.clients.iter_mut();
+        if let Some(client) = clients.find(|it| it.number == ticket.0 && it.asked) {
             client.asked = false;
             client.again = !client.input.is_empty();
             client.last = last;
             client.output.extend_from_slice(bytes);
-            let goes_on = client.write() && !(last && client.output.is_empty());
-            if !goes_on {
+            if !client.write() {
                 self.clients.retain(|client| client.number != ticket.0);
             }
         }
@@ -229,7 +223,7 @@ impl<S: Read + Write> Client<S> {
         }
     }
 
-    /// Writes what it can. Whether the connection goes on.
+    /// Writes what it can. Whether the connection goes on: it does not after the last answer.
     fn write(&mut self) -> bool {
         while !self.output.is_empty() {
             match self.socket.write(&self.output) {
@@ -240,6 +234,6 @@ impl<S: Read + Write> Client<S> {
                 Err(_) => return false,
             }
         }
-        true
+        !self.last
     }
 }

@@ -28,7 +28,7 @@
 //! # Ok::<(), &'static str>(())
 //! ```
 use super::parents::{Way, NAMES};
-use super::{is_name, Body, BODY_BYTES, NAME_BYTES};
+use super::{is_name, Body, Result, BODY_BYTES, NAME_BYTES};
 use std::mem;
 use std::sync::Arc;
 
@@ -186,7 +186,7 @@ pub(super) fn head(bytes: &[u8]) -> Option<(u16, u32, usize)> {
 /// # Errors
 ///
 /// Why it is no message: the connection is to be closed.
-pub fn take(input: &mut Vec<u8>, expect: Expect) -> Result<Option<Message>, &'static str> {
+pub fn take(input: &mut Vec<u8>, expect: Expect) -> Result<Option<Message>> {
     let mut rest = Rest(input);
     let message = match (expect, head(input)) {
         (Expect::Frames, Some((.., length))) if length > BODY_BYTES => {

@@ -163,7 +163,7 @@ impl<L: Line, A: Clone + PartialEq + fmt::Display> Peers<L, A> {
         }
         match wire::take(&mut rest, Expect::Frames) {
             Ok(Some(Message::Frame(label, body))) if rest.is_empty() => {
-                let came = self.relay.on_word(label, &body);
+                let came = self.relay.on_frame(None, label, &body);
                 self.came(came, &body, cx);
                 Some(true)
             }
@@ -208,7 +208,7 @@ impl<L: Line, A: Clone + PartialEq + fmt::Display> Peers<L, A> {
         if words.waits != Some(label) && !changed {
             return None;
         }
-        let taken = self.relay.on_word_ack(name, label, cx.now);
+        let taken = self.relay.on_ack(name, None, label, cx.now);
         if taken {
             (words.waits, words.until) = (None, None);
         }
