@@ -449,11 +449,11 @@ fn what_no_child_lacks_is_forgotten_at_the_next_acknowledgement() {
     assert_eq!(root.kept(), (1, 3), "the store's child lacks it");
     publish(&mut root, b"two");
     let (label, _) = root.poll("line", now).unwrap();
-    let (word, _) = root.poll_word("store", now).unwrap();
+    let (word, _) = root.poll("store", now).unwrap();
     assert!(root.on_ack("store", None, word, now));
     assert_eq!(root.kept(), (1, 3), "it lacks the second one");
     // (its sender has it now, and then the other child acknowledges)
-    assert!(root.poll_word("store", now).is_some());
+    assert!(root.poll("store", now).is_some());
     root.on_ack("line", Some(line), label, now);
     assert_eq!(root.kept(), (0, 0));
 }

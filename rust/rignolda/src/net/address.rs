@@ -52,12 +52,11 @@ impl Address {
             if !super::is_name(prefix) {
                 return Err("it is redis://HOST:PORT/PREFIX, and the prefix as a name".into());
             }
-            Address::parse(server).and_then(|it| match it {
-                Address::Tcp(_) => Ok(()),
+            let prefix = prefix.into();
+            return match Address::parse(server)? {
+                Address::Tcp(server) => Ok(Address::Redis { server, prefix }),
                 _ => Err("after `redis://` comes HOST:PORT".into()),
-            })?;
-            let (server, prefix) = (server.into(), prefix.into());
-            return Ok(Address::Redis { server, prefix });
+            };
         }
         let (host, port) = text
             .rsplit_once(':')

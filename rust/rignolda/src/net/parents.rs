@@ -47,19 +47,13 @@ pub struct Way {
     pub names: Vec<String>,
 }
 
-/// Whom an agent may have as its parent, and what the way over it costs.
-#[derive(Clone, Debug)]
-struct Candidate {
-    cost: u16,
-    /// How often in turn it was better.
-    better: u8,
-}
-
 /// The candidates of an agent, in the order of its list, and the one that is its parent.
 #[derive(Clone, Debug)]
 pub struct Parents {
     name: String,
-    candidates: Vec<Candidate>,
+    /// What the way over each costs besides, and how often in turn it was better.
+    costs: Vec<u16>,
+    better: Vec<u8>,
     has_children: bool,
     /// Which candidate is the parent, or is tried.
     at: usize,
@@ -98,13 +92,11 @@ impl Parents {
     ) -> Parents {
         let prices = prices.into_iter().enumerate();
         let prices = prices.map(|(at, it)| it.unwrap_or((at as u16).saturating_mul(PLACE)));
-        let candidates = prices.map(|price| Candidate {
-            cost: price.saturating_add(1),
-            better: 0,
-        });
+        let costs: Vec<u16> = prices.map(|price| price.saturating_add(1)).collect();
         let mut parents = Parents {
             name: name.into(),
-            candidates: candidates.collect(),
+            better: vec![0; costs.len()],
+            costs,
             has_children,
             at: 0,
             heard: None,
@@ -146,7 +138,7 @@ impl Parents {
     fn say(&mut self) {
         let (cost, mut names) = match &self.heard {
             Some(way) => (self.cost(self.at, way), way.names.clone()),
-            None if self.candidates.is_empty() => (0, Vec::new()),
+            None if self.costs.is_empty() => (0, Vec::new()),
             None => (NONE, Vec::new()),
         };
         names.push(self.name.clone());
@@ -174,7 +166,7 @@ impl Parents {
     pub fn took(&mut self, at: usize, way: Way) {
         self.at = at;
         self.heard = Some(way);
-        self.candidates.iter_mut().for_each(|it| it.better = 0);
+        self.better.fill(0);
         self.say();
     }
 
@@ -194,7 +186,7 @@ impl Parents {
 
     /// What the way over a candidate costs that says this.
     fn cost(&self, at: usize, way: &Way) -> u16 {
-        let cost = self.candidates.get(at).map_or(CIRCLE, |it| it.cost);
+        let cost = self.costs.get(at).copied().unwrap_or(CIRCLE);
         way.cost.saturating_add(cost).min(CIRCLE)
     }
 
@@ -218,20 +210,20 @@ impl Parents {
             // (it is the parent, on another connection)
             return over.map(drop);
         }
-        let is_sole = self.candidates.len() == 1;
+        let is_sole = self.costs.len() == 1;
         let may = !self.was_in_circle || way.names.first() < Some(&self.name);
         let is_free = self.heard.is_none() && (is_sole || !self.has_children) && may;
-        let candidate = self.candidates.get_mut(at).ok_or("it is no parent")?;
-        let better = std::mem::take(&mut candidate.better);
+        let better = self.better.get_mut(at).ok_or("it is no parent")?;
+        let before = std::mem::take(better);
         let cost = over?;
         if cost >= NONE && !is_free {
             return Err("it has no root");
         } else if cost >= own && !is_free {
             return Err("another parent is connected");
         }
-        candidate.better = (better + 1).min(TWICE);
+        *better = (before + 1).min(TWICE);
         let is_soon = own >= NONE && (cost < NONE || is_sole);
-        match is_soon || candidate.better == TWICE {
+        match is_soon || *better == TWICE {
             true => Ok(()),
             false if cost >= NONE => Err("it has no root"),
             false => Err("it has to be better twice"),
@@ -249,7 +241,7 @@ impl Parents {
 
     /// Whether a candidate is to be looked at beside the parent, which speaks version 1 or not.
     pub fn looks_at(&self, at: usize, is_old: bool) -> bool {
-        let could_be = self.candidates.get(at).map_or(CIRCLE, |it| it.cost);
+        let could_be = self.costs.get(at).copied().unwrap_or(CIRCLE);
         let is_better = if at == self.at {
             is_old
         } else {

@@ -1,5 +1,6 @@
 //! The connections of an agent: who connects to whom, what is said first, and who is waited for.
 use super::parents::{Parents, Way, BEAT, NONE, SILENCE};
+use super::relay::Came;
 use super::wire::{self, Expect, Hello, Message, OLD, VERSION};
 use super::{Body, Relay, Result};
 use crate::Connection;
@@ -172,10 +173,9 @@ struct Dial {
     under_way: bool,
     /// How long the hello took that came last.
     took: Duration,
-    /// Whether version 1 is tried, since the other end left without a word; a child is to do so
-    /// twice in turn, since nobody would find out later that it speaks more.
-    is_old: bool,
-    is_mute: bool,
+    /// How often in turn the other end left without a word: then version 1 is tried. A child is to
+    /// do so twice, since nobody would find out later that it speaks more.
+    mute: u8,
     /// Why it failed last.
     why: String,
 }
@@ -672,8 +672,10 @@ impl<L: Line, A: Clone + PartialEq + fmt::Display> Peers<L, A> {
             return;
         }
         let (whom, at) = (&call.whom, self.place_of(&call.whom));
-        let Dial { is_old, took, .. } = self.dials[whom];
-        let looks = !is_old && !matches!(whom, Whom::Child(_));
+        let Dial { mute, took, .. } = self.dials[whom];
+        let is_child = matches!(whom, Whom::Child(_));
+        let is_old = mute > u8::from(is_child);
+        let looks = !is_old && !is_child;
         let made = line.and_then(|line| {
             let number = match whom {
                 _ if looks => return Ok((line, State::Looks(whom.clone(), at, false))),
@@ -715,24 +717,34 @@ impl<L: Line, A: Clone + PartialEq + fmt::Display> Peers<L, A> {
     /// Says a hello where it is one of a link; else it looks at a candidate, or answers that: by
     /// that no life is told, and no label.
     fn say(&mut self, id: u64, to: String) {
-        let (link, is_old) = match self.conns.get(&id) {
-            Some(conn) => (conn.link(), conn.is_old),
-            None => return,
+        if let Some(conn) = self.conns.get(&id) {
+            let version = if conn.is_old { OLD } else { VERSION };
+            let whom = conn.link().map(|(whom, _)| whom);
+            let hello = self.hello(version, whom.as_ref(), to);
+            self.send(
+                id,
+                if whom.is_none() {
+                    hello.look()
+                } else {
+                    hello.bytes()
+                },
+            );
+        }
+    }
+
+    fn hello(&mut self, version: u8, whom: Option<&Whom>, to: String) -> Hello {
+        let (life, label) = match whom {
+            Some(Whom::Parent) => (self.told(), self.relay.label()),
+            Some(_) => (self.life, self.relay.label()),
+            None => (0, 0),
         };
-        let is_look = link.is_none();
-        let life = match link {
-            Some((Whom::Parent, _)) => self.told(),
-            Some(_) => self.life,
-            None => 0,
-        };
-        let hello = Hello {
-            version: if is_old { OLD } else { VERSION },
+        Hello {
+            version,
             life,
-            label: if is_look { 0 } else { self.relay.label() },
+            label,
             from: self.setup.name.clone(),
             to,
-        };
-        self.send(id, if is_look { hello.look() } else { hello.bytes() });
+        }
     }
 
     /// Says the own way, if the other end knows what that is.
@@ -805,9 +817,8 @@ impl<L: Line, A: Clone + PartialEq + fmt::Display> Peers<L, A> {
             },
             _ => (),
         }
-        (dial.is_old, dial.is_mute) = (false, false);
         let rounds = (dial.failed / all).min(5);
-        dial.failed = dial.failed.saturating_add(1);
+        (dial.mute, dial.failed) = (0, dial.failed.saturating_add(1));
         // (each agent at its own time, so that a parent that is back is not run over)
         let drawn = (self.life ^ self.made.wrapping_mul(0x9e37_79b9_7f4a_7c15)) % 1_000;
         let pause = match whom {
@@ -827,7 +838,7 @@ impl<L: Line, A: Clone + PartialEq + fmt::Display> Peers<L, A> {
         match whom {
             Whom::Parent if self.above.is_some() => (),
             Whom::Parent if is_mute && self.parents.looked(at, &self.parents.old(at)).is_ok() => {
-                self.dial_with(whom, |dial| (dial.is_old, dial.next) = (true, None));
+                self.dial_with(whom, |dial| (dial.mute, dial.next) = (1, None));
             }
             _ => self.fails(whom, why, cx),
         }
@@ -884,13 +895,15 @@ impl<L: Line, A: Clone + PartialEq + fmt::Display> Peers<L, A> {
                     self.above = None;
                     self.parents.tries(self.parents.at());
                 }
-                let was_mute = self.dials.get(whom).map_or(false, |dial| dial.is_mute);
-                self.redial(whom, conn.made, *greeted, why, cx);
                 // (a parent's hello of version 2 was not heard, or it was tried to speak version 1)
-                if let (Whom::Child(_), Some(dial)) = (whom, self.dials.get_mut(whom)) {
-                    dial.is_mute = conn.is_mute && !conn.is_old;
-                    dial.is_old = dial.is_mute && was_mute;
-                }
+                let is_mute = conn.is_mute && !conn.is_old && matches!(whom, Whom::Child(_));
+                let mut mute = 0;
+                self.dial_with(whom, |dial| {
+                    mute = u8::from(is_mute) * dial.mute.saturating_add(1);
+                    dial.under_way &= !conn.made;
+                });
+                self.redial(whom, *greeted, why, cx);
+                self.dial_with(whom, |dial| dial.mute = mute);
             }
         }
     }
@@ -915,21 +928,12 @@ impl<L: Line, A: Clone + PartialEq + fmt::Display> Peers<L, A> {
     }
 
     /// Who was left is called again after a while, or the next one is.
-    fn redial(
-        &mut self,
-        whom: &Whom,
-        made: bool,
-        greeted: Option<Instant>,
-        why: &str,
-        cx: &mut Context<'_>,
-    ) {
+    fn redial(&mut self, whom: &Whom, greeted: Option<Instant>, why: &str, cx: &mut Context<'_>) {
         let all = self.all(whom);
         let dial = match self.dials.get_mut(whom) {
             Some(dial) => dial,
             None => return,
         };
-        dial.under_way &= !made;
-        dial.is_old = false;
         if greeted.map_or(false, |since| cx.now >= since + SHORT) {
             dial.failed = 0;
             dial.next = Some(cx.now + Duration::from_millis(self.life % 50));
@@ -1077,8 +1081,16 @@ impl<L: Line, A: Clone + PartialEq + fmt::Display> Peers<L, A> {
     fn message(&mut self, id: u64, message: Message, cx: &mut Context<'_>) -> Result {
         let conn = self.conns.get_mut(&id).ok_or("it is gone")?;
         match (conn.link(), message) {
-            (_, Message::Hello(hello)) => return self.greets(id, hello, cx),
-            (_, Message::Look(hello)) => return self.looks(id, &hello, cx),
+            (_, Message::Hello(hello)) => return self.greets(id, hello, false, cx),
+            (link, Message::Look(hello)) => {
+                let answer = self.greets(id, hello, true, cx);
+                if answer.is_err() && link.is_none() {
+                    // (so much says which version this is, and else nothing)
+                    self.send(id, [wire::LOOK, &[VERSION]].concat());
+                    self.write_one(id, cx);
+                }
+                return answer;
+            }
             (None, Message::Way(way)) => return self.way_came(id, way, cx),
             (Some((Whom::Parent, _)), Message::Way(way)) => return self.parents.hears(way),
             (Some((Whom::Parent, number)), Message::Frame(label, body)) => {
@@ -1136,56 +1148,40 @@ impl<L: Line, A: Clone + PartialEq + fmt::Display> Peers<L, A> {
         Ok((whom, at))
     }
 
-    fn greets(&mut self, id: u64, hello: Hello, cx: &mut Context<'_>) -> Result {
+    /// An end says a hello, or looks at this one, or is a candidate that answers.
+    fn greets(&mut self, id: u64, hello: Hello, is_look: bool, cx: &mut Context<'_>) -> Result {
         let (whom, at) = self.who(id, &hello)?;
         let is_old = hello.version == OLD;
         let conn = self.conns.get_mut(&id).ok_or("it is gone")?;
         conn.is_old = is_old;
-        match (whom, &conn.state) {
-            (_, State::Looks(..)) => Err("it is no hello"),
-            (Whom::Child(_), _) => self.child_greets(id, &hello, cx),
-            (_, State::Link(..)) => {
-                if is_old {
-                    self.parents.took(at, self.parents.old(at));
-                }
-                self.parent_greets(id, &hello, cx)
-            }
-            _ => {
-                // (nothing has changed yet: first its way is to come, or it is of version 1)
-                conn.state = State::Comes(at, hello);
-                match is_old {
-                    true => self.way_came(id, self.parents.old(at), cx),
-                    false => Ok(()),
-                }
-            }
-        }
-    }
-
-    /// An end looks at this one, or is a candidate that answers.
-    fn looks(&mut self, id: u64, hello: &Hello, cx: &mut Context<'_>) -> Result {
-        let who = self.who(id, hello);
-        let conn = self.conns.get_mut(&id).ok_or("it is gone")?;
-        let why = match (&mut conn.state, who) {
-            (State::Link(Whom::Child(_), ..), _) => return Err("it has another parent"),
-            (State::Link(..), _) => return Err("it is no message"),
-            (State::Looks(_, _, has_come), Ok(_)) => {
-                *has_come = true;
-                return Ok(());
-            }
-            (State::Accepted, Ok((Whom::Child(name), _))) => {
+        match (&mut conn.state, whom) {
+            (State::Looks(_, _, has_come), _) if is_look => *has_come = true,
+            (State::Link(Whom::Child(_), ..), _) if is_look => return Err("it has another parent"),
+            (State::Accepted, Whom::Child(name)) if is_look => {
                 self.say(id, name);
                 self.say_way(id);
                 self.answered(id, cx.now);
-                return Ok(());
             }
-            (State::Accepted, Ok(_)) => "its name is none of a child",
-            (State::Accepted | State::Looks(..), Err(why)) => why,
-            _ => "it is no hello",
-        };
-        // (so much says which version this is, and else nothing)
-        self.send(id, [wire::LOOK, &[VERSION]].concat());
-        self.write_one(id, cx);
-        Err(why)
+            (State::Accepted, _) if is_look => return Err("its name is none of a child"),
+            (state, _) if is_look || matches!(state, State::Looks(..)) => {
+                return Err("it is no hello");
+            }
+            (_, Whom::Child(_)) => return self.child_greets(id, &hello, cx),
+            (State::Link(..), _) => {
+                if is_old {
+                    self.parents.took(at, self.parents.old(at));
+                }
+                return self.parent_greets(id, &hello, cx);
+            }
+            (state, _) => {
+                // (nothing has changed yet: first its way is to come, or it is of version 1)
+                *state = State::Comes(at, hello);
+                if is_old {
+                    return self.way_came(id, self.parents.old(at), cx);
+                }
+            }
+        }
+        Ok(())
     }
 
     fn answered(&mut self, id: u64, now: Instant) {
@@ -1339,7 +1335,7 @@ impl<L: Line, A: Clone + PartialEq + fmt::Display> Peers<L, A> {
     }
 
     /// A frame came from above, and brought an item or not; and who was left behind for it.
-    fn came(&mut self, (fresh, left): (bool, Vec<String>), body: &Arc<Body>, cx: &mut Context<'_>) {
+    fn came(&mut self, (fresh, left): Came, body: &Arc<Body>, cx: &mut Context<'_>) {
         for name in left {
             fact!(cx, "left-behind", "{name}");
             if let Some(id) = self.children.get(&name) {

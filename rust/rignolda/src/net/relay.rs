@@ -13,6 +13,9 @@ const KEPT_BYTES: usize = 4 * BODY_BYTES;
 /// How many earlier lives of a child are remembered.
 const LIVES: usize = 8;
 
+/// Whether an item came, and which children were left behind for it.
+pub type Came = (bool, Vec<String>);
+
 /// The root's node has no link above it, and it alone publishes.
 enum Above {
     Root(Node),
@@ -172,10 +175,7 @@ impl Relay {
 
     /// The label that the receiver remembers.
     pub fn label(&self) -> u16 {
-        match &self.above {
-            Above::Root(_) => LABELS,
-            Above::Below(session) => session.end().ack().unwrap_or(LABELS),
-        }
+        self.above.node().ack().unwrap_or(LABELS)
     }
 
     /// Begins a connection to the parent. The one that there was is left.
@@ -197,12 +197,7 @@ impl Relay {
 
     /// Takes a frame of the parent that came by this connection, or, by none, that its word in a
     /// store shows: whether it brought an item. Those that were left behind for it are named.
-    pub fn on_frame(
-        &mut self,
-        by: Option<Connection>,
-        label: u16,
-        body: &Arc<Body>,
-    ) -> (bool, Vec<String>) {
+    pub fn on_frame(&mut self, by: Option<Connection>, label: u16, body: &Arc<Body>) -> Came {
         let (left, item) = (self.make_room(), body.item);
         let frame = Frame { label, item };
         let fresh = self.below().map_or(false, |session| match by {
@@ -417,21 +412,16 @@ impl Relay {
         }
     }
 
-    /// The frame to write to a child now, and its body.
+    /// The frame to write to a child now, and its body; or, where it has no connection and was not
+    /// left behind, to set for it in a store.
     pub fn poll(&mut self, name: &str, now: Instant) -> Option<(u16, Arc<Body>)> {
-        self.give(name, now, Session::<Child>::poll)
-    }
-
-    fn give(
-        &mut self,
-        name: &str,
-        now: Instant,
-        poll: impl FnOnce(&mut Session<Child>, &Node) -> Option<Frame>,
-    ) -> Option<(u16, Arc<Body>)> {
         let (link, node) = (self.children.get_mut(name)?, self.above.node());
-        let before = link.session.offered();
-        let frame = poll(&mut link.session, node)?;
-        if link.session.offered() != before {
+        let session = &mut link.session;
+        let before = session.offered();
+        let frame = session.poll(node);
+        let is_word = frame.is_none() && !link.left;
+        let frame = frame.or_else(|| session.poll_word(node).filter(|_| is_word))?;
+        if session.offered() != before {
             self.moved = true;
             let place = (before - node.forgotten()) as usize;
             (link.held, link.sent) = (self.bodies.get(place).cloned(), None);
@@ -494,12 +484,6 @@ impl Relay {
             link.words = false;
             link.since = now;
         }
-    }
-
-    /// The frame to set for a child now, and its body: as [`Relay::poll`].
-    pub fn poll_word(&mut self, name: &str, now: Instant) -> Option<(u16, Arc<Body>)> {
-        self.children.get(name).filter(|link| !link.left)?;
-        self.give(name, now, Session::<Child>::poll_word)
     }
 
     /// Drops the backlog of a child: it begins anew when it connects again.

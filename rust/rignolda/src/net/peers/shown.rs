@@ -1,5 +1,5 @@
 //! What the words of links in a store show, and what follows from it.
-use super::words::{What, Words};
+use super::words::Words;
 use super::{count, fact, Context, Handler, Line, Peers, Whom};
 use crate::net::wire::{self, Expect, Hello, Message};
 use std::time::{Duration, Instant};
@@ -58,7 +58,8 @@ impl<L: Line, A: Clone + PartialEq + fmt::Display> Peers<L, A> {
         if since.is_some() {
             fact!(cx, "closed", "{whom}: {why}");
         }
-        self.redial(whom, true, since, why, cx);
+        self.dial_with(whom, |dial| dial.under_way = false);
+        self.redial(whom, since, why, cx);
     }
 
     /// The way of a parent that is looked at, or is there.
@@ -75,17 +76,12 @@ impl<L: Line, A: Clone + PartialEq + fmt::Display> Peers<L, A> {
         };
         let (at, is_parent) = (self.place_of(whom), *whom == Whom::Parent);
         if !words.looks {
-            let new = way.filter(|way| words.way.as_ref() != Some(way));
-            if let Some(way) = &new {
-                let heard = words
-                    .since
-                    .map_or(Ok(()), |_| self.parents.hears(way.clone()));
-                if let Err(why) = heard {
-                    self.lost(whom, words.since.take(), why, cx);
-                }
+            let is_new = way.is_some() && way != words.way;
+            if let (true, Some(way)) = (is_new, way) {
+                words.way = Some(way.clone());
+                let heard = words.since.map_or(Ok(()), |_| self.parents.hears(way));
+                heard.unwrap_or_else(|why| self.lost(whom, words.since.take(), why, cx));
             }
-            let is_new = new.is_some();
-            words.way = new.or(words.way.take());
             return is_new;
         }
         // (of one that speaks version 1 there is no such word)
@@ -107,10 +103,19 @@ impl<L: Line, A: Clone + PartialEq + fmt::Display> Peers<L, A> {
     }
 
     /// A key shows this. Whether something changed.
-    fn shown(&mut self, whom: &Whom, what: What, bytes: Vec<u8>, cx: &mut Context<'_>) -> bool {
-        let moved = self.words_with(whom, |peers, words| match (what, whom) {
-            (What::Own, _) => {
-                // (somebody deleted or spoiled it, or it is of a backup)
+    fn shown(&mut self, whom: &Whom, key: &str, bytes: Vec<u8>, cx: &mut Context<'_>) -> bool {
+        let moved = self.words_with(whom, |peers, words| match (key, whom) {
+            ("down", Whom::Parent) => peers.parent_shown(words, bytes, cx) == Some(true),
+            ("up", Whom::Child(name)) => peers.child_shown(name, words, bytes, cx) == Some(true),
+            ("report", Whom::Child(name)) => {
+                words.more = false;
+                // (what makes no sense is left: there is no connection to be closed)
+                let _ = bytes.is_empty() || cx.to.on_report(name, &bytes, cx.now);
+                false
+            }
+            ("way", _) => peers.way_shown(whom, words, bytes, cx),
+            _ => {
+                // (the own word: somebody deleted or spoiled it, or it is of a backup)
                 let kept = peers.relay.kept().1;
                 let differs = words.own.as_ref().map_or(false, |own| *own != bytes)
                     && (*whom == Whom::Parent || words.may_begin(kept, cx.now));
@@ -119,20 +124,6 @@ impl<L: Line, A: Clone + PartialEq + fmt::Display> Peers<L, A> {
                 }
                 differs
             }
-            (What::Other, Whom::Parent) => peers.parent_shown(words, bytes, cx) == Some(true),
-            (What::Other, Whom::Child(name)) => {
-                peers.child_shown(name, words, bytes, cx) == Some(true)
-            }
-            (What::Report, Whom::Child(name)) => {
-                words.more = false;
-                // (what makes no sense is left: there is no connection to be closed)
-                let _ = bytes.is_empty() || cx.to.on_report(name, &bytes, cx.now);
-                false
-            }
-            (What::Way, Whom::Parent | Whom::Candidate(_)) => {
-                peers.way_shown(whom, words, bytes, cx)
-            }
-            _ => false,
         });
         moved == Some(true)
     }

@@ -23,7 +23,7 @@
 //! and no step.
 use super::shown::FIRST;
 use super::{travels, Call, Context, Handler, Line, Peers, Way, Whom};
-use crate::net::wire::{self, Hello, FRAME_HEAD, OLD, REPORT_BYTES, WAY_BYTES};
+use crate::net::wire::{self, FRAME_HEAD, OLD, REPORT_BYTES, WAY_BYTES};
 use crate::net::{Turn, BODY_BYTES};
 use std::fmt;
 use std::time::{Duration, Instant};
@@ -37,18 +37,10 @@ const ANEW: u64 = 1 << 20;
 /// A store in which links of an agent lie.
 pub(super) struct Place<A> {
     pub(super) address: A,
-    /// Of the turn under way, what is got for whom.
-    pub(super) asked: Option<Vec<(Whom, What)>>,
+    /// Of the turn under way, which keys are got, and whose.
+    pub(super) asked: Option<Vec<(Whom, &'static str)>>,
     pub(super) due: Instant,
     pub(super) pause: Duration,
-}
-
-#[derive(Clone, Copy)]
-pub(super) enum What {
-    Own,
-    Other,
-    Report,
-    Way,
 }
 
 /// A link, at one of its ends.
@@ -214,28 +206,28 @@ impl<L: Line, A: Clone + PartialEq + fmt::Display> Peers<L, A> {
             }
             let mut asked = Vec::new();
             for (whom, words) in its {
-                let mut get = |what, of, most| {
-                    turn.gets.push((words.key(of), most));
-                    asked.push((whom.clone(), what));
+                let mut get = |key, most| {
+                    turn.gets.push((words.key(key), most));
+                    asked.push((whom.clone(), key));
                 };
                 let own = words.own.as_ref().map_or(0, Vec::len);
                 match whom {
                     Whom::Parent | Whom::Candidate(_) => {
-                        get(What::Way, "way", WAY_BYTES + 5);
+                        get("way", WAY_BYTES + 5);
                         if words.looks {
                             continue;
                         }
-                        get(What::Own, "up", own + 1);
+                        get("up", own + 1);
                         let all = if words.more { BODY_BYTES + 1 } else { LOOK };
-                        get(What::Other, "down", own + FRAME_HEAD + all);
+                        get("down", own + FRAME_HEAD + all);
                     }
                     Whom::Child(_) => {
-                        get(What::Other, "up", own.max(LOOK));
+                        get("up", own.max(LOOK));
                         if words.waits.is_some() {
-                            get(What::Own, "down", own);
+                            get("down", own);
                         }
                         if words.more {
-                            get(What::Report, "report", REPORT_BYTES + 1);
+                            get("report", REPORT_BYTES + 1);
                         }
                     }
                 }
@@ -258,21 +250,12 @@ impl<L: Line, A: Clone + PartialEq + fmt::Display> Peers<L, A> {
         if words.looks {
             return;
         }
-        // (a parent's word says nothing of what its own receiver remembers, which changes)
-        let (life, label) = if *whom == Whom::Parent {
-            (self.told(), self.relay.label())
-        } else {
-            (self.life, 0)
-        };
-        let (from, to) = (self.setup.name.clone(), words.other.clone());
-        let mut own = Hello {
-            version: OLD,
-            life,
-            label,
-            from,
-            to,
+        let mut hello = self.hello(OLD, Some(whom), words.other.clone());
+        if let Whom::Child(_) = whom {
+            // (what the own receiver remembers changes, and is not for a child)
+            hello.label = 0;
         }
-        .bytes();
+        let mut own = hello.bytes();
         let (show, below) = match whom {
             Whom::Child(name) => {
                 let way = self.parents.says();
@@ -280,7 +263,7 @@ impl<L: Line, A: Clone + PartialEq + fmt::Display> Peers<L, A> {
                     sets.push((words.key("way"), wire::way(way)));
                     words.way = Some(way.clone());
                 }
-                let frame = self.relay.poll_word(name, now);
+                let frame = self.relay.poll(name, now);
                 if let Some((label, body)) = &frame {
                     own.extend(wire::frame(*label, body));
                 } else if words.own.is_some() {
