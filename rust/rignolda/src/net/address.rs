@@ -73,12 +73,9 @@ impl Address {
                 (1..=253).contains(&host.len()) && host.bytes().all(letter)
             }
         };
-        match good {
-            true => Ok(Address::Tcp(text.into())),
-            false => Err(format!(
-                "`{host}` is no host (an address of IPv6 needs brackets)"
-            )),
-        }
+        let why = || format!("`{host}` is no host (an address of IPv6 needs brackets)");
+        let address = good.then(|| Address::Tcp(text.into()));
+        address.ok_or_else(why)
     }
 
     /// Whether what goes there stays on this machine.

@@ -242,12 +242,8 @@ impl Parents {
     /// Whether a candidate is to be looked at beside the parent, which speaks version 1 or not.
     pub fn looks_at(&self, at: usize, is_old: bool) -> bool {
         let could_be = self.costs.get(at).copied().unwrap_or(CIRCLE);
-        let is_better = if at == self.at {
-            is_old
-        } else {
-            could_be < self.says.cost
-        };
-        self.heard.is_some() && is_better
+        let is_better = could_be < self.says.cost;
+        self.heard.is_some() && (if at == self.at { is_old } else { is_better })
     }
 
     /// After how long a candidate is looked at again.

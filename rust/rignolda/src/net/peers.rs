@@ -197,8 +197,6 @@ enum State {
 
 struct Conn<L> {
     line: L,
-    /// Whether this end made it.
-    made: bool,
     since: Instant,
     state: State,
     input: Vec<u8>,
@@ -457,11 +455,6 @@ impl<L: Line, A: Clone + PartialEq + fmt::Display> Peers<L, A> {
             self.leave_line(id, "it was removed", cx);
         }
         self.keep_stores(cx.now);
-        self.forget(name, cx);
-    }
-
-    /// A child is one no longer.
-    fn forget(&mut self, name: &str, cx: &mut Context<'_>) {
         self.relay.remove(name);
         cx.to.on_gone(name);
     }
@@ -549,8 +542,7 @@ impl<L: Line, A: Clone + PartialEq + fmt::Display> Peers<L, A> {
         let away = || children().filter(|link| !link.is_connected()).count();
         let most = self.waiting.min(GREETING);
         if greeting.len() > most && greeting.len() > self.waiting.min(GREETING + away()) {
-            let cx = &mut Context { now, to };
-            self.leave_line(greeting[0], "too many say no hello", cx);
+            self.close(greeting[0], "too many say no hello", now, to);
         }
     }
 
@@ -563,7 +555,6 @@ impl<L: Line, A: Clone + PartialEq + fmt::Display> Peers<L, A> {
         self.made += 1;
         let conn = Conn {
             line,
-            made: !matches!(state, State::Accepted),
             since: now,
             state,
             input: Vec::new(),
@@ -767,12 +758,10 @@ impl<L: Line, A: Clone + PartialEq + fmt::Display> Peers<L, A> {
             self.beat = now + BEAT;
         }
         if has_news || is_beat {
-            let is_told = |conn: &Conn<L>| {
-                let is_child = conn.expects() == Expect::Acks;
-                is_child && (has_news || conn.output.is_empty())
-            };
-            let told = self.all_that(is_told);
-            told.into_iter().for_each(|id| self.say_way(id));
+            let waits = |it: &Conn<L>| !has_news && !it.output.is_empty();
+            for id in self.all_that(|it| it.expects() == Expect::Acks && !waits(it)) {
+                self.say_way(id);
+            }
         }
         if has_news && self.parents.says().cost >= NONE {
             for (whom, dial) in &mut self.dials {
@@ -860,10 +849,7 @@ impl<L: Line, A: Clone + PartialEq + fmt::Display> Peers<L, A> {
             State::Accepted | State::Comes(..) => {
                 self.refused += 1;
                 // (whoever can connect must not fill the journal)
-                if self
-                    .said_refused
-                    .map_or(true, |said| cx.now >= said + SHORT)
-                {
+                if self.said_refused.map_or(true, |at| cx.now >= at + SHORT) {
                     self.said_refused = Some(cx.now);
                     let (says, all) = (&conn.says, self.refused);
                     fact!(cx, "refused", "{place}{says}: {why} ({all} in all)");
@@ -897,11 +883,8 @@ impl<L: Line, A: Clone + PartialEq + fmt::Display> Peers<L, A> {
                 }
                 // (a parent's hello of version 2 was not heard, or it was tried to speak version 1)
                 let is_mute = conn.is_mute && !conn.is_old && matches!(whom, Whom::Child(_));
-                let mut mute = 0;
-                self.dial_with(whom, |dial| {
-                    mute = u8::from(is_mute) * dial.mute.saturating_add(1);
-                    dial.under_way &= !conn.made;
-                });
+                let mute = self.dials.get(whom).map_or(0, |dial| dial.mute);
+                let mute = if is_mute { mute.saturating_add(1) } else { 0 };
                 self.redial(whom, *greeted, why, cx);
                 self.dial_with(whom, |dial| dial.mute = mute);
             }
@@ -934,6 +917,8 @@ impl<L: Line, A: Clone + PartialEq + fmt::Display> Peers<L, A> {
             Some(dial) => dial,
             None => return,
         };
+        // (no call is under way while there is a link that the other end has made)
+        dial.under_way = false;
         if greeted.map_or(false, |since| cx.now >= since + SHORT) {
             dial.failed = 0;
             dial.next = Some(cx.now + Duration::from_millis(self.life % 50));
@@ -970,7 +955,8 @@ impl<L: Line, A: Clone + PartialEq + fmt::Display> Peers<L, A> {
     /// Where any child may connect, one that is gone is a child no longer.
     fn forget_any(&mut self, name: &str, cx: &mut Context<'_>) {
         if self.setup.children == Children::Any {
-            self.forget(name, cx);
+            self.relay.remove(name);
+            cx.to.on_gone(name);
         }
     }
 
@@ -993,8 +979,7 @@ impl<L: Line, A: Clone + PartialEq + fmt::Display> Peers<L, A> {
             match self.read_one(id, cx) {
                 Ok(()) => self.write_one(id, cx),
                 Err(why) => {
-                    let is_mute = |it: &Conn<L>| !it.has_said && it.output.is_empty();
-                    self.conn_with(id, |conn| conn.is_mute = is_mute(conn));
+                    self.conn_with(id, |it| it.is_mute = !it.has_said && it.output.is_empty());
                     self.leave_line(id, &why, cx);
                 }
             }
@@ -1126,23 +1111,23 @@ impl<L: Line, A: Clone + PartialEq + fmt::Display> Peers<L, A> {
 
     /// Who says this hello or look, and of a parent, which one.
     fn who(&mut self, id: u64, hello: &Hello) -> Result<(Whom, usize)> {
-        let says = format!(", which calls itself {}", hello.from);
+        let Hello { from, to, .. } = hello;
+        let says = format!(", which calls itself {from}");
         self.conn_with(id, |conn| conn.says = says);
         let conn = self.conns.get(&id).ok_or("it is gone")?;
-        let is_meant = hello.to == self.setup.name;
+        let is_meant = *to == self.setup.name;
         let (whom, at) = match &conn.state {
             State::Looks(whom, at, _) => (whom.clone(), *at),
             State::Link(whom, ..) => (whom.clone(), self.parents.at()),
             // (a child that was told no name of its parent says none)
-            _ if !is_meant && !hello.to.is_empty() => return Err("it means another agent"),
-            _ => self
-                .caller(&hello.from)
-                .ok_or("its name is none of a child")?,
+            _ if !is_meant && !to.is_empty() => return Err("it means another agent"),
+            _ => self.caller(from).ok_or("its name is none of a child")?,
         };
         let name = self.name_of(&whom, at);
-        if name.map_or(false, |name| *name != hello.from) || (conn.made && !is_meant) {
+        let is_other = name.map_or(false, |name| name != from);
+        if is_other || !(is_meant || conn.is_greeting()) {
             return Err("its hello has other names");
-        } else if !conn.line.may_be(&hello.from) {
+        } else if !conn.line.may_be(from) {
             return Err("its certificate has another name");
         }
         Ok((whom, at))
@@ -1186,9 +1171,7 @@ impl<L: Line, A: Clone + PartialEq + fmt::Display> Peers<L, A> {
 
     fn answered(&mut self, id: u64, now: Instant) {
         let until = Some(self.greets_until(now));
-        self.conn_with(id, |conn| {
-            (conn.state, conn.until) = (State::Answered, until)
-        });
+        self.conn_with(id, |it| (it.state, it.until) = (State::Answered, until));
     }
 
     /// A candidate says its way. It becomes the parent, or not.
@@ -1285,7 +1268,7 @@ impl<L: Line, A: Clone + PartialEq + fmt::Display> Peers<L, A> {
         self.relay.add(name, cx.now);
         let clashes = |relay: &Relay| relay.child(name).map_or(0, |link| link.clashes);
         let before = clashes(&self.relay);
-        let (life, label) = (hello.life, hello.label);
+        let Hello { life, label, .. } = *hello;
         let greeted = self.relay.greeted(name, life, label, made, cx.now);
         let (number, anew) = greeted.ok_or("no number is left")?;
         fact!(cx, "connected", "{name}{}", count(anew));
@@ -1309,7 +1292,7 @@ impl<L: Line, A: Clone + PartialEq + fmt::Display> Peers<L, A> {
 
     fn begins(&mut self, id: u64, whom: Whom, number: Connection, now: Instant) {
         if let Some(conn) = self.conns.get_mut(&id) {
-            if let (true, Some(dial)) = (conn.made, self.dials.get_mut(&whom)) {
+            if let (false, Some(dial)) = (conn.is_greeting(), self.dials.get_mut(&whom)) {
                 dial.took = now - conn.since;
             }
             conn.until = None;

@@ -339,8 +339,7 @@ impl Relay {
     /// Begins a connection to a child. The one that there was is left.
     pub fn made_to(&mut self, name: &str) -> Option<Connection> {
         let link = self.children.get_mut(name)?;
-        link.connection = None;
-        link.words = false;
+        (link.connection, link.words) = (None, false);
         link.session.made()
     }
 
@@ -365,8 +364,7 @@ impl Relay {
             Some(_) if anew => link.session.made(),
             Some(number) => Some(number).filter(|number| link.session.has(*number)),
         };
-        link.since = now;
-        link.sent = None;
+        (link.since, link.sent) = (now, None);
         link.connections += u64::from(link.connection.is_some());
         link.connection.map(|number| (number, anew))
     }
@@ -374,27 +372,20 @@ impl Relay {
     /// The link goes on where the child's process has this life and was not left behind. Else it
     /// begins anew at the last whole table, with this label. Whether it did.
     fn begin(&mut self, name: &str, life: u64, label: u16) -> Option<bool> {
-        let link = self.children.get(name)?;
+        let since = self.since_table();
+        let (link, node) = (self.children.get_mut(name)?, self.above.node());
         let anew = link.lives.front() != Some(&life) || link.left;
-        let end = anew.then(|| {
-            self.above
-                .node()
-                .child(self.params, label, self.since_table())
-        });
-        let link = self.children.get_mut(name)?;
-        if let Some(end) = end {
+        if anew {
             // (numbers of connections go on, so that an old one is never taken for a new one)
-            let before = link.session.renew(end);
+            let before = link.session.renew(node.child(self.params, label, since));
             link.acknowledged += before.acknowledged();
             link.ignored += before.ignored();
-            link.held = None;
-            link.sent = None;
+            (link.held, link.sent, link.left) = (None, None, false);
             if link.lives.front() != Some(&life) {
                 link.clashes += u64::from(link.lives.contains(&life));
                 link.lives.push_front(life);
                 link.lives.truncate(1 + LIVES);
             }
-            link.left = false;
             self.moved = true;
         }
         Some(anew)
@@ -405,9 +396,7 @@ impl Relay {
         if let Some(link) = self.children.get_mut(name) {
             link.session.ended(connection);
             if link.connection == Some(connection) {
-                link.connection = None;
-                link.sent = None;
-                link.since = now;
+                (link.connection, link.sent, link.since) = (None, None, now);
             }
         }
     }
@@ -489,8 +478,7 @@ impl Relay {
     /// Drops the backlog of a child: it begins anew when it connects again.
     pub fn leave_behind(&mut self, name: &str) {
         if let Some(link) = self.children.get_mut(name) {
-            link.left = true;
-            link.held = None;
+            (link.left, link.held) = (true, None);
             self.moved = true;
         }
     }

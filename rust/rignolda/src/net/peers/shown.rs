@@ -8,6 +8,9 @@ use std::{fmt, mem};
 /// The first pause between two looks after something changed. It doubles until nothing does.
 pub(super) const FIRST: Duration = Duration::from_millis(2);
 
+/// Whether something changed; nothing where there is no such word.
+type Moved = Option<bool>;
+
 /// The hello of a word that comes from this agent and means that one, and what is behind it.
 fn word_of(mut bytes: Vec<u8>, from: &str, to: &str) -> Option<(Hello, Vec<u8>)> {
     match wire::take(&mut bytes, Expect::Hello) {
@@ -58,7 +61,6 @@ impl<L: Line, A: Clone + PartialEq + fmt::Display> Peers<L, A> {
         if since.is_some() {
             fact!(cx, "closed", "{whom}: {why}");
         }
-        self.dial_with(whom, |dial| dial.under_way = false);
         self.redial(whom, since, why, cx);
     }
 
@@ -85,10 +87,8 @@ impl<L: Line, A: Clone + PartialEq + fmt::Display> Peers<L, A> {
             return is_new;
         }
         // (of one that speaks version 1 there is no such word)
-        let said = way
-            .clone()
-            .or_else(|| is_parent.then(|| self.parents.old(at)));
-        let taken = said.ok_or("its word is not there");
+        let old = is_parent.then(|| self.parents.old(at));
+        let taken = way.clone().or(old).ok_or("its word is not there");
         match taken.and_then(|said| self.parents.looked(at, &said)) {
             Err(why) => self.look_ended(whom, false, why, cx),
             Ok(()) if is_parent => (words.looks, words.way) = (false, way),
@@ -105,15 +105,15 @@ impl<L: Line, A: Clone + PartialEq + fmt::Display> Peers<L, A> {
     /// A key shows this. Whether something changed.
     fn shown(&mut self, whom: &Whom, key: &str, bytes: Vec<u8>, cx: &mut Context<'_>) -> bool {
         let moved = self.words_with(whom, |peers, words| match (key, whom) {
-            ("down", Whom::Parent) => peers.parent_shown(words, bytes, cx) == Some(true),
-            ("up", Whom::Child(name)) => peers.child_shown(name, words, bytes, cx) == Some(true),
+            ("down", Whom::Parent) => peers.parent_shown(words, bytes, cx),
+            ("up", Whom::Child(_)) => peers.child_shown(words, bytes, cx),
             ("report", Whom::Child(name)) => {
                 words.more = false;
                 // (what makes no sense is left: there is no connection to be closed)
                 let _ = bytes.is_empty() || cx.to.on_report(name, &bytes, cx.now);
-                false
+                None
             }
-            ("way", _) => peers.way_shown(whom, words, bytes, cx),
+            ("way", _) => Some(peers.way_shown(whom, words, bytes, cx)),
             _ => {
                 // (the own word: somebody deleted or spoiled it, or it is of a backup)
                 let kept = peers.relay.kept().1;
@@ -122,18 +122,13 @@ impl<L: Line, A: Clone + PartialEq + fmt::Display> Peers<L, A> {
                 if differs {
                     words.own = None;
                 }
-                differs
+                Some(differs)
             }
         });
-        moved == Some(true)
+        moved.flatten() == Some(true)
     }
 
-    fn parent_shown(
-        &mut self,
-        words: &mut Words,
-        bytes: Vec<u8>,
-        cx: &mut Context<'_>,
-    ) -> Option<bool> {
+    fn parent_shown(&mut self, words: &mut Words, bytes: Vec<u8>, cx: &mut Context<'_>) -> Moved {
         let was_look = !mem::take(&mut words.more);
         let (hello, mut rest) = word_of(bytes, &words.other, &self.setup.name)?;
         if words.since.is_none() {
@@ -166,13 +161,8 @@ impl<L: Line, A: Clone + PartialEq + fmt::Display> Peers<L, A> {
         }
     }
 
-    fn child_shown(
-        &mut self,
-        name: &str,
-        words: &mut Words,
-        bytes: Vec<u8>,
-        cx: &mut Context<'_>,
-    ) -> Option<bool> {
+    fn child_shown(&mut self, words: &mut Words, bytes: Vec<u8>, cx: &mut Context<'_>) -> Moved {
+        let name = &*words.other.clone();
         let (Hello { life, label, .. }, rest) = word_of(bytes, name, &self.setup.name)?;
         let reports = u32::from_be_bytes(rest.try_into().ok()?);
         let is_other = words.last.map_or(false, |(old, _)| old != life);

@@ -126,9 +126,9 @@ impl<L: Line, A: Clone + PartialEq + fmt::Display> Peers<L, A> {
     /// When there is something to do at a store although nothing comes.
     pub(super) fn turn_due(&self) -> Option<Instant> {
         let due = |words: &Words| {
-            let place = &self.stores[words.place];
-            let due = words.until.map_or(place.due, |until| until.min(place.due));
-            place.asked.is_none().then_some(due)
+            let Place { asked, due, .. } = &self.stores[words.place];
+            let due = words.until.map_or(*due, |until| until.min(*due));
+            asked.is_none().then_some(due)
         };
         self.words.values().filter_map(due).min()
     }
@@ -189,15 +189,11 @@ impl<L: Line, A: Clone + PartialEq + fmt::Display> Peers<L, A> {
                 self.words_with(&whom, |peers, words| peers.late(&whom, words, cx));
                 self.words_with(&whom, |peers, words| {
                     words.way = words.way.take().filter(|_| !peers.says_again);
-                    peers.set(&whom, words, &mut turn.sets, now);
+                    peers.set(&whom, words, &mut turn, now);
                 });
             }
-            let (is_idle, place) = (turn.sets.is_empty(), &mut self.stores[at]);
-            let its: Vec<_> = self
-                .words
-                .iter()
-                .filter(|(_, words)| words.place == at)
-                .collect();
+            let (is_idle, its) = (turn.sets.is_empty(), self.all_in(at));
+            let place = &mut self.stores[at];
             if its.is_empty() || (is_idle && now < place.due) {
                 continue;
             }
@@ -205,13 +201,14 @@ impl<L: Line, A: Clone + PartialEq + fmt::Display> Peers<L, A> {
                 place.pause = FIRST;
             }
             let mut asked = Vec::new();
-            for (whom, words) in its {
+            for whom in its {
+                let words = &self.words[&whom];
                 let mut get = |key, most| {
                     turn.gets.push((words.key(key), most));
                     asked.push((whom.clone(), key));
                 };
                 let own = words.own.as_ref().map_or(0, Vec::len);
-                match whom {
+                match &whom {
                     Whom::Parent | Whom::Candidate(_) => {
                         get("way", WAY_BYTES + 5);
                         if words.looks {
@@ -240,23 +237,18 @@ impl<L: Line, A: Clone + PartialEq + fmt::Display> Peers<L, A> {
     }
 
     /// What the own word of a link is to show, where it does not.
-    fn set(
-        &mut self,
-        whom: &Whom,
-        words: &mut Words,
-        sets: &mut Vec<(String, Vec<u8>)>,
-        now: Instant,
-    ) {
+    fn set(&mut self, whom: &Whom, words: &mut Words, turn: &mut Turn, now: Instant) {
         if words.looks {
             return;
         }
+        let sets = &mut turn.sets;
         let mut hello = self.hello(OLD, Some(whom), words.other.clone());
         if let Whom::Child(_) = whom {
             // (what the own receiver remembers changes, and is not for a child)
             hello.label = 0;
         }
         let mut own = hello.bytes();
-        let (show, below) = match whom {
+        let (show, frame) = match whom {
             Whom::Child(name) => {
                 let way = self.parents.says();
                 if words.way.as_ref() != Some(way) {
@@ -269,7 +261,7 @@ impl<L: Line, A: Clone + PartialEq + fmt::Display> Peers<L, A> {
                 } else if words.own.is_some() {
                     return;
                 }
-                ("down", Some((name, frame)))
+                ("down", frame)
             }
             _ => {
                 own.extend_from_slice(&words.reports.to_be_bytes());
@@ -281,13 +273,11 @@ impl<L: Line, A: Clone + PartialEq + fmt::Display> Peers<L, A> {
             return;
         }
         words.own = Some(own.clone());
-        if let Some((name, frame)) = below {
-            words.waits = frame.as_ref().map(|(label, _)| *label);
-            if let Some((_, body)) = frame {
-                let takes = self.patience(name) + travels(body.bytes.len());
-                words.until = Some(now + takes);
-                own.extend_from_slice(&body.bytes);
-            }
+        words.waits = frame.as_ref().map(|(label, _)| *label);
+        if let Some((_, body)) = frame {
+            let takes = self.patience(&words.other) + travels(body.bytes.len());
+            words.until = Some(now + takes);
+            own.extend_from_slice(&body.bytes);
         }
         sets.push((words.key(show), own));
     }
