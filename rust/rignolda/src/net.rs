@@ -27,7 +27,7 @@ pub mod wire;
 pub use address::Address;
 pub use parents::{Parents, Way};
 pub use peers::{Call, Children, Handler, Line, Parent, Peers, Setup, Whom};
-pub use relay::{Link, Relay};
+pub use relay::{Came, Link, Relay};
 pub use store::{Store, Turn, Worker};
 
 /// The longest body, in bytes.

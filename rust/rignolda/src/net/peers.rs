@@ -622,9 +622,9 @@ impl<L: Line, A: Clone + PartialEq + fmt::Display> Peers<L, A> {
 
     /// A connection that is to be made now. What became of it is to be told to [`Peers::called`].
     pub fn next_call(&mut self, now: Instant, to: &mut dyn Handler) -> Option<Call<A>> {
-        let mut dials = self.dials.iter();
-        let due = |dial: &Dial| dial.next.map_or(true, |at| now >= at);
-        let (whom, _) = dials.find(|(whom, dial)| self.is_idle(whom, dial) && due(dial))?;
+        let is_due = |dial: &Dial| dial.next.map_or(true, |at| now >= at);
+        let is = |(whom, dial): &(&Whom, &Dial)| is_due(dial) && self.is_idle(whom, dial);
+        let (whom, _) = self.dials.iter().find(is)?;
         let (whom, all) = (whom.clone(), self.all(whom));
         let address = self.address(&whom).cloned();
         if address.is_none() {

@@ -166,9 +166,8 @@ impl<T, L: Listener> Server<T, L> {
     pub fn answer(&mut self, ticket: Ticket, bytes: &[u8], last: bool) {
         let mut clients = self.clients.iter_mut();
         if let Some(client) = clients.find(|it| it.number == ticket.0 && it.asked) {
-            client.asked = false;
+            (client.asked, client.last) = (false, last);
             client.again = !client.input.is_empty();
-            client.last = last;
             client.output.extend_from_slice(bytes);
             if !client.write() {
                 self.clients.retain(|client| client.number != ticket.0);
