@@ -353,14 +353,14 @@ class Tree:
         self.root.ask("wait", "--everywhere", "--timeout", "60s", number)
         return number
 
-    def reaches(self, *names):
+    def reaches(self, *names, pause=0.01):
         """Has a change reach these agents: after how many seconds."""
         value = f"probe {next(NUMBERS)}"
         begun = time.monotonic()
         self.write("probe", value)
         for name in names:
             file = self[name].settings / "probe"
-            sure(until(lambda: file.exists() and file.read_text() == value),
+            sure(until(lambda: file.exists() and file.read_text() == value, pause=pause),
                  "a change does not reach", name)
         return time.monotonic() - begun
 

@@ -27,8 +27,8 @@ import time
 
 import daemons
 import runner
-from daemons import (PATIENCE, USUAL, Tree, certify, certify_foreign, counted, forget, memory,
-                     running, tls, until)
+from daemons import (PATIENCE, USUAL, Tree, certify, certify_foreign, counted, during, forget,
+                     memory, running, tls, until)
 from protocol import exactly, hello
 from runner import sure
 
@@ -97,10 +97,8 @@ def hellos(port, seconds, rate, groups, at_once=400):
         kept.append(sock)
         sent += 1
         # (a connection of this machine stands at once, where its listener has room)
-        try:
+        with contextlib.suppress(OSError):
             sock.send(text)
-        except OSError:
-            pass
         if len(kept) > at_once:
             kept.popleft().close()
     print(f"{sent} hellos of {len(text)} bytes")
@@ -110,9 +108,9 @@ def slow(port, seconds, addresses, pause):
     """As many connections as there are addresses, each of which sends its hello byte by byte."""
     soft, hard = resource.getrlimit(resource.RLIMIT_NOFILE)
     resource.setrlimit(resource.RLIMIT_NOFILE, (min(hard, addresses + 100), hard))
-    text, end = first_hello("X25519"), time.monotonic() + seconds
+    text = first_hello("X25519")
     socks, made = [None] * addresses, 0
-    while time.monotonic() < end:
+    for _ in during(seconds):
         for at, it in enumerate(socks):
             if it is None:
                 sock = socket.socket()
@@ -428,15 +426,9 @@ def status(agent):
 
 def changes(tree, seconds):
     """How long each change took to an honest child, and how old its last round was at most."""
-    file, delays, ages = tree["left"].settings / "probe", [], []
-    end, number = time.monotonic() + seconds, 0
-    while time.monotonic() < end:
-        number += 1
-        value, began = f"{end} {number}", time.monotonic()
-        tree.write("probe", value)
-        while not (file.exists() and file.read_text() == value) and time.monotonic() < end + 60:
-            time.sleep(0.003)
-        delays.append(time.monotonic() - began)
+    delays, ages = [], []
+    for _ in during(seconds):
+        delays.append(tree.reaches("left", pause=0.003))
         ages.append(status(tree["left"]).get("round_age", 0) / 1_000)
         time.sleep(0.2)
     return delays, ages
