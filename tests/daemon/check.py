@@ -354,11 +354,7 @@ def what_a_false_parent_sends_is_bounded_and_checked():
             label = send(body(b"C", 117, entries((b"a", b"3"))), label=label)
         sure(leaf.status()["received"] == received + 1, leaf.status())
         sure(not leaf.said("panicked"))
-        parent.close()
-        # and then its real parent has to come through
-        tree.write("one", "1")
-        tree.root.start()
-        sure(tree.right(), tree.wrong())
+        parent.gives_way()
 
 
 @test

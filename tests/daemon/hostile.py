@@ -222,10 +222,7 @@ def the_largest_number_does_no_lasting_harm():
         sure(until(lambda: "bad" in leaf.files()), leaf.files())
         sure(left.alive() and leaf.alive() and not left.said("panicked"))
         left.status(), leaf.status()
-        parent.close()
-        tree.write("one", "1")
-        tree.root.start()
-        sure(tree.right(), tree.wrong())
+        parent.gives_way()
         tree.reaches("leaf")
 
 
@@ -249,10 +246,7 @@ def frames_that_lie_are_refused_at_their_head():
                 parent.sock.sendall(frame(label % 255, body(b"H", label)))
         sure(memory(left) < before + 64, "its memory is", memory(left), "and was", before)
         sure(left.alive() and left.status()["name"] == "left")
-        parent.close()
-        tree.write("one", "1")
-        tree.root.start()
-        sure(tree.right(), tree.wrong())
+        parent.gives_way()
 
 
 @test
@@ -461,9 +455,7 @@ def link_ended(seconds):
     """Whether the agents had a link before a certificate that ends in so many seconds ran out."""
     with Tree({"old": "root", "left": "root"}, before=secure) as tree:
         old, left = tree["old"], tree["left"]
-        for agent in (tree.root, left):
-            agent.start()
-        sure(tree.right(agents=[left]), tree.wrong([left]))
+        tree.begin(without=["old"])
         old.tables["tls"] = certify(tree.home, "old", seconds=seconds)
         ends = time.time() + seconds
         old.start()

@@ -168,3 +168,11 @@ class Parent:
     def close(self):
         self.sock.close()
         self.listener.close()
+
+    def gives_way(self):
+        """Leaves the agent to its real parent, which has to come through to all."""
+        self.close()
+        tree = self.agent.tree
+        tree.write("one", "1")
+        tree.root.start()
+        sure(tree.right(), tree.wrong())

@@ -46,11 +46,7 @@ def an_agent_with_two_parents_is_where_it_is_connected():
     with Tree({"left": "root", "right": "root", "leaf": "right", "far": "leaf"}) as tree:
         leaf = tree["leaf"]
         also_below(leaf, tree["left"])
-        tree.write("one", "1")
-        for agent in tree:
-            if agent.name not in ("leaf", "far"):
-                agent.start()
-        sure(until(lambda: tree["left"].up() and tree["right"].up()))
+        tree.begin(without=["leaf", "far"])
         leaf.start()
         tree["far"].start()
         sure(tree.ready() and tree.right(), tree.wrong())
@@ -81,8 +77,7 @@ def nothing_is_everywhere_before_it_is_applied():
         slow_hook(leaf)
         for at in range(4):
             tree.write(f"k{at}", at)
-        for agent in (tree.root, tree["left"]):
-            agent.start()
+        tree.start([tree.root, tree["left"]])
         sure(until(tree.root.up) and until(tree["left"].up))
         number = tree.root.ask("publish", "k3", "new")["sequence"]
         go = leaf.home / "go"
