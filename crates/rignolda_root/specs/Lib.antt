@@ -1,0 +1,4 @@
+pub mod Publishers
+pub mod Runs
+pub mod Merging
+pub mod Waiting

@@ -1,0 +1,102 @@
+//! Laws over runs of a root. Each is a function with an empty body; its contract is the law.
+
+ghost use Rattle.std.specs.Prelude.{◌≡◌, ◌≢◌, ℕ, suc, ◌+◌, ◌*◌, ◌^◌, ◌<◌, ◌≤◌, ◌⊎◌, max, true};
+ghost use Rattle.std.specs.Prelude.{false, List, [], length, Option, Some};
+ghost use Rattle.std.specs.List.{AllByRecursion};
+ghost use Rattle.rignolda_root.specs.Publishers.{most_changes, most_harmless, publisher_of};
+ghost use Rattle.rignolda_root.specs.Runs.{Call, FollowEachOther, IsRound, NoneHeld, Root};
+ghost use Rattle.rignolda_root.specs.Runs.{after_call, body, numbers, still_waits, until_over};
+ghost use Rattle.rignolda_root.specs.Merging.{Act, AgreesBesideWaiting, EachWaits, Settings};
+ghost use Rattle.rignolda_root.specs.Merging.{after_acts};
+ghost use Rattle.rignolda_root.specs.Merging as merging;
+ghost use Rattle.rignolda_root.specs.Waiting.{Body, Change, Waiting, after_all_came, applied};
+ghost use Rattle.rignolda_root.specs.Waiting.{merged};
+ghost use Rattle.rignolda_root.specs.Waiting as waiting;
+ghost use Rattle.stab_settings.specs.Tables.{Table};
+ghost use Rattle.rignolda_root.specs.declared.publisher.Next.TheVariants.{Nothing, Changes, Whole};
+ghost use Rattle.rignolda_root.specs.declared.publisher.Publisher.{Publisher as Struct};
+
+/// Numbers rise by exactly one each, whatever happens, and begin anew after the highest.
+pub fn numbers_rise_by_one()
+    ensures { (root : Root) (calls : List Call)
+        → FollowEachOther root.publisher.number (numbers root calls) }
+{}
+
+/// What is asked of the clock: where a root begins at a number that is not below the one of an
+/// earlier life's begin and as many more as that one published, its numbers are above all of those.
+pub fn numbers_rise_over_restarts()
+    ensures { (root later : Root) (calls more : List Call)
+        → root.publisher.number + length calls ≤ later.publisher.number
+        → later.publisher.number + length more < 2 ^ 64
+        → AllByRecursion (λ number. number ≤ later.publisher.number) (numbers root calls)
+        × AllByRecursion (λ number. later.publisher.number < number) (numbers later more) }
+{}
+
+/// A round with so many harmless bodies ends: whatever changes come, whatever the limit is, and
+/// whatever else is asked for, exactly these and then the whole table are published, and others
+/// between them, at most three for each. Nothing may hold it.
+pub fn a_round_ends()
+    ensures { (root : Root) (harmless : ℕ) (calls : List Call)
+        → root.publisher.left ≡ suc harmless → NoneHeld calls
+        → 4 * harmless + 2 ≤ length calls
+        → IsRound harmless (until_over root calls)
+        × (length (until_over root calls) ≤ 4 * harmless + 2) }
+{}
+
+/// No state has a longer round than can be asked for.
+pub fn no_state_has_a_longer_round()
+    ensures { (state : Struct) → (publisher_of state).left ≤ most_harmless + 1 }
+{}
+
+/// While tables are held, none is published, and nothing of a round.
+pub fn what_is_held_is_not_published()
+    ensures { (root : Root) (call : Call) → call.held ≡ true
+        → (body root call ≡ Nothing) ⊎ (body root call ≡ Changes) }
+{}
+
+/// After a whole table nothing of before it waits.
+pub fn after_a_table_nothing_waits()
+    ensures { (root : Root) (call : Call) → body root call ≡ Whole
+        → (after_call root call).changes ≡ 0 }
+{}
+
+/// Every change is published: one that has fewer than `k` bodies of changes before it, by the body
+/// number `2 * k`, whatever comes after it, held or not, in a round or not.
+pub fn every_change_is_published()
+    ensures { (root : Root) (place k : ℕ) (calls : List Call)
+        → place < root.changes → place < most_changes * k → 2 * k ≤ length calls
+        → still_waits root place calls ≡ false }
+{}
+
+/// No more bodies follow a table than may, but while it is held.
+pub fn few_bodies_follow_a_table()
+    ensures { (root : Root) (call : Call) → call.held ≡ false → body root call ≢ Nothing
+        → (after_call root call).publisher.items ≤ max call.limit 1 }
+{}
+
+/// What does not wait is told: a table that was told every body is the root's, beside each key that
+/// does not wait, if it was so before.
+pub fn what_does_not_wait_is_told()
+    ensures { (root : Settings) (table : Table) (acts : List Act)
+        → EachWaits root acts → AgreesBesideWaiting root table
+        → AgreesBesideWaiting (after_acts root acts) (merging.told_all root table acts) }
+{}
+
+/// A whole table tells all, whatever an agent's table was before.
+pub fn a_whole_table_tells_all()
+    ensures { (root : Settings) (table : Table)
+        → AgreesBesideWaiting (record root { waiting = [] }) (merging.told root table Whole) }
+{}
+
+/// To apply what waits, merged, is to be told every body in its order.
+pub fn merged_changes_tell_the_same()
+    ensures { (waits : Waiting) (bodies : List Body) (table : Table) (key : ℕ)
+        → applied (after_all_came waits bodies) table key
+        ≡ waiting.told_all (applied waits table) bodies key }
+{}
+
+/// No number is forgotten: beside a key waits the number of the first change that is not applied.
+pub fn merged_changes_keep_the_first_number()
+    ensures { (waits came : Change) → ((merged (Some waits) came).first ≤ waits.first)
+        × ((merged (Some waits) came).first ≤ came.first) }
+{}
