@@ -21,6 +21,7 @@ judged. The last line is 'N passed, M failed'.
 """
 import argparse
 import collections
+import contextlib
 import heapq
 import json
 import os
@@ -177,52 +178,22 @@ def some(folder, draw):
     return draw.sample(files, min(len(files), draw.choice([1, 2, 5, 30])))
 
 
-def each(spoil):
-    """A way to spoil a folder that spoils some of its files."""
-    def of_folder(folder, draw):
-        for path in some(folder, draw):
-            spoil(path, draw)
-    of_folder.__name__ = spoil.__name__
-    return of_folder
-
-
-@each
-def removed(path, draw):
-    path.unlink()
-
-
-@each
-def truncated(path, draw):
-    os.truncate(path, draw.randrange(path.stat().st_size + 1))
-
-
-@each
 def longer(path, draw):
     with open(path, "ab") as file:
         file.write(draw.randbytes(draw.randrange(1, 3_000)))
 
 
-@each
-def other_bytes_of_the_same_time(path, draw):
+def other_bytes(path, draw):
     before = path.stat()
     path.write_bytes(draw.randbytes(before.st_size))
     os.utime(path, ns=(before.st_atime_ns, before.st_mtime_ns))
 
 
-@each
-def a_folder_in_its_place(path, draw):
-    path.unlink()
+def a_deep_folder(path):
     (path / "deep" / "er").mkdir(parents=True)
     (path / "deep" / "file").write_text("x")
 
 
-@each
-def a_link_to_nowhere(path, draw):
-    path.unlink()
-    path.symlink_to("/nowhere/at/all")
-
-
-@each
 def a_link_to_a_copy(path, draw):
     away = path.parent.parent / "away"
     away.mkdir(exist_ok=True)
@@ -230,15 +201,28 @@ def a_link_to_a_copy(path, draw):
     path.symlink_to(away / path.name)
 
 
-@each
-def of_mode_0(path, draw):
-    path.chmod(0)
+def replaced(make):
+    """Something else is in the place of a file."""
+    return lambda path, draw: (path.unlink(), make(path))
 
 
-@each
-def a_pipe_in_its_place(path, draw):
-    path.unlink()
-    os.mkfifo(path)
+def exchanged(one, other):
+    spare = one.parent / ".spare"
+    one.replace(spare)
+    other.replace(one)
+    spare.replace(other)
+
+
+# How a file is spoilt, two of them, and a folder.
+OF_FILES = {
+    "removed": lambda path, draw: path.unlink(),
+    "truncated": lambda path, draw: os.truncate(path, draw.randrange(path.stat().st_size + 1)),
+    "longer": longer, "other bytes of the same length and time": other_bytes,
+    "a folder in its place": replaced(a_deep_folder), "a pipe in its place": replaced(os.mkfifo),
+    "a link to nowhere": replaced(lambda path: path.symlink_to("/nowhere/at/all")),
+    "a link to a copy": a_link_to_a_copy, "of mode 0": lambda path, draw: path.chmod(0)}
+OF_TWO = {"exchanged": exchanged,
+          "one file for two": lambda one, other: (other.unlink(), os.link(one, other))}
 
 
 def extra_files(folder, draw):
@@ -258,43 +242,29 @@ def emptied(folder, draw):
             path.unlink()
 
 
-def gone(folder, draw):
-    shutil.rmtree(folder)
-
-
-def exchanged(folder, draw):
-    files = some(folder, draw)
-    for one, other in zip(files, files[1:]):
-        spare = folder / ".spare"
-        one.replace(spare)
-        other.replace(one)
-        spare.replace(other)
-
-
-def one_file_for_two(folder, draw):
-    files = some(folder, draw)
-    for one, other in zip(files, files[1:]):
-        other.unlink()
-        os.link(one, other)
-
-
 def a_file_where_pending_is(folder, draw):
     shutil.rmtree(folder / ".pending", ignore_errors=True)
     (folder / ".pending").write_text("x")
 
 
-SPOILS = [removed, truncated, longer, other_bytes_of_the_same_time, a_folder_in_its_place,
-          a_link_to_nowhere, a_link_to_a_copy, of_mode_0, a_pipe_in_its_place, extra_files,
-          extra_odd_names, emptied, gone, exchanged, one_file_for_two, a_file_where_pending_is]
+OF_FOLDERS = {"extra files": extra_files, "extra odd names": extra_odd_names, "emptied": emptied,
+              "gone": lambda folder, draw: shutil.rmtree(folder),
+              "a file where pending is": a_file_where_pending_is}
+SPOILS = [*OF_FILES, *OF_TWO, *OF_FOLDERS]
 
 
 def spoil(agent, how, draw):
     """Spoils an agent's folder, while the agent may write in it."""
-    try:
-        how(agent.settings, draw)
-    except OSError:
-        # (the agent was faster: a file that was to be spoilt is another one by now)
-        pass
+    folder = agent.settings
+    # (where the agent was faster, a file that was to be spoilt is another one by now)
+    with contextlib.suppress(OSError):
+        if how in OF_FOLDERS:
+            return OF_FOLDERS[how](folder, draw)
+        files = some(folder, draw)
+        for path in files if how in OF_FILES else []:
+            OF_FILES[how](path, draw)
+        for two in zip(files, files[1:]) if how in OF_TWO else []:
+            OF_TWO[how](*two)
 
 
 # ---- One run
@@ -397,12 +367,12 @@ class Run:
             if kind == "copy" and self.copies:
                 victim = net[draw.choice(sorted(self.copies))]
                 shutil.rmtree(victim.settings, ignore_errors=True)
-                spoil(victim, lambda folder, _: shutil.copytree(
-                    self.copies[victim.name], folder, dirs_exist_ok=True), draw)
+                with contextlib.suppress(OSError):
+                    shutil.copytree(self.copies[victim.name], victim.settings, dirs_exist_ok=True)
             else:
                 kind = "spoil"
                 how = draw.choice(SPOILS)
-                self.counts[f"spoil: {how.__name__}"] += 1
+                self.counts[f"spoil: {how}"] += 1
                 spoil(victim, how, draw)
         self.counts[kind] += 1
         # (what will be an old copy)
