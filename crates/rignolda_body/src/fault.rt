@@ -1,0 +1,26 @@
+/// Why bytes are no body: the first fault from left to right.
+#[derive(Clone, Copy, Debug, PartialEq, Eq)]
+pub enum Fault {
+    /// Their checksum is not the item beside them.
+    Unfit,
+    /// There are more than 16 MiB.
+    Large,
+    /// They end within a field.
+    Short,
+    /// The first byte names no kind.
+    NoKind,
+    /// There are more entries than 65,536.
+    Many,
+    /// A byte before a key says neither that it is set nor that it is unset.
+    NoMark,
+    /// A key is none.
+    NoKey,
+    /// A key is not above the one before it.
+    Order,
+    /// A value is longer than 1 MiB.
+    Long,
+    /// A table unsets a key.
+    Unset,
+    /// Something follows the last entry.
+    Trailing,
+}

@@ -1,0 +1,124 @@
+ghost use Rattle.std.specs.Prelude.{◌≡◌, ◌%◌, List, fold, length};
+ghost use Rattle.rignolda_body.specs.Checksum.{checksum, with_byte};
+ghost use Rattle.rignolda_body.specs.Sums.{after_zeros};
+
+use crate::tables::{SUMS_1, SUMS_2, SUMS_3, SUMS_4, SUMS_5, SUMS_6, SUMS_7, SUMS_8};
+
+/// The sum with which a checksum begins.
+const FIRST: u32 = 0xffff_ffff;
+
+/// The place of a word's low byte in a table.
+fn low(word: u64) -> usize
+    ensures { result ≡ word % 256 }
+{
+    (word % 256) as usize
+}
+
+#[tactic(auto, using(crate::proofs::TableSums::in_1))]
+fn after_1(word: u64) -> u32
+    ensures { result ≡ after_zeros 1 (word % 256) }
+{
+    SUMS_1[low(word)]
+}
+
+#[tactic(auto, using(crate::proofs::TableSums::in_2))]
+fn after_2(word: u64) -> u32
+    ensures { result ≡ after_zeros 2 (word % 256) }
+{
+    SUMS_2[low(word)]
+}
+
+#[tactic(auto, using(crate::proofs::TableSums::in_3))]
+fn after_3(word: u64) -> u32
+    ensures { result ≡ after_zeros 3 (word % 256) }
+{
+    SUMS_3[low(word)]
+}
+
+#[tactic(auto, using(crate::proofs::TableSums::in_4))]
+fn after_4(word: u64) -> u32
+    ensures { result ≡ after_zeros 4 (word % 256) }
+{
+    SUMS_4[low(word)]
+}
+
+#[tactic(auto, using(crate::proofs::TableSums::in_5))]
+fn after_5(word: u64) -> u32
+    ensures { result ≡ after_zeros 5 (word % 256) }
+{
+    SUMS_5[low(word)]
+}
+
+#[tactic(auto, using(crate::proofs::TableSums::in_6))]
+fn after_6(word: u64) -> u32
+    ensures { result ≡ after_zeros 6 (word % 256) }
+{
+    SUMS_6[low(word)]
+}
+
+#[tactic(auto, using(crate::proofs::TableSums::in_7))]
+fn after_7(word: u64) -> u32
+    ensures { result ≡ after_zeros 7 (word % 256) }
+{
+    SUMS_7[low(word)]
+}
+
+#[tactic(auto, using(crate::proofs::TableSums::in_8))]
+fn after_8(word: u64) -> u32
+    ensures { result ≡ after_zeros 8 (word % 256) }
+{
+    SUMS_8[low(word)]
+}
+
+/// The sum of a word with eight zeros after it: those of its bytes, each with as many zeros as come
+/// to be after it.
+#[tactic(auto, using(crate::proofs::Sums::by_bytes))]
+fn after_word(word: u64) -> u32
+    ensures { result ≡ after_zeros 8 word }
+{
+    after_8(word)
+        ^ after_7(word / 0x100)
+        ^ after_6(word / 0x1_0000)
+        ^ after_5(word / 0x100_0000)
+        ^ after_4(word / 0x1_0000_0000)
+        ^ after_3(word / 0x100_0000_0000)
+        ^ after_2(word / 0x1_0000_0000_0000)
+        ^ after_1(word / 0x100_0000_0000_0000)
+}
+
+#[tactic(auto, using(crate::proofs::Sums::one_byte))]
+fn with_byte(sum: u32, byte: u8) -> u32
+    ensures { result ≡ with_byte sum byte }
+{
+    after_1(u64::from(sum ^ u32::from(byte))) ^ (sum / 256)
+}
+
+/// The sum after eight more bytes.
+#[tactic(auto, using(crate::proofs::Sums::eight_bytes))]
+fn with_eight(sum: u32, eight: &[u8]) -> u32
+    requires { length eight.now ≡ 8 }
+    ensures { result ≡ fold with_byte sum eight.now }
+{
+    let word = u64::from_le_bytes([
+        eight[0], eight[1], eight[2], eight[3], eight[4], eight[5], eight[6], eight[7],
+    ]);
+    after_word(u64::from(sum) ^ word)
+}
+
+/// The checksum CRC-32 of some bytes, as zlib and others have it.
+#[tactic(auto, using(crate::proofs::Sums::eight_more))]
+pub fn checksum(bytes: &[u8]) -> u32
+    ensures { result ≡ checksum bytes.now }
+{
+    let mut sum = FIRST;
+    let mut rest = bytes;
+    while rest.len() >= 8 {
+        let (eight, others) = rest.split_at(8);
+        sum = with_eight(sum, eight);
+        rest = others;
+    }
+    for byte in rest {
+        sum = with_byte(sum, *byte);
+    }
+    sum ^ FIRST
+}

@@ -1,0 +1,13 @@
+//! What agents do with settings, for C and whatever calls C: bodies of settings, as bytes.
+//! `include/rignolda_settings.h` declares what is exported here.
+//!
+//! No call reads, writes, waits, takes memory or looks at a clock, and none has a `requires`. What a
+//! call refuses it leaves as it was, and it then returns 0, but for the check, which returns 0 where
+//! the bytes are a body.
+#![tactic(auto)]
+
+mod bodies;
+mod buffers;
+
+pub use bodies::{BodyEntry, BodyHead, rignolda_body_check, rignolda_body_read, rignolda_checksum};
+pub use buffers::{rignolda_body_begin, rignolda_body_set, rignolda_body_unset};
