@@ -109,6 +109,11 @@ impl<End> Session<End> {
         &self.end
     }
 
+    /// Whether no number is left for a next connection.
+    pub(crate) fn is_spent(&self) -> bool {
+        self.raw.number == u64::MAX
+    }
+
     /// Whether the end has no connection, so that its link may lie in words of a store.
     fn is_free(&self) -> bool {
         // SAFETY: the call only reads.

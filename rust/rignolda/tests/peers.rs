@@ -13,6 +13,8 @@ use common::Said;
 
 const ACK_TIMEOUT: Duration = Duration::from_millis(500);
 const STEP: Duration = Duration::from_millis(10);
+/// In how many steps an agent looks at its state: a second.
+const CHECKS: u64 = 100;
 
 #[derive(Default)]
 struct Pipe {
@@ -188,6 +190,13 @@ impl Net {
                 let agent = self.agent(&name);
                 agent.peers.called(call, made, now, &mut agent.said);
                 agent.peers.write(now, &mut agent.said);
+            }
+            let checks = self.made % CHECKS == 0;
+            let agent = self.agent(&name);
+            assert_eq!(agent.peers.fault(), None, "{name}");
+            if checks {
+                let sound = agent.peers.check(false, now, &mut agent.said);
+                assert_eq!(sound, Ok(()), "{name}");
             }
         }
     }
@@ -505,6 +514,11 @@ fn whoever_waits_is_read_although_others_are_always_ready() {
     drop((waits, child));
 }
 
+/// All bytes that an end has from an agent.
+fn sent(end: &End) -> Vec<u8> {
+    end.from.borrow().bytes.iter().copied().collect()
+}
+
 /// The next message that an end has from an agent.
 fn next(end: &End, expect: Expect) -> Option<Message> {
     let mut bytes: Vec<u8> = end.from.borrow_mut().bytes.drain(..).collect();
@@ -564,6 +578,37 @@ fn who_does_not_answer_is_left() {
         net.agent("root").peers.relay().child("a").unwrap().timeouts,
         1
     );
+}
+
+/// Any answer is no progress: whatever is wrong with the records of such a link, it begins anew.
+#[test]
+fn who_answers_and_takes_nothing_is_left_and_begins_anew() {
+    let mut net = path([false, false]);
+    net.agents.remove("a");
+    net.publish("root", "T0");
+    for count in 1..3 {
+        let end = net.stranger("root", "a", &hello("a", "root"));
+        net.steps(3);
+        assert!(matches!(next(&end, Expect::Hello), Some(Message::Hello(_))));
+        let mut frames = 0;
+        for _ in 0..1_000 {
+            if let Ok(Some(Message::Frame(8, _))) = wire::take(&mut sent(&end), Expect::Frames) {
+                end.from.borrow_mut().bytes.clear();
+                end.to.borrow_mut().bytes.extend(wire::ack(9));
+                frames += 1;
+            }
+            net.step();
+        }
+        assert!(end.from.borrow().closed && frames > 50, "{frames}");
+        let facts = net.agent("root").said.facts.clone();
+        let said = |fact: &str| facts.iter().filter(|it| *it == fact).count();
+        assert_eq!(said("connected a, a new count"), count, "{facts:?}");
+        assert_eq!(said("left-behind a: it takes nothing"), count, "{facts:?}");
+        assert_eq!(
+            net.agent("root").peers.relay().child("a").unwrap().timeouts,
+            0
+        );
+    }
 }
 
 /// A child that needs three times as long for an answer as it may take: it is given more, and not

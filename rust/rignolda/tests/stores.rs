@@ -11,6 +11,8 @@ mod common;
 use common::{Random, Said};
 
 const STEP: Duration = Duration::from_millis(10);
+/// In how many steps an agent looks at its state: a second.
+const CHECKS: u64 = 100;
 
 /// There are no connections here.
 struct NoLine;
@@ -59,6 +61,7 @@ struct Net {
     keys: Keys,
     is_up: bool,
     now: Instant,
+    steps: u64,
     lives: u64,
     random: Random,
     /// How many of a hundred turns fail.
@@ -103,6 +106,7 @@ impl Net {
             keys: Keys::new(),
             is_up: true,
             now: Instant::now(),
+            steps: 0,
             lives: 0,
             random: Random(seed * 2 + 1),
             fails: 0,
@@ -178,6 +182,7 @@ impl Net {
     /// deadline is later: so whoever waits for these two is never late.
     fn step(&mut self) {
         self.now += STEP;
+        self.steps += 1;
         let now = self.now;
         let names: Vec<String> = self.agents.keys().cloned().collect();
         for name in names {
@@ -217,6 +222,12 @@ impl Net {
                 let answer = self.turn(&name, turn);
                 let agent = self.agent(&name);
                 assert!(agent.answer.replace(answer).is_none(), "one is under way");
+            }
+            let (checks, agent) = (self.steps % CHECKS == 0, self.agent(&name));
+            assert_eq!(agent.peers.fault(), None, "{name}");
+            if checks {
+                let sound = agent.peers.check(false, now, &mut agent.said);
+                assert_eq!(sound, Ok(()), "{name}");
             }
         }
     }

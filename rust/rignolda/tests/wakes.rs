@@ -340,6 +340,7 @@ impl Net {
                 self.make_calls(peers, &mut agent.looks_up, said, clock, now);
             }
             peers.write(now, said);
+            assert_eq!(peers.fault(), None, "{name}");
             self.agents.insert(name, agent);
         }
     }

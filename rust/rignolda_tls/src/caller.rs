@@ -7,8 +7,8 @@ use std::net::{SocketAddr, ToSocketAddrs};
 use std::sync::{mpsc, Arc};
 use std::thread;
 
-/// What a look-up of a host's name brought.
-type Found = (Call<Address>, io::Result<Vec<SocketAddr>>);
+/// What a look-up of a host's name brought, and what there is one of for each of them.
+type Found = (Call<Address>, io::Result<Vec<SocketAddr>>, Arc<()>);
 /// A call, and the line that it led to, or why it led to none.
 pub type Called = (Call<Address>, Result<Line, String>);
 
@@ -18,13 +18,19 @@ pub struct Caller {
     to: mpsc::Sender<Found>,
     found: mpsc::Receiver<Found>,
     wake: Arc<dyn Fn() + Send + Sync>,
+    under_way: Arc<()>,
 }
 
 impl Caller {
     /// It calls `wake` whenever something was looked up.
     pub fn new(wake: Arc<dyn Fn() + Send + Sync>) -> Caller {
         let (to, found) = mpsc::channel();
-        Caller { to, found, wake }
+        Caller { to, found, wake, under_way: Arc::new(()) }
+    }
+
+    /// Whether a name is looked up now.
+    pub fn looks_up(&self) -> bool {
+        Arc::strong_count(&self.under_way) > 1
     }
 
     /// Begins a connection. Nothing where a name is looked up before that.
@@ -44,10 +50,10 @@ impl Caller {
     }
 
     fn look_up(&self, call: Call<Address>) -> io::Result<()> {
-        let (to, wake) = (self.to.clone(), self.wake.clone());
+        let (to, wake, one) = (self.to.clone(), self.wake.clone(), self.under_way.clone());
         let look_up = move || {
             let found = call.address.to_string().to_socket_addrs().map(Iterator::collect);
-            let _ = to.send((call, found));
+            let _ = to.send((call, found, one));
             wake();
         };
         thread::Builder::new().spawn(look_up).map(drop)
@@ -55,7 +61,7 @@ impl Caller {
 
     /// Begins the next connection whose name was looked up.
     pub fn found(&self, maker: &Maker) -> Option<Called> {
-        let (call, found) = self.found.try_recv().ok()?;
+        let (call, found, _) = self.found.try_recv().ok()?;
         let nothing = || io::Error::new(ErrorKind::NotFound, "it has no address");
         let line = found.and_then(|places| {
             let place = places.get(call.failed % places.len().max(1)).ok_or_else(nothing)?;

@@ -32,6 +32,10 @@ const ACCEPTS: usize = 64;
 const REPORTS: Duration = Duration::from_millis(100);
 const SAYS_AGAIN: Duration = Duration::from_secs(10);
 
+/// How often the state is looked at as a whole.
+const CHECKS: Duration = Duration::from_secs(1);
+/// For how long nobody is accepted where no descriptor was left.
+const FULL: Duration = Duration::from_millis(100);
 /// How many faults of the root's folder its status names.
 const FAULTS: usize = 8;
 /// How soon the loop asks again what was done about files.
@@ -72,6 +76,7 @@ pub struct Agent {
     state: State,
     servers: Vec<Server>,
     reported: Instant,
+    checked: Instant,
     /// What was not taken at the last reload, and why.
     reload_failed: String,
 }
@@ -125,6 +130,7 @@ pub fn run(path: &Path, config: Config) -> Result<(), String> {
             notify(&format!("STATUS={}", agent.reload_failed));
         }
         agent.turn(&fired, now);
+        agent.check(now).map_err(|what| format!("its memory is spoiled: {what}"))?;
         if watchdog.is_some_and(|part| now >= watched + part) {
             watched = now;
             notify("WATCHDOG=1");
@@ -333,6 +339,7 @@ impl Agent {
             },
             servers: control.chain(counts).collect::<Result<_, _>>()?,
             reported: now,
+            checked: now,
             reload_failed: String::new(),
             config,
         })
@@ -403,7 +410,8 @@ impl Agent {
         let expires = Some(now + Duration::from_secs(expires).min(SAYS_AGAIN));
         let files = self.state.applying.then(|| now + ASKS_AGAIN);
         let more = self.may_publish().then_some(now);
-        let all = [self.peers.deadline(now), root, report, served, full, files, more, expires];
+        let (peers, checks) = (self.peers.deadline(now), Some(self.checked + CHECKS));
+        let all = [peers, root, report, served, full, files, more, expires, checks];
         all.into_iter().flatten().min().unwrap_or(now + SAYS_AGAIN)
     }
 
@@ -431,6 +439,32 @@ impl Agent {
         self.peers.write(now, &mut self.state);
     }
 
+    /// Each second: brings back what has a bound, and says what else cannot be, as after a fault of
+    /// the machine's memory. What two places say must be the same.
+    fn check(&mut self, now: Instant) -> Result<(), &'static str> {
+        if self.checked <= now && now < self.checked + CHECKS {
+            return Ok(());
+        }
+        self.checked = now;
+        self.full_until = self.full_until.min(now + FULL);
+        self.reported = self.reported.min(now);
+        self.peers.bound_waiting((descriptors() / 4).max(1));
+        self.peers.check(self.caller.looks_up(), now, &mut self.state)?;
+        let sockets = self.listeners.iter().chain(self.servers.iter().map(Server::listener));
+        let mut listen = sockets.map(|it| it.socket.is_listener().unwrap_or(false));
+        let is_same = self.config.peers == *self.peers.setup()
+            && self.config.backlog == self.peers.relay().room();
+        let (applier, apply) = (self.state.applier.as_ref(), self.config.apply.as_ref());
+        let root = self.root.as_ref().zip(self.config.root.as_ref());
+        let faults = [
+            (!is_same).then_some("its configuration is another one"),
+            (!listen.all(|it| it)).then_some("it does not listen"),
+            applier.zip(apply).and_then(|(applier, config)| applier.fault(config)),
+            root.and_then(|(root, config)| root.fault(config)),
+        ];
+        faults.into_iter().flatten().next().map_or(Ok(()), Err)
+    }
+
     // ---- Connections
 
     fn accept(&mut self, fired: &HashSet<RawFd>, now: Instant) {
@@ -441,7 +475,7 @@ impl Agent {
                     Err(e) if e.kind() == ErrorKind::WouldBlock => break,
                     // (that connection is gone already, or no descriptor is left)
                     Err(_) => {
-                        self.full_until = now + Duration::from_millis(100);
+                        self.full_until = now + FULL;
                         break;
                     }
                 }
@@ -557,7 +591,7 @@ impl Agent {
             round_age: self.state.round_at.map_or(0, millis),
             whole: table.whole,
             settings: table.keys.len() as u64,
-            draining: self.root.as_ref().is_some_and(|root| root.draining),
+            draining: self.root.as_ref().is_some_and(Root::is_draining),
             harmless: self.config.root.as_ref().map_or(0, |root| root.harmless.into()),
             limit: self.config.backlog,
             received: self.state.received,
@@ -626,9 +660,13 @@ impl Agent {
             }
             (Request::ChildAdd { name }, _) => {
                 self.peers.add(&name, None, now)?;
+                self.config.peers = self.peers.setup().clone();
                 self.state.changed = true;
             }
-            (Request::ChildRemove { name }, _) => self.peers.remove(&name, now, &mut self.state)?,
+            (Request::ChildRemove { name }, _) => {
+                self.peers.remove(&name, now, &mut self.state)?;
+                self.config.peers = self.peers.setup().clone();
+            }
             (_, None) => return Err("it is not the root".into()),
             // (who asked for a change is answered when it is published)
             (Request::Publish { key, value }, Some(root)) => {
@@ -637,9 +675,9 @@ impl Agent {
             (Request::Unset { key }, Some(root)) => {
                 return root.ask(&key, None, ticket).map(|()| None);
             }
-            (Request::Drain, Some(root)) => root.draining = true,
+            (Request::Drain, Some(root)) => root.drain(now),
             (Request::Resume, Some(root)) => {
-                root.draining = false;
+                root.resume();
                 root.begin_round(now);
             }
             (Request::Round, Some(root)) => root.begin_round(now),

@@ -16,7 +16,7 @@ use std::os::unix::fs::OpenOptionsExt;
 use std::path::{Path, PathBuf};
 use std::process::{Command, Stdio};
 use std::sync::{Arc, Condvar, Mutex, MutexGuard, PoisonError};
-use std::thread;
+use std::thread::{self, JoinHandle};
 
 /// The folder of the hooks that are due, in the folder of the settings.
 const PENDING: &str = ".pending";
@@ -75,6 +75,7 @@ pub type Wake = Arc<dyn Fn() + Send + Sync>;
 /// Keeps the files of a folder as the settings are, and runs the hook beside the link.
 pub struct Applier {
     shared: Arc<Shared>,
+    threads: Vec<JoinHandle<()>>,
 }
 
 struct Shared {
@@ -119,12 +120,12 @@ impl Applier {
         let state = Mutex::new(State { config: config.clone(), due, ..State::default() });
         let (files, hooks) = (Condvar::new(), Condvar::new());
         let shared = Arc::new(Shared { folder, state, files, hooks, wake, marks: Mutex::new(()) });
-        let applier = Applier { shared };
+        let mut applier = Applier { shared, threads: Vec::new() };
         let hooks = [("hooks", run_hooks as fn(&Shared)); HOOKS];
         for (name, work) in hooks.into_iter().chain([("files", keep_files as fn(&Shared))]) {
             let shared = applier.shared.clone();
             let thread = thread::Builder::new().name(name.into()).stack_size(STACK_BYTES);
-            thread.spawn(move || work(&shared))?;
+            applier.threads.push(thread.spawn(move || work(&shared))?);
         }
         Ok(applier)
     }
@@ -170,6 +171,19 @@ impl Applier {
         let running = state.running.values().copied();
         let oldest = waiting.chain(state.writing).chain(running).min();
         oldest.map_or(sequence, |oldest| sequence.min(oldest.saturating_sub(1)))
+    }
+
+    /// What of its state cannot be, where something cannot.
+    pub fn fault(&self, config: &Apply) -> Option<&'static str> {
+        match () {
+            () if self.threads.iter().any(JoinHandle::is_finished) => {
+                Some("a thread that applies settings has ended")
+            }
+            () if self.shared.lock().config != *config || self.shared.folder != config.folder => {
+                Some("what is applied is configured otherwise")
+            }
+            () => None,
+        }
     }
 
     /// How many settings have a file or hook that failed last.
@@ -232,6 +246,10 @@ fn keep_files(shared: &Shared) {
     let (mut folder, mut others) = (Folder::new(shared.folder.clone()), Vec::new());
     let mut is_taken = false;
     while let Some((mut files, mut due, looks, config)) = shared.next(&shared.files, take) {
+        if folder.path() != config.folder {
+            // (the memory is spoiled)
+            folder = Folder::new(config.folder.clone());
+        }
         // (until it is the agent's, nothing in it is touched; the next table sets all then. It is
         // also where a table names all that is in it, so that nothing would go)
         let there = || folder.names().into_iter().chain(folder.others()).filter(|it| is_key(it));

@@ -6,6 +6,7 @@ use rignolda::settings::{
     no_key, read_folder, read_plain, too_many, write_folder, Faults, Found, Kept, SETTINGS,
     VALUE_BYTES,
 };
+use std::cell::Cell;
 use std::collections::BTreeSet;
 use std::fs;
 use std::io::{self, ErrorKind};
@@ -13,7 +14,7 @@ use std::os::unix::fs::MetadataExt;
 use std::os::unix::io::{AsRawFd, RawFd};
 use std::path::{Path, PathBuf};
 use std::sync::{mpsc, Arc};
-use std::thread;
+use std::thread::{self, JoinHandle};
 
 const EMPTY: &str = "it is empty: is a mount missing, or else `.empty`?";
 
@@ -49,6 +50,9 @@ pub struct Disk {
     pub descriptor: Option<RawFd>,
     jobs: mpsc::Sender<Job>,
     done: mpsc::Receiver<Done>,
+    thread: JoinHandle<()>,
+    /// How many jobs have no answer yet.
+    waits: Cell<u32>,
 }
 
 struct Place {
@@ -63,7 +67,7 @@ impl Disk {
         let (to, done) = mpsc::channel();
         let mut place = Place { settings, notify: Inotify::init().ok() };
         let descriptor = place.notify.as_ref().map(AsRawFd::as_raw_fd);
-        thread::Builder::new().name("disk".into()).spawn(move || {
+        let thread = thread::Builder::new().name("disk".into()).spawn(move || {
             for job in asked {
                 if to.send(place.work(job)).is_err() {
                     break;
@@ -71,15 +75,23 @@ impl Disk {
                 wake();
             }
         })?;
-        Ok(Disk { descriptor, jobs, done })
+        Ok(Disk { descriptor, jobs, done, thread, waits: Cell::new(0) })
     }
 
     pub fn begin(&self, job: Job) {
+        self.waits.set(self.waits.get() + 1);
         let _ = self.jobs.send(job);
     }
 
     pub fn done(&self) -> Option<Done> {
-        self.done.try_recv().ok()
+        let done = self.done.try_recv().ok();
+        self.waits.set(self.waits.get() - u32::from(done.is_some()));
+        done
+    }
+
+    /// Whether it has so many jobs to do, and can do them.
+    pub fn is_asked(&self, count: u32) -> bool {
+        self.waits.get() == count && !self.thread.is_finished()
     }
 }
 

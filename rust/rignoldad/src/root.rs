@@ -22,12 +22,17 @@ const PATIENCE: Duration = Duration::from_secs(5);
 /// How old what was read for a table may be.
 const FRESH: Duration = Duration::from_secs(1);
 
+/// How long it drains at most: who forgets that it does must not stop it for ever.
+const DRAINS: Duration = Duration::from_secs(600);
+
 /// The root. `W`: who asks it for something, and is answered later.
 pub struct Root<W> {
     config: Config,
     disk: Disk,
     publisher: Publisher,
-    pub draining: bool,
+    /// Whether it publishes nothing, and until when.
+    draining: bool,
+    drains_until: Option<Instant>,
     /// Whether all settings were read once. Before that a table would unset what it does not name.
     known: bool,
     /// Whether a setting was there at the start whose value is not known yet: no table is
@@ -78,6 +83,7 @@ impl<W> Root<W> {
             disk: Disk::new(config.settings.clone(), wake)?,
             publisher: Publisher::new(clock.as_micros() as u64),
             draining: false,
+            drains_until: None,
             known: false,
             holds: false,
             is_new: false,
@@ -127,6 +133,38 @@ impl<W> Root<W> {
         self.next_scan.get_or_insert(now + SETTLES);
     }
 
+    /// Publishes nothing more until it resumes.
+    pub fn drain(&mut self, now: Instant) {
+        (self.draining, self.drains_until) = (true, Some(now + DRAINS));
+    }
+
+    pub fn resume(&mut self) {
+        (self.draining, self.drains_until) = (false, None);
+    }
+
+    pub fn is_draining(&self) -> bool {
+        self.draining
+    }
+
+    /// What of its state cannot be, where something cannot.
+    pub fn fault(&self, config: &Config) -> Option<&'static str> {
+        match () {
+            () if self.config != *config => Some("the root's configuration is another one"),
+            () if !self.disk.is_asked(self.reads + u32::from(!self.writing.is_empty())) => {
+                Some("the disk was asked for something else, or cannot answer")
+            }
+            () => None,
+        }
+    }
+
+    /// Brings back to its bound what has one.
+    fn mend(&mut self, now: Instant) {
+        self.next_round = self.next_round.min(now + self.config.round);
+        self.next_scan = self.next_scan.map(|at| at.min(now + SETTLES));
+        self.until = self.until.map(|at| at.min(now + PATIENCE));
+        self.draining = self.drains_until.is_some_and(|at| (now..=now + DRAINS).contains(&at));
+    }
+
     /// When to come again.
     pub fn deadline(&self) -> Instant {
         let scan = self.next_scan.filter(|_| self.reads == 0);
@@ -141,6 +179,7 @@ impl<W> Root<W> {
 
     /// Takes up what the disk says, has the folder read and begins a round, where it is time.
     pub fn tick(&mut self, now: Instant) {
+        self.mend(now);
         while let Some(done) = self.disk.done() {
             match done {
                 Done::Written(all) => self.is_written(all, now),

@@ -48,7 +48,8 @@ impl Below {
     /// one than it is sent is left out.
     pub fn heard(&mut self, child: &str, bytes: &[u8], now: Instant) -> bool {
         let last = self.0.get(child);
-        if last.is_some_and(|(at, list)| now < *at + EACH * list.len() as u32 / 4) {
+        let is_soon = |at: Instant, many: usize| at <= now && now < at + EACH * many as u32 / 4;
+        if last.is_some_and(|(at, list)| is_soon(*at, list.len())) {
             return bytes.len() <= REPORT_BYTES;
         }
         let list = read(child, bytes);

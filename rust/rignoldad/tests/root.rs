@@ -235,8 +235,13 @@ fn what_is_asked_for_is_in_the_folder() {
     assert!(root.change("../a", Some(b"1")).is_err());
     assert!(root.change("absent", None).is_err());
     assert!(root.change("a", Some(&vec![0; VALUE_BYTES + 1])).is_err());
-    root.draining = true;
+    root.drain(now);
     assert!(root.change("a", Some(b"1")).is_err() && !root.waits());
+    // (who forgets it does not stop the root for ever)
+    root.tick(now + Duration::from_secs(600));
+    assert!(root.is_draining());
+    root.tick(now + Duration::from_secs(601));
+    assert!(!root.is_draining());
 }
 
 #[test]

@@ -118,6 +118,14 @@ impl Parents {
         self.has_news = true;
     }
 
+    /// Whether it has this name and these candidates.
+    pub(super) fn are(&self, name: &str, prices: impl IntoIterator<Item = Option<u16>>) -> bool {
+        let Parents { costs, better, .. } = Parents::new(name, prices, self.has_children);
+        self.name == name
+            && (&self.costs, self.better.len()) == (&costs, better.len())
+            && self.at < costs.len().max(1)
+    }
+
     /// Whether there are agents that may have this one as their parent.
     pub fn set_children(&mut self, has_children: bool) {
         self.has_children = has_children;
@@ -135,7 +143,8 @@ impl Parents {
         std::mem::take(&mut self.has_news)
     }
 
-    fn say(&mut self) {
+    /// Says again what follows from what was heard.
+    pub(super) fn say(&mut self) {
         let (cost, mut names) = match &self.heard {
             Some(way) => (self.cost(self.at, way), way.names.clone()),
             None if self.costs.is_empty() => (0, Vec::new()),

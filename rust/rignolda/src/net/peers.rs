@@ -11,6 +11,7 @@ use std::mem;
 use std::sync::Arc;
 use std::time::{Duration, Instant};
 
+mod fault;
 mod shown;
 mod words;
 

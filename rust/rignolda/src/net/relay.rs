@@ -5,6 +5,8 @@ use std::collections::{BTreeMap, VecDeque};
 use std::sync::Arc;
 use std::time::{Duration, Instant};
 
+mod fault;
+
 /// How many labels a sender counts through.
 const LABELS: u16 = 255;
 /// How many bytes of bodies are kept at most: room for a whole table, for as much that came since,
@@ -99,6 +101,9 @@ pub struct Link {
     pub late: u32,
     /// How long that answer took, or nearly so long as one before it.
     pub took: Duration,
+    /// At how many looks in turn it lacked an item, and had acknowledged no more than this.
+    idle: u64,
+    seen: u64,
     /// What was counted in earlier counts of the link.
     acknowledged: u64,
     ignored: u64,
@@ -159,6 +164,11 @@ impl Relay {
             Above::Root(_) => None,
             Above::Below(session) => Some(session),
         }
+    }
+
+    /// How many items it has room for.
+    pub fn room(&self) -> u64 {
+        self.room
     }
 
     /// How many items are kept, and how many bytes their bodies have.
@@ -277,6 +287,7 @@ impl Relay {
                     self.leave_behind(&name);
                     names.push(name);
                 }
+                None if self.table.is_none() => break,
                 None => self.table = None,
             }
             self.forget();
@@ -301,6 +312,7 @@ impl Relay {
         if let Some(link) = self.children.get_mut(name) {
             link.timeouts += 1;
             link.late = link.late.saturating_add(1);
+            link.idle = 0;
         }
     }
 
@@ -323,6 +335,8 @@ impl Relay {
                 timeouts: 0,
                 late: 0,
                 took: Duration::ZERO,
+                idle: 0,
+                seen: 0,
                 acknowledged: 0,
                 ignored: 0,
             };

@@ -38,6 +38,9 @@ use std::time::{Duration, Instant};
 /// a request.
 const CLIENTS: usize = 16;
 
+/// For how long nobody is accepted where no descriptor was left.
+const FULL: Duration = Duration::from_millis(100);
+
 /// Where clients are accepted.
 pub trait Listener: AsRawFd {
     /// The connection to a client, of which neither reading nor writing waits.
@@ -109,6 +112,11 @@ impl<T, L: Listener> Server<T, L> {
         }
     }
 
+    /// Where clients are accepted.
+    pub fn listener(&self) -> &L {
+        &self.listener
+    }
+
     /// The descriptors to wait for, each with a number that no other one has had, and whether until
     /// they can be written, and not read. (Else one that has closed its end is always ready.)
     pub fn descriptors(&self) -> impl Iterator<Item = (RawFd, u64, bool)> + '_ {
@@ -133,6 +141,8 @@ impl<T, L: Listener> Server<T, L> {
     /// Accepts, reads and writes what there is now, where one of these descriptors is its own: the
     /// requests that came whole. Each ticket is to be answered once.
     pub fn ready(&mut self, fired: &HashSet<RawFd>, now: Instant) -> Vec<(Ticket, T)> {
+        // (it was this short a time ahead)
+        self.full = self.full.filter(|at| *at <= now + FULL);
         let is_due = self.deadline().map_or(false, |at| now >= at);
         if !is_due && !self.descriptors().any(|(fd, ..)| fired.contains(&fd)) {
             return Vec::new();
@@ -204,7 +214,7 @@ impl<T, L: Listener> Server<T, L> {
                 }
                 (Err(error), _) if error.kind() == ErrorKind::WouldBlock => return,
                 (Err(_), _) => {
-                    self.full = Some(now + Duration::from_millis(100));
+                    self.full = Some(now + FULL);
                     return;
                 }
             }

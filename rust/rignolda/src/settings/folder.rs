@@ -52,6 +52,11 @@ impl Folder {
         }
     }
 
+    /// Where it is.
+    pub fn path(&self) -> &Path {
+        &self.path
+    }
+
     /// The names of all that is there and is no folder. A link to one is none.
     pub fn names(&self) -> Vec<String> {
         self.there(|is_folder, _| !is_folder)

@@ -1,0 +1,144 @@
+//! What holds of an agent's state whatever comes over its connections, and what is done where it
+//! does not hold, as after a fault of the machine's memory.
+//!
+//! What has a bound is brought back to it. A link on which nothing is taken begins anew, so nobody
+//! has to know what is wrong with its records. What two places have to say alike, and do not,
+//! nothing mends but a new process.
+use super::{
+    fact, travels, Children, Conn, Context, Handler, Line, Peers, Setup, State, Whom, BEAT, LATER,
+    SILENCE,
+};
+use crate::net::{Link, Result, BODY_BYTES};
+use std::collections::BTreeSet;
+use std::fmt;
+use std::time::{Duration, Instant};
+
+/// How long the look-up of an address takes at most.
+const LOOK_UP: Duration = Duration::from_secs(300);
+/// After how long at most somebody other than a candidate is called again, unless it is to connect.
+const PAUSE: Duration = Duration::from_secs(3);
+/// How many times its patience a child may lack an item and take none, and how many seconds more;
+/// and the same where its link lies in a store, which may be slow to answer.
+const TAKES: (u32, u64) = (2, 1);
+const TAKES_IN_STORE: (u32, u64) = (10, 10);
+
+impl<L: Line, A: Clone + PartialEq + fmt::Display> Peers<L, A> {
+    /// Looks at the state, which is to be done once a second. `looks_up`: whether the caller looks
+    /// an address up for a [call](Peers::next_call).
+    ///
+    /// # Errors
+    ///
+    /// What cannot be, where something cannot: then the process is to end.
+    pub fn check(&mut self, looks_up: bool, now: Instant, to: &mut dyn Handler) -> Result {
+        self.mend(looks_up, now);
+        self.leave_who_takes_nothing(&mut Context { now, to });
+        self.fault().map_or(Ok(()), Err)
+    }
+
+    /// What it is set up with.
+    pub fn setup(&self) -> &Setup<A> {
+        &self.setup
+    }
+
+    fn mend(&mut self, looks_up: bool, now: Instant) {
+        let most = now + self.setup.ack_timeout * (1 << LATER) + SILENCE + travels(BODY_BYTES);
+        let mut called = BTreeSet::new();
+        for conn in self.conns.values_mut() {
+            let waits = conn.greeted().is_none().then_some(most);
+            conn.until = conn.until.or(waits).map(|at| at.min(most));
+            match &conn.state {
+                State::Link(whom, ..) | State::Looks(whom, ..) => drop(called.insert(whom)),
+                _ => (),
+            }
+        }
+        for (whom, dial) in &mut self.dials {
+            let pause = match whom {
+                Whom::Candidate(at) => self.parents.pause(*at) * 2,
+                _ => self.setup.ack_timeout.max(PAUSE),
+            };
+            dial.next = dial.next.map(|at| at.min(now + pause));
+            let may_look_up = dial.next.map_or(true, |at| now < at + LOOK_UP);
+            let is_there = called.contains(whom) || self.words.contains_key(whom);
+            dial.under_way &= is_there || (looks_up && may_look_up);
+        }
+        self.beat = self.beat.min(now + BEAT);
+        self.late = self.late.min(LATER);
+        self.parents.say();
+        self.relay.mend(now);
+    }
+
+    /// Of those that are connected, leaves whoever lacks an item and has taken none for long. (Who
+    /// is silent is left before that, and goes on when it is back.)
+    fn leave_who_takes_nothing(&mut self, cx: &mut Context<'_>) {
+        let children = &self.children;
+        self.relay.count_idle(|name| children.contains_key(name));
+        let is_stale = |(name, link): &(&String, &Link)| {
+            let (times, more) = match children.contains_key(*name) {
+                true => TAKES,
+                false => TAKES_IN_STORE,
+            };
+            link.idle()
+                > (self.patience(name) * times + travels(link.held_bytes())).as_secs() + more
+        };
+        let stale = self.relay.children().filter(is_stale);
+        for name in stale.map(|(name, _)| name.clone()).collect::<Vec<_>>() {
+            let why = "it takes nothing";
+            fact!(cx, "left-behind", "{name}: {why}");
+            let child = Whom::Child(name);
+            let is_its =
+                |conn: &Conn<L>| matches!(&conn.state, State::Link(it, ..) if *it == child);
+            for id in self.all_that(is_its) {
+                self.leave_line(id, why, cx);
+            }
+            self.leave_words(&child, cx.now);
+            if let Whom::Child(name) = child {
+                self.relay.begin_anew(&name, cx.now);
+            }
+        }
+    }
+
+    /// What cannot be, where something cannot: at no time is it so in a sound process.
+    pub fn fault(&self) -> Option<&'static str> {
+        let Setup {
+            name,
+            parents,
+            children,
+            ..
+        } = &self.setup;
+        let has_address = |it: &&Option<A>| it.is_some();
+        let mut calls = usize::from(!parents.is_empty());
+        calls += parents.iter().filter(|it| it.address.is_some()).count();
+        let mut is_set_up = true;
+        if let Children::Named(children) = children {
+            calls += children.values().filter(has_address).count();
+            is_set_up = children.keys().eq(self.relay.children().map(|it| it.0));
+        }
+        let is_called = |whom: &Whom| *whom == Whom::Parent || self.address(whom).is_some();
+        // (numbers begin with 1; and a spoiled option may be neither, which most take for none)
+        let above = self.above.unwrap_or(0);
+        let mut connected = 0;
+        let is_known = |(id, conn): (&u64, &Conn<L>)| match &conn.state {
+            _ if *id > self.made => false,
+            State::Link(Whom::Parent, ..) => *id == above,
+            State::Link(Whom::Child(name), number, Some(_)) => {
+                connected += 1;
+                let link = self.relay.child(name);
+                let has = link.map_or(false, |link| link.has(*number));
+                has && self.children.get(name) == Some(id)
+            }
+            _ => true,
+        };
+        let are_known = self.conns.iter().all(is_known) && connected == self.children.len();
+        let has_above = above == 0 || self.conns.contains_key(&above);
+        let prices = parents.iter().map(|it| it.price);
+        match () {
+            () if !is_set_up => Some("its children are other ones"),
+            () if !self.parents.are(name, prices) => Some("its parents are other ones"),
+            () if self.dials.len() != calls || !self.dials.keys().all(is_called) => {
+                Some("it calls other ones")
+            }
+            () if !are_known || !has_above => Some("a connection is not found"),
+            () => self.relay.fault(),
+        }
+    }
+}
