@@ -31,7 +31,7 @@ from relay import Relay
 from runner import sure, test
 
 # (each of them tells its tests)
-for name in ("blocked", "floods", "hostile", "parents", "store", "watching"):
+for name in "blocked", "floods", "hostile", "memory_faults", "parents", "store", "watching":
     importlib.import_module(name)
 
 PACKAGING = pathlib.Path(__file__).resolve().parents[2] / "rust/rignoldad/packaging"

@@ -1,4 +1,5 @@
 """Spoils the memory of a process of this user, as a fault of the machine could."""
+import contextlib
 import os
 import pathlib
 import re
@@ -16,35 +17,42 @@ def stands_still(process):
 
 
 def writable(process):
-    """Where the mappings of a process begin and end that it may write."""
+    """Where the mappings of a process begin and end that it may write, and what they are called."""
     for line in pathlib.Path(f"/proc/{process}/maps").read_text().splitlines():
-        place, rights = line.split()[:2]
+        place, rights, *_, name = (line + " ").split(" ")[:2] + [line[73:].strip()]
         if rights.startswith("rw"):
-            yield tuple(int(word, 16) for word in place.split("-"))
+            yield (*(int(word, 16) for word in place.split("-")), name)
 
 
-def write_over(process, texts):
-    """Stops a process, writes over each copy of some texts in its memory, each by one of its
-    length, and lets it go on: how many copies there were."""
-    sought = re.compile(b"|".join(map(re.escape, texts)))
-    longest = max(map(len, texts))
-    count = 0
+@contextlib.contextmanager
+def stopped(process):
+    """Stops a process and lets it go on: its memory, as a file."""
     os.kill(process, signal.SIGSTOP)
     try:
         if not until(lambda: stands_still(process), 5, 0.001):
             raise RuntimeError("a process cannot be stopped")
         with open(f"/proc/{process}/mem", "r+b", buffering=0) as memory:
-            for start, end in writable(process):
-                for at in range(start, end, PIECE):
-                    # (a copy may begin in one piece and end in the next one)
-                    length = min(PIECE + longest - 1, end - at)
-                    try:
-                        piece = os.pread(memory.fileno(), length, at)
-                    except OSError:
-                        continue
-                    for found in sought.finditer(piece):
-                        os.pwrite(memory.fileno(), texts[found[0]], at + found.start())
-                        count += 1
+            yield memory.fileno()
     finally:
         os.kill(process, signal.SIGCONT)
+
+
+def write_over(process, texts):
+    """Writes over each copy of some texts in the memory of a process, each by one of its length:
+    how many copies there were."""
+    sought = re.compile(b"|".join(map(re.escape, texts)))
+    longest = max(map(len, texts))
+    count = 0
+    with stopped(process) as memory:
+        for start, end, _ in writable(process):
+            for at in range(start, end, PIECE):
+                # (a copy may begin in one piece and end in the next one)
+                length = min(PIECE + longest - 1, end - at)
+                try:
+                    piece = os.pread(memory, length, at)
+                except OSError:
+                    continue
+                for found in sought.finditer(piece):
+                    os.pwrite(memory, texts[found[0]], at + found.start())
+                    count += 1
     return count

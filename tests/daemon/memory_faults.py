@@ -1,0 +1,473 @@
+#!/usr/bin/env python3
+"""Faults in the memory of running agents, and whether their trees come back from each of them.
+
+    tests/daemon/memory_faults.py --trials 300 --seed 1 --trees 4 --kinds links times
+
+A tree has a root, a hub below it and two leaves below that, with a round each half second. While
+one of them is stopped, something is written into its memory; then the root's folder is changed. An
+agent that ends, or hangs, is started again as systemd would. Two rounds later, and for 40 rounds at
+most, it is asked for: whether each agent has applied what the root's folder has, also after one
+more change, and whether `tree` and `wait` say so. What never comes to be so is stuck, or, where
+the folders alone are right, wrong that lasts.
+
+A fault is a bit, a byte, a word or 64 bytes anywhere in the heap, something in the data or on a
+stack, or it is aimed: at the agent itself, at what lies about an end of a link, about a name, at a
+time or a number.
+"""
+import argparse
+import collections
+import concurrent.futures
+import json
+import os
+import pathlib
+import random
+import re
+import shutil
+import signal
+import socket
+import struct
+import subprocess
+import sys
+import time
+
+from daemons import Tree, running
+from memory import stopped, writable
+from runner import sure, test
+
+ROUND = 0.5
+PATIENCE = 40 * ROUND
+# An agent that says no sign for so long hangs.
+HANGS = 6.0
+SHAPE = {"hub": "root", "one": "hub", "two": "hub"}
+# How far about a place that is known something is aimed at, in bytes, and mostly.
+ABOUT = 256
+NEAR = 64
+# The parameters of a link of an agent: capacity 1 and 255 labels.
+PARAMETERS = struct.pack("<HH", 1, 255)
+# Where stacks lie is past this.
+HEAPS = 0x7f << 40
+
+
+class Memory:
+    """What a stopped process may write, by what it is for."""
+
+    def __init__(self, process, memory):
+        self.pieces = []
+        tops = [stack_of(task) for task in pathlib.Path(f"/proc/{process}/task").iterdir()]
+        program = os.readlink(f"/proc/{process}/exe")
+        last = None
+        for start, end, name in writable(process):
+            kind = {"[heap]": "heap"}.get(name)
+            top = [top for top in tops if start <= top < end]
+            if top:
+                kind, start = "stack", min(top) & ~7
+            elif name.startswith("/") or not name and last == program:
+                kind = "data"
+            last = name or last
+            if kind:
+                self.pieces.append((kind, start, os.pread(memory, end - start, start)))
+
+    def of(self, kind):
+        return [(start, piece) for of, start, piece in self.pieces if of == kind]
+
+    def found(self, pattern):
+        """Where this is found, in the heap and on stacks."""
+        for kind, start, piece in self.pieces:
+            if kind != "data":
+                yield from (start + it.start() for it in re.finditer(pattern, piece, re.S))
+
+    def at(self, place, length):
+        for _, start, piece in self.pieces:
+            if start <= place and place + length <= start + len(piece):
+                return piece[place - start:place - start + length]
+        return None
+
+
+def stack_of(task):
+    """How far down the stack of a thread is used."""
+    try:
+        return int((task / "syscall").read_text().split()[-2], 16)
+    except (OSError, IndexError, ValueError):
+        return -1
+
+
+def anywhere(memory, draw, kind):
+    """A place in this kind of memory: mostly one where something is."""
+    pieces = memory.of(kind)
+    for _ in range(16):
+        start, piece = draw.choices(pieces, [len(piece) for _, piece in pieces])[0]
+        at = draw.randrange(len(piece) // 8) * 8
+        if any(piece[at:at + 8]):
+            break
+    return start + at
+
+
+def about(places, draw):
+    """A word about one of these places, mostly near it."""
+    places, far = sorted(places), draw.choice([NEAR, ABOUT])
+    return places and (draw.choice(places) & ~7) + draw.randrange(-far, far, 8)
+
+
+def names(memory):
+    """Where there is a pointer to the name of an agent."""
+    texts = [name.encode() for name in ["root", *SHAPE]]
+    places = {place for text in texts for place in memory.found(re.escape(text))}
+    wanted = b"|".join(re.escape(struct.pack("<Q", place)) for place in places)
+    return [place for place in memory.found(wanted) if place % 8 == 0] if places else []
+
+
+def times(memory):
+    """Where there is a time of the clock that only goes on: seconds near now, and nanoseconds."""
+    now = int(time.monotonic())
+    wanted = b"|".join(re.escape(struct.pack("<Q", now + late)[:8]) for late in range(-120, 120))
+    for place in memory.found(wanted):
+        after = memory.at(place + 8, 4)
+        if place % 8 == 0 and after and 1_000 <= struct.unpack("<I", after)[0] < 1_000_000_000:
+            yield place
+
+
+def numbers(memory, status):
+    """Where there is a number that the agent says of itself."""
+    said = {status[key] for key in ("sequence", "applied", "round", "changed", "received", "limit")}
+    said |= {child[key] for child in status["children"] for key in ("reconnects", "acknowledged")}
+    wanted = b"|".join(re.escape(struct.pack("<Q", number)) for number in said if number > 1)
+    return [place for place in memory.found(wanted) if place % 8 == 0]
+
+
+def spoiled(old, draw):
+    """Another value in the place of these bytes."""
+    length, number = len(old), int.from_bytes(old, "little")
+    most = 1 << 8 * length
+    new = draw.choice([
+        number ^ 1 << draw.randrange(8 * length), 0, 1, most - 1, number + 1, number - 1,
+        draw.randrange(most), draw.randrange(256), number | 1 << min(40, 8 * length - 1)])
+    return (new % most).to_bytes(length, "little")
+
+
+def each_link(memory, number):
+    """Of the words about the ends of links, each in its turn, and what it becomes."""
+    number, how = divmod(number, 3)
+    ends = [it for it in sorted(memory.found(re.escape(PARAMETERS))) if it < HEAPS]
+    where, at = divmod(number, 2 * NEAR // 8)
+    place = (ends[where % len(ends)] & ~7) - NEAR + 8 * at
+    return (place + 4, bytes(4)) if how == 2 else (place, [bytes(8), b"\xff" * 8][how])
+
+
+def each_time(memory, number):
+    """Each of the times in its turn, and one that comes in years."""
+    places = sorted(times(memory))
+    return places[number % len(places)], struct.pack("<q", int(time.monotonic()) + 10**9)
+
+
+def fault(memory, draw, kind, status):
+    """Where to write, and what."""
+    if kind in ("bit", "byte", "word", "run"):
+        place = anywhere(memory, draw, "heap")
+    elif kind == "agent":
+        # (it lies on the stack of the thread that runs it, with the links)
+        ends = sorted(place for place in memory.found(re.escape(PARAMETERS)) if place > HEAPS)
+        place = ends and draw.randrange(ends[0] - 2_048, ends[-1] + 2_048, 8)
+    elif kind in ("data", "stack"):
+        place = anywhere(memory, draw, kind)
+    elif kind == "links":
+        place = about(memory.found(re.escape(PARAMETERS)), draw)
+    elif kind == "names":
+        place = about(names(memory), draw)
+    elif kind == "times":
+        place = draw.choice([0, *times(memory)])
+    else:
+        place = draw.choice([0, *numbers(memory, status)])
+    if kind == "times" and draw.random() < 0.7:
+        seconds = int(time.monotonic()) + draw.choice([-3_600, -60, 60, 3_600, 10**6, 10**9])
+        return place, struct.pack("<q", seconds)
+    length = {"byte": 1, "word": 8, "run": 64}.get(kind) or draw.choice([1, 1, 2, 4, 8, 8])
+    place += 0 if length == 64 else draw.randrange(0, 8, length)
+    old = memory.at(place, length)
+    if old is None:
+        return 0, b""
+    if kind == "bit":
+        return place, bytes([old[0] ^ 1 << draw.randrange(8)]) + old[1:]
+    if kind in ("byte", "run"):
+        return place, draw.randbytes(length)
+    return place, spoiled(old, draw)
+
+
+class Unit:
+    """What systemd does for an agent: it starts it again when it ends or hangs."""
+
+    def __init__(self, agent):
+        self.agent, self.seen, self.is_killed = agent, 0.0, False
+        self.whys = collections.Counter()
+        self.socket = socket.socket(socket.AF_UNIX, socket.SOCK_DGRAM)
+        self.socket.bind(str(agent.home / "notify"))
+        self.socket.setblocking(False)
+        agent.env = {"NOTIFY_SOCKET": str(agent.home / "notify"), "WATCHDOG_USEC": "4000000",
+                     "MALLOC_ARENA_MAX": "1", "MALLOC_MMAP_THRESHOLD_": "131072"}
+
+    def start(self):
+        self.agent.start()
+        self.seen = time.monotonic()
+
+    def kill(self):
+        self.is_killed = True
+        self.agent.signal(signal.SIGKILL)
+
+    def tend(self):
+        """How it ended by itself, where it did. It runs again then."""
+        now, how = time.monotonic(), None
+        try:
+            while self.socket.recv(4_096):
+                self.seen = now
+        except BlockingIOError:
+            pass
+        if not self.agent.alive():
+            how = "ended" if self.agent.process.returncode == 1 else "crashed"
+            said = [line for line in self.agent.text().splitlines() if line.startswith("rignoldad: ")]
+            self.whys.update(said[-1:] if how == "ended" else [])
+        elif now > self.seen + HANGS:
+            self.agent.kill()
+            how = "hung"
+        if how:
+            self.start()
+        killed, self.is_killed = self.is_killed and bool(how), self.is_killed and not how
+        return None if killed else how
+
+
+class Trials:
+    """A tree, and faults in it one after the other."""
+
+    def __init__(self, seed, keep):
+        self.seed, self.keep = seed, keep
+        self.tree, self.made = None, 0
+        self.counts = collections.defaultdict(collections.Counter)
+        self.whys = collections.Counter()
+
+    def make(self):
+        """A new tree that is right."""
+        self.end()
+        self.tree, self.what = Tree(SHAPE), []
+        self.units = [Unit(agent) for agent in self.tree]
+        self.tree.root.tables["root"].update(round=f"{int(ROUND * 1_000)}ms", harmless=7)
+        for at in range(6):
+            self.tree.write(f"key{at}", f"value {at}")
+        for unit in self.units:
+            unit.start()
+        if not self.holds(lambda: not self.tree.wrong() and self.says_right(), 60):
+            raise RuntimeError("a new tree does not come to be right")
+
+    def end(self):
+        if self.tree:
+            self.tree.__exit__(None, None, None)
+            for unit in self.units:
+                unit.socket.close()
+                self.whys.update(unit.whys)
+        self.tree = None
+
+    def holds(self, what, seconds):
+        """Whether this comes to hold; meanwhile whoever ends is started again."""
+        end = time.monotonic() + seconds
+        while True:
+            self.ends += [how for how in (unit.tend() for unit in self.units) if how]
+            if what():
+                return True
+            if time.monotonic() >= end:
+                return False
+            time.sleep(0.04)
+
+    ends = []
+
+    def asked(self, agent, what):
+        """What an agent answers, if it does."""
+        try:
+            with socket.socket(socket.AF_UNIX) as sock:
+                sock.settimeout(2)
+                sock.connect(str(agent.socket))
+                sock.sendall(json.dumps({"do": what}).encode() + b"\n")
+                with sock.makefile("rb") as file:
+                    return json.loads(file.readline())[what]
+        except (OSError, ValueError, KeyError):
+            return None
+
+    def says_right(self):
+        """Whether `tree` shows four agents that are up, each below its parent."""
+        seen = self.asked(self.tree.root, "tree") or []
+        shape = {it["name"]: it["parent"] for it in seen}
+        is_up = all(it["connected"] and it["whole"] and not it["failing"] and not it["draining"]
+                    and it["applied"] >= seen[0]["changed"] for it in seen)
+        return is_up and shape == {"root": "", **SHAPE}
+
+    def waits(self, seconds):
+        """Whether `wait` says that all have applied what the root's folder has."""
+        command = [self.tree.bin / "rignoldactl", "--socket", self.tree.root.socket, "wait",
+                   "--everywhere", "--timeout", f"{seconds}s"]
+        return subprocess.run(command, capture_output=True).returncode == 0
+
+    def change(self):
+        """Changes the root's folder."""
+        self.made += 1
+        self.tree.write(f"key{self.made % 6}", f"{self.made} {self.draw.randrange(10**9)}")
+        other = self.tree.root.truth / f"other{self.made % 4}"
+        if other.exists():
+            other.unlink()
+        else:
+            other.write_text(str(self.made))
+
+    def trial(self, kind, number):
+        """One fault: what came of it."""
+        self.draw = random.Random(f"{self.seed} {kind} {number}")
+        agent = self.draw.choice(list(self.tree))
+        if kind in EACH:
+            number, agent = number // 2, self.tree[("hub", "root")[number % 2]]
+        status = self.asked(agent, "status") or self.tree.root.status()
+        with stopped(agent.process.pid) as memory:
+            pieces = Memory(agent.process.pid, memory)
+            if kind in EACH:
+                place, new = EACH[kind](pieces, number)
+            else:
+                place, new = fault(pieces, self.draw, kind, status)
+            old = os.pread(memory, len(new), place) if place and new else b""
+            if not old or old == new:
+                return None
+            os.pwrite(memory, new, place)
+        self.what.append(f"{kind} {number}: {agent.name} at {place:x}: {old.hex()} is {new.hex()} now")
+        begun, self.ends = time.monotonic(), []
+        self.change()
+        self.holds(lambda: time.monotonic() >= begun + 2 * ROUND, PATIENCE)
+        self.holds(lambda: not self.tree.wrong(), 0.1)
+        late = bool(self.tree.wrong())
+        if late and self.waits(0.1) and self.tree.wrong():
+            # (what `wait` says is so at once)
+            self.counts[kind]["lied"] += 1
+        if self.draw.random() < 0.25:
+            # (what is wrong may be needed by those alone who connect anew)
+            self.draw.choice(self.units).kill()
+        self.change()
+        is_right = self.holds(lambda: not self.tree.wrong(), PATIENCE)
+        says = is_right and self.holds(self.says_right, PATIENCE)
+        says = says and self.holds(lambda: self.waits(1), PATIENCE)
+        if says and self.tree.wrong():
+            self.counts[kind]["lied"] += 1
+        count = self.counts[kind]
+        count["trials"] += 1
+        count["late"] += late
+        for how in set(self.ends):
+            count[how] += 1
+        if not is_right:
+            return "stuck"
+        return "recovered" if says else "wrong"
+
+    def run(self, faults):
+        """Takes faults from a list, as long as there are some."""
+        while faults:
+            kind, number = faults.popleft()
+            if not self.tree:
+                self.make()
+            try:
+                end = self.trial(kind, number)
+            except (OSError, RuntimeError) as error:
+                print(f"{kind} {number}: an agent ends before it is written to: {error}")
+                end = "again"
+            if end in ("stuck", "wrong"):
+                self.counts[kind][end] += 1
+                wrong = self.tree.wrong()
+                print(f"{end}: {self.what[-1]}; {wrong}; {self.ends}", flush=True)
+                if self.keep:
+                    self.store(end)
+            if end in ("stuck", "wrong", "again"):
+                self.end()
+        self.end()
+
+    def store(self, end):
+        """Keeps the logs and what agents say of themselves."""
+        home = pathlib.Path(self.keep) / f"{end}-{self.tree.home.name}-{self.made}"
+        home.mkdir(parents=True)
+        lines = [*self.what, str(self.ends), str(self.tree.wrong())]
+        (home / "what").write_text("\n".join(lines) + "\n")
+        for agent in self.tree:
+            (home / f"{agent.name}.json").write_text(json.dumps(self.asked(agent, "status")))
+            shutil.copy(agent.log, home / f"{agent.name}.log")
+
+
+KINDS = ["bit", "byte", "word", "run", "data", "stack", "agent", "links", "names", "times", "numbers"]
+# Those that take all places in their turn, of the hub and of the root.
+EACH = {"each-link": each_link, "each-time": each_time}
+COLUMNS = ["trials", "late", "ended", "crashed", "hung", "wrong", "lied", "stuck"]
+
+
+def table(counts):
+    lines = [["kind", *COLUMNS]]
+    lines += [[kind, *(str(count[it]) for it in COLUMNS)] for kind, count in counts.items()]
+    total = [str(sum(count[it] for count in counts.values())) for it in COLUMNS]
+    lines.append(["all", *total])
+    return "\n".join(" ".join(f"{word:>8}" for word in line) for line in lines)
+
+
+def run(faults, seed, trees, keep=None):
+    """Faults in several trees at once: the counts of each kind, and why agents ended."""
+    all_trees = [Trials(seed, keep) for _ in range(trees)]
+    kinds, faults = dict.fromkeys(kind for kind, _ in faults), collections.deque(faults)
+    with concurrent.futures.ThreadPoolExecutor(trees) as pool:
+        list(pool.map(lambda it: it.run(faults), all_trees))
+    none = collections.Counter()
+    counts = {kind: sum((it.counts[kind] for it in all_trees), none) for kind in kinds}
+    return counts, sum((it.whys for it in all_trees), none)
+
+
+def lasting(counts):
+    """How many faults did lasting harm."""
+    return sum(count[it] for count in counts.values() for it in ("stuck", "wrong", "lied"))
+
+
+@test(begins=True)
+def trees_come_back_from_faults_of_memory():
+    faults = [("each-link", at) for at in range(96)] + [("each-time", at) for at in range(50)]
+    faults += [(kind, at) for at in range(6) for kind in KINDS]
+    counts, _ = run(random.Random(1).sample(faults, len(faults)), "gate", 6)
+    trials = sum(count["trials"] for count in counts.values())
+    sure(not lasting(counts) and trials > len(faults) / 2, "\n" + table(counts))
+
+
+@test
+def who_finds_its_configuration_spoiled_ends_and_says_so():
+    with running() as tree:
+        units = [Unit(agent) for agent in tree]
+        for unit in units:
+            unit.agent.kill()
+            unit.start()
+        sure(tree.ready(), "the tree is not ready")
+        for turn in range(2):
+            # (each agent has several copies of this path, and not all are in use)
+            for at, unit in enumerate(units, turn * len(units)):
+                path, process = str(unit.agent.settings).encode(), unit.agent.process.pid
+                with stopped(process) as memory:
+                    copies = sorted(Memory(process, memory).found(re.escape(path)))
+                    os.pwrite(memory, b"?", copies[at % len(copies)] + len(path) - 1)
+            time.sleep(3)
+            for unit in units:
+                unit.tend()
+            sure(tree.ready() and tree.right(), tree.wrong())
+        whys = sum((unit.whys for unit in units), collections.Counter())
+        sure(whys and all(why.startswith("rignoldad: its memory is spoiled: ") for why in whys), whys)
+
+
+def main():
+    words = argparse.ArgumentParser()
+    words.add_argument("--trials", type=int, default=100)
+    words.add_argument("--seed", default="1")
+    words.add_argument("--trees", type=int, default=4)
+    words.add_argument("--kinds", nargs="+", choices=[*KINDS, *EACH], default=KINDS)
+    words.add_argument("--keep", help="where what stays wrong is kept")
+    words = words.parse_args()
+    kinds = words.kinds
+    faults = [(kinds[at % len(kinds)], at // len(kinds)) for at in range(words.trials)]
+    counts, whys = run(faults, words.seed, words.trees, words.keep)
+    print(table(counts))
+    for why, count in whys.most_common():
+        print(f"{count} times {why}")
+    bad = lasting(counts)
+    print(f"{sum(it['trials'] for it in counts.values())} passed, {bad} failed")
+    return 1 if bad else 0
+
+
+if __name__ == "__main__":
+    sys.exit(main())
