@@ -46,7 +46,7 @@ impl<L: Line, A: Clone + PartialEq + fmt::Display> Peers<L, A> {
                     place.due = if is_more { now } else { now + place.pause };
                 }
                 Err(why) => {
-                    for whom in self.all_in(at) {
+                    for whom in self.all_in(at, |_| true) {
                         let words = self.leave_words(&whom, now);
                         self.lost(&whom, words.and_then(|words| words.since), &why, cx);
                     }
@@ -198,9 +198,6 @@ impl<L: Line, A: Clone + PartialEq + fmt::Display> Peers<L, A> {
 
     /// What was waited for has not come: a frame is set again, and another parent is tried.
     pub(super) fn late(&mut self, whom: &Whom, words: &mut Words, cx: &mut Context<'_>) {
-        if words.until.map_or(true, |until| cx.now < until) {
-            return;
-        }
         words.until = None;
         if let Whom::Child(name) = whom {
             if !self.relay.is_left_behind(name) {

@@ -25,8 +25,8 @@ use super::shown::FIRST;
 use super::{travels, Call, Context, Handler, Line, Peers, Way, Whom};
 use crate::net::wire::{self, FRAME_HEAD, OLD, REPORT_BYTES, WAY_BYTES};
 use crate::net::{Turn, BODY_BYTES};
-use std::fmt;
 use std::time::{Duration, Instant};
+use std::{fmt, mem};
 
 /// How much of a frame is got before it is known to be fresh.
 const LOOK: usize = 1_024;
@@ -133,9 +133,10 @@ impl<L: Line, A: Clone + PartialEq + fmt::Display> Peers<L, A> {
         self.words.values().filter_map(due).min()
     }
 
-    /// Those with whom a link lies in this store.
-    pub(super) fn all_in(&self, place: usize) -> Vec<Whom> {
-        let all = self.words.iter().filter(|(_, words)| words.place == place);
+    /// Those with whom a link lies in this store of which this holds.
+    pub(super) fn all_in(&self, place: usize, holds: impl Fn(&Words) -> bool) -> Vec<Whom> {
+        let all = self.words.iter();
+        let all = all.filter(|(_, words)| words.place == place && holds(words));
         all.map(|(whom, _)| whom.clone()).collect()
     }
 
@@ -184,31 +185,30 @@ impl<L: Line, A: Clone + PartialEq + fmt::Display> Peers<L, A> {
             if self.stores[at].asked.is_some() {
                 continue;
             }
-            let mut turn = Turn::default();
-            for whom in self.all_in(at) {
+            for whom in self.all_in(at, |it| it.until.map_or(false, |until| now >= until)) {
                 self.words_with(&whom, |peers, words| peers.late(&whom, words, cx));
-                self.words_with(&whom, |peers, words| {
-                    words.way = words.way.take().filter(|_| !peers.says_again);
-                    peers.set(&whom, words, &mut turn, now);
-                });
             }
-            let (is_idle, its) = (turn.sets.is_empty(), self.all_in(at));
-            let place = &mut self.stores[at];
-            if its.is_empty() || (is_idle && now < place.due) {
+            let (mut turn, mut all) = (Turn::default(), mem::take(&mut self.words));
+            for (whom, words) in all.iter_mut().filter(|(_, words)| words.place == at) {
+                words.way = words.way.take().filter(|_| !self.says_again);
+                self.set(whom, words, &mut turn, now);
+            }
+            self.words = all;
+            let (is_idle, place) = (turn.sets.is_empty(), &mut self.stores[at]);
+            if is_idle && now < place.due {
                 continue;
             }
             if !is_idle {
                 place.pause = FIRST;
             }
             let mut asked = Vec::new();
-            for whom in its {
-                let words = &self.words[&whom];
+            for (whom, words) in self.words.iter().filter(|(_, it)| it.place == at) {
                 let mut get = |key, most| {
                     turn.gets.push((words.key(key), most));
                     asked.push((whom.clone(), key));
                 };
                 let own = words.own.as_ref().map_or(0, Vec::len);
-                match &whom {
+                match whom {
                     Whom::Parent | Whom::Candidate(_) => {
                         get("way", WAY_BYTES + 5);
                         if words.looks {
@@ -229,8 +229,10 @@ impl<L: Line, A: Clone + PartialEq + fmt::Display> Peers<L, A> {
                     }
                 }
             }
-            place.asked = Some(asked);
-            turns.push((place.address.clone(), turn));
+            if !asked.is_empty() {
+                place.asked = Some(asked);
+                turns.push((place.address.clone(), turn));
+            }
         }
         self.says_again = false;
         turns
