@@ -23,6 +23,7 @@ import sys
 import time
 
 import runner
+import trial
 from daemons import (Tree, by_tls, certify, certify_foreign, chain, counted, memory, patient,
                      root_has, running, until, very_patient)
 from memory import write_over
@@ -113,27 +114,15 @@ def connections_that_break_lose_nothing():
 
 
 def spoil(folder, draw):
-    """Puts garbage where an agent keeps its settings."""
-    kind = draw.randrange(4)
-    if kind == 0:
-        subprocess.run(["rm", "-rf", folder], check=True)
-        return
-    for path in list(folder.iterdir()):
-        what = draw.randrange(5)
+    """Puts garbage where an agent keeps its settings, in each way of trial.py."""
+    if draw.randrange(4) == 0:
+        return shutil.rmtree(folder)
+    ways = list(trial.OF_FILES.values())
+    for path in sorted(folder.iterdir()):
         # (without the marker, an agent that starts then takes the folder for somebody else's)
-        if path.is_dir() or path.name == ".rignolda":
-            continue
-        if what == 0:
-            path.write_bytes(draw.randbytes(draw.randrange(200)))
-        elif what == 3:
-            path.write_bytes(b"?" * path.stat().st_size)
-        elif what == 1:
-            path.unlink()
-        elif what == 2:
-            path.unlink()
-            path.mkdir()
-            (path / "in the way").write_text("x")
-    (folder / f"garbage{draw.randrange(9)}").write_bytes(draw.randbytes(50))
+        if path.is_file() and path.name != ".rignolda" and draw.randrange(5):
+            draw.choice(ways)(path, draw)
+    trial.extra_files(folder, draw)
     (folder / ".pending" / "nothing").parent.mkdir(exist_ok=True)
 
 
