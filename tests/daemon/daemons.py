@@ -346,7 +346,6 @@ class Tree:
         new.write_bytes(value if isinstance(value, bytes) else str(value).encode())
         new.rename(self.root.truth / key)
 
-
     def publish(self, *words, **given):
         """Has a change published, and come to be everywhere: its number."""
         number = self.root.ask("publish", *words, **given)["sequence"]

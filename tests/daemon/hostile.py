@@ -26,7 +26,7 @@ import store
 from daemons import (PATIENCE, USUAL, Tree, certify, counted, descriptors, during, flips, forget,
                      meanwhile, memory, patient, running, secure, tls, took, until)
 from protocol import (Child, Parent, body, closed, entry, exactly, frame, hello, look, report,
-                      take_hello, way)
+                      take_hello, the_root_comes, way)
 from runner import main, sure, test
 
 # The most memory that a hostile peer may cost an agent, in MiB: four bodies of 16, twice what all
@@ -326,9 +326,7 @@ def a_parent_whose_way_lies_or_never_rests_is_bounded():
         sure(memory(left) < before + 32, "its memory is", memory(left), "and was", before)
         sock.close()
         listener.close()
-        tree.write("one", "1")
-        tree.root.start()
-        sure(tree.right(), tree.wrong())
+        the_root_comes(tree)
 
 
 # ---- Local clients

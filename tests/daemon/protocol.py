@@ -9,7 +9,7 @@ import threading
 import time
 import zlib
 
-from daemons import PATIENCE, USUAL
+from daemons import PATIENCE, USUAL, until
 from runner import sure
 
 
@@ -84,6 +84,19 @@ def closed(sock):
     except TimeoutError:
         pass
     return False
+
+
+def the_root_comes(tree):
+    """The root begins to listen where another one did, and comes through to all."""
+    tree.write("one", "1")
+    tree.root.start()
+
+    def is_right():
+        # (a process that some thread is starting has that other listener as well, for a moment)
+        if not tree.root.alive() and tree.root.said("in use"):
+            tree.root.start()
+        return not tree.wrong()
+    sure(until(is_right), tree.wrong(), tree.root.text()[-300:])
 
 
 class Child:
@@ -172,7 +185,4 @@ class Parent:
     def gives_way(self):
         """Leaves the agent to its real parent, which has to come through to all."""
         self.close()
-        tree = self.agent.tree
-        tree.write("one", "1")
-        tree.root.start()
-        sure(tree.right(), tree.wrong())
+        the_root_comes(self.agent.tree)
