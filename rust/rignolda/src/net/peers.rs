@@ -449,15 +449,20 @@ impl<L: Line, A: Clone + PartialEq + fmt::Display> Peers<L, A> {
         if let Children::Named(names) = &mut self.setup.children {
             names.remove(name);
         }
-        let child = Whom::Child(name.into());
-        self.dials.remove(&child);
-        let is_its = |conn: &Conn<L>| matches!(&conn.state, State::Link(it, ..) if *it == child);
-        for id in self.all_that(is_its) {
-            self.leave_line(id, "it was removed", cx);
-        }
-        self.keep_stores(cx.now);
+        self.dials.remove(&Whom::Child(name.into()));
+        self.leave_links(name, "it was removed", cx);
         self.relay.remove(name);
         cx.to.on_gone(name);
+    }
+
+    /// Leaves all connections of a child, and what lies in a store for it.
+    fn leave_links(&mut self, name: &str, why: &str, cx: &mut Context<'_>) {
+        let child = Whom::Child(name.into());
+        let is_its = |conn: &Conn<L>| matches!(&conn.state, State::Link(it, ..) if *it == child);
+        for id in self.all_that(is_its) {
+            self.leave_line(id, why, cx);
+        }
+        self.leave_words(&child, cx.now);
     }
 
     // ---- What is to be seen

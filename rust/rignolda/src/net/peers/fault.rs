@@ -84,16 +84,8 @@ impl<L: Line, A: Clone + PartialEq + fmt::Display> Peers<L, A> {
         for name in stale.map(|(name, _)| name.clone()).collect::<Vec<_>>() {
             let why = "it takes nothing";
             fact!(cx, "left-behind", "{name}: {why}");
-            let child = Whom::Child(name);
-            let is_its =
-                |conn: &Conn<L>| matches!(&conn.state, State::Link(it, ..) if *it == child);
-            for id in self.all_that(is_its) {
-                self.leave_line(id, why, cx);
-            }
-            self.leave_words(&child, cx.now);
-            if let Whom::Child(name) = child {
-                self.relay.begin_anew(&name, cx.now);
-            }
+            self.leave_links(&name, why, cx);
+            self.relay.begin_anew(&name, cx.now);
         }
     }
 
