@@ -1,4 +1,5 @@
-//! What agents do with settings, for C and whatever calls C: bodies of settings, as bytes.
+//! What agents do with settings, for C and whatever calls C: bodies of settings, as bytes, and which
+//! of them an agent takes.
 //! `include/rignolda_settings.h` declares what is exported here.
 //!
 //! No call reads, writes, waits, takes memory or looks at a clock, and none has a `requires`. What a
@@ -8,6 +9,11 @@
 
 mod bodies;
 mod buffers;
+mod taker;
 
 pub use bodies::{BodyEntry, BodyHead, rignolda_body_check, rignolda_body_read, rignolda_checksum};
 pub use buffers::{rignolda_body_begin, rignolda_body_set, rignolda_body_unset};
+pub use taker::{
+    TakerHeard, rignolda_number_further, rignolda_number_is_newer, rignolda_number_next,
+    rignolda_taker_hears, rignolda_taker_init,
+};
