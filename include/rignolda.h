@@ -493,8 +493,16 @@ RIGNOLDA_CALL bool rignolda_session_node_on_frame(rignolda_node *node, rignolda_
  * is an end with a backlog. Whoever closed an end leaves it closed. Let each node forget, as above,
  * before it takes a frame or publishes, and before it makes a child anew. Make no end anew for a
  * silence alone: it would begin new counts as long as the network is away.
- * Law: a poll that may send is false only where the child's backlog is 0, or it is left behind, or
- * closed (a_backlog_is_sent, a law of stab_c).
+ * Laws: a poll that may send is false only where the child's backlog is 0, or it is left behind, or
+ * closed (a_backlog_is_sent, of stab_c). Of the module progress_laws of stab_line, on a connection
+ * that is not lost while it lasts, and of an exchange of one frame and its answer:
+ *   - a_new_connection_acknowledges_the_item: whatever labels, connections and turns two open ends
+ *     have, one new connection and one exchange on it acknowledge the item that waits.
+ *   - each_exchange_hands_on_an_item: from there on each exchange acknowledges one item more, and
+ *     all are delivered in their order, but for the first if the receiver had its label already.
+ *   - a_path_hands_on_everything_from_any_state: on a path that gets new connections, an exchange on
+ *     each link, from the upper end down, leaves one item less in its backlogs, all taken together.
+ *     So as many of these as there are items leave none, where nobody publishes meanwhile.
  */
 
 /* ---- Words: a link in two places of a store ---- */

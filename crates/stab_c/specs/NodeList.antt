@@ -75,8 +75,8 @@ takes_next s next = is_some next && accepts s
 abbrev pub is_left_behind : Node → Child → ℕ → Bool
 is_left_behind node child size = not (is_kept_place node size child.offered)
 
--- how many items of the list a child is still to be offered; one that is left behind lacks more than
--- can be counted
+-- how many items of the list a child is still to be offered; one that is left behind lacks more
+-- than can be counted
 abbrev pub still_to_offer : Node → Child → ℕ → ℕ
 still_to_offer node child size =
     if is_left_behind node child size then most_items else node.length - child.offered

@@ -31,10 +31,11 @@ pub fn no_backlog_is_the_whole_list()
         ↔ (child.offered ≡ node.length) × (is_set child.sender.holding ≡ false) }
 {}
 
-/// A poll of a child that has a backlog sends a frame, unless the child is left behind or its sender
-/// is closed: so where none is sent, one can tell which.
+/// A poll of a child that has a backlog sends a frame, unless the child is left behind or its
+/// sender is closed: so where none is sent, one can tell which.
 pub fn a_backlog_is_sent()
-    ensures { (node : Node) (child : Child) (buffer : List ℕ) → 0 < backlog node child (length buffer)
+    ensures { (node : Node) (child : Child) (buffer : List ℕ)
+        → 0 < backlog node child (length buffer)
         → is_left_behind node child (length buffer) ≡ false
         → is_set child.sender.closed ≡ false
         → is_some (frame_to_send (offered_next (sender_end child.sender)

@@ -15,3 +15,5 @@ pub mod MixedTrees
 pub mod StartTrees
 pub mod Places
 pub mod WholeLists
+pub mod Progress
+pub mod Passes

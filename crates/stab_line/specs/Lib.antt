@@ -15,3 +15,5 @@ pub mod Registers
 pub mod MixedTree
 pub mod StartTree
 pub mod WholeLists
+pub mod Progress
+pub mod Passes

@@ -6,9 +6,11 @@
 //! of line has its own steps, and a law that they are steps of a line, so that the link law and the
 //! tree law hold of it. The layer above uses one fact: what the calls of an end do is a step of
 //! these definitions (`specs/Acts.antt`, `specs/SessionActs.antt`), and the laws are about every
-//! list of such steps ([`laws`], [`session_laws`], [`register_laws`]).
+//! list of such steps ([`laws`], [`session_laws`], [`register_laws`]), or about what comes of some
+//! of them ([`progress_laws`]).
 #![tactic(auto)]
 
 pub mod laws;
+pub mod progress_laws;
 pub mod register_laws;
 pub mod session_laws;

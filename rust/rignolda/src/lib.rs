@@ -84,6 +84,7 @@
 //! | `connections_are_a_line`, `connections_obey_the_link_law`, `restarts_leave_connections_in_turn` | [`Session`] of a [`Sender`] and of a [`Receiver`] |
 //! | `a_tree_over_connections_obeys_the_tree_law`, `calls_of_sessions_are_acts_of_the_tree` | [`Session`] of a [`Child`] and of a [`Node`] |
 //! | `numbers_tell_the_newest_connection`, `numbers_may_mean_any_connections` | [`Connection`] |
+//! | `a_new_connection_acknowledges_the_item`, `each_exchange_hands_on_an_item`, `a_path_hands_on_everything_from_any_state` | what [arrives again](crate#when-nothing-comes) |
 //! | `registers_are_a_line`, `registers_obey_the_law_of_their_start` | [`word`] |
 //! | `a_tree_of_mixed_links_obeys_the_tree_law` | a tree in which each link goes its own way |
 //!
